@@ -1,0 +1,42 @@
+-- Records and tracks as plain data, and volumes of them.
+use Rattle.std.specs.Prelude.{◌≡◌, ℕ, ◌+◌, ◌<◌, ◌≤◌, ◌==◌, List, [], length, Option, sum_by, if◌then◌else◌}
+use Rattle.std.specs.List.{AllByRecursion}
+
+-- a record: its ID of five bytes, its key and its data
+pub record RecordData : Type 0 where
+  pub id : List ℕ
+  pub key : List ℕ
+  pub body : List ℕ
+
+-- a record of nothing
+abbrev pub blank_record : RecordData
+blank_record = record { id = []; key = []; body = [] }
+
+-- what a record with a key and data of these lengths takes of its track
+abbrev pub cost_of_lengths : ℕ → ℕ → ℕ
+cost_of_lengths key_bytes data_bytes = if key_bytes == 0 then 135 + data_bytes else 191 + key_bytes + data_bytes
+
+abbrev pub cost_of : RecordData → ℕ
+cost_of r = cost_of_lengths (length r.key) (length r.body)
+
+abbrev pub cost : List RecordData → ℕ
+cost rs = sum_by cost_of rs
+
+-- the costs on a track are at most this together
+abbrev pub TRACK_COST : ℕ
+TRACK_COST = 13165
+
+-- a count can tell the record's lengths
+pub record HasCount (r : RecordData) : Type 0 where
+  pub id : length r.id ≡ 5
+  pub key : length r.key < 256
+  pub body : length r.body < 65536
+
+pub record IsTrack (rs : List RecordData) : Type 0 where
+  pub cost_ : cost rs ≤ 13165
+  pub each : AllByRecursion HasCount rs
+
+-- volumes: a serial where there is one, and the records of each track by volume, cylinder and head
+pub record Volumes : Type 0 where
+  pub serial : ℕ → Option (List ℕ)
+  pub track : ℕ → ℕ → ℕ → List RecordData

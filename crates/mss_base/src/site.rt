@@ -1,0 +1,65 @@
+// The devices: blocks of 16,384 bytes.
+ghost use Rattle.std.specs.Prelude.{◌≡◌, ℕ, ◌+◌, ◌<◌, ◌≤◌, ◌++◌, [], ◌∷◌, List, length, OnOk, OnErr};
+ghost use Rattle.mss_base.specs.Content.{Content, Write, SiteLog, content, Adds};
+ghost use Rattle.mss_base.specs.Counts.{Rises, HasCause};
+ghost use Rattle.mss_base.specs.declared.place.UnitNo.{UnitNo};
+
+use crate::{NoMemory, UnitNo};
+
+/// A device failed.
+#[derive(Clone, Copy, Debug, PartialEq, Eq)]
+pub struct Failed;
+
+pub trait Site {
+    /// Whether clauses may speak of what the devices hold.
+    ghost tells: { Type 0 };
+
+    /// What the devices held when the site was made, and the writes since.
+    ghost told: { Self → SiteLog };
+
+    /// How many writes there is room for.
+    ghost spare: { Self → ℕ };
+
+    ghost writes: { Self → ℕ };
+
+    ghost faults: { Self → ℕ };
+
+    /// Makes room for writes.
+    fn reserve(&mut self, count: u32) -> Result<(), NoMemory>
+        ensures room { OnOk result (count ≤ spare self.new) }
+        ensures spare { spare self.old ≤ spare self.new }
+        ensures told { tells → told self.new ≡ told self.old }
+        ensures writes { writes self.new ≡ writes self.old }
+        ensures faults { faults self.new ≡ faults self.old };
+
+    fn read(&mut self, unit: UnitNo, block: u32, into: &mut [u8]) -> Result<(), Failed>
+        requires { length into.old ≡ 16384 }
+        ensures block { tells → OnOk result (into.new ≡ content (told self.old) unit block) }
+        ensures told { tells → told self.new ≡ told self.old }
+        ensures spare { spare self.new ≡ spare self.old }
+        ensures writes { writes self.new ≡ writes self.old }
+        ensures cause { HasCause (faults self.old) (faults self.new) result };
+
+    fn write(&mut self, unit: UnitNo, block: u32, offset: u16, bytes: &[u8]) -> Result<(), Failed>
+        requires room { 1 ≤ spare self.old }
+        requires some { 1 ≤ length bytes.now }
+        requires inside { offset + length bytes.now ≤ 16384 }
+        ensures ok { tells → OnOk result (Adds (record { unit = unit; block = block; offset = offset; bytes = bytes.now }) (told self.old) (told self.new)) }
+        // Whatever the outcome, the log got one write: of these bytes, or of others in their range.
+        ensures logged { tells → (left : List ℕ) × (length left ≡ length bytes.now)
+            × Adds (record { unit = unit; block = block; offset = offset; bytes = left }) (told self.old) (told self.new) }
+        ensures spare { spare self.old ≤ spare self.new + 1 }
+        ensures writes { Rises (writes self.old) (writes self.new) }
+        ensures cause { HasCause (faults self.old) (faults self.new) result };
+
+    fn writes(&self) -> u64
+        ensures { result ≡ writes self.now };
+
+    fn faults(&self) -> u64
+        ensures { result ≡ faults self.now };
+
+    /// A block has 16,384 bytes.
+    ghost whole: { (s : Self) (unit : UnitNo) (block : ℕ) → tells → length (content (told s) unit block) ≡ 16384 };
+
+    ghost counted: { (s : Self) → tells → writes s ≡ length (told s).log };
+}
