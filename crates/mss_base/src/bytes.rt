@@ -20,12 +20,13 @@ impl<T: Drop> From<AllocFailed<T>> for NoMemory {
     }
 }
 
-/// A list. `spare` more items can be put in without memory.
+/// A list with room: `spare` more items can be put in without memory. A clause sees its items and this number.
 #[derive(Drop)]
 pub struct Listed<T> {
     items: Vec<T>,
 }
 
+/// Bytes with room for more.
 pub type Bytes = Listed<u8>;
 
 impl<T> Model for Listed<T> {
@@ -38,6 +39,7 @@ impl<T> Model for Listed<T> {
 }
 
 impl<T> Listed<T> {
+    /// The empty list. It takes no memory.
     pub fn new(alloc: Global) -> Self
         ensures { result.items ≡ [] }
     {
@@ -46,13 +48,14 @@ impl<T> Listed<T> {
         }
     }
 
+    /// The items.
     pub fn as_slice(&self) -> &[T]
         ensures { result.now ≡ self.now.items }
     {
         &self.items
     }
 
-    /// Makes room for n more.
+    /// Makes room for `n` more. The items stay, and the room doesn't shrink, also after want of memory.
     pub fn reserve(&mut self, n: usize) -> Result<(), NoMemory>
         ensures items { self.new.items ≡ self.old.items }
         ensures spare { self.old.spare ≤ self.new.spare }
@@ -110,7 +113,7 @@ impl Listed<u8> {
         Ok(Listed { items })
     }
 
-    /// Puts these bytes last.
+    /// Puts these bytes last, or after want of memory leaves the list.
     pub fn append(&mut self, more: &[u8]) -> Result<(), NoMemory>
         ensures ok { OnOk result (self.new.items ≡ self.old.items ++ more.now) }
         ensures err { OnErr result (self.new.items ≡ self.old.items) }

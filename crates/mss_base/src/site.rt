@@ -1,15 +1,16 @@
 // The devices: blocks of 16,384 bytes.
-ghost use Rattle.std.specs.Prelude.{◌≡◌, ℕ, ◌+◌, ◌<◌, ◌≤◌, ◌++◌, [], ◌∷◌, List, length, OnOk, OnErr};
-ghost use Rattle.mss_base.specs.Content.{Content, Write, SiteLog, content, Adds};
+ghost use Rattle.std.specs.Prelude.{◌≡◌, ℕ, ◌+◌, ◌≤◌, ◌++◌, [], ◌∷◌, List, length, IsOk, OnOk};
+ghost use Rattle.mss_base.specs.Content.{SiteLog, content, Adds};
 ghost use Rattle.mss_base.specs.Counts.{Rises, HasCause};
 ghost use Rattle.mss_base.specs.declared.place.UnitNo.{UnitNo};
 
 use crate::{NoMemory, UnitNo};
 
-/// A device failed.
+/// A call of a device failed, and its count of faults rose.
 #[derive(Clone, Copy, Debug, PartialEq, Eq)]
 pub struct Failed;
 
+/// The devices that hold the volumes and their table. Each unit is a row of blocks of 16,384 bytes, all zeros at first.
 pub trait Site {
     /// Whether clauses may speak of what the devices hold.
     ghost tells: { Type 0 };
@@ -20,26 +21,35 @@ pub trait Site {
     /// How many writes there is room for.
     ghost spare: { Self → ℕ };
 
+    /// How many writes were made.
     ghost writes: { Self → ℕ };
 
+    /// How many reads and writes failed.
     ghost faults: { Self → ℕ };
 
-    /// Makes room for writes.
+    /// That no read or write fails from here on. A site that can't know it has no such value.
+    ghost never_fails: { Self → Type 0 } = { λ _. ⊥ };
+
+    /// Makes room for so many writes. After want of memory all but the room is as it was.
     fn reserve(&mut self, count: u32) -> Result<(), NoMemory>
         ensures room { OnOk result (count ≤ spare self.new) }
         ensures spare { spare self.old ≤ spare self.new }
         ensures told { tells → told self.new ≡ told self.old }
         ensures writes { writes self.new ≡ writes self.old }
-        ensures faults { faults self.new ≡ faults self.old };
+        ensures faults { faults self.new ≡ faults self.old }
+        ensures never_fails { never_fails self.old → never_fails self.new };
 
+    /// Reads a block. After a failure the buffer may hold anything.
     fn read(&mut self, unit: UnitNo, block: u32, into: &mut [u8]) -> Result<(), Failed>
         requires { length into.old ≡ 16384 }
         ensures block { tells → OnOk result (into.new ≡ content (told self.old) unit block) }
         ensures told { tells → told self.new ≡ told self.old }
         ensures spare { spare self.new ≡ spare self.old }
         ensures writes { writes self.new ≡ writes self.old }
-        ensures cause { HasCause (faults self.old) (faults self.new) result };
+        ensures cause { HasCause (faults self.old) (faults self.new) result }
+        ensures never_fails { never_fails self.old → IsOk result × never_fails self.new };
 
+    /// Writes into a block, which lasts. After a failure the range may hold anything, and the rest of the block is as it was.
     fn write(&mut self, unit: UnitNo, block: u32, offset: u16, bytes: &[u8]) -> Result<(), Failed>
         requires room { 1 ≤ spare self.old }
         requires some { 1 ≤ length bytes.now }
@@ -50,16 +60,20 @@ pub trait Site {
             × Adds (record { unit = unit; block = block; offset = offset; bytes = left }) (told self.old) (told self.new) }
         ensures spare { spare self.old ≤ spare self.new + 1 }
         ensures writes { Rises (writes self.old) (writes self.new) }
-        ensures cause { HasCause (faults self.old) (faults self.new) result };
+        ensures cause { HasCause (faults self.old) (faults self.new) result }
+        ensures never_fails { never_fails self.old → IsOk result × never_fails self.new };
 
+    /// How many writes were made. The count stands at its last value rather than go back to 0.
     fn writes(&self) -> u64
         ensures { result ≡ writes self.now };
 
+    /// How many reads and writes failed. The count stands at its last value rather than go back to 0.
     fn faults(&self) -> u64
         ensures { result ≡ faults self.now };
 
     /// A block has 16,384 bytes.
     ghost whole: { (s : Self) (unit : UnitNo) (block : ℕ) → tells → length (content (told s) unit block) ≡ 16384 };
 
+    /// The count of writes is the length of the log.
     ghost counted: { (s : Self) → tells → writes s ≡ length (told s).log };
 }

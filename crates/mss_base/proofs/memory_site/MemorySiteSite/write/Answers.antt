@@ -1,7 +1,6 @@
-use Rattle.std.proofs.Common.{◌≡◌, ◌∙◌, sym, ap, refl, ℕ, List, [], ◌∷◌, ◌++◌}
+use Rattle.std.proofs.Common.{◌≡◌, ◌∙◌, sym, ap, List, [], ◌∷◌}
 use Rattle.mss_base.specs.Memory.{held}
-use Rattle.mss_base.specs.Content.{Content, Write, SiteLog, written, after, torn}
-use Rattle.mss_base.specs.MemorySite.{told_of}
+use Rattle.mss_base.specs.Content.{Content, Write, written, after}
 use Rattle.mss_base.proofs.ContentLemmas.{after-append}
 use Rattle.mss_base.proofs.memory_site.MemorySiteSite.write.Goals as goal
 
@@ -13,13 +12,3 @@ invariant_of-self c =
     let new : held c.write_block.new.blocks ≡ after (held s.start) c.push.new.self.items =
     c.write_block.ensures.written ∙ ap (λ (d : Content). written d w) kept ∙ sym (after-append (held s.start) s.log.items (w ∷ [])) ∙ ap (λ (l : List Write). after (held s.start) l) (sym c.push.ensures.items) in
     record { whole = s.whole; kept = λ unit block i. new i unit block }
-
-pub returns-then-fails-clause-logged : goal.returns-then-fails-clause-logged
-returns-then-fails-clause-logged c =
-    let s = c.args.self.now in
-    λ _. (c.args.bytes.now, refl, c.fails.ensures.told ∙ (λ i. record { start = held s.start; log = c.push.ensures.items i }))
-
-pub returns-clause-logged : goal.returns-clause-logged
-returns-clause-logged c =
-    let s = c.args.self.now in
-    λ _. (c.args.bytes.now, refl, c.fails.ensures.told ∙ (λ i. record { start = held s.start; log = c.push.ensures.items i }))

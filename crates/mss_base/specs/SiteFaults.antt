@@ -1,0 +1,12 @@
+-- Which calls of a site in memory fail.
+use Rattle.std.specs.Prelude.{ℕ, Bool, false, ◌==◌, Option, Some, None}
+use Rattle.mss_base.specs.Content.{same_unit}
+use Rattle.mss_base.specs.declared.place.UnitNo.{UnitNo}
+use Rattle.mss_base.specs.declared.memory_site.SiteFault.{SiteFault}
+use Rattle.mss_base.specs.declared.memory_site.SiteFault.TheVariants.{Call, ReadsOf}
+
+-- whether the fault strikes this call, which reads a unit or writes
+abbrev pub strikes : ℕ → Option UnitNo → SiteFault → Bool
+strikes call read_of (Call n) = n == call
+strikes call (Some unit) (ReadsOf of) = same_unit unit of
+strikes call None (ReadsOf of) = false
