@@ -16,9 +16,11 @@ blank_record = record { id = []; key = []; body = [] }
 abbrev pub cost_of_lengths : ℕ → ℕ → ℕ
 cost_of_lengths key_bytes data_bytes = if key_bytes == 0 then 135 + data_bytes else 191 + key_bytes + data_bytes
 
+-- what it takes of its track
 abbrev pub cost_of : RecordData → ℕ
 cost_of r = cost_of_lengths (length r.key) (length r.body)
 
+-- what records take together
 abbrev pub cost : List RecordData → ℕ
 cost rs = sum_by cost_of rs
 
@@ -32,8 +34,9 @@ pub record HasCount (r : RecordData) : Type 0 where
   pub key : length r.key < 256
   pub body : length r.body < 65536
 
+-- records that may stand on a track together
 pub record IsTrack (rs : List RecordData) : Type 0 where
-  pub cost_ : cost rs ≤ 13165
+  pub cost_ : cost rs ≤ TRACK_COST
   pub each : AllByRecursion HasCount rs
 
 -- volumes: a serial where there is one, and the records of each track by volume, cylinder and head

@@ -1,24 +1,31 @@
 -- The track of a block: the records from byte 256 on, record k while the gate at byte 128 + k is open.
-use Rattle.std.specs.Prelude.{ℕ, zero, suc, ◌+◌, ◌*◌, ◌==◌, nat_lt, Bool, true, false, if◌then◌else◌, List, [], ◌∷◌, ◌++◌, length, take, drop, slice_index, Option, Some, None}
-use Rattle.ckd_track.specs.Data.{RecordData, cost_of_lengths}
-use Rattle.ckd_track.specs.declared.track.TrackCause.{TrackCause}
+use Rattle.std.specs.Prelude.{ℕ, zero, suc, ◌+◌, ◌*◌, ◌<◌, ◌==◌, nat_lt, Bool, true, false, List, [], ◌∷◌, length, take, drop, slice_index, Option, Some, None}
+use Rattle.ckd_track.specs.Data.{RecordData, cost_of_lengths, TRACK_COST}
+use Rattle.ckd_track.specs.declared.track.BadRecord.{BadRecord}
 use Rattle.ckd_track.specs.declared.track.TrackCause.TheVariants.{RunsPast, Overfull}
 
--- the records of a block, and the first that is no part of a track, by its number
+-- the records of a block before the first that is no part of a track, and that one
 pub record Reading : Type 0 where
   pub records : List RecordData
-  pub bad : Option (ℕ × TrackCause)
+  pub bad : Option BadRecord
 
+-- what reads as a track of these records
+abbrev pub reading_of : List RecordData → Reading
+reading_of rs = record { records = rs; bad = None }
+
+-- the key's length, in the count of the record at a place
 abbrev pub key_length : ℕ → List ℕ → ℕ
 key_length place block = slice_index block (place + 5)
 
+-- the data's length there
 abbrev pub data_length : ℕ → List ℕ → ℕ
 data_length place block = 256 * slice_index block (place + 6) + slice_index block (place + 7)
 
--- a count of eight bytes, a key and data
+-- the bytes of a record: a count of eight, its key and its data
 abbrev pub record_length : ℕ → List ℕ → ℕ
 record_length place block = 8 + key_length place block + data_length place block
 
+-- the record whose bytes begin at a place
 abbrev pub record_at : ℕ → List ℕ → RecordData
 record_at place block = record {
   id = take 5 (drop place block);
@@ -26,9 +33,11 @@ record_at place block = record {
   body = take (data_length place block) (drop (place + 8 + key_length place block) block);
 }
 
+-- what its count says that it takes of its track
 abbrev pub cost_at : ℕ → List ℕ → ℕ
 cost_at place block = cost_of_lengths (key_length place block) (data_length place block)
 
+-- whether the gate of a record is open
 abbrev pub is_open : ℕ → List ℕ → Bool
 is_open number block = slice_index block (128 + number) == 193
 
@@ -36,20 +45,25 @@ is_open number block = slice_index block (128 + number) == 193
 abbrev pub before : RecordData → Reading → Reading
 before r rest = record { records = r ∷ rest.records; bad = rest.bad }
 
+-- no record, since this one is bad
+abbrev pub stopped_at : BadRecord → Reading
+stopped_at b = record { records = []; bad = Some b }
+
 -- by whether its gate is open, it runs past the block, it costs too much
 abbrev pub reached : Bool → Bool → Bool → ℕ → RecordData → Reading → Reading
-reached false runs_past overfull number r rest = record { records = []; bad = None }
-reached true true overfull number r rest = record { records = []; bad = Some (number, RunsPast) }
-reached true false true number r rest = record { records = []; bad = Some (number, Overfull) }
+reached false runs_past overfull number r rest = reading_of []
+reached true true overfull number r rest = stopped_at (record { number = number; cause = RunsPast })
+reached true false true number r rest = stopped_at (record { number = number; cause = Overfull })
 reached true false false number r rest = before r rest
 
 -- the records from this number on, at most so many, where the first has this place and those before it this cost
 unfoldable pub reading_from : ℕ → ℕ → ℕ → ℕ → List ℕ → Reading
-reading_from zero number place spent block = record { records = []; bad = None }
+reading_from zero number place spent block = reading_of []
 reading_from (suc most) number place spent block =
-    reached (is_open number block) (nat_lt (length block) (place + record_length place block)) (nat_lt 13165 (spent + cost_at place block)) number (record_at place block)
+    reached (is_open number block) (nat_lt (length block) (place + record_length place block)) (nat_lt TRACK_COST (spent + cost_at place block)) number (record_at place block)
     (reading_from most (number + 1) (place + record_length place block) (spent + cost_at place block) block)
 
+-- the reading of a block
 unfoldable pub reading : List ℕ → Reading
 reading block = reading_from 98 1 256 0 block
 
@@ -58,7 +72,6 @@ unfoldable pub place_after : ℕ → ℕ → List ℕ → ℕ
 place_after zero place block = place
 place_after (suc n) place block = place_after n (place + record_length place block) block
 
--- what n records cost
-unfoldable pub spent_after : ℕ → ℕ → ℕ → List ℕ → ℕ
-spent_after zero place spent block = spent
-spent_after (suc n) place spent block = spent_after n (place + record_length place block) (spent + cost_at place block) block
+-- each number is a byte
+abbrev pub AreBytes : List ℕ → Type 0
+AreBytes block = (i : ℕ) → slice_index block i < 256

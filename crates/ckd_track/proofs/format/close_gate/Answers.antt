@@ -1,0 +1,19 @@
+use Rattle.std.proofs.Common.{arith}
+use Rattle.ckd_track.proofs.StepLemmas.{close_moments, closed_by}
+use Rattle.ckd_track.proofs.format.close_gate.Goals as goal
+
+pub returns-in_err-write-clause-moments : goal.returns-in_err-write-clause-moments
+returns-in_err-write-clause-moments g c = λ tells.
+    let logged = c.in_err-write.ensures.logged tells in
+    close_moments _ _ _ _ _ _ logged.0 (omega arith) c.requires.whole (c.requires.told tells) c.if-block-gate.true logged.1 logged.2
+
+pub returns-in_ok-write-clause-moments : goal.returns-in_ok-write-clause-moments
+returns-in_ok-write-clause-moments g c = λ tells.
+    let logged = c.in_ok-write.ensures.logged tells in
+    close_moments _ _ _ _ _ _ logged.0 (omega arith) c.requires.whole (c.requires.told tells) c.if-block-gate.true logged.1 logged.2
+
+pub returns-in_ok-write-clause-closed : goal.returns-in_ok-write-clause-closed
+returns-in_ok-write-clause-closed g c = λ tells. (closed_by _ _ _ _ _ _ (omega arith) c.requires.whole (c.requires.told tells) (c.in_ok-write.ensures.ok tells)).0
+
+pub returns-in_ok-write-clause-later : goal.returns-in_ok-write-clause-later
+returns-in_ok-write-clause-later g c = λ tells. (closed_by _ _ _ _ _ _ (omega arith) c.requires.whole (c.requires.told tells) (c.in_ok-write.ensures.ok tells)).1

@@ -1,0 +1,26 @@
+-- Records where they stand in a block, and a walk over them.
+use Rattle.std.specs.Prelude.{◌≡◌, ◌≤◌, ◌+◌, ◌-◌, ◌*◌, length}
+use Rattle.ckd_track.specs.Data.{RecordData, HasCount}
+use Rattle.ckd_track.specs.Track.{Reading, reading_from}
+use Rattle.ckd_track.specs.declared.stored.StoredRecord.TheInside.{Inside as Record}
+use Rattle.ckd_track.specs.declared.stored.StoredRecords.TheInside.{Inside as Walk}
+
+-- the record that is lent
+abbrev pub stored_data : Record → RecordData
+stored_data r = record { id = r.id; key = r.key.now; body = r.body.now }
+
+-- a count can tell its lengths
+abbrev pub stored_holds : Record → Type 0
+stored_holds r = HasCount (stored_data r)
+
+-- what is left to read
+abbrev pub rest_of : Walk → Reading
+rest_of w = reading_from (99 - w.number) w.number w.place w.spent w.block.now
+
+-- the next record's number, its place, and the cost of those before it
+pub record walk_holds (w : Walk) : Type 0 where
+  pub whole : length w.block.now ≡ 16384
+  pub first : 1 ≤ w.number
+  pub few : 135 * w.number ≤ w.spent + 135
+  pub cheap : w.spent ≤ 13165
+  pub near : w.place ≤ 256 + w.spent

@@ -1,0 +1,64 @@
+// Updating a record: one write, such that a stop at any moment changes that record's bytes alone.
+ghost use Rattle.std.specs.Prelude.{◌≡◌, ◌≤◌, ◌<◌, ◌+◌, ◌-◌, length, OnOk};
+ghost use Rattle.mss_base.specs.Counts.{HasCause};
+ghost use Rattle.ckd_track.specs.Track.{reading, place_after};
+ghost use Rattle.ckd_track.specs.Formatting.{block_of, WritesBlock};
+ghost use Rattle.ckd_track.specs.Updating.{IsUpdating, updated_length, record_behind, updated, bytes_place};
+
+use crate::format::record_place;
+use crate::layout::key_length;
+use mss_base::{BlockPlace, Failed, Site};
+
+/// The place of the data, or of the key and data, of the record behind `before` others.
+fn bytes_place(block: &[u8], before: u8, key_too: bool) -> u16
+    requires whole { length block.now ≡ 16384 }
+    requires there { before < length (reading block.now).records }
+    ensures { result ≡ bytes_place key_too (place_after before 256 block.now) block.now }
+{
+    let place = record_place(block, before) as usize;
+    let key_place = place + 8;
+    if key_too {
+        return key_place as u16;
+    }
+    (key_place + key_length(block, place) as usize) as u16
+}
+
+/// Updates record `number` with bytes for its data, or with `key_too` for its key and data.
+///
+/// `block` is what stands at the place, and `bytes` are as many as the record has there. It makes one
+/// write, or none of no bytes. At any moment the track is the old one with some bytes of that length in
+/// the record. Where it fails, the site's count of faults has risen.
+pub fn update_record<S: Site>(
+    site: &mut S,
+    at: &BlockPlace,
+    block: &[u8],
+    number: u8,
+    key_too: bool,
+    bytes: &[u8],
+) -> Result<(), Failed>
+    requires whole { length block.now ≡ 16384 }
+    requires told { S.tells → block_of (S.told site.old) at.now ≡ block.now }
+    requires first { 1 ≤ number }
+    requires there { number ≤ length (reading block.now).records }
+    requires long { length bytes.now
+        ≡ updated_length key_too (record_behind (number - 1) (reading block.now).records) }
+    requires room { 1 ≤ S.spare site.old }
+
+    ensures moments { S.tells → WritesBlock at.now
+        (λ b. IsUpdating key_too (number - 1) (reading block.now) (reading b))
+        (S.told site.old) (S.told site.new) }
+    ensures done { S.tells → OnOk result (reading (block_of (S.told site.new) at.now)
+        ≡ record (reading block.now) {
+          records = updated key_too (number - 1) bytes.now (reading block.now).records;
+        }) }
+
+    ensures room { S.spare site.old ≤ S.spare site.new + 1 }
+    ensures cause { HasCause (S.faults site.old) (S.faults site.new) result }
+{
+    let offset = bytes_place(block, number - 1, key_too);
+    if bytes.is_empty() {
+        return Ok(());
+    }
+    site.write(at.unit, at.block, offset, bytes)?;
+    Ok(())
+}
