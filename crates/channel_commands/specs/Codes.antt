@@ -30,14 +30,16 @@ table =
     ∷ (0x05, command.Write write.Data) ∷ (0x0D, command.Write write.KeyData) ∷ (0x1D, command.Write write.CountKeyData)
     ∷ []
 
+-- the command of the first row with a code
 abbrev pub at_code : ℕ → List (ℕ × Command) → Option Command
 at_code code [] = None
 at_code code (row ∷ rows) = if code == row.0 then Some row.1 else at_code code rows
 
+-- the command of a code
 abbrev pub command_of : ℕ → Option Command
 command_of code = at_code code table
 
--- the least length of a command's argument
+-- the least length of a command's argument, in bytes
 abbrev pub least : Command → ℕ
 least (command.Seek _) = 6
 least command.SetMask = 1
@@ -48,6 +50,7 @@ least (command.Search field.Key _ _) = 1
 least (command.Write write.CountKeyData) = 8
 least _ = 0
 
+-- whether a command writes on the track
 abbrev pub is_write : Command → Bool
 is_write (command.Write _) = true
 is_write _ = false

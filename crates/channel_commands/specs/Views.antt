@@ -1,5 +1,4 @@
 -- What calls, replies and command words of the code stand for.
-use Rattle.std.specs.Prelude.{ℕ}
 use Rattle.channel_commands.specs.declared.call.Call.{Call}
 use Rattle.channel_commands.specs.declared.call.Call.TheVariants as call
 use Rattle.channel_commands.specs.declared.ccw.Ccw.{Ccw}
@@ -8,6 +7,7 @@ use Rattle.channel_commands.specs.declared.call.Reply.{Reply}
 use Rattle.channel_commands.specs.declared.call.Reply.TheVariants as reply
 use Rattle.channel_commands.specs.Data.{CallData, mount, demount, command, break, ReplyData, done, mounted, demounted, already_mounted, not_mounted, no_volume, in_chain, program_check, chain_limit, equipment_check, no_space, stopped, CcwData, device, transfer}
 
+-- a reply as plain data
 abbrev pub reply_of : Reply → ReplyData
 reply_of (reply.Done status bytes) = done status bytes.items
 reply_of reply.Mounted = mounted
@@ -22,12 +22,14 @@ reply_of reply.EquipmentCheck = equipment_check
 reply_of reply.NoSpace = no_space
 reply_of reply.Stopped = stopped
 
+-- a call as plain data
 abbrev pub call_of : Call → CallData
 call_of (call.Mount volume bind) = mount volume bind
 call_of call.Demount = demount
 call_of (call.Command code argument chained) = command code argument.items chained
 call_of (call.Break cause) = break cause
 
+-- a command word as plain data
 abbrev pub ccw_of : Ccw → CcwData
 ccw_of (ccw.Device code argument) = device code argument.items
 ccw_of (ccw.Transfer to) = transfer to

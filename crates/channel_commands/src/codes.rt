@@ -4,7 +4,7 @@ ghost use Rattle.channel_commands.specs.Codes.{command_of, least};
 
 use crate::command::{Command, ReadWhat, SearchField, SearchTest, SeekKind, WriteKind};
 
-/// The code is not in the table.
+/// The code is none of the table's.
 #[derive(Clone, Copy, Debug, PartialEq, Eq)]
 pub struct UnknownCode;
 
@@ -20,7 +20,9 @@ fn read(what: ReadWhat, multi: bool) -> Command
     Command::Read { what, multi }
 }
 
-/// The command of a code.
+/// The command of a code: 37 codes have one, and each other is an `UnknownCode`.
+///
+/// Bit 0x80 means multi-track. Transfer in channel, 0x08, is a word of a program and no device command.
 pub fn command_of(code: u8) -> Result<Command, UnknownCode>
     ensures { MatchResult result (λ command. command_of code ≡ Some command) (λ e. command_of code ≡ None) }
 {
@@ -66,7 +68,7 @@ pub fn command_of(code: u8) -> Result<Command, UnknownCode>
     })
 }
 
-/// The least length of the command's argument, in bytes.
+/// The least length of the command's argument, 0 to 8 bytes.
 pub fn least(command: Command) -> usize
     ensures { result ≡ least command }
 {

@@ -1,14 +1,16 @@
 //! Channel commands: the table of codes, channel command words, and calls of hosts with their replies.
 //!
-//! `command_of` equals the table of `specs/Codes.antt`, which says each of the 37 codes once. Calls, replies and
-//! words have mirrors without allocation in `specs/Data.antt`; the layers above speak of those, through the views of
-//! `specs/Views.antt`.
+//! `command_of` and `least` equal the table and the lengths of `specs/Codes.antt`, which says each of the 37 codes
+//! once; what a command does to a track is for the layers above. Calls, replies and words hold bytes, so contracts
+//! speak of them as the plain data of `specs/Data.antt`, by `call_of`, `reply_of` and `ccw_of` of `specs/Views.antt`.
 #![tactic(auto)]
 
 mod call;
 mod ccw;
 mod codes;
 mod command;
+#[cfg(test)]
+mod tests;
 
 pub use call::{BreakCause, Call, Reply};
 pub use ccw::Ccw;
