@@ -1,0 +1,3 @@
+pub mod Scripts
+mod Rows
+mod Cursors
