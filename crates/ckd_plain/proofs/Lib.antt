@@ -1,0 +1,9 @@
+pub mod Rows
+pub mod Histories
+pub mod TrackFacts
+pub mod IndexFacts
+pub mod CommandFacts
+pub mod LooksFacts
+pub mod Entries
+pub mod StateFacts
+pub mod BlankFacts

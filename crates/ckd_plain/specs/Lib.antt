@@ -1,0 +1,9 @@
+pub mod Data
+pub mod Checks
+pub mod Index
+pub mod Effects
+pub mod Plain
+pub mod History
+pub mod Near
+pub mod Views
+pub mod StateData

@@ -1,0 +1,181 @@
+-- The plain machine: each call's reply, and the state after it.
+use Rattle.std.specs.Prelude.{ℕ, ◌==◌, Bool, true, false, ◌&&◌, not, List, [], ◌∷◌, replicate, Option, Some, None, Result, Ok, Err, is_some, if◌then◌else◌}
+use Rattle.channel_commands.specs.declared.call.BreakCause.{BreakCause}
+use Rattle.channel_commands.specs.declared.call.BreakCause.TheVariants as cause
+use Rattle.channel_commands.specs.declared.command.Command.{Command}
+use Rattle.channel_commands.specs.declared.command.Command.TheVariants as command
+use Rattle.channel_commands.specs.declared.command.SearchField.TheVariants as field
+use Rattle.channel_commands.specs.declared.command.ReadWhat.TheVariants as what
+use Rattle.channel_commands.specs.Data.{CallData, mount, demount, command as ask, break, ReplyData, done, mounted, demounted, already_mounted, not_mounted, no_volume, in_chain, program_check, chain_limit}
+use Rattle.ckd_track.specs.Data.{RecordData, Volumes}
+use Rattle.ckd_plain.specs.declared.host.HostState.{HostState}
+use Rattle.ckd_plain.specs.declared.host.Position.TheVariants as position
+use Rattle.ckd_plain.specs.declared.host.Prior.TheVariants as prior
+use Rattle.ckd_plain.specs.declared.unit_check.Refusal.{Refusal}
+use Rattle.ckd_plain.specs.declared.unit_check.UnitCheck.{UnitCheck}
+use Rattle.ckd_plain.specs.declared.unit_check.UnitCheck.TheVariants as check
+use Rattle.ckd_plain.specs.Data.{State}
+use Rattle.ckd_plain.specs.Checks.{admitted}
+use Rattle.ckd_plain.specs.Index.{Tracks}
+use Rattle.ckd_plain.specs.Effects.{Effect, Outcome, effect, END_OF_FILE}
+
+-- a command's answer: the reply, the host then, and the host's track where it is written
+pub record Answer : Type 0 where
+  pub reply : ReplyData
+  pub host : HostState
+  pub written : Option (List RecordData)
+
+-- the first three sense bytes, and 21 zeros
+abbrev pub sense : ℕ → ℕ → ℕ → List ℕ
+sense a b c = a ∷ b ∷ c ∷ replicate 21 0
+
+abbrev pub no_sense : List ℕ
+no_sense = replicate 24 0
+
+abbrev pub sense_of : UnitCheck → List ℕ
+sense_of check.CommandReject = sense 0x80 0 0
+sense_of check.InterventionRequired = sense 0x40 0 0
+sense_of check.EquipmentCheck = sense 0x10 0 0
+sense_of check.InvalidTrackFormat = sense 0 0x40 0
+sense_of check.EndOfCylinder = sense 0 0x20 0
+sense_of check.NoRecordFound = sense 0 0x08 0
+sense_of check.FileProtected = sense 0 0x04 0
+sense_of check.NoSpace = sense 0x40 0 0x01
+
+-- channel end, device end and unit check
+abbrev pub UNIT_CHECK : ℕ
+UNIT_CHECK = 0x0E
+
+-- a chain opens where none is open
+abbrev pub opened : HostState → HostState
+opened host = if host.chain_open then host else record host { chain_open = true; mask = 0; position = position.Start; passes = 0; prior = prior.Nothing }
+
+abbrev pub keeps_sense : Command → Bool
+keeps_sense command.NoOp = true
+keeps_sense command.Sense = true
+keeps_sense _ = false
+
+-- the prior is for one command, and so is the sense but with no-op and sense
+abbrev pub cleared : Command → HostState → HostState
+cleared command host = record host { prior = prior.Nothing; sense = (if keeps_sense command then host.sense else no_sense) }
+
+-- the commands that count the passes of a chain; each other one that ends without unit check sets them to 0
+abbrev pub keeps_passes : Command → Bool
+keeps_passes (command.Search field.Home _ _) = false
+keeps_passes (command.Search _ _ _) = true
+keeps_passes (command.Read what.Count _) = true
+keeps_passes _ = false
+
+-- unit check ends the chain
+abbrev pub refused : Refusal → Answer
+refused r = record { reply = done UNIT_CHECK []; host = record r.host { chain_open = false; sense = sense_of r.check }; written = None }
+
+-- the chain goes on where the call is chained and the status has no unit exception
+abbrev pub finished : Command → Bool → Effect → Answer
+finished command chained e = record {
+  reply = done e.status e.bytes;
+  host = record e.host { chain_open = chained && not (e.status == END_OF_FILE); passes = (if keeps_passes command then e.host.passes else 0) };
+  written = e.written;
+}
+
+abbrev pub answered : Command → Bool → Outcome → Answer
+answered command chained (Ok e) = finished command chained e
+answered command chained (Err r) = refused r
+
+-- a command that the checks admitted, of a host whose chain is open, on the tracks of its cylinder
+unfoldable pub performed : Tracks → HostState → Command → List ℕ → Bool → Answer
+performed tracks host command argument chained = answered command chained (effect tracks (cleared command host) host.prior command argument)
+
+abbrev pub judged : Tracks → HostState → List ℕ → Bool → Result Command UnitCheck → Answer
+judged tracks host argument chained (Ok command) = performed tracks host command argument chained
+judged tracks host argument chained (Err check) = refused (record { check = check; host = record host { prior = prior.Nothing } })
+
+-- a command on the tracks of the host's cylinder
+unfoldable pub run : Tracks → HostState → ℕ → List ℕ → Bool → Answer
+run tracks host code argument chained = judged tracks (opened host) argument chained (admitted (opened host) code argument)
+
+-- ---- the state
+
+abbrev pub with_host : State → ℕ → HostState → State
+with_host s h host = record s { host = λ other. if other == h then host else s.host other }
+
+abbrev pub with_track : Volumes → ℕ → ℕ → ℕ → List RecordData → Volumes
+with_track volumes v c h track = record volumes { track = λ v' c' h'. if (v' == v) && (c' == c) && (h' == h) then track else volumes.track v' c' h' }
+
+-- the tracks of the host's cylinder; blank where no volume is mounted
+abbrev pub tracks_mounted : Volumes → Option (ℕ × Bool) → ℕ → Tracks
+tracks_mounted volumes (Some m) c = volumes.track m.0 c
+tracks_mounted volumes None c = λ head. []
+
+abbrev pub tracks_under : Volumes → HostState → Tracks
+tracks_under volumes host = tracks_mounted volumes host.mounted host.cylinder
+
+-- the volumes, with the track under the host where it was written; a volume that isn't there has no tracks
+abbrev pub written_there : Volumes → ℕ → HostState → Option (List ℕ) → List RecordData → Volumes
+written_there volumes v host (Some serial) track = with_track volumes v host.cylinder host.head track
+written_there volumes v host None track = volumes
+
+abbrev pub written_mounted : Volumes → Option (ℕ × Bool) → HostState → Option (List RecordData) → Volumes
+written_mounted volumes (Some m) host (Some track) = written_there volumes m.0 host (volumes.serial m.0) track
+written_mounted volumes _ host _ = volumes
+
+abbrev pub written_to : Volumes → HostState → Option (List RecordData) → Volumes
+written_to volumes host written = written_mounted volumes host.mounted host written
+
+abbrev pub Replied : Type 0
+Replied = ReplyData × State
+
+abbrev pub commanded : State → ℕ → Answer → Replied
+commanded s h a = (a.reply, with_host (record s { volumes = written_to s.volumes (s.host h) a.written }) h a.host)
+
+abbrev pub with_volume : HostState → ℕ → Bool → HostState
+with_volume host volume bind = record host { mounted = Some (volume, bind); cylinder = 0; head = 0; sense = no_sense }
+
+-- the first reason against a mount stands
+unfoldable pub mount_reply : State → ℕ → ℕ → Bool → Replied
+mount_reply s h volume bind =
+    if (s.host h).chain_open then (in_chain, s)
+    else if is_some (s.host h).mounted then (already_mounted, s)
+    else if not (is_some (s.volumes.serial volume)) then (no_volume, s)
+    else (mounted, with_host s h (with_volume (s.host h) volume bind))
+
+unfoldable pub demount_reply : State → ℕ → Replied
+demount_reply s h =
+    if (s.host h).chain_open then (in_chain, s)
+    else if is_some (s.host h).mounted then (demounted, with_host s h (record (s.host h) { mounted = None }))
+    else (not_mounted, s)
+
+abbrev pub break_reply : BreakCause → ReplyData
+break_reply cause.Program = program_check
+break_reply cause.Limit = chain_limit
+
+-- the plain machine
+unfoldable pub plain : State → ℕ → CallData → Replied
+plain s h (mount volume bind) = mount_reply s h volume bind
+plain s h demount = demount_reply s h
+plain s h (ask code argument chained) = commanded s h (run (tracks_under s.volumes (s.host h)) (s.host h) code argument chained)
+plain s h (break cause) = (break_reply cause, with_host s h (record (s.host h) { chain_open = false }))
+
+-- ---- a session's start
+
+abbrev pub fresh_host : HostState
+fresh_host = record { mounted = None; chain_open = false; cylinder = 0; head = 0; mask = 0; position = position.Start; passes = 0; prior = prior.Nothing; sense = no_sense }
+
+abbrev pub start_of : Volumes → State
+start_of volumes = record { volumes = volumes; host = λ h. fresh_host }
+
+-- the serial of a volume among volumes with their serials
+abbrev pub serial_in : List (ℕ × List ℕ) → ℕ → Option (List ℕ)
+serial_in [] v = None
+serial_in (volume ∷ volumes) v = if v == volume.0 then Some volume.1 else serial_in volumes v
+
+-- these volumes, each track without records
+abbrev pub blank_volumes : List (ℕ × List ℕ) → Volumes
+blank_volumes volumes = record { serial = serial_in volumes; track = λ v c h. [] }
+
+-- the replies of the plain machine to calls of hosts
+unfoldable pub replies_of : State → List (ℕ × CallData) → List ReplyData
+replies_of s [] = []
+replies_of s (call ∷ calls) =
+    let replied = plain s call.0 call.1 in
+    replied.0 ∷ replies_of replied.1 calls

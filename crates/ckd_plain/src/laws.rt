@@ -1,0 +1,86 @@
+//! Laws of histories and of commands, for the layers that keep a history or run commands elsewhere. A function calls a
+//! law to have it in its proof.
+ghost use Rattle.std.specs.Prelude.{◌≡◌, ◌+◌, ◌≤◌, ℕ, Bool, false, List, [], ◌∷◌, ◌++◌, IsSome};
+ghost use Rattle.channel_commands.specs.Data.{equipment_check, no_space, stopped};
+ghost use Rattle.ckd_plain.specs.Data.{State};
+ghost use Rattle.ckd_plain.specs.History.{EntryData, IsLegal, IsNextEntry, IsAlone, IsStopped, HasNoStop, IsDataCommand, IsWriteCommand, after, next, excepted, count_of_host};
+ghost use Rattle.channel_commands.specs.Codes.{is_write};
+ghost use Rattle.channel_commands.specs.declared.command.Command.{Command};
+ghost use Rattle.ckd_plain.specs.declared.host.HostState.{HostState};
+ghost use Rattle.ckd_plain.specs.Effects.{is_data};
+ghost use Rattle.ckd_plain.specs.Index.{Tracks, next_within, next_record};
+ghost use Rattle.ckd_plain.specs.Plain.{performed, run, plain};
+
+use crate::unit_check::UnitCheck;
+
+/// A legal history goes on by an entry that may come next.
+pub fn legal_goes_on()
+    ensures { (s : State) (xs : List EntryData) (e : EntryData) → IsLegal s xs → HasNoStop xs
+        → IsNextEntry (after s xs) (count_of_host e.host xs) e → IsLegal s (xs ++ e ∷ []) }
+{}
+
+/// What a history leaves goes on by what further entries leave.
+pub fn after_goes_on()
+    ensures { (s : State) (xs ys : List EntryData) → after s (xs ++ ys) ≡ after (after s xs) ys }
+{}
+
+/// No entry is a stopped one, where none is in either part.
+pub fn no_stop_goes_on()
+    ensures { (xs : List EntryData) (e : EntryData) → HasNoStop xs → (IsStopped e.reply → ⊥) → HasNoStop (xs ++ e ∷ []) }
+{}
+
+/// A front of a legal history is legal.
+pub fn legal_front()
+    ensures { (s : State) (xs ys : List EntryData) → IsLegal s (xs ++ ys) → IsLegal s xs }
+{}
+
+/// An entry with the plain reply, its number and no fault may come next, and leaves the plain state.
+pub fn plain_entry_is_next()
+    ensures { (s : State) (before : ℕ) (e : EntryData) → e.reply ≡ (plain s e.host e.call).0 → e.number ≡ before + 1 → e.fault ≡ None
+        → IsAlone s e.host e.call → IsNextEntry s before e × (next s e ≡ (plain s e.host e.call).1) }
+{}
+
+/// An equipment check with its fault may come next in place of a data command's reply. It leaves the volumes, ends the
+/// chain, and sets the sense.
+pub fn equipment_entry_is_next()
+    ensures { (s : State) (before : ℕ) (e : EntryData) → e.reply ≡ equipment_check → e.number ≡ before + 1 → IsSome e.fault
+        → IsDataCommand s e.host e.call → IsAlone s e.host e.call
+        → IsNextEntry s before e × (next s e ≡ excepted UnitCheck.EquipmentCheck s e.host) }
+{}
+
+/// The same of no-space, which has no fault.
+pub fn no_space_entry_is_next()
+    ensures { (s : State) (before : ℕ) (e : EntryData) → e.reply ≡ no_space → e.number ≡ before + 1 → e.fault ≡ None
+        → IsDataCommand s e.host e.call → IsAlone s e.host e.call
+        → IsNextEntry s before e × (next s e ≡ excepted UnitCheck.NoSpace s e.host) }
+{}
+
+/// A stopped write with its fault may come next, and leaves the state.
+pub fn stopped_entry_is_next()
+    ensures { (s : State) (before : ℕ) (e : EntryData) → e.reply ≡ stopped → e.number ≡ before + 1 → IsSome e.fault
+        → IsWriteCommand s e.host e.call → IsAlone s e.host e.call → IsNextEntry s before e × (next s e ≡ s) }
+{}
+
+/// The definition looks at twenty tracks for the next record; more looks find the same.
+pub fn twenty_looks_suffice()
+    ensures { (more : ℕ) (tracks : Tracks) (host : HostState) (first : ℕ) (multi : Bool) → host.head ≤ 18
+        → next_within (20 + more) tracks host first multi ≡ next_record tracks host first multi }
+{}
+
+/// An admitted command that is no write writes nothing.
+pub fn only_writes_write()
+    ensures { (tracks : Tracks) (host : HostState) (c : Command) (argument : List ℕ) (chained : Bool) → is_write c ≡ false
+        → (performed tracks host c argument chained).written ≡ None }
+{}
+
+/// An admitted command that is no search, read or write answers the same on all tracks.
+pub fn control_sees_no_track()
+    ensures { (a b : Tracks) (host : HostState) (c : Command) (argument : List ℕ) (chained : Bool) → is_data c ≡ false
+        → performed a host c argument chained ≡ performed b host c argument chained }
+{}
+
+/// A command leaves its host's volume mounted.
+pub fn volume_stays_mounted()
+    ensures { (tracks : Tracks) (host : HostState) (code : ℕ) (argument : List ℕ) (chained : Bool)
+        → (run tracks host code argument chained).host.mounted ≡ host.mounted }
+{}

@@ -1,0 +1,147 @@
+// Reads.
+ghost use Rattle.std.specs.Prelude.{◌≡◌, ◌≢◌, ◌++◌, length, IfOk};
+ghost use Rattle.ckd_track.specs.Data.{HasCount};
+ghost use Rattle.ckd_plain.specs.Effects.{at_hand, record_given, record_zero_read, home_read, read};
+ghost use Rattle.ckd_plain.specs.Views.{cylinder_of, item_of, found_of, effect_of, GivesUnless};
+
+use crate::done::{DONE, DoneCommand};
+use crate::found::{FoundRecord, two_bytes};
+use crate::host::{HostState, Position};
+use crate::index::{this_or_next, to_home};
+use crate::trouble::Trouble;
+use channel_commands::ReadWhat;
+use ckd_track::Track;
+use mss_base::{Bytes, NoMemory};
+use std::alloc::Global;
+
+/// The bytes of both.
+fn joined(alloc: Global, first: &[u8], second: &[u8]) -> Result<Bytes, NoMemory>
+    ensures { IfOk result (λ bytes. bytes.items ≡ first.now ++ second.now) }
+{
+    let mut bytes = Bytes::of(alloc, first)?;
+    bytes.append(second)?;
+    Ok(bytes)
+}
+
+impl FoundRecord<'_> {
+    /// What a read of this kind gives at this record.
+    pub fn given(&self, alloc: Global, what: ReadWhat) -> Result<DoneCommand, NoMemory>
+        requires counted { HasCount (item_of self.now) }
+        ensures { IfOk result (λ done. effect_of done ≡ record_given what (found_of self.now)) }
+    {
+        let (bytes, position, status) = match what {
+            ReadWhat::Data => (
+                Bytes::of(alloc, self.body)?,
+                Position::Done(self.number),
+                self.status(),
+            ),
+            ReadWhat::KeyData => (
+                joined(alloc, self.key, self.body)?,
+                Position::Done(self.number),
+                self.status(),
+            ),
+            ReadWhat::CountKeyData => {
+                let mut bytes = joined(alloc, &self.count(), self.key)?;
+                bytes.append(self.body)?;
+                (bytes, Position::Done(self.number), self.status())
+            }
+            _ => (
+                Bytes::of(alloc, &self.count())?,
+                Position::Count(self.number),
+                DONE,
+            ),
+        };
+        Ok(DoneCommand {
+            status,
+            bytes,
+            host: HostState {
+                position,
+                ..self.host
+            },
+        })
+    }
+}
+
+/// Read R0, of a host that stands at the home address.
+pub fn record_zero_read(alloc: Global, there: &HostState) -> Result<DoneCommand, NoMemory>
+    ensures { IfOk result (λ done. effect_of done ≡ record_zero_read there.now) }
+{
+    let [c, cc] = two_bytes(there.cylinder.get());
+    let [h, hh] = two_bytes(u16::from(there.head.get()));
+    let bytes = [c, cc, h, hh, 0, 0, 0, 8, 0, 0, 0, 0, 0, 0, 0, 0];
+    Ok(DoneCommand {
+        status: DONE,
+        bytes: Bytes::of(alloc, &bytes)?,
+        host: HostState {
+            position: Position::Done(0),
+            ..*there
+        },
+    })
+}
+
+/// Read home address, of a host that stands at it.
+pub fn home_read(alloc: Global, there: &HostState) -> Result<DoneCommand, NoMemory>
+    ensures { IfOk result (λ done. effect_of done ≡ home_read there.now) }
+{
+    let [c, cc] = two_bytes(there.cylinder.get());
+    let [h, hh] = two_bytes(u16::from(there.head.get()));
+    Ok(DoneCommand {
+        status: DONE,
+        bytes: Bytes::of(alloc, &[0, c, cc, h, hh])?,
+        host: HostState {
+            position: Position::Home,
+            ..*there
+        },
+    })
+}
+
+/// The record at hand for a read of this kind.
+pub fn at_hand(what: ReadWhat, position: Position) -> Option<u8>
+    ensures { result ≡ at_hand what position }
+{
+    match (what, position) {
+        (ReadWhat::Data, Position::Count(number)) => Some(number),
+        (ReadWhat::Data, Position::Key(number)) => Some(number),
+        (ReadWhat::KeyData, Position::Count(number)) => Some(number),
+        _ => None,
+    }
+}
+
+/// A read of a record.
+#[tactic(auto, unfolding(crate::specs::Effects::read))]
+fn read_record(
+    alloc: Global,
+    tracks: &[Track],
+    host: &HostState,
+    what: ReadWhat,
+    multi: bool,
+) -> Result<DoneCommand, Trouble>
+    requires cylinder { length tracks.now ≡ 19 }
+    requires no_home { what ≢ ReadWhat.Home }
+    requires no_zero { what ≢ ReadWhat.RecordZero }
+    ensures { GivesUnless effect_of result (read (cylinder_of tracks.now) host.now what multi) }
+{
+    match &this_or_next(tracks, host, at_hand(what, host.position), multi) {
+        Ok(found) => Ok(found.given(alloc, what)?),
+        Err(refusal) => Err(Trouble::Refused(*refusal)),
+    }
+}
+
+/// A read of any kind.
+#[tactic(auto, unfolding(crate::specs::Effects::read))]
+pub fn read(
+    alloc: Global,
+    tracks: &[Track],
+    host: &HostState,
+    what: ReadWhat,
+    multi: bool,
+) -> Result<DoneCommand, Trouble>
+    requires cylinder { length tracks.now ≡ 19 }
+    ensures { GivesUnless effect_of result (read (cylinder_of tracks.now) host.now what multi) }
+{
+    match what {
+        ReadWhat::Home => Ok(home_read(alloc, &to_home(*host, multi)?)?),
+        ReadWhat::RecordZero => Ok(record_zero_read(alloc, &to_home(*host, multi)?)?),
+        _ => read_record(alloc, tracks, host, what, multi),
+    }
+}

@@ -1,0 +1,173 @@
+// Searches.
+ghost use Rattle.std.specs.Prelude.{◌≡◌, ◌≤◌, length};
+ghost use Rattle.ckd_plain.specs.Effects.{is_met, is_key_met, search_status, prior_left, home_searched, id_searched, key_searched, key_at_hand, search};
+ghost use Rattle.channel_commands.specs.Codes.{least};
+ghost use Rattle.ckd_plain.specs.Views.{cylinder_of, found_of, Gives, effect_of};
+
+use crate::done::{DONE, DoneCommand, MET};
+use crate::found::{FoundRecord, two_bytes};
+use crate::host::{HostState, Position, Prior};
+use crate::index::{next_record, this_or_next, to_home};
+use crate::unit_check::Refusal;
+use channel_commands::{Command, SearchField, SearchTest};
+use ckd_track::Track;
+use mss_base::Bytes;
+use std::alloc::Global;
+use std::cmp::Ordering;
+
+/// Whether the track's bytes, which compare so with the argument's, meet the test.
+fn is_met(test: SearchTest, order: Ordering) -> bool
+    ensures { result ≡ is_met test order }
+{
+    match test {
+        SearchTest::Equal => order == Ordering::Equal,
+        SearchTest::High => order == Ordering::Greater,
+        SearchTest::EqualOrHigh => order != Ordering::Less,
+    }
+}
+
+fn is_key_met(test: SearchTest, key: &[u8], argument: &[u8]) -> bool
+    ensures { result ≡ is_key_met test key.now argument.now }
+{
+    let compared = key.len().min(argument.len());
+    !key.is_empty() && is_met(test, (&key[..compared]).cmp(&&argument[..compared]))
+}
+
+fn search_status(met: bool) -> u8
+    ensures { result ≡ search_status met }
+{
+    if met { MET } else { DONE }
+}
+
+fn prior_left(test: SearchTest, met: bool, left: Prior) -> Prior
+    ensures { result ≡ prior_left test met left }
+{
+    if met && test == SearchTest::Equal {
+        left
+    } else {
+        Prior::Nothing
+    }
+}
+
+/// Search home address equal, of a host that stands at the home address.
+pub fn home_searched(alloc: Global, there: &HostState, argument: &[u8]) -> DoneCommand
+    requires { 4 ≤ length argument.now }
+    ensures { effect_of result ≡ home_searched argument.now there.now }
+{
+    let [c, cc] = two_bytes(there.cylinder.get());
+    let [h, hh] = two_bytes(u16::from(there.head.get()));
+    let address = [c, cc, h, hh];
+    let met = is_met(SearchTest::Equal, address.as_slice().cmp(&&argument[..4]));
+    DoneCommand {
+        status: search_status(met),
+        bytes: Bytes::new(alloc),
+        host: HostState {
+            position: Position::Home,
+            ..*there
+        },
+    }
+}
+
+impl FoundRecord<'_> {
+    /// Search ID at this record.
+    pub fn id_searched(&self, alloc: Global, test: SearchTest, argument: &[u8]) -> DoneCommand
+        requires { 5 ≤ length argument.now }
+        ensures { effect_of result ≡ id_searched test argument.now (found_of self.now) }
+    {
+        let met = is_met(test, self.id.as_slice().cmp(&&argument[..5]));
+        DoneCommand {
+            status: search_status(met),
+            bytes: Bytes::new(alloc),
+            host: HostState {
+                position: Position::Count(self.number),
+                prior: prior_left(test, met, Prior::IdEqual(self.number)),
+                ..self.host
+            },
+        }
+    }
+
+    /// Search key at this record.
+    pub fn key_searched(&self, alloc: Global, test: SearchTest, argument: &[u8]) -> DoneCommand
+        ensures { effect_of result ≡ key_searched test argument.now (found_of self.now) }
+    {
+        let met = is_key_met(test, self.key, argument);
+        DoneCommand {
+            status: search_status(met),
+            bytes: Bytes::new(alloc),
+            host: HostState {
+                position: Position::Key(self.number),
+                prior: prior_left(test, met, Prior::KeyEqual(self.number)),
+                ..self.host
+            },
+        }
+    }
+}
+
+#[tactic(auto, unfolding(crate::specs::Effects::search))]
+fn search_id(
+    alloc: Global,
+    tracks: &[Track],
+    host: &HostState,
+    test: SearchTest,
+    multi: bool,
+    argument: &[u8],
+) -> Result<DoneCommand, Refusal>
+    requires cylinder { length tracks.now ≡ 19 }
+    requires long { 5 ≤ length argument.now }
+    ensures { Gives effect_of result (search (cylinder_of tracks.now) host.now SearchField.Id test multi argument.now) }
+{
+    match &next_record(tracks, host, 0, multi) {
+        Ok(found) => Ok(found.id_searched(alloc, test, argument)),
+        Err(refusal) => Err(*refusal),
+    }
+}
+
+/// The record at hand for a search key.
+pub fn key_at_hand(position: Position) -> Option<u8>
+    ensures { result ≡ key_at_hand position }
+{
+    match position {
+        Position::Count(number) if number > 0 => Some(number),
+        _ => None,
+    }
+}
+
+#[tactic(auto, unfolding(crate::specs::Effects::search))]
+fn search_key(
+    alloc: Global,
+    tracks: &[Track],
+    host: &HostState,
+    test: SearchTest,
+    multi: bool,
+    argument: &[u8],
+) -> Result<DoneCommand, Refusal>
+    requires cylinder { length tracks.now ≡ 19 }
+    ensures { Gives effect_of result (search (cylinder_of tracks.now) host.now SearchField.Key test multi argument.now) }
+{
+    match &this_or_next(tracks, host, key_at_hand(host.position), multi) {
+        Ok(found) => Ok(found.key_searched(alloc, test, argument)),
+        Err(refusal) => Err(*refusal),
+    }
+}
+
+/// A search of any kind.
+#[tactic(auto, unfolding(crate::specs::Effects::search))]
+pub fn search(
+    alloc: Global,
+    tracks: &[Track],
+    host: &HostState,
+    field: SearchField,
+    test: SearchTest,
+    multi: bool,
+    argument: &[u8],
+) -> Result<DoneCommand, Refusal>
+    requires cylinder { length tracks.now ≡ 19 }
+    requires long { least (Command.Search field test multi) ≤ length argument.now }
+    ensures { Gives effect_of result (search (cylinder_of tracks.now) host.now field test multi argument.now) }
+{
+    match field {
+        SearchField::Home => Ok(home_searched(alloc, &to_home(*host, multi)?, argument)),
+        SearchField::Id => search_id(alloc, tracks, host, test, multi, argument),
+        SearchField::Key => search_key(alloc, tracks, host, test, multi, argument),
+    }
+}

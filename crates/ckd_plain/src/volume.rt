@@ -1,0 +1,167 @@
+// Volumes of the plain machine, with every track.
+ghost use Rattle.std.specs.Prelude.{◌≡◌, ◌<◌, [], length, replicate, slice_set, slice_index_or, IfOk, OnErr};
+ghost use Rattle.channel_commands.specs.Views.{reply_of};
+ghost use Rattle.ckd_plain.specs.Plain.{run, tracks_under};
+ghost use Rattle.ckd_plain.specs.StateData.{volumes_of, AnswersOn, Responds};
+ghost use Rattle.ckd_plain.specs.Views.{cylinder_of, Answers};
+
+use crate::host::HostState;
+use crate::run::run_command;
+use channel_commands::Reply;
+use ckd_track::{Records, Track};
+use mss_base::{Cylinder, Head, NoMemory, Serial};
+use std::alloc::Global;
+use std::marker::Model;
+
+/// The 19 tracks of a cylinder.
+#[derive(Drop)]
+pub struct CylinderTracks {
+    tracks: Vec<Track>,
+}
+
+impl Model for CylinderTracks {
+    ghost use Rattle.std.specs.Prelude.{◌≡◌, List, length};
+    ghost use Rattle.ckd_track.specs.Data.{RecordData};
+
+    ghost Value = { List (List RecordData) };
+
+    ghost view = { λ c. c.tracks.items };
+
+    ghost invariant = { λ c. length c.tracks.items ≡ 19 };
+}
+
+impl CylinderTracks {
+    /// 19 tracks without records.
+    pub fn blank(alloc: Global) -> Result<CylinderTracks, NoMemory>
+        ensures { IfOk result (λ c. c ≡ replicate 19 []) }
+    {
+        let mut tracks = Vec::new(alloc);
+        for _ in 0..19usize {
+            tracks.push(Track {
+                records: Records::new(alloc),
+            })?;
+        }
+        Ok(CylinderTracks { tracks })
+    }
+
+    pub fn track(&self, head: Head) -> &Track
+        ensures { result.now ≡ cylinder_of self.now head }
+    {
+        &self.tracks[usize::from(head.get())]
+    }
+
+    fn run(
+        &mut self,
+        alloc: Global,
+        host: &mut HostState,
+        code: u8,
+        argument: &[u8],
+        chained: bool,
+    ) -> Result<Reply, NoMemory>
+        ensures answer { IfOk result (Answers (run (cylinder_of self.old) host.old code argument.now chained) host.old self.old self.new host.new) }
+        ensures host_stays { OnErr result (host.new ≡ host.old) }
+        ensures tracks_stay { OnErr result (self.new ≡ self.old) }
+        ensures head { host.old.head < length self.old }
+    {
+        let _head = host.head.get();
+        run_command(alloc, &mut self.tracks, host, code, argument, chained)
+    }
+}
+
+/// A volume: its serial and its cylinders.
+#[derive(Drop)]
+pub struct PlainVolume {
+    serial: Serial,
+    cylinders: Vec<CylinderTracks>,
+}
+
+impl Model for PlainVolume {
+    ghost use Rattle.ckd_plain.specs.StateData.{VolumeData, HasCylinders};
+
+    ghost Value = { VolumeData };
+
+    ghost view = { λ v. record { serial = v.serial; cylinders = v.cylinders.items } };
+
+    ghost invariant = { λ v. HasCylinders (record { serial = v.serial; cylinders = v.cylinders.items }) };
+}
+
+impl PlainVolume {
+    /// A volume without records.
+    pub fn blank(alloc: Global, serial: Serial) -> Result<PlainVolume, NoMemory>
+        ensures serial { IfOk result (λ v. v.serial ≡ serial) }
+        ensures cylinders { IfOk result (λ v. v.cylinders ≡ replicate 404 (replicate 19 [])) }
+    {
+        let mut cylinders = Vec::new(alloc);
+        for _ in 0..404usize {
+            cylinders.push(CylinderTracks::blank(alloc)?)?;
+        }
+        Ok(PlainVolume { serial, cylinders })
+    }
+
+    pub fn track(&self, cylinder: Cylinder, head: Head) -> &Track
+        ensures { result.now ≡ slice_index_or (slice_index_or self.now.cylinders cylinder []) head [] }
+    {
+        self.cylinders[usize::from(cylinder.get())].track(head)
+    }
+
+    /// A command of a host that has this volume mounted.
+    fn run(
+        &mut self,
+        alloc: Global,
+        host: &mut HostState,
+        code: u8,
+        argument: &[u8],
+        chained: bool,
+    ) -> Result<Reply, NoMemory>
+        ensures serial { self.new.serial ≡ self.old.serial }
+        ensures cylinders { self.new.cylinders ≡ slice_set self.old.cylinders host.old.cylinder (slice_index_or self.new.cylinders host.old.cylinder []) }
+        ensures answer { IfOk result (Answers (run (cylinder_of (slice_index_or self.old.cylinders host.old.cylinder [])) host.old code argument.now chained)
+            host.old (slice_index_or self.old.cylinders host.old.cylinder []) (slice_index_or self.new.cylinders host.old.cylinder []) host.new) }
+        ensures host_stays { OnErr result (host.new ≡ host.old) }
+        ensures tracks_stay { OnErr result (self.new ≡ self.old) }
+        ensures place { host.old.cylinder < length self.old.cylinders }
+        ensures head { host.old.head < length (slice_index_or self.old.cylinders host.old.cylinder []) }
+    {
+        let place = usize::from(host.cylinder.get());
+        let cylinder = &mut self.cylinders[place];
+        cylinder.run(alloc, host, code, argument, chained)
+    }
+}
+
+/// A command where no track has records.
+fn run_blank(
+    alloc: Global,
+    host: &mut HostState,
+    code: u8,
+    argument: &[u8],
+    chained: bool,
+) -> Result<Reply, NoMemory>
+    ensures answer { IfOk result (Responds (run (λ head. []) host.old code argument.now chained) host.new) }
+    ensures host_stays { OnErr result (host.new ≡ host.old) }
+{
+    let mut blank = CylinderTracks::blank(alloc)?;
+    blank.run(alloc, host, code, argument, chained)
+}
+
+/// A command of a host, on the volume that it has mounted among all volumes.
+pub fn run_under(
+    alloc: Global,
+    volumes: &mut [Option<PlainVolume>],
+    host: &mut HostState,
+    code: u8,
+    argument: &[u8],
+    chained: bool,
+) -> Result<Reply, NoMemory>
+    requires { length volumes.old ≡ 32 }
+    ensures answer { IfOk result (AnswersOn (run (tracks_under (volumes_of volumes.old) host.old) host.old code argument.now chained) host.old volumes.old volumes.new host.new) }
+    ensures host_stays { OnErr result (host.new ≡ host.old) }
+    ensures volumes_stay { OnErr result (volumes.new ≡ volumes.old) }
+{
+    let Some((number, _)) = host.mounted else {
+        return run_blank(alloc, host, code, argument, chained);
+    };
+    match &mut volumes[usize::from(number.get())] {
+        Some(volume) => volume.run(alloc, host, code, argument, chained),
+        None => run_blank(alloc, host, code, argument, chained),
+    }
+}
