@@ -1,0 +1,17 @@
+pub mod Examples
+pub mod Shapes
+pub mod Lists
+pub mod Volumes
+pub mod JobBack
+pub mod CanonicalBack
+pub mod Writing
+pub mod Said
+pub mod Kept
+pub mod Whole
+pub mod Serials
+pub mod Parts
+pub mod Spelling
+pub mod Hexadecimal
+pub mod LineBack
+pub mod TextBack
+pub mod LinesBack

@@ -1,0 +1,29 @@
+-- Configurations as plain data.
+use Rattle.std.specs.Prelude.{◌≡◌, ℕ, ◌≤◌, true, List, map}
+use Rattle.std.specs.List.{AllByRecursion, IsDistinct}
+use Rattle.std.specs.Ordering.{nat_cmp}
+use Rattle.std.specs.List.Sorted.{IsStrictlySortedBy}
+use Rattle.std.specs.Str.{bytes_eq}
+use Rattle.job_text.specs.Words.{is_serial}
+
+-- a volume: its number and its serial
+abbrev pub VolumeData : Type 0
+VolumeData = ℕ × List ℕ
+
+pub record ConfigData : Type 0 where
+  pub frames : ℕ
+  pub recorders : ℕ
+  pub volumes : List VolumeData
+
+abbrev pub IsVolume : VolumeData → Type 0
+IsVolume v = (v.0 ≤ 31) × (is_serial v.1 ≡ true)
+
+-- 1 to 200 frames, 1 to 8 recorders, and volumes in rising order of number whose serials differ
+pub record IsConfig (config : ConfigData) : Type 0 where
+  pub some_frames : 1 ≤ config.frames
+  pub few_frames : config.frames ≤ 200
+  pub some_recorders : 1 ≤ config.recorders
+  pub few_recorders : config.recorders ≤ 8
+  pub volumes_ : AllByRecursion IsVolume config.volumes
+  pub rising : IsStrictlySortedBy nat_cmp (map (λ v. v.0) config.volumes)
+  pub serials : IsDistinct bytes_eq (map (λ v. v.1) config.volumes)

@@ -1,0 +1,25 @@
+//! The text of a job: read to a job, or to the first bad line, and written.
+//!
+//! `read_job` equals the grammar of `specs/Grammar.antt`, in both directions: a job, or the first bad line with the
+//! first kind that applies. `specs/Lines.antt` has the form of each line and `specs/Jobs.antt` what a job keeps.
+//! A job's programs and items are those of `channel_program`, so that following a script speaks of the same lists.
+#![tactic(auto)]
+
+mod config;
+mod job;
+mod kind;
+mod law;
+mod line;
+mod read;
+mod reading;
+#[cfg(test)]
+mod tests;
+mod words;
+mod write;
+
+pub use config::{Config, VolumeList};
+pub use job::{HostScript, HostScripts, Item, ItemList, Job};
+pub use kind::{JobKind, Keyword, Place};
+pub use law::{job_back, jobs_are_whole, line_back, lines_back, one_spelling, text_back};
+pub use read::{JobFault, read_job};
+pub use write::push_job;

@@ -1,0 +1,152 @@
+//! A text and its job.
+ghost use Rattle.std.specs.Prelude.{◌≡◌, ℕ, ◌<◌, ◌^◌, map, length, IfOk, OnOk, ◌==◌, ◌+◌, ◌≤◌, ◌++◌};
+ghost use Rattle.std.specs.Option.{option_to_list};
+ghost use Rattle.std.specs.List.{slice_split, find};
+ghost use Rattle.job_text.specs.Words.{lines_of};
+ghost use Rattle.job_text.specs.Jobs.{by_number, IsJob};
+ghost use Rattle.job_text.specs.Grammar.{nothing, lines_after, job_of};
+ghost use Rattle.job_text.specs.Outcomes.{Reads};
+ghost use Rattle.job_text.specs.SoFar.{so_far};
+
+use crate::config::{Config, VolumeList, volume_with};
+use crate::job::Job;
+use crate::kind::{JobKind, Place};
+use crate::line::LineFault;
+use crate::reading::Reading;
+use mss_base::{NoMemory, Serial, VolumeNo};
+use std::alloc::{AllocError, Global};
+
+/// Why a text has no job.
+#[derive(Clone, Copy, Debug, PartialEq, Eq)]
+pub enum JobFault {
+    /// The first bad line, counted from 1, and the first kind that applies to it.
+    Bad { line: u32, kind: JobKind },
+    /// Memory ran out.
+    Memory,
+}
+
+impl From<AllocError> for JobFault {
+    ghost use Rattle.std.specs.Prelude.{◌≡◌};
+    ghost use Rattle.job_text.specs.declared.read.JobFault.TheVariants.{Memory};
+
+    ghost from_gives = { λ _ e. e ≡ Memory };
+
+    fn from(_error: AllocError) -> JobFault {
+        JobFault::Memory
+    }
+}
+
+impl From<NoMemory> for JobFault {
+    ghost use Rattle.std.specs.Prelude.{◌≡◌};
+    ghost use Rattle.job_text.specs.declared.read.JobFault.TheVariants.{Memory};
+
+    ghost from_gives = { λ _ e. e ≡ Memory };
+
+    fn from(_error: NoMemory) -> JobFault {
+        JobFault::Memory
+    }
+}
+
+/// The most bytes of a text.
+const TEXT_LIMIT: usize = 4_194_304;
+
+/// The lines of a text.
+fn lines_of(alloc: Global, text: &[u8]) -> Result<Vec<&[u8]>, AllocError>
+    ensures lines { IfOk result (λ lines. map (λ line. line.now) lines.items ≡ lines_of text.now) }
+    ensures count { IfOk result (λ lines. length lines.items ≤ length text.now + 1) }
+{
+    let mut lines: Vec<&[u8]> = parts_of(alloc, text)?;
+    let Some(last) = lines.pop() else {
+        return Ok(lines);
+    };
+    if last.is_empty() {
+        return Ok(lines);
+    }
+    lines.push(last)?;
+    Ok(lines)
+}
+
+fn parts_of(alloc: Global, text: &[u8]) -> Result<Vec<&[u8]>, AllocError>
+    ensures { IfOk result (λ parts. map (λ p. p.now) parts.items ≡ slice_split (λ b. b == 10) text.now) }
+{
+    text.split(|b| *b == b'\n').collect(alloc)
+}
+
+/// What all lines say.
+fn read_lines(alloc: Global, lines: &[&[u8]]) -> Result<Reading, JobFault>
+    requires { length lines.now < 2 ^ 31 }
+    ensures { Reads so_far result (lines_after nothing 1 (map (λ line. line.now) lines.now)) }
+{
+    let mut reading = Reading::new(alloc);
+    let mut number = 1u32;
+    let mut rest = lines;
+    while let [line, after @ ..] = rest {
+        match reading.take_line(alloc, line) {
+            Ok(()) => {}
+            Err(LineFault::Bad(kind)) => return Err(JobFault::Bad { line: number, kind }),
+            Err(LineFault::Memory) => return Err(JobFault::Memory),
+        }
+        number += 1;
+        rest = after;
+    }
+    if reading.place != Place::After {
+        return Err(JobFault::Bad {
+            line: number,
+            kind: JobKind::Ended,
+        });
+    }
+    Ok(reading)
+}
+
+/// Puts the volume with this number, if there is one.
+fn put_numbered(
+    ordered: &mut VolumeList,
+    volumes: &[(VolumeNo, Serial)],
+    number: u8,
+) -> Result<(), NoMemory>
+    ensures { OnOk result (ordered.new.items ≡ ordered.old.items ++ option_to_list (find (λ v. v.0 == number) volumes.now)) }
+{
+    if let Some(volume) = volume_with(volumes, number) {
+        ordered.reserve(1)?;
+        ordered.push(volume);
+    }
+    Ok(())
+}
+
+/// The volumes in order of number.
+fn by_number(alloc: Global, volumes: &[(VolumeNo, Serial)]) -> Result<VolumeList, NoMemory>
+    ensures { IfOk result (λ ordered. ordered.items ≡ by_number volumes.now) }
+{
+    let mut ordered = VolumeList::new(alloc);
+    for number in 0..32u8 {
+        put_numbered(&mut ordered, volumes, number)?;
+    }
+    Ok(ordered)
+}
+
+/// The job of a text, or the first bad line with the first kind that applies, or want of memory.
+///
+/// The volumes of the job stand in order of number, whatever the order of their lines. A text of more than 4,194,304
+/// bytes is `TooBig`, told with line 0; a text without `done` is `Ended`, told with the line behind its last.
+pub fn read_job(alloc: Global, text: &[u8]) -> Result<Job, JobFault>
+    ensures job { Reads (λ job. job) result (job_of text.now) }
+    ensures whole { IfOk result IsJob }
+{
+    if text.len() > TEXT_LIMIT {
+        return Err(JobFault::Bad {
+            line: 0,
+            kind: JobKind::TooBig,
+        });
+    }
+    let lines = lines_of(alloc, text)?;
+    let reading = read_lines(alloc, &lines)?;
+    let volumes = by_number(alloc, reading.volumes.as_slice())?;
+    Ok(Job {
+        config: Config {
+            frames: reading.frames,
+            recorders: reading.recorders,
+            volumes,
+        },
+        hosts: reading.closed,
+    })
+}

@@ -1,0 +1,159 @@
+//! The words of a line, and how they are spelled.
+ghost use Rattle.std.specs.Prelude.{◌≡◌, ℕ, ◌+◌, ◌*◌, ◌<◌, ◌==◌, Option, Some, None, MatchOption, IfOk, OnOk, ◌++◌, replicate, false, IfSome, length, map, unwrap_or, true};
+ghost use Rattle.std.specs.List.{list_all, slice_split};
+ghost use Rattle.std.specs.Str.{bytes_eq};
+ghost use Rattle.hex.specs.Hex.{is_hex_digit, hex_digit_value};
+ghost use Rattle.job_text.specs.Words.{words_of, is_skipped, is_printable, is_digit, is_number, number_of, number_word, is_hex, bytes_of, is_hex_byte, byte_of, byte_word, is_serial};
+
+use mss_base::{Bytes, NoMemory, Serial};
+use std::alloc::{AllocError, Global};
+
+pub fn words_of(alloc: Global, line: &[u8]) -> Result<Vec<&[u8]>, AllocError>
+    ensures { IfOk result (λ words. map (λ w. w.now) words.items ≡ words_of line.now) }
+{
+    line.split(|b| *b == b' ').collect(alloc)
+}
+
+/// Whether a line is empty or begins with `#`.
+pub fn is_skipped(line: &[u8]) -> bool
+    ensures { result ≡ is_skipped line.now }
+{
+    line.is_empty() || line[0] == b'#'
+}
+
+fn is_printable(b: u8) -> bool
+    ensures { result ≡ is_printable b }
+{
+    0x20 <= b && b <= 0x7e
+}
+
+pub fn are_printable(line: &[u8]) -> bool
+    ensures { result ≡ list_all is_printable line.now }
+{
+    line.iter().all(|b| is_printable(*b))
+}
+
+/// Whether a word is this text.
+pub fn is_word(word: &[u8], text: &str) -> bool
+    ensures { result ≡ bytes_eq text.now word.now }
+{
+    text.as_bytes() == word
+}
+
+fn is_digit(b: u8) -> bool
+    ensures { result ≡ is_digit b }
+{
+    b'0' <= b && b <= b'9'
+}
+
+fn are_digits(word: &[u8]) -> bool
+    ensures { result ≡ list_all is_digit word.now }
+{
+    word.iter().all(|b| is_digit(*b))
+}
+
+fn is_number(word: &[u8]) -> bool
+    ensures { result ≡ is_number word.now }
+{
+    1 <= word.len() && word.len() <= 5 && are_digits(word) && (word.len() == 1 || word[0] != b'0')
+}
+
+fn number_of(word: &[u8]) -> u32
+    requires { is_number word.now ≡ true }
+    ensures { result ≡ number_of word.now }
+{
+    let mut number = 0u32;
+    for b in word {
+        number = 10 * number + u32::from(*b - b'0');
+    }
+    number
+}
+
+/// The number that a word says.
+pub fn number(word: &[u8]) -> Option<u32>
+    ensures { result ≡ number_word word.now }
+{
+    if is_number(word) {
+        Some(number_of(word))
+    } else {
+        None
+    }
+}
+
+fn digit_value(b: u8) -> Option<u8>
+    ensures value { result ≡ hex_digit_value b }
+    ensures small { IfSome result (λ v. v < 16) }
+{
+    match b {
+        b'A'..=b'F' => Some(b - 55),
+        b'a'..=b'f' => Some(b - 87),
+        b'0'..=b'9' => Some(b - 48),
+        _ => None,
+    }
+}
+
+fn are_hex_digits(word: &[u8]) -> bool
+    ensures { result ≡ list_all is_hex_digit word.now }
+{
+    word.iter().all(|b| digit_value(*b).is_some())
+}
+
+/// Whether a word is pairs of hexadecimal digits.
+pub fn is_hex(word: &[u8]) -> bool
+    ensures { result ≡ is_hex word.now }
+{
+    1 <= word.len() && word.len() % 2 == 0 && are_hex_digits(word)
+}
+
+fn pair_value(high: u8, low: u8) -> u8
+    ensures { result ≡ unwrap_or (hex_digit_value high) 0 * 16 + unwrap_or (hex_digit_value low) 0 }
+{
+    digit_value(high).unwrap_or(0) * 16 + digit_value(low).unwrap_or(0)
+}
+
+/// The bytes that the pairs of a word say.
+pub fn bytes_of(alloc: Global, word: &[u8]) -> Result<Bytes, NoMemory>
+    ensures { IfOk result (λ bytes. bytes.items ≡ bytes_of word.now) }
+{
+    let mut bytes = Bytes::new(alloc);
+    bytes.reserve(word.len() / 2)?;
+    let mut rest = word;
+    while let [high, low, after @ ..] = rest {
+        bytes.push(pair_value(*high, *low));
+        rest = after;
+    }
+    Ok(bytes)
+}
+
+/// The byte that a word of one pair says.
+pub fn byte(word: &[u8]) -> Option<u8>
+    ensures { result ≡ byte_word word.now }
+{
+    match word {
+        [high, low] if is_hex(word) => Some(pair_value(*high, *low)),
+        _ => None,
+    }
+}
+
+/// The serial that a word says.
+pub fn serial(word: &[u8]) -> Option<Serial>
+    ensures { MatchOption result (is_serial word.now ≡ false) (λ serial. (is_serial word.now ≡ true) × (serial ≡ word.now)) }
+{
+    if word.len() != 6 {
+        return None;
+    }
+    let mut bytes = [0; 6];
+    bytes.copy_from_slice(word);
+    Serial::of(bytes)
+}
+
+/// Puts a byte behind the others, this many times.
+pub fn append_copies(bytes: &mut Bytes, byte: u8, count: usize) -> Result<(), NoMemory>
+    ensures { OnOk result (bytes.new.items ≡ bytes.old.items ++ replicate count byte) }
+{
+    bytes.reserve(count)?;
+    for _ in 0..count {
+        bytes.push(byte);
+    }
+    Ok(())
+}
