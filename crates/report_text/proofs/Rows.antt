@@ -1,0 +1,61 @@
+-- Parts of reports, computed by the definition.
+use Rattle.std.specs.Prelude.{◌≡◌, ℕ, List, [], ◌∷◌, ◌++◌, Some, None, true, false, refl, codes}
+use Rattle.std.specs.List.{flat_map}
+use Rattle.std.specs.Fmt.{digits}
+use Rattle.channel_commands.specs.Data.{mount, demount, command, done, mounted, demounted, equipment_check}
+use Rattle.ckd_track.specs.Data.{RecordData}
+use Rattle.ckd_plain.specs.History.{EntryData}
+use Rattle.report_text.specs.declared.one_line.OneLine.TheVariants.{TornTrack}
+use Rattle.report_text.specs.Texts.{entry_text, history_text, record_text, track_line, track_text, heading_text, stopped_text}
+use Rattle.report_text.specs.OneLines.{one_line_text}
+
+lines : List (List ℕ) → List ℕ
+lines ls = flat_map (λ l. l ++ 10 ∷ []) ls
+
+-- a read that gives three bytes
+read_entry : EntryData
+read_entry = record { host = 1; number = 8; call = command 0x06 [] false; reply = done 0x0C (0x41 ∷ 0x42 ∷ 0x43 ∷ []); fault = None }
+
+-- the eighth entry of a history
+read_line : entry_text 8 read_entry ≡ codes "entry 8 host 1 ccw 06 status 0C data 414243\n"
+unfolding digits entry_text read_entry
+read_line = refl
+
+-- a record on cylinder 5, head 3, without a key
+stored : RecordData
+stored = record { id = 0 ∷ 5 ∷ 0 ∷ 3 ∷ 1 ∷ []; key = []; body = 0x41 ∷ 0x42 ∷ 0x43 ∷ [] }
+
+record_line : record_text stored ≡ codes "record 0005000301 - 414243\n"
+unfolding record_text stored
+record_line = refl
+
+track_lines : track_text 5 3 (stored ∷ []) ≡ lines (codes "track 5 3" ∷ codes "record 0005000301 - 414243" ∷ [])
+unfolding digits track_text track_line record_text stored lines
+track_lines = refl
+
+blank_track : track_text 5 3 [] ≡ []
+unfolding track_text
+blank_track = refl
+
+-- mounts, a fault of a device, a demount
+whole_history : history_text (
+    record { host = 1; number = 1; call = mount 0 false; reply = mounted; fault = None }
+    ∷ record { host = 2; number = 1; call = mount 17 true; reply = mounted; fault = None }
+    ∷ record { host = 1; number = 2; call = command 0x31 (0 ∷ 0 ∷ 0 ∷ 0 ∷ 0 ∷ []) false; reply = equipment_check; fault = Some 1 }
+    ∷ record { host = 2; number = 2; call = demount; reply = demounted; fault = None } ∷ [])
+    ≡ lines (codes "MSS REPORT 1" ∷ codes "entry 1 host 1 mount 0 mounted" ∷ codes "entry 2 host 2 mount 17 bind mounted"
+    ∷ codes "entry 3 host 1 ccw 31 equipment check fault 1" ∷ codes "entry 4 host 2 demount demounted" ∷ [])
+unfolding digits history_text entry_text lines
+whole_history = refl
+
+heading : heading_text 0 (codes "VOL001") ≡ codes "volume 0 VOL001\n"
+unfolding digits heading_text
+heading = refl
+
+stopped_line : stopped_text 4 ≡ codes "STOPPED 4\n"
+unfolding digits stopped_text
+stopped_line = refl
+
+torn_line : one_line_text (TornTrack 0 5 3) ≡ codes "restart refused torn track volume 0 cylinder 5 head 3\n"
+unfolding digits one_line_text
+torn_line = refl

@@ -1,0 +1,17 @@
+use Rattle.std.specs.Prelude.{codes}
+use Rattle.mss_base.proofs.Putting.{puts_after, puts_stops}
+use Rattle.report_text.specs.Texts.{numbered, entry_text, history_text}
+use Rattle.report_text.proofs.LineLemmas.{puts_failed}
+use Rattle.report_text.proofs.report.put_history.Goals as goal
+
+pub returns-in_err-put_text-clause-bytes : goal.returns-in_err-put_text-clause-bytes
+unfolding history_text
+returns-in_err-put_text-clause-bytes g c = λ told.
+    puts_failed c.from_residual.result _ (g.O.Sink.told c.args.output.now) (g.O.Sink.told c.put_text.new.output) (history_text c.args.entries.now) c.from_residual.ensures.1
+    (puts_stops (g.O.Sink.told c.args.output.now) (g.O.Sink.told c.put_text.new.output) (codes "MSS REPORT 1\n") (numbered entry_text 1 c.args.entries.now) (c.in_err-put_text.ensures.bytes told))
+
+pub returns-clause-bytes : goal.returns-clause-bytes
+unfolding history_text
+returns-clause-bytes g c = λ told.
+    puts_after c.put_entries.result (g.O.Sink.told c.args.output.now) (g.O.Sink.told c.put_text.new.output) (g.O.Sink.told c.put_entries.new.output) (codes "MSS REPORT 1\n") (numbered entry_text 1 c.args.entries.now)
+    (c.in_ok-put_text.ensures.bytes told) (c.put_entries.ensures.bytes told)

@@ -1,0 +1,18 @@
+//! The text of a report, and the functions that put it into a sink, line by line.
+//!
+//! Each function puts one part: the history, a volume's heading, a track, the last line, or an output of one line. Its
+//! clause says which text was put, or after a fault a front of it. The texts are defined in specs/Texts.antt and
+//! specs/OneLines.antt. The layer above puts the parts one behind the other, by the lemmas of `mss_base`'s
+//! proofs/Putting.antt and of proofs/TrackTexts.antt here.
+#![tactic(auto)]
+
+mod one_line;
+mod report;
+#[cfg(test)]
+mod tests;
+mod text;
+
+pub use one_line::{OneLine, put_line};
+pub use report::{
+    ReportFault, put_end, put_heading, put_history, put_limit, put_stopped, put_track,
+};

@@ -1,0 +1,226 @@
+// The parts of a report, each put into a sink.
+ghost use Rattle.std.specs.Prelude.{◌≡◌, ◌≤◌, ◌++◌, [], IsOk, IsErrOf, IsOkUnless, length, codes, decimal};
+ghost use Rattle.mss_base.specs.Counts.{Rises};
+ghost use Rattle.mss_base.specs.Puts.{Puts};
+ghost use Rattle.ckd_track.specs.Track.{reading};
+ghost use Rattle.report_text.specs.Texts.{numbered, entry_text, history_text, track_text, heading_text, place_text, end_text, limit_text, stopped_text};
+
+use crate::text::{push_entry, push_heading, push_numbered, push_place, push_track};
+use ckd_plain::Entry;
+use ckd_track::stored_records;
+use mss_base::{Bytes, Cylinder, Failed, Head, NoMemory, Serial, Sink, VolumeNo};
+
+/// Why a part of a report wasn't put whole. A front of it was.
+#[derive(Clone, Copy, Debug, PartialEq, Eq)]
+pub enum ReportFault {
+    /// The sink failed.
+    Output,
+    /// Memory ran out.
+    Memory,
+}
+
+impl From<Failed> for ReportFault {
+    ghost use Rattle.std.specs.Prelude.{◌≡◌};
+    ghost use Rattle.report_text.specs.declared.report.ReportFault.TheVariants.{Output};
+
+    ghost from_gives = { λ _ e. e ≡ Output };
+
+    fn from(_: Failed) -> Self {
+        ReportFault::Output
+    }
+}
+
+impl From<NoMemory> for ReportFault {
+    ghost use Rattle.std.specs.Prelude.{◌≡◌};
+    ghost use Rattle.report_text.specs.declared.report.ReportFault.TheVariants.{Memory};
+
+    ghost from_gives = { λ _ e. e ≡ Memory };
+
+    fn from(_: NoMemory) -> Self {
+        ReportFault::Memory
+    }
+}
+
+/// Puts bytes that stand ready.
+pub fn put_bytes<O: Sink>(output: &mut O, bytes: &[u8]) -> Result<(), ReportFault>
+    ensures bytes { O.tells → Puts result (O.told output.old) (O.told output.new) bytes.now }
+    ensures later { O.faults output.old ≤ O.faults output.new }
+    ensures output { IsErrOf result ReportFault.Output → Rises (O.faults output.old) (O.faults output.new) }
+    ensures no_memory { IsOkUnless result ReportFault.Output }
+{
+    output.put(bytes)?;
+    Ok(())
+}
+
+/// Puts the text of a line that is always the same.
+pub fn put_text<O: Sink>(output: &mut O, text: &str) -> Result<(), ReportFault>
+    ensures bytes { O.tells → Puts result (O.told output.old) (O.told output.new) text.now }
+    ensures later { O.faults output.old ≤ O.faults output.new }
+    ensures output { IsErrOf result ReportFault.Output → Rises (O.faults output.old) (O.faults output.new) }
+    ensures no_memory { IsOkUnless result ReportFault.Output }
+{
+    put_bytes(output, text.as_bytes())
+}
+
+/// Puts a line that ends in a number.
+pub fn put_numbered<O: Sink>(
+    output: &mut O,
+    buffer: &mut Bytes,
+    text: &str,
+    number: u64,
+) -> Result<(), ReportFault>
+    ensures bytes { O.tells → Puts result (O.told output.old) (O.told output.new) (text.now ++ decimal number ++ codes "\n") }
+    ensures later { O.faults output.old ≤ O.faults output.new }
+    ensures output { IsErrOf result ReportFault.Output → Rises (O.faults output.old) (O.faults output.new) }
+{
+    buffer.truncate(0);
+    push_numbered(buffer, text, number)?;
+    put_bytes(output, buffer.as_slice())
+}
+
+/// Puts a line that ends in a track, by volume, cylinder and head.
+pub fn put_place<O: Sink>(
+    output: &mut O,
+    buffer: &mut Bytes,
+    text: &str,
+    volume: VolumeNo,
+    cylinder: Cylinder,
+    head: Head,
+) -> Result<(), ReportFault>
+    ensures bytes { O.tells → Puts result (O.told output.old) (O.told output.new) (text.now ++ place_text volume cylinder head ++ codes "\n") }
+    ensures later { O.faults output.old ≤ O.faults output.new }
+    ensures output { IsErrOf result ReportFault.Output → Rises (O.faults output.old) (O.faults output.new) }
+{
+    buffer.truncate(0);
+    push_place(buffer, text, volume, cylinder, head)?;
+    put_bytes(output, buffer.as_slice())
+}
+
+fn put_entry<O: Sink>(
+    output: &mut O,
+    buffer: &mut Bytes,
+    number: u64,
+    entry: &Entry,
+) -> Result<(), ReportFault>
+    ensures bytes { O.tells → Puts result (O.told output.old) (O.told output.new) (entry_text number entry.now) }
+    ensures later { O.faults output.old ≤ O.faults output.new }
+    ensures output { IsErrOf result ReportFault.Output → Rises (O.faults output.old) (O.faults output.new) }
+{
+    buffer.truncate(0);
+    push_entry(buffer, number, entry)?;
+    put_bytes(output, buffer.as_slice())
+}
+
+fn put_entries<O: Sink>(
+    output: &mut O,
+    buffer: &mut Bytes,
+    entries: &[Entry],
+) -> Result<(), ReportFault>
+    ensures bytes { O.tells → Puts result (O.told output.old) (O.told output.new) (numbered entry_text 1 entries.now) }
+    ensures later { O.faults output.old ≤ O.faults output.new }
+    ensures output { IsErrOf result ReportFault.Output → Rises (O.faults output.old) (O.faults output.new) }
+{
+    let mut number = 1;
+    for entry in entries {
+        put_entry(output, buffer, number, entry)?;
+        number += 1;
+    }
+    Ok(())
+}
+
+/// Puts the first line of a report and the lines of its entries, each by a call of its own.
+///
+/// The content of the buffer means nothing afterwards.
+pub fn put_history<O: Sink>(
+    output: &mut O,
+    buffer: &mut Bytes,
+    entries: &[Entry],
+) -> Result<(), ReportFault>
+    ensures bytes { O.tells → Puts result (O.told output.old) (O.told output.new) (history_text entries.now) }
+    ensures later { O.faults output.old ≤ O.faults output.new }
+    ensures output { IsErrOf result ReportFault.Output → Rises (O.faults output.old) (O.faults output.new) }
+{
+    put_text(output, "MSS REPORT 1\n")?;
+    put_entries(output, buffer, entries)
+}
+
+/// Puts the heading of a volume.
+///
+/// The content of the buffer means nothing afterwards.
+pub fn put_heading<O: Sink>(
+    output: &mut O,
+    buffer: &mut Bytes,
+    number: VolumeNo,
+    serial: &Serial,
+) -> Result<(), ReportFault>
+    ensures bytes { O.tells → Puts result (O.told output.old) (O.told output.new) (heading_text number serial.now) }
+    ensures later { O.faults output.old ≤ O.faults output.new }
+    ensures output { IsErrOf result ReportFault.Output → Rises (O.faults output.old) (O.faults output.new) }
+{
+    buffer.truncate(0);
+    push_heading(buffer, number, serial)?;
+    put_bytes(output, buffer.as_slice())
+}
+
+/// Puts the track of a block of 16,384 bytes, by one call. Of a blank track it puts nothing and looks at one byte.
+///
+/// Records behind a bad one are none of the track's. The content of the buffer means nothing afterwards.
+pub fn put_track<O: Sink>(
+    output: &mut O,
+    buffer: &mut Bytes,
+    cylinder: Cylinder,
+    head: Head,
+    block: &[u8],
+) -> Result<(), ReportFault>
+    requires { length block.now ≡ 16384 }
+    ensures bytes { O.tells → Puts result (O.told output.old) (O.told output.new) (track_text cylinder head (reading block.now).records) }
+    ensures blank { (reading block.now).records ≡ [] → IsOk result × (output.new ≡ output.old) }
+    ensures later { O.faults output.old ≤ O.faults output.new }
+    ensures output { IsErrOf result ReportFault.Output → Rises (O.faults output.old) (O.faults output.new) }
+{
+    let mut records = stored_records(block);
+    let Some(first) = records.next() else {
+        return Ok(());
+    };
+    buffer.truncate(0);
+    push_track(buffer, cylinder, head, &first, records)?;
+    put_bytes(output, buffer.as_slice())
+}
+
+/// Puts the last line of a whole report.
+#[tactic(auto, unfolding(crate::specs::Texts::end_text))]
+pub fn put_end<O: Sink>(output: &mut O) -> Result<(), ReportFault>
+    ensures bytes { O.tells → Puts result (O.told output.old) (O.told output.new) end_text }
+    ensures later { O.faults output.old ≤ O.faults output.new }
+    ensures output { IsErrOf result ReportFault.Output → Rises (O.faults output.old) (O.faults output.new) }
+    ensures no_memory { IsOkUnless result ReportFault.Output }
+{
+    put_text(output, "END\n")
+}
+
+/// Puts the last line of a report whose session came to the limit of its calls.
+#[tactic(auto, unfolding(crate::specs::Texts::limit_text))]
+pub fn put_limit<O: Sink>(output: &mut O) -> Result<(), ReportFault>
+    ensures bytes { O.tells → Puts result (O.told output.old) (O.told output.new) limit_text }
+    ensures later { O.faults output.old ≤ O.faults output.new }
+    ensures output { IsErrOf result ReportFault.Output → Rises (O.faults output.old) (O.faults output.new) }
+    ensures no_memory { IsOkUnless result ReportFault.Output }
+{
+    put_text(output, "LIMIT\n")
+}
+
+/// Puts the last line of a report that a device's failure ended; `fault` is the count of faults then.
+///
+/// The content of the buffer means nothing afterwards.
+#[tactic(auto, unfolding(crate::specs::Texts::stopped_text))]
+pub fn put_stopped<O: Sink>(
+    output: &mut O,
+    buffer: &mut Bytes,
+    fault: u64,
+) -> Result<(), ReportFault>
+    ensures bytes { O.tells → Puts result (O.told output.old) (O.told output.new) (stopped_text fault) }
+    ensures later { O.faults output.old ≤ O.faults output.new }
+    ensures output { IsErrOf result ReportFault.Output → Rises (O.faults output.old) (O.faults output.new) }
+{
+    put_numbered(output, buffer, "STOPPED ", fault)
+}
