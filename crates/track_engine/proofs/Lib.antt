@@ -1,0 +1,9 @@
+pub mod Volumes
+pub mod Finding
+pub mod Reading
+pub mod Unwritten
+pub mod Spelling
+pub mod Formats
+pub mod Steps
+pub mod Answering
+pub mod Updates

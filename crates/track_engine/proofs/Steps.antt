@@ -1,0 +1,118 @@
+-- What the writes of a command leave, step by step.
+use Rattle.std.proofs.Common.{◌≡◌, inl, inr, ℕ, ◌+◌, ◌-◌, List, [], ◌∷◌, ◌++◌, take, Option, Some, None, Result, Ok, Err, sym, ap, ◌∙◌, subst, arith}
+use Rattle.std.specs.Prelude.{Bool, IfErr}
+use Rattle.mss_base.specs.declared.place.UnitNo.{UnitNo}
+use Rattle.mss_base.specs.declared.place.BlockPlace.{BlockPlace}
+use Rattle.mss_base.specs.Content.{SiteLog, content, Writes, ChangesBlock}
+use Rattle.mss_base.proofs.Moments.{block_weaker}
+use Rattle.channel_commands.specs.declared.command.Command.{Command}
+use Rattle.channel_commands.specs.declared.command.Command.TheVariants as command
+use Rattle.channel_commands.specs.declared.command.WriteKind.TheVariants as write
+use Rattle.ckd_track.specs.Data.{RecordData}
+use Rattle.ckd_track.specs.Track.{reading, reading_of}
+use Rattle.ckd_track.specs.Formatting.{IsFormatting, as_it_was, cut_short, completed}
+use Rattle.ckd_plain.specs.declared.done.DoneCommand.{DoneCommand}
+use Rattle.ckd_plain.specs.declared.host.Position.TheVariants as position
+use Rattle.ckd_plain.specs.declared.host.Prior.TheVariants as prior
+use Rattle.ckd_plain.specs.declared.unit_check.Refusal.{Refusal}
+use Rattle.ckd_plain.specs.Effects.{Effect, Outcome, DONE, effect_with}
+use Rattle.ckd_plain.specs.Views.{effect_of}
+use Rattle.track_engine.specs.declared.find.RecordPlace.{RecordPlace}
+use Rattle.track_engine.specs.declared.place.NotDone.{NotDone}
+use Rattle.track_engine.specs.declared.place.NotDone.TheVariants.{Refused, Fault}
+use Rattle.track_engine.specs.declared.place.EngineFault.{EngineFault}
+use Rattle.track_engine.specs.declared.place.EngineFault.TheVariants.{ReadFailed, WriteFailed, Memory}
+use Rattle.track_engine.specs.Faults.{LeavesSite, IsReadFault, IsFaultOf}
+use Rattle.track_engine.specs.Found.{GivesBut}
+use Rattle.track_engine.specs.Writing.{IsStep, WritesBlock, HoldsWritten, CarriesOut, written_of, effect_as, formatted_behind}
+
+-- ---- formatting a record
+
+abbrev format_command : Command
+format_command = command.Write write.CountKeyData
+
+-- what was done
+abbrev done_with : Option (List RecordData) → DoneCommand → Outcome
+done_with written d = Ok (effect_as written d)
+
+-- with a track written
+abbrev writes_too : List RecordData → Effect → Outcome
+writes_too track e = Ok (record e { written = Some track })
+
+module _ (unit : UnitNo) (block : ℕ) (s t : SiteLog) (at : RecordPlace) (r : RecordData) (a : List ℕ) (good : (reading a).bad ≡ None) where
+  abbrev new_track : List RecordData
+  new_track = take at.number (reading a).records ++ r ∷ []
+
+  from_formatting : (b : List ℕ) → IsFormatting at.number r (reading a) (reading b) → IsStep format_command at.number (reading a).records new_track b
+  from_formatting b formats = record {
+    good = formats.track good;
+    step = elim formats.records [ as_it_was is ↦ inl is | cut_short is ↦ inr (inr is) | completed is ↦ inr (inl is) ];
+  }
+
+  module _ (number : ℕ) (behind : number ≡ at.number + 1)
+      (moments : Writes (ChangesBlock unit block (λ b. IsFormatting (number - 1) r (reading a) (reading b)) (content s)) s t) where
+    before_is : number - 1 ≡ at.number
+    before_is = omega arith
+
+    steps : Writes (ChangesBlock unit block (IsStep format_command at.number (reading a).records new_track) (content s)) s t
+    steps =
+        block_weaker unit block (λ b. IsFormatting at.number r (reading a) (reading b)) (IsStep format_command at.number (reading a).records new_track) from_formatting s t
+        (subst (λ (n : ℕ). Writes (ChangesBlock unit block (λ b. IsFormatting n r (reading a) (reading b)) (content s)) s t) before_is moments)
+
+    pub format_carried_out : (d : DoneCommand) → effect_of d ≡ effect_with DONE [] (record at.host { position = position.Done number; prior = prior.Wrote number })
+        → reading (content t unit block) ≡ reading_of (take (number - 1) (reading a).records ++ r ∷ [])
+        → CarriesOut (Ok (formatted_behind (reading a).records r at)) format_command at.number (reading a).records unit block s t (Ok d)
+    format_carried_out d does holds = record {
+      outcome = ap (λ (n : ℕ). writes_too new_track (effect_with DONE [] (record at.host { position = position.Done n; prior = prior.Wrote n }))) (sym behind) ∙ ap (writes_too new_track) (sym does);
+      moments = steps;
+      exact = holds ∙ ap (λ (n : ℕ). reading_of (take n (reading a).records ++ r ∷ [])) before_is;
+      log = tt;
+    }
+
+    pub format_failed : (fault : ℕ) → CarriesOut (Ok (formatted_behind (reading a).records r at)) format_command at.number (reading a).records unit block s t (Err (Fault (WriteFailed fault)))
+    format_failed fault = record { outcome = tt; moments = steps; exact = tt; log = tt }
+
+-- ---- a command that wrote nothing
+
+-- a search or a read, whatever kept it from being done
+module _ (given : Outcome) (c : Command) (k : ℕ) (track : List RecordData) (unit : UnitNo) (block : ℕ) (old new : SiteLog) (unwritten : written_of given ≡ None) (same : new ≡ old) where
+  moments_of : WritesBlock c k track unit block old new (written_of given)
+  moments_of = subst (λ (written : Option (List RecordData)). WritesBlock c k track unit block old new written) (sym unwritten) same
+
+  leaves : (fault : EngineFault) → LeavesSite old new fault
+  leaves (ReadFailed fault) = same
+  leaves (WriteFailed fault) = tt
+  leaves Memory = same
+
+  pub read_carried_out : (result : Result DoneCommand NotDone) → GivesBut effect_of result given → CarriesOut given c k track unit block old new result
+  read_carried_out (Ok d) gives = record {
+    outcome = gives ∙ ap (λ (written : Option (List RecordData)). done_with written d) (sym unwritten);
+    moments = moments_of;
+    exact = subst (λ (written : Option (List RecordData)). HoldsWritten written (reading (content new unit block))) (sym unwritten) tt;
+    log = tt;
+  }
+  read_carried_out (Err (Refused refusal)) gives = record { outcome = gives; moments = moments_of; exact = tt; log = same }
+  read_carried_out (Err (Fault fault)) gives = record { outcome = tt; moments = moments_of; exact = tt; log = leaves fault }
+
+-- a fault of a read is one of any command
+fault_of_read : (writes : Bool) (before now : ℕ) (e : NotDone) → IsReadFault before now e → IsFaultOf writes before now e
+fault_of_read writes before now (Refused refusal) is = tt
+fault_of_read writes before now (Fault (ReadFailed fault)) is = (is, tt)
+fault_of_read writes before now (Fault (WriteFailed fault)) is = absurd is
+fault_of_read writes before now (Fault Memory) is = (tt, tt)
+
+pub faults_of_read : (writes : Bool) (before now : ℕ) (result : Result DoneCommand NotDone) → IfErr result (IsReadFault before now) → IfErr result (IsFaultOf writes before now)
+faults_of_read writes before now (Ok d) is = tt
+faults_of_read writes before now (Err e) is = fault_of_read writes before now e is
+
+-- a write that ended with unit check
+pub refused_write : (given : Outcome) (c : Command) (k : ℕ) (track : List RecordData) (unit : UnitNo) (block : ℕ) (old new : SiteLog) (refusal : Refusal) → given ≡ Err refusal → new ≡ old
+    → CarriesOut given c k track unit block old new (Err (Refused refusal))
+refused_write given c k track unit block old new refusal gives same = read_carried_out given c k track unit block old new (ap written_of gives) same (Err (Refused refusal)) gives
+
+-- the same said of equal things
+pub carried_over : (given given' : Outcome) (c : Command) (k k' : ℕ) (track track' : List RecordData) (to : BlockPlace) (unit : UnitNo) (block : ℕ) (old old' new : SiteLog) (result : Result DoneCommand NotDone)
+    → given' ≡ given → k ≡ k' → track ≡ track' → to ≡ record { unit = unit; block = block } → old ≡ old'
+    → CarriesOut given c k track to.unit to.block old new result → CarriesOut given' c k' track' unit block old' new result
+carried_over given given' c k k' track track' to unit block old old' new result given_is k_is track_is to_is old_is carried =
+    subst (λ (T : Type 0). T) (λ i. CarriesOut (sym given_is i) c (k_is i) (track_is i) (to_is i).unit (to_is i).block (old_is i) new result) carried

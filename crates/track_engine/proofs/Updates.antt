@@ -1,0 +1,143 @@
+-- What the plain machine makes of a write data or write key data, once its record is found, and what the write leaves step by step.
+use Rattle.std.proofs.Common.{◌≡◌, inr, ℕ, suc, ◌-◌, ◌≤◌, Bool, true, false, List, [], length, Some, None, Result, Ok, Err, refl, sym, ap, ◌∙◌, arith, length-drop}
+use Rattle.std.specs.Prelude.{slice_index_or}
+use Rattle.std.proofs.lemmas.List.{length-take-le}
+use Rattle.std.proofs.lemmas.Option.{slice_get-get_or}
+use Rattle.mss_base.specs.declared.place.UnitNo.{UnitNo}
+use Rattle.mss_base.specs.Content.{SiteLog, content, Writes, ChangesBlock}
+use Rattle.mss_base.proofs.Moments.{block_weaker}
+use Rattle.channel_commands.specs.declared.command.Command.TheVariants as command
+use Rattle.ckd_track.specs.Data.{RecordData, blank_record}
+use Rattle.ckd_track.specs.Track.{Reading, reading}
+use Rattle.ckd_track.specs.Updating.{IsUpdating, updated_length, with_bytes, record_behind, updated}
+use Rattle.ckd_plain.specs.declared.done.DoneCommand.{DoneCommand}
+use Rattle.ckd_plain.specs.declared.host.HostState.{HostState}
+use Rattle.ckd_plain.specs.declared.host.Position.TheVariants as position
+use Rattle.ckd_plain.specs.declared.host.Prior.{Prior}
+use Rattle.ckd_plain.specs.declared.unit_check.Refusal.{Refusal}
+use Rattle.ckd_plain.specs.Data.{records_of, padded}
+use Rattle.ckd_plain.specs.Checks.{◌>>=◌}
+use Rattle.ckd_plain.specs.Index.{Found, same_record}
+use Rattle.ckd_plain.specs.Effects.{Effect, Outcome, effect_with, status_of, prior_number, with_body, with_key_body, write_, updated as plain_updated}
+use Rattle.ckd_plain.specs.Near.{IsOverwritten}
+use Rattle.ckd_plain.specs.declared.found.FoundRecord.{FoundRecord}
+use Rattle.ckd_plain.specs.Views.{effect_of, found_of, item_of}
+use Rattle.track_engine.specs.declared.find.RecordPlace.{RecordPlace}
+use Rattle.track_engine.specs.declared.place.NotDone.TheVariants.{Fault}
+use Rattle.track_engine.specs.declared.place.EngineFault.TheVariants.{WriteFailed}
+use Rattle.track_engine.specs.Found.{found_at}
+use Rattle.track_engine.specs.Writing.{IsBetween, IsStep, CarriesOut, update_kind, updated_at}
+
+-- ---- what the plain machine gives
+
+-- the record at a place behind R0 is one of the track
+pub item_behind : (track : List RecordData) (host : HostState) (number : ℕ) → 1 ≤ number → slice_index_or (records_of host track) number blank_record ≡ record_behind (number - 1) track
+item_behind track host number first =
+    let next : number ≡ suc (number - 1) = omega arith in
+    ap (λ (k : ℕ). slice_index_or (records_of host track) k blank_record) next
+
+abbrev with_argument : Bool → RecordData → List ℕ → RecordData
+with_argument false r argument = with_body r argument
+with_argument true r argument = with_key_body r argument
+
+with_argument-is : (key_too : Bool) (r : RecordData) (argument : List ℕ) → with_argument key_too r argument ≡ with_bytes key_too (padded (updated_length key_too r) argument) r
+with_argument-is false r argument = refl
+with_argument-is true r argument = refl
+
+-- a write of this kind
+abbrev given : Bool → List RecordData → HostState → Prior → List ℕ → Outcome
+given key_too track host left argument = write_ track host left (update_kind key_too) argument
+
+bound : (key_too : Bool) (track : List RecordData) (host : HostState) (left : Prior) (argument : List ℕ)
+    → given key_too track host left argument ≡ (same_record track host (prior_number left) >>= λ found. plain_updated track found (with_argument key_too found.item argument))
+unfolding write_
+bound false track host left argument = refl
+bound true track host left argument = refl
+
+module _ (key_too : Bool) (block : List ℕ) (host : HostState) (left : Prior) (argument : List ℕ) (number : ℕ) (number_is : number ≡ prior_number left)
+    (there : List RecordData) (here : (reading block).records ≡ there) where
+  abbrev track : List RecordData
+  track = (reading block).records
+
+  -- the record that the command before left
+  given_there : given key_too there host left argument ≡ (same_record track host number >>= λ found. plain_updated track found (with_argument key_too found.item argument))
+  given_there = ap (λ (t : List RecordData). given key_too t host left argument) (sym here) ∙ bound key_too track host left argument
+      ∙ ap (λ (k : ℕ). same_record track host k >>= λ found. plain_updated track found (with_argument key_too found.item argument)) (sym number_is)
+
+  pub update_refused : (refusal : Refusal) → same_record track host number ≡ Err refusal → given key_too there host left argument ≡ Err refusal
+  update_refused refusal is = given_there ∙ ap (λ (r : Result Found Refusal). r >>= λ found. plain_updated track found (with_argument key_too found.item argument)) is
+
+  module _ (at : RecordPlace) (itself : at ≡ record { number = number; host = host }) (first : 1 ≤ prior_number left) (is : same_record track host number ≡ Ok (found_at block at)) where
+    abbrev old : RecordData
+    old = record_behind (at.number - 1) track
+
+    pub number_at_hand : at.number ≡ prior_number left
+    number_at_hand = ap (λ (x : RecordPlace). x.number) itself ∙ number_is
+
+    found_is : found_at block at ≡ record { number = at.number; item = old; host = at.host }
+    found_is = (λ i. record { number = at.number; item = item_behind track at.host at.number (omega (arith, number_at_hand)) i; host = at.host })
+
+    -- of the length of its data, or of its key and data
+    pub update_given : (found : FoundRecord) (bytes : List ℕ) (length_there : ℕ) → found_of found ≡ found_at block at → length_there ≡ updated_length key_too (item_of found) → bytes ≡ padded length_there argument
+        → given key_too there host left argument ≡ Ok (updated_at key_too track bytes at)
+    update_given found bytes length_there found_there length_is bytes_are =
+        let item_is : item_of found ≡ old = ap (λ (f : Found). f.item) (found_there ∙ found_is) in
+        let bytes_is : padded (updated_length key_too old) argument ≡ bytes = sym (bytes_are ∙ ap (λ (n : ℕ). padded n argument) (length_is ∙ ap (updated_length key_too) item_is)) in
+        given_there ∙ ap (λ (r : Result Found Refusal). r >>= λ found. plain_updated track found (with_argument key_too found.item argument)) is
+        ∙ ap (λ (found : Found). plain_updated track found (with_argument key_too found.item argument)) found_is
+        ∙ ap (λ (r : RecordData). plain_updated track (record { number = at.number; item = old; host = at.host }) r) (with_argument-is key_too old argument ∙ ap (λ (b : List ℕ). with_bytes key_too b old) bytes_is)
+
+-- ---- what the write leaves
+
+module _ (unit : UnitNo) (block : ℕ) (s t : SiteLog) (at : RecordPlace) (key_too : Bool) (bytes a : List ℕ) (good : (reading a).bad ≡ None)
+    (first : 1 ≤ at.number) (there : at.number ≤ length (reading a).records) where
+  abbrev records : List RecordData
+  records = (reading a).records
+
+  abbrev new_track : List RecordData
+  new_track = updated key_too (at.number - 1) bytes records
+
+  -- other bytes of the same lengths
+  overwritten : (k : Bool) (r : RecordData) (left : List ℕ) → length left ≡ updated_length k r → IsOverwritten k r (with_bytes k left r)
+  overwritten false r left long = record { id = refl; key_length = refl; body_length = long; key = λ _. refl }
+  overwritten true r left long = record {
+    id = refl;
+    key_length = length-take-le (length r.key) left (omega (arith, long));
+    body_length = omega (arith, long, length-drop (length r.key) left);
+    key = λ same. absurd cc;
+  }
+
+  between : (k : Bool) (left : List ℕ) (now : List RecordData) → length left ≡ updated_length k (record_behind (at.number - 1) records) → now ≡ updated k (at.number - 1) left records
+      → IsBetween (command.Write (update_kind k)) at.number records now
+  between false left now long is =
+      (record_behind (at.number - 1) records, with_bytes false left (record_behind (at.number - 1) records), slice_get-get_or records (at.number - 1) blank_record (omega arith), overwritten false _ left long, is)
+  between true left now long is =
+      (record_behind (at.number - 1) records, with_bytes true left (record_behind (at.number - 1) records), slice_get-get_or records (at.number - 1) blank_record (omega arith), overwritten true _ left long, is)
+
+  from_updating : (b : List ℕ) → IsUpdating key_too (at.number - 1) (reading a) (reading b) → IsStep (command.Write (update_kind key_too)) at.number records new_track b
+  from_updating b updates = record {
+    good = ap (λ (r : Reading). r.bad) updates.reading ∙ good;
+    step = inr (inr (between key_too updates.bytes (reading b).records updates.long (ap (λ (r : Reading). r.records) updates.reading)));
+  }
+
+  module _ (moments : Writes (ChangesBlock unit block (λ b. IsUpdating key_too (at.number - 1) (reading a) (reading b)) (content s)) s t) where
+    steps : Writes (ChangesBlock unit block (IsStep (command.Write (update_kind key_too)) at.number records new_track) (content s)) s t
+    steps = block_weaker unit block (λ b. IsUpdating key_too (at.number - 1) (reading a) (reading b)) (IsStep (command.Write (update_kind key_too)) at.number records new_track) from_updating s t moments
+
+    -- what was done, with the track written
+    abbrev writes_too : Effect → Outcome
+    writes_too e = Ok (record e { written = Some new_track })
+
+    pub update_carried_out : (d : DoneCommand) (status : ℕ) → status ≡ status_of (record_behind (at.number - 1) records)
+        → effect_of d ≡ effect_with status [] (record at.host { position = position.Done at.number })
+        → reading (content t unit block) ≡ record (reading a) { records = new_track }
+        → CarriesOut (Ok (updated_at key_too records bytes at)) (command.Write (update_kind key_too)) at.number records unit block s t (Ok d)
+    update_carried_out d status status_is does holds = record {
+      outcome = ap (λ (n : ℕ). writes_too (effect_with n [] (record at.host { position = position.Done at.number }))) (sym status_is) ∙ ap writes_too (sym does);
+      moments = steps;
+      exact = holds ∙ (λ i. record { records = new_track; bad = good i });
+      log = tt;
+    }
+
+    pub update_failed : (fault : ℕ) → CarriesOut (Ok (updated_at key_too records bytes at)) (command.Write (update_kind key_too)) at.number records unit block s t (Err (Fault (WriteFailed fault)))
+    update_failed fault = record { outcome = tt; moments = steps; exact = tt; log = tt }

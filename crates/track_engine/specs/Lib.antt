@@ -1,0 +1,5 @@
+pub mod Tracks
+pub mod Found
+pub mod Faults
+pub mod Answers
+pub mod Writing

@@ -1,0 +1,94 @@
+-- What a command does on the blocks of a cylinder, and what a stop within it may leave.
+use Rattle.std.specs.Prelude.{◌≡◌, ◌⊎◌, ℕ, ◌+◌, ◌-◌, Bool, true, false, List, [], ◌∷◌, ◌++◌, take, Option, Some, None, Result, Ok, Err, OnOk, IfErr}
+use Rattle.mss_base.specs.Content.{SiteLog, content, Writes, ChangesBlock}
+use Rattle.mss_base.specs.declared.place.UnitNo.{UnitNo}
+use Rattle.channel_commands.specs.declared.command.Command.{Command}
+use Rattle.channel_commands.specs.declared.command.Command.TheVariants as command
+use Rattle.channel_commands.specs.declared.command.WriteKind.{WriteKind}
+use Rattle.channel_commands.specs.declared.command.WriteKind.TheVariants as write
+use Rattle.ckd_track.specs.Data.{RecordData}
+use Rattle.ckd_track.specs.Track.{Reading, reading, reading_of, record_at}
+use Rattle.ckd_track.specs.Formatting.{IsRecord}
+use Rattle.ckd_track.specs.Updating.{record_behind, updated}
+use Rattle.ckd_plain.specs.declared.done.DoneCommand.{DoneCommand}
+use Rattle.ckd_plain.specs.declared.host.HostState.{HostState}
+use Rattle.ckd_plain.specs.declared.host.Position.TheVariants as position
+use Rattle.ckd_plain.specs.declared.host.Prior.TheVariants as prior
+use Rattle.ckd_plain.specs.Effects.{Effect, Outcome, DONE, status_of, new_record, prior_number}
+use Rattle.ckd_plain.specs.Near.{IsOverwrittenAt, IsEndedAt}
+use Rattle.track_engine.specs.declared.find.RecordPlace.{RecordPlace}
+use Rattle.track_engine.specs.declared.place.NotDone.{NotDone}
+use Rattle.track_engine.specs.Faults.{LeavesLog}
+use Rattle.track_engine.specs.Found.{GivesBut}
+use Rattle.track_engine.specs.Tracks.{tracks_at}
+
+-- the track that is written, where one is
+abbrev pub written_of : Outcome → Option (List RecordData)
+written_of (Ok e) = e.written
+written_of (Err refusal) = None
+
+-- what was done, where this track was written or none
+abbrev pub effect_as : Option (List RecordData) → DoneCommand → Effect
+effect_as written d = record { status = d.status; bytes = d.bytes.items; host = d.host; written = written }
+
+-- a write that isn't done yet: other bytes of the same lengths in record k, or the track ended before the record behind k
+abbrev pub IsBetween : Command → ℕ → List RecordData → List RecordData → Type 0
+IsBetween (command.Write write.Data) k old now = IsOverwrittenAt false k old now
+IsBetween (command.Write write.KeyData) k old now = IsOverwrittenAt true k old now
+IsBetween (command.Write write.CountKeyData) k old now = IsEndedAt k old now
+IsBetween _ k old now = ⊥
+
+-- a block within a write: it is a track, the old one, the new one or one between
+pub record IsStep (c : Command) (k : ℕ) (old new : List RecordData) (block : List ℕ) : Type 0 where
+  pub good : (reading block).bad ≡ None
+  pub step : ((reading block).records ≡ old) ⊎ (((reading block).records ≡ new) ⊎ IsBetween c k old (reading block).records)
+
+-- what is written where this is the track that comes of it: nothing, or one block, in steps
+abbrev pub WritesBlock : Command → ℕ → List RecordData → UnitNo → ℕ → SiteLog → SiteLog → Option (List RecordData) → Type 0
+WritesBlock c k track unit block old new None = new ≡ old
+WritesBlock c k track unit block old new (Some written) = Writes (ChangesBlock unit block (IsStep c k track written) (content old)) old new
+
+-- the same of the block of the host's head, and the record that the command before left
+abbrev pub WritesTrack : Command → HostState → UnitNo → ℕ → SiteLog → SiteLog → Option (List RecordData) → Type 0
+WritesTrack c host unit first old new written =
+    WritesBlock c (prior_number host.prior) (tracks_at (content old) unit first host.head) unit (first + host.head) old new written
+
+-- the block has the track that was written, if one was
+abbrev pub HoldsWritten : Option (List RecordData) → Reading → Type 0
+HoldsWritten None block = Unit {0}
+HoldsWritten (Some track) block = block ≡ reading_of track
+
+-- what a function did on a site that tells is what the definition gives: its outcome, its writes, whatever kept it from the others
+pub record CarriesOut (given : Outcome) (c : Command) (k : ℕ) (track : List RecordData) (unit : UnitNo) (block : ℕ) (old new : SiteLog) (result : Result DoneCommand NotDone) : Type 0 where
+  pub outcome : GivesBut (effect_as (written_of given)) result given
+  pub moments : WritesBlock c k track unit block old new (written_of given)
+  pub exact : OnOk result (HoldsWritten (written_of given) (reading (content new unit block)))
+  pub log : IfErr result (LeavesLog old new)
+
+-- the bytes are a count, a key and data: those that an argument spells
+pub record Spells (argument bytes : List ℕ) : Type 0 where
+  pub whole : IsRecord bytes
+  pub spelled : record_at 0 bytes ≡ new_record argument
+
+-- a record formatted behind the one at a place
+abbrev pub formatted_behind : List RecordData → RecordData → RecordPlace → Effect
+formatted_behind track r at = record {
+  status = DONE;
+  bytes = [];
+  host = record at.host { position = position.Done (at.number + 1); prior = prior.Wrote (at.number + 1) };
+  written = Some (take at.number track ++ r ∷ []);
+}
+
+-- the write that updates a record's data, or its key too
+abbrev pub update_kind : Bool → WriteKind
+update_kind false = write.Data
+update_kind true = write.KeyData
+
+-- the record at a place updated with these bytes
+abbrev pub updated_at : Bool → List RecordData → List ℕ → RecordPlace → Effect
+updated_at key_too track bytes at = record {
+  status = status_of (record_behind (at.number - 1) track);
+  bytes = [];
+  host = record at.host { position = position.Done at.number };
+  written = Some (updated key_too (at.number - 1) bytes track);
+}

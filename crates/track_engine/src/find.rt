@@ -1,0 +1,198 @@
+// Where a command finds its record.
+ghost use Rattle.std.specs.Prelude.{◌≡◌, ◌≤◌, ◌<◌, ◌+◌, ◌^◌, length, Ok, Err, IfOk, OnOk, IfErr, IfSome, MatchResult};
+ghost use Rattle.mss_base.specs.Content.{content};
+ghost use Rattle.ckd_track.specs.Data.{HasCount};
+ghost use Rattle.ckd_track.specs.Track.{reading};
+ghost use Rattle.ckd_plain.specs.Views.{item_of, found_of, IsRecordAt};
+ghost use Rattle.ckd_plain.specs.Index.{record_at, pass_index, next_record, same_record, to_home};
+ghost use Rattle.ckd_plain.specs.Effects.{this_or_next};
+ghost use Rattle.track_engine.specs.Tracks.{tracks_at, IsBlockOf};
+ghost use Rattle.track_engine.specs.Faults.{HasFault, IsReadFault, OnlyReads};
+ghost use Rattle.track_engine.specs.Found.{found_at, GivesBut, KeepsVolume};
+
+use crate::place::{CylinderPlace, EngineFault, NotDone};
+use ckd_plain::steps::{FoundRecord, candidate, pass_index, to_home};
+use ckd_plain::{HostState, Refusal, UnitCheck};
+use ckd_track::find_record;
+use mss_base::{Failed, Head, Site};
+
+/// How many tracks a command may look at.
+const LOOKS: u8 = 20;
+
+/// The number of a record on the host's track.
+#[derive(Clone, Copy)]
+pub struct RecordPlace {
+    pub number: u8,
+    pub host: HostState,
+}
+
+/// Brings the block of a head into the buffer.
+pub fn bring_block<S: Site>(
+    site: &mut S,
+    place: &CylinderPlace,
+    buffer: &mut [u8],
+    head: Head,
+) -> Result<(), EngineFault>
+    requires buffer { length buffer.old ≡ 16384 }
+    requires place { place.now.first_block + 18 < 2 ^ 32 }
+    ensures block { S.tells → OnOk result (IsBlockOf (content (S.told site.old)) place.now.unit place.now.first_block head buffer.new) }
+    ensures reads { OnlyReads S.tells S.told S.spare S.faults site.old site.new }
+    ensures cause { IfErr result (λ fault. IsReadFault (S.faults site.old) (S.faults site.new) (NotDone.Fault fault)) }
+{
+    let at = place.block_of(head);
+    match site.read(at.unit, at.block, buffer) {
+        Ok(()) => Ok(()),
+        Err(Failed) => Err(EngineFault::ReadFailed {
+            fault: site.faults(),
+        }),
+    }
+}
+
+/// Record `number` of the host's track, which is that of the block, where it is there.
+pub fn record_in<'a>(block: &'a [u8], host: &HostState, number: usize) -> Option<FoundRecord<'a>>
+    requires { length block.now ≡ 16384 }
+    ensures item { IsRecordAt number host.now result (record_at (reading block.now).records host.now number) }
+    ensures small { IfSome result (λ _. number ≤ 97) }
+    ensures counted { IfSome result (λ found. HasCount (item_of found)) }
+{
+    if number == 0 {
+        return Some(FoundRecord::zero(host));
+    }
+    if number > 97 {
+        return None;
+    }
+    let number = number as u8;
+    let stored = find_record(block, number)?;
+    Some(FoundRecord {
+        number,
+        id: stored.id,
+        key: stored.key,
+        body: stored.body,
+        host: *host,
+    })
+}
+
+/// The record at a place, where one is.
+pub fn found_in<'a>(block: &'a [u8], at: &RecordPlace) -> FoundRecord<'a>
+    requires whole { length block.now ≡ 16384 }
+    requires there { at.now.number ≤ length (reading block.now).records }
+    ensures found { found_of result ≡ found_at block.now at.now }
+    ensures counted { HasCount (item_of result) }
+{
+    match record_in(block, &at.host, usize::from(at.number)) {
+        Some(found) => found,
+        None => unreachable!(),
+    }
+}
+
+/// Passes the index, and brings the block of the next head where the head was raised.
+fn pass<S: Site>(
+    site: &mut S,
+    place: &CylinderPlace,
+    buffer: &mut [u8],
+    host: &HostState,
+    multi: bool,
+) -> Result<HostState, NotDone>
+    requires buffer { length buffer.old ≡ 16384 }
+    requires place { place.now.first_block + 18 < 2 ^ 32 }
+    ensures passed { GivesBut (λ passed. passed) result (pass_index host.now multi) }
+    ensures block { S.tells → IsBlockOf (content (S.told site.old)) place.now.unit place.now.first_block host.now.head buffer.old
+        → IfOk result (λ passed. IsBlockOf (content (S.told site.old)) place.now.unit place.now.first_block passed.head buffer.new) }
+    ensures volume { KeepsVolume (λ passed. passed) host.now.mounted result }
+    ensures reads { OnlyReads S.tells S.told S.spare S.faults site.old site.new }
+    ensures cause { IfErr result (IsReadFault (S.faults site.old) (S.faults site.new)) }
+{
+    let passed = pass_index(*host, multi)?;
+    if passed.head == host.head {
+        return Ok(passed);
+    }
+    bring_block(site, place, buffer, passed.head)?;
+    Ok(passed)
+}
+
+/// The next record, where `first` is the first that counts. The block that has it is in the buffer then.
+pub fn next_record<S: Site>(
+    site: &mut S,
+    place: &CylinderPlace,
+    buffer: &mut [u8],
+    from: &HostState,
+    first: u8,
+    multi: bool,
+) -> Result<RecordPlace, NotDone>
+    requires buffer { length buffer.old ≡ 16384 }
+    requires place { place.now.first_block + 18 < 2 ^ 32 }
+    ensures found { S.tells → GivesBut (found_at buffer.new) result (next_record (tracks_at (content (S.told site.old)) place.now.unit place.now.first_block) from.now first multi) }
+    ensures there { IfOk result (λ at. at.number ≤ length (reading buffer.new).records) }
+    ensures volume { KeepsVolume (λ at. at.host) from.now.mounted result }
+    ensures reads { OnlyReads S.tells S.told S.spare S.faults site.old site.new }
+    ensures cause { IfErr result (IsReadFault (S.faults site.old) (S.faults site.new)) }
+{
+    let mut host = *from;
+    bring_block(site, place, buffer, host.head)?;
+    for _ in 0..LOOKS {
+        let number = candidate(host.position, first);
+        if let Some(found) = record_in(buffer, &host, number) {
+            let number = found.number;
+            return Ok(RecordPlace { number, host });
+        }
+        host = pass(site, place, buffer, &host, multi)?;
+    }
+    Err(NotDone::Refused(Refusal {
+        check: UnitCheck::NoRecordFound,
+        host,
+    }))
+}
+
+/// Record `number` itself, on the host's track, which is that of the block.
+#[tactic(auto, unfolding(ckd_plain::specs::Index::same_record))]
+pub fn same_record(block: &[u8], host: &HostState, number: u8) -> Result<RecordPlace, Refusal>
+    requires { length block.now ≡ 16384 }
+    ensures found { MatchResult result (λ at. same_record (reading block.now).records host.now number ≡ Ok (found_at block.now at))
+        (λ refusal. same_record (reading block.now).records host.now number ≡ Err refusal) }
+    ensures there { IfOk result (λ at. at.number ≤ length (reading block.now).records) }
+    ensures itself { IfOk result (λ at. at ≡ record { number = number; host = host.now }) }
+    ensures volume { IfErr result (λ refusal. refusal.host ≡ host.now) }
+{
+    if record_in(block, host, usize::from(number)).is_none() {
+        return Err(Refusal {
+            check: UnitCheck::NoRecordFound,
+            host: *host,
+        });
+    }
+    Ok(RecordPlace {
+        number,
+        host: *host,
+    })
+}
+
+/// The record at hand on the host's track, or else the next from R1. The block that has it is in the buffer then.
+pub fn this_or_next<S: Site>(
+    site: &mut S,
+    place: &CylinderPlace,
+    buffer: &mut [u8],
+    host: &HostState,
+    at_hand: Option<u8>,
+    multi: bool,
+) -> Result<RecordPlace, NotDone>
+    requires buffer { length buffer.old ≡ 16384 }
+    requires place { place.now.first_block + 18 < 2 ^ 32 }
+    ensures found { S.tells → GivesBut (found_at buffer.new) result (this_or_next at_hand (tracks_at (content (S.told site.old)) place.now.unit place.now.first_block) host.now multi) }
+    ensures there { IfOk result (λ at. at.number ≤ length (reading buffer.new).records) }
+    ensures volume { KeepsVolume (λ at. at.host) host.now.mounted result }
+    ensures reads { OnlyReads S.tells S.told S.spare S.faults site.old site.new }
+    ensures cause { IfErr result (IsReadFault (S.faults site.old) (S.faults site.new)) }
+{
+    let Some(number) = at_hand else {
+        return next_record(site, place, buffer, host, 1, multi);
+    };
+    bring_block(site, place, buffer, host.head)?;
+    Ok(same_record(buffer, host, number)?)
+}
+
+/// The host at the home address of its track, or of the next. No block is needed for that.
+pub fn at_home(host: &HostState, multi: bool) -> Result<HostState, Refusal>
+    ensures home { result ≡ to_home host.now multi }
+    ensures volume { MatchResult result (λ there. there.mounted ≡ host.now.mounted) (λ refusal. refusal.host.mounted ≡ host.now.mounted) }
+{
+    to_home(*host, multi)
+}

@@ -1,0 +1,66 @@
+// Reads.
+ghost use Rattle.std.specs.Prelude.{◌≡◌, ◌≢◌, ◌<◌, ◌+◌, ◌^◌, length, IfErr};
+ghost use Rattle.mss_base.specs.Content.{content};
+ghost use Rattle.ckd_plain.specs.Effects.{read};
+ghost use Rattle.ckd_plain.specs.Views.{effect_of};
+ghost use Rattle.track_engine.specs.Tracks.{tracks_at};
+ghost use Rattle.track_engine.specs.Faults.{IsReadFault, OnlyReads};
+ghost use Rattle.track_engine.specs.Found.{GivesBut, KeepsVolume};
+
+use crate::find::{at_home, found_in, this_or_next};
+use crate::place::{CylinderPlace, NotDone};
+use channel_commands::ReadWhat;
+use ckd_plain::HostState;
+use ckd_plain::steps::{DoneCommand, at_hand, home_read, record_zero_read};
+use mss_base::Site;
+use std::alloc::Global;
+
+/// A read of a record.
+#[tactic(auto, unfolding(ckd_plain::specs::Effects::read))]
+fn read_record<S: Site>(
+    alloc: Global,
+    site: &mut S,
+    place: &CylinderPlace,
+    buffer: &mut [u8],
+    host: &HostState,
+    what: ReadWhat,
+    multi: bool,
+) -> Result<DoneCommand, NotDone>
+    requires buffer { length buffer.old ≡ 16384 }
+    requires place { place.now.first_block + 18 < 2 ^ 32 }
+    requires no_home { what ≢ ReadWhat.Home }
+    requires no_zero { what ≢ ReadWhat.RecordZero }
+    ensures done { S.tells → GivesBut effect_of result (read (tracks_at (content (S.told site.old)) place.now.unit place.now.first_block) host.now what multi) }
+    ensures volume { KeepsVolume (λ done. done.host) host.now.mounted result }
+    ensures reads { OnlyReads S.tells S.told S.spare S.faults site.old site.new }
+    ensures cause { IfErr result (IsReadFault (S.faults site.old) (S.faults site.new)) }
+{
+    let at_hand = at_hand(what, host.position);
+    let at = this_or_next(site, place, buffer, host, at_hand, multi)?;
+    Ok(found_in(buffer, &at).given(alloc, what)?)
+}
+
+/// A read of any kind.
+#[tactic(auto, unfolding(ckd_plain::specs::Effects::read))]
+pub fn read<S: Site>(
+    alloc: Global,
+    site: &mut S,
+    place: &CylinderPlace,
+    buffer: &mut [u8],
+    host: &HostState,
+    what: ReadWhat,
+    multi: bool,
+) -> Result<DoneCommand, NotDone>
+    requires buffer { length buffer.old ≡ 16384 }
+    requires place { place.now.first_block + 18 < 2 ^ 32 }
+    ensures done { S.tells → GivesBut effect_of result (read (tracks_at (content (S.told site.old)) place.now.unit place.now.first_block) host.now what multi) }
+    ensures volume { KeepsVolume (λ done. done.host) host.now.mounted result }
+    ensures reads { OnlyReads S.tells S.told S.spare S.faults site.old site.new }
+    ensures cause { IfErr result (IsReadFault (S.faults site.old) (S.faults site.new)) }
+{
+    match what {
+        ReadWhat::Home => Ok(home_read(alloc, &at_home(host, multi)?)?),
+        ReadWhat::RecordZero => Ok(record_zero_read(alloc, &at_home(host, multi)?)?),
+        _ => read_record(alloc, site, place, buffer, host, what, multi),
+    }
+}

@@ -1,0 +1,234 @@
+// Writes.
+ghost use Rattle.std.specs.Prelude.{◌≡◌, ◌≤◌, ◌<◌, ◌+◌, ◌^◌, ◌-◌, Ok, None, length, take, IfOk, OnOk, IfErr, IfSome, true};
+ghost use Rattle.mss_base.specs.Content.{content};
+ghost use Rattle.ckd_track.specs.Data.{cost, cost_of, HasCount};
+ghost use Rattle.ckd_track.specs.Track.{reading, record_at};
+ghost use Rattle.ckd_track.specs.Formatting.{IsRecord};
+ghost use Rattle.ckd_track.specs.Updating.{updated_length, record_behind};
+ghost use Rattle.ckd_plain.specs.Data.{padded};
+ghost use Rattle.ckd_plain.specs.Effects.{effect_with, new_record, prior_number, write_};
+ghost use Rattle.ckd_plain.specs.Views.{effect_of, item_of};
+ghost use Rattle.track_engine.specs.Tracks.{tracks_at, AreTracks, IsBlockOf};
+ghost use Rattle.track_engine.specs.Faults.{IsReadFault, IsFaultOf, OnlyReads, MayWrite};
+ghost use Rattle.track_engine.specs.Found.{found_at, GivesBut, KeepsVolume};
+ghost use Rattle.track_engine.specs.Writing.{CarriesOut, Spells, formatted_behind, update_kind, updated_at};
+
+use crate::find::{RecordPlace, bring_block, found_in, same_record};
+use crate::place::{CylinderPlace, EngineFault, NotDone};
+use channel_commands::{Command, WriteKind};
+use ckd_plain::steps::{DONE, DoneCommand, FoundRecord, written};
+use ckd_plain::{HostState, Prior, Refusal, UnitCheck};
+use ckd_track::{cost_at, cost_of_front, format_record, record_length, update_record};
+use mss_base::{BlockPlace, Bytes, Failed, NoMemory, Site};
+use std::alloc::Global;
+
+/// What the records of a track cost together at most.
+const TRACK_COST: u32 = 13_165;
+
+/// The first bytes of an argument, where it has so many.
+fn first_bytes(argument: &[u8], length: usize) -> Option<&[u8]>
+    ensures { IfSome result (λ bytes. bytes.now ≡ padded length argument.now) }
+{
+    if length > argument.len() {
+        return None;
+    }
+    Some(&argument[..length])
+}
+
+/// The argument's count, key and data, where it has all their bytes.
+fn whole_record(argument: &[u8]) -> Option<&[u8]>
+    requires { 8 ≤ length argument.now }
+    ensures { IfSome result (λ bytes. Spells argument.now bytes.now) }
+{
+    first_bytes(argument, record_length(argument, 0))
+}
+
+/// The argument's count, and its key and data padded with zeros.
+fn padded_record(alloc: Global, argument: &[u8]) -> Result<Bytes, NoMemory>
+    requires { 8 ≤ length argument.now }
+    ensures { IfOk result (λ bytes. Spells argument.now bytes.items) }
+{
+    Bytes::padded(alloc, record_length(argument, 0), argument)
+}
+
+/// The record behind which the argument's record goes, where that fits. The block of the host's track is in the buffer
+/// then.
+fn kept_record<S: Site>(
+    site: &mut S,
+    place: &CylinderPlace,
+    buffer: &mut [u8],
+    host: &HostState,
+    left: Prior,
+    argument: &[u8],
+) -> Result<RecordPlace, NotDone>
+    requires buffer { length buffer.old ≡ 16384 }
+    requires place { place.now.first_block + 18 < 2 ^ 32 }
+    requires long { 8 ≤ length argument.now }
+    ensures format { S.tells → GivesBut (formatted_behind (reading buffer.new).records (new_record argument.now)) result
+        (write_ (tracks_at (content (S.told site.old)) place.now.unit place.now.first_block host.now.head) host.now left WriteKind.CountKeyData argument.now) }
+    ensures fits { IfOk result (λ at. cost (take at.number (reading buffer.new).records) + cost_of (new_record argument.now) ≤ 13165) }
+    ensures itself { IfOk result (λ at. at ≡ record { number = prior_number left; host = host.now }) }
+    ensures there { IfOk result (λ at. at.number ≤ length (reading buffer.new).records) }
+    ensures block { S.tells → OnOk result (IsBlockOf (content (S.told site.old)) place.now.unit place.now.first_block host.now.head buffer.new) }
+    ensures volume { KeepsVolume (λ at. at.host) host.now.mounted result }
+    ensures reads { OnlyReads S.tells S.told S.spare S.faults site.old site.new }
+    ensures cause { IfErr result (IsReadFault (S.faults site.old) (S.faults site.new)) }
+{
+    bring_block(site, place, buffer, host.head)?;
+    let at = same_record(buffer, host, left.number())?;
+    let cost = cost_of_front(buffer, at.number) + cost_at(argument, 0);
+    if cost > TRACK_COST {
+        return Err(NotDone::Refused(Refusal {
+            check: UnitCheck::InvalidTrackFormat,
+            host: *host,
+        }));
+    }
+    Ok(at)
+}
+
+/// Formats a record behind the one at a place. `block` is what stands there.
+#[tactic(auto, using(ckd_track::proofs::TrackFacts::reading_length))]
+fn format_behind<S: Site>(
+    alloc: Global,
+    site: &mut S,
+    to: &BlockPlace,
+    block: &[u8],
+    at: &RecordPlace,
+    bytes: &[u8],
+) -> Result<DoneCommand, NotDone>
+    requires whole { length block.now ≡ 16384 }
+    requires told { S.tells → content (S.told site.old) to.now.unit to.now.block ≡ block.now }
+    requires good { S.tells → (reading block.now).bad ≡ None }
+    requires there { at.now.number ≤ length (reading block.now).records }
+    requires record { IsRecord bytes.now }
+    requires fits { cost (take at.now.number (reading block.now).records) + cost_of (record_at 0 bytes.now) ≤ 13165 }
+    requires room { 4 ≤ S.spare site.old }
+    ensures done { S.tells → CarriesOut (Ok (formatted_behind (reading block.now).records (record_at 0 bytes.now) at.now)) (Command.Write WriteKind.CountKeyData)
+        at.now.number (reading block.now).records to.now.unit to.now.block (S.told site.old) (S.told site.new) result }
+    ensures volume { KeepsVolume (λ done. done.host) at.now.host.mounted result }
+    ensures devices { MayWrite S.spare S.faults site.old site.new }
+    ensures cause { IfErr result (IsFaultOf true (S.faults site.old) (S.faults site.new)) }
+{
+    let number = at.number + 1;
+    match format_record(site, to, block, number, bytes) {
+        Ok(()) => Ok(written(alloc, &at.host, DONE, number, Prior::Wrote(number))),
+        Err(Failed) => Err(NotDone::Fault(EngineFault::WriteFailed {
+            fault: site.faults(),
+        })),
+    }
+}
+
+/// Write count key data.
+pub fn write_count_key_data<S: Site>(
+    alloc: Global,
+    site: &mut S,
+    place: &CylinderPlace,
+    buffer: &mut [u8],
+    host: &HostState,
+    left: Prior,
+    argument: &[u8],
+) -> Result<DoneCommand, NotDone>
+    requires buffer { length buffer.old ≡ 16384 }
+    requires place { place.now.first_block + 18 < 2 ^ 32 }
+    requires long { 8 ≤ length argument.now }
+    requires tracks { S.tells → AreTracks (content (S.told site.old)) place.now.unit place.now.first_block }
+    requires room { 4 ≤ S.spare site.old }
+    ensures done { S.tells → CarriesOut
+        (write_ (tracks_at (content (S.told site.old)) place.now.unit place.now.first_block host.now.head) host.now left WriteKind.CountKeyData argument.now)
+        (Command.Write WriteKind.CountKeyData) (prior_number left) (tracks_at (content (S.told site.old)) place.now.unit place.now.first_block host.now.head)
+        place.now.unit (place.now.first_block + host.now.head) (S.told site.old) (S.told site.new) result }
+    ensures volume { KeepsVolume (λ done. done.host) host.now.mounted result }
+    ensures devices { MayWrite S.spare S.faults site.old site.new }
+    ensures cause { IfErr result (IsFaultOf true (S.faults site.old) (S.faults site.new)) }
+{
+    let to = place.block_of(host.head);
+    let at = kept_record(site, place, buffer, host, left, argument)?;
+    match whole_record(argument) {
+        Some(bytes) => format_behind(alloc, site, &to, buffer, &at, bytes),
+        None => {
+            let bytes = padded_record(alloc, argument)?;
+            format_behind(alloc, site, &to, buffer, &at, bytes.as_slice())
+        }
+    }
+}
+
+/// How many bytes an update of the record writes: its data, or its key and data.
+fn updated_length(found: &FoundRecord<'_>, key_too: bool) -> usize
+    requires { HasCount (item_of found.now) }
+    ensures { result ≡ updated_length key_too (item_of found.now) }
+{
+    if key_too {
+        found.key.len() + found.body.len()
+    } else {
+        found.body.len()
+    }
+}
+
+/// Updates the record at a place. `block` is what stands there.
+fn update_at<S: Site>(
+    alloc: Global,
+    site: &mut S,
+    to: &BlockPlace,
+    block: &[u8],
+    at: &RecordPlace,
+    key_too: bool,
+    bytes: &[u8],
+) -> Result<DoneCommand, NotDone>
+    requires whole { length block.now ≡ 16384 }
+    requires told { S.tells → content (S.told site.old) to.now.unit to.now.block ≡ block.now }
+    requires good { S.tells → (reading block.now).bad ≡ None }
+    requires first { 1 ≤ at.now.number }
+    requires there { at.now.number ≤ length (reading block.now).records }
+    requires long { length bytes.now ≡ updated_length key_too (record_behind (at.now.number - 1) (reading block.now).records) }
+    requires room { 1 ≤ S.spare site.old }
+    ensures done { S.tells → CarriesOut (Ok (updated_at key_too (reading block.now).records bytes.now at.now)) (Command.Write (update_kind key_too))
+        at.now.number (reading block.now).records to.now.unit to.now.block (S.told site.old) (S.told site.new) result }
+    ensures volume { KeepsVolume (λ done. done.host) at.now.host.mounted result }
+    ensures devices { MayWrite S.spare S.faults site.old site.new }
+    ensures cause { IfErr result (IsFaultOf true (S.faults site.old) (S.faults site.new)) }
+{
+    let status = found_in(block, at).status();
+    match update_record(site, to, block, at.number, key_too, bytes) {
+        Ok(()) => Ok(written(alloc, &at.host, status, at.number, at.host.prior)),
+        Err(Failed) => Err(NotDone::Fault(EngineFault::WriteFailed {
+            fault: site.faults(),
+        })),
+    }
+}
+
+/// Write data, or with `key_too` write key data.
+pub fn write_data<S: Site>(
+    alloc: Global,
+    site: &mut S,
+    place: &CylinderPlace,
+    buffer: &mut [u8],
+    host: &HostState,
+    left: Prior,
+    key_too: bool,
+    argument: &[u8],
+) -> Result<DoneCommand, NotDone>
+    requires buffer { length buffer.old ≡ 16384 }
+    requires place { place.now.first_block + 18 < 2 ^ 32 }
+    requires first { 0 < prior_number left }
+    requires tracks { S.tells → AreTracks (content (S.told site.old)) place.now.unit place.now.first_block }
+    requires room { 1 ≤ S.spare site.old }
+    ensures done { S.tells → CarriesOut
+        (write_ (tracks_at (content (S.told site.old)) place.now.unit place.now.first_block host.now.head) host.now left (update_kind key_too) argument.now)
+        (Command.Write (update_kind key_too)) (prior_number left) (tracks_at (content (S.told site.old)) place.now.unit place.now.first_block host.now.head)
+        place.now.unit (place.now.first_block + host.now.head) (S.told site.old) (S.told site.new) result }
+    ensures volume { KeepsVolume (λ done. done.host) host.now.mounted result }
+    ensures devices { MayWrite S.spare S.faults site.old site.new }
+    ensures cause { IfErr result (IsFaultOf true (S.faults site.old) (S.faults site.new)) }
+{
+    let to = place.block_of(host.head);
+    bring_block(site, place, buffer, host.head)?;
+    let at = same_record(buffer, host, left.number())?;
+    let length = updated_length(&found_in(buffer, &at), key_too);
+    match first_bytes(argument, length) {
+        Some(bytes) => update_at(alloc, site, &to, buffer, &at, key_too, bytes),
+        None => {
+            let bytes = Bytes::padded(alloc, length, argument)?;
+            update_at(alloc, site, &to, buffer, &at, key_too, bytes.as_slice())
+        }
+    }
+}
