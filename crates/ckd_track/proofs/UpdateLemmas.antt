@@ -1,14 +1,13 @@
 -- What a block reads as with other bytes in one of its records.
-use Rattle.std.proofs.Common.{◌≡◌, ◌⊎◌, inl, inr, ℕ, zero, suc, ◌+◌, ◌-◌, ◌≤◌, ◌<◌, Bool, true, false, ◌==◌, nat_lt, List, [], ◌∷◌, length, take, drop, get_or, set, refl, sym, ◌∙◌, ap, arith, length-drop}
+use Rattle.std.proofs.Common.{◌≡◌, ◌⊎◌, inl, inr, ℕ, zero, suc, ◌+◌, ◌≤◌, ◌<◌, Bool, true, false, ◌==◌, nat_lt, List, length, take, drop, get_or, set, refl, sym, ◌∙◌, ap, arith, length-drop}
 use Rattle.std.proofs.lemmas.List.{take_all}
-use Rattle.std.proofs.lemmas.Bool.{ltb-false}
 use Rattle.mss_base.specs.Content.{splice, length-splice}
 use Rattle.mss_base.proofs.ContentLemmas.{get_or-splice_below, get_or-splice_above, get_or-splice_in}
 use Rattle.ckd_track.specs.Data.{RecordData, blank_record}
 use Rattle.ckd_track.specs.Track.{Reading, key_length, data_length, record_length, record_at, cost_at, is_open, before, reached, reading_from, reading, place_after}
 use Rattle.ckd_track.specs.Updating.{updated_length, with_bytes, record_behind, updated, bytes_place}
 use Rattle.ckd_track.proofs.TrackFacts.{length-key, length-body}
-use Rattle.ckd_track.proofs.FrontLemmas.{place_after-ge, key_length_same, data_length_same, record_length_same, cost_at_same, record_at_same, behind_first, good, first_inside, first_read, rest_has, nothing, record_room}
+use Rattle.ckd_track.proofs.FrontLemmas.{place_after-ge, data_length_same, record_length_same, cost_at_same, record_at_same, good, first_read, rest_has, nothing, record_room}
 use Rattle.ckd_track.proofs.FormatLemmas.{moved_part}
 
 -- b has the bytes of a outside a range

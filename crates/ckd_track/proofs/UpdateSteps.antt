@@ -1,11 +1,10 @@
 -- The write of an update, on a site's log.
-use Rattle.std.proofs.Common.{◌≡◌, ℕ, ◌+◌, ◌≤◌, ◌<◌, Bool, List, [], length, take, drop, get_or, refl, sym, ◌∙◌, ap, subst, arith, length-drop}
+use Rattle.std.proofs.Common.{◌≡◌, ℕ, ◌+◌, ◌≤◌, ◌<◌, Bool, List, [], length, take, drop, sym, ◌∙◌, ap, subst, arith, length-drop}
 use Rattle.std.proofs.lemmas.List.{get_or-take, get_or-drop, length-take}
 use Rattle.mss_base.specs.declared.place.UnitNo.{UnitNo}
 use Rattle.mss_base.specs.Content.{Write, SiteLog, content, splice, Adds, Writes, ChangesBlock}
 use Rattle.mss_base.proofs.Moments.{block_write, block_written, block_started}
-use Rattle.ckd_track.specs.Data.{RecordData}
-use Rattle.ckd_track.specs.Track.{Reading, reading, record_length, place_after}
+use Rattle.ckd_track.specs.Track.{reading, place_after}
 use Rattle.ckd_track.specs.Updating.{IsUpdating, updated_length, record_behind, updated, bytes_place}
 use Rattle.ckd_track.proofs.FrontLemmas.{record_room}
 use Rattle.ckd_track.proofs.FormatLemmas.{splice_same}

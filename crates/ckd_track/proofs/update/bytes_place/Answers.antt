@@ -1,6 +1,6 @@
 -- The record ends inside the block.
 use Rattle.std.proofs.Common.{◌+◌, ◌≤◌, ap, arith, rules, ℕ}
-use Rattle.ckd_track.specs.Track.{key_length, record_length}
+use Rattle.ckd_track.specs.Track.{key_length}
 use Rattle.ckd_track.proofs.FrontLemmas.{record_room}
 use Rattle.ckd_track.proofs.update.bytes_place.Goals as goal
 

@@ -1,5 +1,4 @@
-use Rattle.std.proofs.Common.{◌≡◌, ◌+◌, ◌-◌, ◌<◌, ◌≤◌, ℕ, List, [], length, refl, sym, ap, subst, ◌∙◌, arith}
-use Rattle.ckd_track.specs.Track.{reading}
+use Rattle.std.proofs.Common.{◌-◌, arith}
 use Rattle.ckd_track.proofs.UpdateSteps.{put_inside, update_moments, update_done, update_stays}
 use Rattle.ckd_track.proofs.update.update_record.Goals as goal
 
