@@ -18,7 +18,8 @@ use Rattle.ckd_plain.specs.Views.{effect_of}
 use Rattle.track_engine.specs.declared.place.NotDone.{NotDone}
 use Rattle.track_engine.specs.declared.place.NotDone.TheVariants.{Refused}
 use Rattle.track_engine.specs.Answers.{IsAnswer, ran}
-use Rattle.track_engine.specs.Tracks.{tracks_at}
+use Rattle.track_engine.specs.Tracks.{tracks_at, AreTracks}
+use Rattle.track_engine.proofs.Steps.{tracks_stay}
 use Rattle.track_engine.specs.Writing.{HoldsWritten, WritesTrack, CarriesOut, written_of}
 use Rattle.track_engine.proofs.Unwritten.{performed_written}
 
@@ -55,6 +56,9 @@ module _ (unit : UnitNo) (first : ℕ) (host : HostState) (c : Command) (argumen
 
   pub writes : (result : Result DoneCommand NotDone) → Carried result → WritesTrack c (opened host) unit first old new answer.written
   writes result carried = subst (λ (w : Option (List RecordData)). WritesTrack c (opened host) unit first old new w) (sym written_is) (carried_for result carried).moments
+
+  pub still_tracks : (result : Result DoneCommand NotDone) → Carried result → AreTracks (content old) unit first → AreTracks (content new) unit first
+  still_tracks result carried are = tracks_stay c _ _ unit first ready.head old new _ carried.moments are
 
   pub answer_done : (d : DoneCommand) (reply : Reply) (left : HostState) → Carried (Ok d) → reply_of reply ≡ (finished c chained (effect_of d)).reply → left ≡ (finished c chained (effect_of d)).host
       → IsAnswer answer reply left

@@ -7,3 +7,4 @@ pub mod Formats
 pub mod Steps
 pub mod Answering
 pub mod Updates
+pub mod Blank

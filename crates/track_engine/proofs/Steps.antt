@@ -1,10 +1,11 @@
 -- What the writes of a command leave, step by step.
 use Rattle.std.proofs.Common.{◌≡◌, inl, inr, ℕ, ◌+◌, ◌-◌, List, [], ◌∷◌, ◌++◌, take, Option, Some, None, Result, Ok, Err, sym, ap, ◌∙◌, subst, arith}
-use Rattle.std.specs.Prelude.{Bool, IfErr}
+use Rattle.std.specs.Prelude.{Bool, IfErr, ◌&&◌, ◌==◌}
 use Rattle.mss_base.specs.declared.place.UnitNo.{UnitNo}
 use Rattle.mss_base.specs.declared.place.BlockPlace.{BlockPlace}
-use Rattle.mss_base.specs.Content.{SiteLog, content, Writes, ChangesBlock}
-use Rattle.mss_base.proofs.Moments.{block_weaker}
+use Rattle.mss_base.specs.Content.{SiteLog, content, same_unit, Writes, ChangesBlock}
+use Rattle.mss_base.proofs.Moments.{block_weaker, ended_with}
+use Rattle.std.proofs.lemmas.Bool.{cases_Bool, and_parts, eqb-true}
 use Rattle.channel_commands.specs.declared.command.Command.{Command}
 use Rattle.channel_commands.specs.declared.command.Command.TheVariants as command
 use Rattle.channel_commands.specs.declared.command.WriteKind.TheVariants as write
@@ -24,6 +25,7 @@ use Rattle.track_engine.specs.declared.place.EngineFault.{EngineFault}
 use Rattle.track_engine.specs.declared.place.EngineFault.TheVariants.{ReadFailed, WriteFailed, Memory}
 use Rattle.track_engine.specs.Faults.{LeavesSite, IsReadFault, IsFaultOf}
 use Rattle.track_engine.specs.Found.{GivesBut}
+use Rattle.track_engine.specs.Tracks.{AreTracks}
 use Rattle.track_engine.specs.Writing.{IsStep, WritesBlock, HoldsWritten, CarriesOut, written_of, effect_as, formatted_behind}
 
 -- ---- formatting a record
@@ -104,6 +106,21 @@ fault_of_read writes before now (Fault Memory) is = (tt, tt)
 pub faults_of_read : (writes : Bool) (before now : ℕ) (result : Result DoneCommand NotDone) → IfErr result (IsReadFault before now) → IfErr result (IsFaultOf writes before now)
 faults_of_read writes before now (Ok d) is = tt
 faults_of_read writes before now (Err e) is = fault_of_read writes before now e is
+
+-- ---- the tracks of a cylinder
+
+-- after one of its blocks was written in steps, they are tracks again
+pub tracks_stay : (c : Command) (k : ℕ) (track : List RecordData) (unit : UnitNo) (first head : ℕ) (old new : SiteLog) (w : Option (List RecordData))
+    → WritesBlock c k track unit (first + head) old new w → AreTracks (content old) unit first → AreTracks (content new) unit first
+tracks_stay c k track unit first head old new None same tracks = subst (λ (s : SiteLog). AreTracks (content s) unit first) (sym same) tracks
+tracks_stay c k track unit first head old new (Some w) writes tracks = λ other low.
+    let now = ended_with (ChangesBlock unit (first + head) (IsStep c k track w) (content old)) old new writes in
+    elim (cases_Bool (same_unit unit unit && (first + head == first + other))) [
+      | inl same ↦ ap (λ (block : ℕ). (reading (content new unit block)).bad) (sym (eqb-true (first + head) (first + other) (and_parts _ _ same).1)) ∙ now.here.good
+      | inr others ↦ ap (λ (block : List ℕ). (reading block).bad) (now.others unit (first + other) others) ∙ tracks other low
+    ]
+
+-- ---- writes
 
 -- a write that ended with unit check
 pub refused_write : (given : Outcome) (c : Command) (k : ℕ) (track : List RecordData) (unit : UnitNo) (block : ℕ) (old new : SiteLog) (refusal : Refusal) → given ≡ Err refusal → new ≡ old

@@ -17,6 +17,16 @@ use ckd_plain::steps::{DONE, DoneCommand, cleared, finished, opened, seek_done};
 use mss_base::{Bytes, NoMemory};
 use std::alloc::Global;
 
+/// Whether the command is a search, read or write, which `run_command` runs. `run_control` runs the others.
+pub fn is_data(command: Command) -> bool
+    ensures { result ≡ is_data command }
+{
+    matches!(
+        command,
+        Command::Search { .. } | Command::Read { .. } | Command::Write(_)
+    )
+}
+
 /// What the command does.
 #[tactic(auto, unfolding(ckd_plain::specs::Effects::effect))]
 fn control_done(

@@ -11,8 +11,10 @@ mod place;
 mod read;
 mod run;
 mod search;
+#[cfg(test)]
+mod tests;
 mod write;
 
-pub use control::run_control;
+pub use control::{is_data, run_control};
 pub use place::{CylinderPlace, EngineFault};
 pub use run::run_command;

@@ -135,6 +135,7 @@ pub fn run_command<S: Site>(
     ensures exact { S.tells → OnOk result ((track : List RecordData)
         → (ran (content (S.told site.old)) place.now.unit place.now.first_block host.old command.now argument.now chained).written ≡ Some track
         → reading (content (S.told site.new) place.now.unit (place.now.first_block + host.old.head)) ≡ reading_of track) }
+    ensures still_tracks { S.tells → AreTracks (content (S.told site.new)) place.now.unit place.now.first_block }
     ensures no_write { S.tells → IfErr result (LeavesSite (S.told site.old) (S.told site.new)) }
     ensures room { S.spare site.old ≤ S.spare site.new + 4 }
 

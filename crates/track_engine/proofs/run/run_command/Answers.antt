@@ -1,4 +1,4 @@
-use Rattle.track_engine.proofs.Answering.{writes, answer_done, answer_refused, exact_done, exact_refused}
+use Rattle.track_engine.proofs.Answering.{writes, still_tracks, answer_done, answer_refused, exact_done, exact_refused}
 use Rattle.track_engine.proofs.run.run_command.Goals as goal
 
 pub returns-in-Ok-clause-answer : goal.returns-in-Ok-clause-answer
@@ -30,3 +30,18 @@ pub returns-in-Err-Fault-clause-writes : goal.returns-in-Err-Fault-clause-writes
 returns-in-Err-Fault-clause-writes g c = λ tells.
     writes c.args.place.now.unit c.args.place.now.first_block c.args.host.now c.args.command.now c.args.argument.now c.args.chained (g.S.Site.told c.args.site.now) (g.S.Site.told c.carry_out.new.site) c.opened-now.result c.cleared-ready.result c.opened-now.ensures c.cleared-ready.ensures
     _ (c.in-Err-Fault.ensures.done tells)
+
+pub returns-in-Ok-clause-still_tracks : goal.returns-in-Ok-clause-still_tracks
+returns-in-Ok-clause-still_tracks g c = λ tells.
+    still_tracks c.args.place.now.unit c.args.place.now.first_block c.args.host.now c.args.command.now c.args.argument.now c.args.chained (g.S.Site.told c.args.site.now) (g.S.Site.told c.carry_out.new.site) c.opened-now.result c.cleared-ready.result c.opened-now.ensures c.cleared-ready.ensures
+    _ (c.in-Ok.ensures.done tells) (c.requires.tracks tells)
+
+pub returns-in-Err-Refused-clause-still_tracks : goal.returns-in-Err-Refused-clause-still_tracks
+returns-in-Err-Refused-clause-still_tracks g c = λ tells.
+    still_tracks c.args.place.now.unit c.args.place.now.first_block c.args.host.now c.args.command.now c.args.argument.now c.args.chained (g.S.Site.told c.args.site.now) (g.S.Site.told c.carry_out.new.site) c.opened-now.result c.cleared-ready.result c.opened-now.ensures c.cleared-ready.ensures
+    _ (c.in-Err-Refused.ensures.done tells) (c.requires.tracks tells)
+
+pub returns-in-Err-Fault-clause-still_tracks : goal.returns-in-Err-Fault-clause-still_tracks
+returns-in-Err-Fault-clause-still_tracks g c = λ tells.
+    still_tracks c.args.place.now.unit c.args.place.now.first_block c.args.host.now c.args.command.now c.args.argument.now c.args.chained (g.S.Site.told c.args.site.now) (g.S.Site.told c.carry_out.new.site) c.opened-now.result c.cleared-ready.result c.opened-now.ensures c.cleared-ready.ensures
+    _ (c.in-Err-Fault.ensures.done tells) (c.requires.tracks tells)
