@@ -1,0 +1,12 @@
+pub mod Inputs
+pub mod Walking
+pub mod DirectLemmas
+pub mod SessionLemmas
+pub mod Serials
+pub mod Admitted
+pub mod EventLemmas
+pub mod WholeEvents
+pub mod Entered
+pub mod Running
+pub mod Begun
+pub mod Items

@@ -1,0 +1,35 @@
+-- What the walk over a volume at the start says.
+use Rattle.std.specs.Prelude.{◌≡◌, ℕ, Result, Ok, Err}
+use Rattle.mss_base.specs.Content.{Content}
+use Rattle.mss_base.specs.Counts.{Rises}
+use Rattle.mss_top.specs.Direct.{IsTrackAt, AreTracks, AreTracksBefore}
+use Rattle.mss_top.specs.declared.start.StartFault.{StartFault}
+use Rattle.mss_top.specs.declared.start.StartFault.TheVariants.{TornTrack, Stopped}
+
+-- this block is the first, by cylinder and head, that doesn't read as a track
+pub record IsFirstTorn (c : Content) (volume cylinder head : ℕ) : Type 0 where
+  pub before : AreTracksBefore c volume cylinder head
+  pub torn : IsTrackAt c volume cylinder head → ⊥
+
+-- what the walk answers over this content: every block is a track, or the first that is none; of a read that failed the content says nothing
+abbrev pub Walks : Content → ℕ → Result (Unit {0}) StartFault → Type 0
+Walks c volume (Ok _) = AreTracks c volume
+Walks c volume (Err (TornTrack cylinder head)) = IsFirstTorn c volume cylinder head
+Walks c volume (Err (Stopped fault)) = Unit {0}
+
+-- a failed read is answered with the count of faults after it, which rose
+abbrev pub IsCounted : ℕ → ℕ → Result (Unit {0}) StartFault → Type 0
+IsCounted before now (Err (Stopped fault)) = (fault ≡ now) × Rises before now
+IsCounted before now _ = Unit {0}
+
+-- what a look at one block answers
+abbrev pub Looks : Content → ℕ → ℕ → ℕ → Result (Unit {0}) StartFault → Type 0
+Looks c volume cylinder head (Ok _) = IsTrackAt c volume cylinder head
+Looks c volume cylinder head (Err (TornTrack at_cylinder at_head)) = (at_cylinder ≡ cylinder) × (at_head ≡ head) × (IsTrackAt c volume cylinder head → ⊥)
+Looks c volume cylinder head (Err (Stopped fault)) = Unit {0}
+
+-- what a walk up to this cylinder answers
+abbrev pub WalksTo : Content → ℕ → ℕ → Result (Unit {0}) StartFault → Type 0
+WalksTo c volume cylinder (Ok _) = AreTracksBefore c volume cylinder 0
+WalksTo c volume cylinder (Err (TornTrack at_cylinder at_head)) = IsFirstTorn c volume at_cylinder at_head
+WalksTo c volume cylinder (Err (Stopped fault)) = Unit {0}

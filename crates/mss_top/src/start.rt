@@ -1,0 +1,91 @@
+//! The walk over a volume before anything is run: each of its blocks has to read as a track.
+ghost use Rattle.std.specs.Prelude.{◌≡◌, ◌≤◌, ◌+◌, length};
+ghost use Rattle.mss_base.specs.Content.{content};
+ghost use Rattle.mss_top.specs.Direct.{AreTracksBefore};
+ghost use Rattle.mss_top.specs.Start.{Looks, Walks, WalksTo, IsCounted};
+
+use crate::direct::direct_place;
+use ckd_track::check_track;
+use mss_base::{Cylinder, Head, Site, VolumeNo};
+
+/// Why a volume wasn't taken on.
+#[derive(Clone, Copy, Debug, PartialEq, Eq)]
+pub enum StartFault {
+    /// The first block, by cylinder and head, that doesn't read as a track.
+    TornTrack { cylinder: Cylinder, head: Head },
+    /// A read failed; the site's count of faults after it.
+    Stopped { fault: u64 },
+}
+
+/// Reads the block of a track, and looks whether it is one.
+fn check_block<S: Site>(
+    site: &mut S,
+    volume: VolumeNo,
+    cylinder: Cylinder,
+    head: Head,
+    buffer: &mut [u8],
+) -> Result<(), StartFault>
+    requires { length buffer.old ≡ 16384 }
+    ensures track { S.tells → Looks (content (S.told site.old)) volume cylinder head result }
+    ensures counted { IsCounted (S.faults site.old) (S.faults site.new) result }
+    ensures told { S.tells → S.told site.new ≡ S.told site.old }
+    ensures writes { S.writes site.new ≡ S.writes site.old }
+    ensures later { S.faults site.old ≤ S.faults site.new }
+{
+    let place = direct_place(volume, cylinder, head);
+    if site.read(place.unit, place.block, buffer).is_err() {
+        return Err(StartFault::Stopped {
+            fault: site.faults(),
+        });
+    }
+    if check_track(buffer).is_err() {
+        return Err(StartFault::TornTrack { cylinder, head });
+    }
+    Ok(())
+}
+
+/// Checks the blocks of a cylinder, where those before it are tracks.
+fn check_cylinder<S: Site>(
+    site: &mut S,
+    volume: VolumeNo,
+    cylinder: Cylinder,
+    buffer: &mut [u8],
+) -> Result<(), StartFault>
+    requires buffer { length buffer.old ≡ 16384 }
+    requires before { S.tells → AreTracksBefore (content (S.told site.old)) volume cylinder 0 }
+    ensures walk { S.tells → WalksTo (content (S.told site.old)) volume (cylinder + 1) result }
+    ensures counted { IsCounted (S.faults site.old) (S.faults site.new) result }
+    ensures told { S.tells → S.told site.new ≡ S.told site.old }
+    ensures writes { S.writes site.new ≡ S.writes site.old }
+    ensures later { S.faults site.old ≤ S.faults site.new }
+{
+    for head in 0..19u8 {
+        let Some(head) = Head::of(head) else {
+            unreachable!()
+        };
+        check_block(site, volume, cylinder, head, buffer)?;
+    }
+    Ok(())
+}
+
+/// Checks each block of the volume, by cylinder and head.
+pub fn check_volume<S: Site>(
+    site: &mut S,
+    volume: VolumeNo,
+    buffer: &mut [u8],
+) -> Result<(), StartFault>
+    requires { length buffer.old ≡ 16384 }
+    ensures walk { S.tells → Walks (content (S.told site.old)) volume result }
+    ensures counted { IsCounted (S.faults site.old) (S.faults site.new) result }
+    ensures told { S.tells → S.told site.new ≡ S.told site.old }
+    ensures writes { S.writes site.new ≡ S.writes site.old }
+    ensures later { S.faults site.old ≤ S.faults site.new }
+{
+    for cylinder in 0..404u16 {
+        let Some(cylinder) = Cylinder::of(cylinder) else {
+            unreachable!()
+        };
+        check_cylinder(site, volume, cylinder, buffer)?;
+    }
+    Ok(())
+}
