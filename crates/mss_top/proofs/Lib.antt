@@ -10,3 +10,4 @@ pub mod Entered
 pub mod Running
 pub mod Begun
 pub mod Items
+pub mod Volumes

@@ -1,9 +1,11 @@
 -- What the walk over a volume at the start says.
-use Rattle.std.specs.Prelude.{◌≡◌, ℕ, Result, Ok, Err}
+use Rattle.std.specs.Prelude.{◌≡◌, ℕ, List, take, slice_get, Some, Result, Ok, Err}
+use Rattle.std.specs.List.{AllByRecursion}
 use Rattle.mss_base.specs.Content.{Content}
 use Rattle.mss_base.specs.Counts.{Rises}
 use Rattle.mss_top.specs.Direct.{IsTrackAt, AreTracks, AreTracksBefore}
 use Rattle.mss_top.specs.declared.start.StartFault.{StartFault}
+use Rattle.mss_top.specs.declared.start.VolumeFault.{VolumeFault}
 use Rattle.mss_top.specs.declared.start.StartFault.TheVariants.{TornTrack, Stopped}
 
 -- this block is the first, by cylinder and head, that doesn't read as a track
@@ -33,3 +35,25 @@ abbrev pub WalksTo : Content → ℕ → ℕ → Result (Unit {0}) StartFault �
 WalksTo c volume cylinder (Ok _) = AreTracksBefore c volume cylinder 0
 WalksTo c volume cylinder (Err (TornTrack at_cylinder at_head)) = IsFirstTorn c volume at_cylinder at_head
 WalksTo c volume cylinder (Err (Stopped fault)) = Unit {0}
+
+-- each block of these volumes reads as a track
+abbrev pub AreVolumes : Content → List (ℕ × List ℕ) → Type 0
+AreVolumes c volumes = AllByRecursion (λ v. AreTracks c v.0) volumes
+
+-- the volumes before this one are whole, and the walk over this one ended so
+pub record IsFirstFault (c : Content) (volumes : List (ℕ × List ℕ)) (e : VolumeFault) : Type 0 where
+  pub place : ℕ
+  pub serial : List ℕ
+  pub at : slice_get volumes place ≡ Some (e.volume, serial)
+  pub before : AreVolumes c (take place volumes)
+  pub walk : Walks c e.volume (Err e.fault)
+
+-- what the walk over volumes answers: each block is a track, or the first fault, by volume
+abbrev pub WalksAll : Content → List (ℕ × List ℕ) → Result (Unit {0}) VolumeFault → Type 0
+WalksAll c volumes (Ok _) = AreVolumes c volumes
+WalksAll c volumes (Err e) = IsFirstFault c volumes e
+
+-- the same count of faults, of the volume's fault
+abbrev pub AreCounted : ℕ → ℕ → Result (Unit {0}) VolumeFault → Type 0
+AreCounted before now (Ok _) = Unit {0}
+AreCounted before now (Err e) = IsCounted before now (Err e.fault)

@@ -1,12 +1,14 @@
 //! The walk over a volume before anything is run: each of its blocks has to read as a track.
-ghost use Rattle.std.specs.Prelude.{◌≡◌, ◌≤◌, ◌+◌, length};
+ghost use Rattle.std.specs.Prelude.{◌≡◌, ◌≤◌, ◌+◌, length, OnOk};
 ghost use Rattle.mss_base.specs.Content.{content};
 ghost use Rattle.mss_top.specs.Direct.{AreTracksBefore};
-ghost use Rattle.mss_top.specs.Start.{Looks, Walks, WalksTo, IsCounted};
+ghost use Rattle.ckd_plain.specs.Plain.{serial_in};
+ghost use Rattle.mss_top.specs.Session.{AreAllTracks};
+ghost use Rattle.mss_top.specs.Start.{Looks, Walks, WalksTo, WalksAll, IsCounted, AreCounted};
 
 use crate::direct::direct_place;
 use ckd_track::check_track;
-use mss_base::{Cylinder, Head, Site, VolumeNo};
+use mss_base::{Cylinder, Head, Serial, Site, VolumeNo};
 
 /// Why a volume wasn't taken on.
 #[derive(Clone, Copy, Debug, PartialEq, Eq)]
@@ -86,6 +88,36 @@ pub fn check_volume<S: Site>(
             unreachable!()
         };
         check_cylinder(site, volume, cylinder, buffer)?;
+    }
+    Ok(())
+}
+
+/// The first volume that wasn't taken on, and why.
+#[derive(Clone, Copy, Debug, PartialEq, Eq)]
+pub struct VolumeFault {
+    pub volume: VolumeNo,
+    pub fault: StartFault,
+}
+
+/// Checks each block of each volume, in their order.
+pub fn check_volumes<S: Site>(
+    site: &mut S,
+    volumes: &[(VolumeNo, Serial)],
+    buffer: &mut [u8],
+) -> Result<(), VolumeFault>
+    requires { length buffer.old ≡ 16384 }
+    ensures walk { S.tells → WalksAll (content (S.told site.old)) volumes.now result }
+    ensures tracks { S.tells → OnOk result (AreAllTracks (serial_in volumes.now) (content (S.told site.old))) }
+    ensures counted { AreCounted (S.faults site.old) (S.faults site.new) result }
+    ensures told { S.tells → S.told site.new ≡ S.told site.old }
+    ensures writes { S.writes site.new ≡ S.writes site.old }
+    ensures later { S.faults site.old ≤ S.faults site.new }
+{
+    for entry in volumes {
+        let volume = entry.0;
+        if let Err(fault) = check_volume(site, volume, buffer) {
+            return Err(VolumeFault { volume, fault });
+        }
     }
     Ok(())
 }

@@ -1,0 +1,9 @@
+use Rattle.std.proofs.Common.{length, take}
+use Rattle.mss_top.specs.Start.{AreVolumes}
+use Rattle.mss_top.proofs.Walking.{IsWalk}
+use Rattle.mss_top.proofs.start.check_volumes.Given as goal
+
+abbrev pub invariant-loop-entry : goal.invariant-loop-entry
+invariant-loop-entry g l =
+    IsWalk g.S.Site.tells (g.S.Site.told l.initial.site) (g.S.Site.told l.site) (g.S.Site.writes l.initial.site) (g.S.Site.writes l.site) (g.S.Site.faults l.initial.site) (g.S.Site.faults l.site) (length l.buffer)
+    (λ c. AreVolumes c (take l.entry-index l.volumes))
