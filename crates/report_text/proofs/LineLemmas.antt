@@ -1,6 +1,7 @@
 -- Lines put one behind the other.
 use Rattle.std.proofs.Common.{◌≡◌, ℕ, suc, ◌+◌, ◌<◌, List, [], ◌∷◌, ◌++◌, length, drop, get_or, drop-cons, add-one, subst, sym, ap, ◌∙◌, Result, Ok, Err}
 use Rattle.std.specs.Prelude.{IsErrAnd}
+use Rattle.std.specs.List.{flat_map}
 use Rattle.std.proofs.lemmas.List.{append-nil}
 use Rattle.ckd_track.specs.Data.{RecordData}
 use Rattle.mss_base.specs.Puts.{PutsFront, Puts}
@@ -29,6 +30,14 @@ pub lines_stop : {A : Type 0} (text : ℕ → A → List ℕ) (old now new : Lis
     → Part old now (numbered text n (drop i xs)) whole → PutsFront now new (text n x) → PutsFront old new whole
 lines_stop text old now new n i xs x whole lt is part front =
     part_stops old now new (text n x) (numbered text (n + 1) (drop (i + 1) xs)) whole (subst (λ r. Part old now r whole) (next_line text n i xs x lt is) part) front
+
+-- of pieces put one behind the other a front of this one was put
+pub pieces_stop : {X : Type 0} (text : X → List ℕ) (old now new : List ℕ) (i : ℕ) (pieces : List X) (other : X)
+    → i < length pieces → Part old now (flat_map text (drop i pieces)) (flat_map text pieces)
+    → PutsFront now new (text (get_or pieces i other)) → PutsFront old new (flat_map text pieces)
+pieces_stop text old now new i pieces other lt part front =
+    part_stops old now new (text (get_or pieces i other)) (flat_map text (drop (suc i) pieces)) (flat_map text pieces)
+    (subst (λ l. Part old now (flat_map text l) (flat_map text pieces)) (drop-cons pieces i other lt) part) front
 
 -- a track without a record has no text
 pub no_track_text : (old : List ℕ) (cylinder head : ℕ) (rs : List RecordData) → rs ≡ [] → old ≡ old ++ track_text cylinder head rs

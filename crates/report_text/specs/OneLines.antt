@@ -12,9 +12,3 @@ one_line_text JobRefusedLater = codes "job refused line 0 Later\n"
 one_line_text (TornTrack volume cylinder head) = codes "restart refused torn track volume " ++ place_text volume cylinder head ++ codes "\n"
 one_line_text (RestartStopped fault) = codes "restart refused stopped fault " ++ decimal fault ++ codes "\n"
 one_line_text WantOfMemory = codes "want of memory\n"
-
--- the line has a number to spell, which takes memory
-abbrev pub HasNumber : OneLine → Type 0
-HasNumber (TornTrack volume cylinder head) = Unit {0}
-HasNumber (RestartStopped fault) = Unit {0}
-HasNumber _ = ⊥

@@ -1,12 +1,14 @@
 //! The text of a report, and the functions that put it into a sink, line by line.
 //!
 //! Each function puts one part: the history, a volume's heading, a track, the last line, or an output of one line. Its
-//! clause says which text was put, or after a fault a front of it. The texts are defined in specs/Texts.antt and
-//! specs/OneLines.antt. The layer above puts the parts one behind the other, by the lemmas of `mss_base`'s
-//! proofs/Putting.antt and of proofs/TrackTexts.antt here.
+//! clause says which text was put, or after a fault a front of it. The history, a heading and a track are made in a
+//! buffer first, so they may want memory (`ReportFault`); every other line wants none, and fails with the sink alone
+//! (`Failed`). The texts are defined in specs/Texts.antt and specs/OneLines.antt. The layer above puts the parts one
+//! behind the other, by the lemmas of `mss_base`'s proofs/Putting.antt and of proofs/TrackTexts.antt here.
 #![tactic(auto)]
 
 mod one_line;
+mod pieces;
 mod report;
 #[cfg(test)]
 mod tests;

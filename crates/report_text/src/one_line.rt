@@ -1,12 +1,10 @@
 // Outputs of one line in place of a report.
-ghost use Rattle.std.specs.Prelude.{◌≤◌, IsErrOf};
-ghost use Rattle.mss_base.specs.Counts.{Rises};
+ghost use Rattle.mss_base.specs.Counts.{HasCause};
 ghost use Rattle.mss_base.specs.Puts.{Puts};
-ghost use Rattle.report_text.specs.OneLines.{one_line_text, HasNumber};
+ghost use Rattle.report_text.specs.OneLines.{one_line_text};
 
-use crate::ReportFault;
-use crate::report::{put_numbered, put_place, put_text};
-use mss_base::{Bytes, Cylinder, Head, Sink, VolumeNo};
+use crate::pieces::{put_numbered, put_place, put_text};
+use mss_base::{Cylinder, Failed, Head, Sink, VolumeNo};
 
 /// An output of one line in place of a report.
 #[derive(Clone, Copy, Debug)]
@@ -28,19 +26,11 @@ pub enum OneLine {
     WantOfMemory,
 }
 
-/// Puts an output of one line. Only a line with numbers takes memory.
-///
-/// The content of the buffer means nothing afterwards.
+/// Puts an output of one line, by at most seven calls. It wants no memory, since it tells want of memory too.
 #[tactic(auto, unfolding(crate::specs::OneLines::one_line_text))]
-pub fn put_line<O: Sink>(
-    output: &mut O,
-    buffer: &mut Bytes,
-    line: &OneLine,
-) -> Result<(), ReportFault>
+pub fn put_line<O: Sink>(output: &mut O, line: &OneLine) -> Result<(), Failed>
     ensures bytes { O.tells → Puts result (O.told output.old) (O.told output.new) (one_line_text line.now) }
-    ensures later { O.faults output.old ≤ O.faults output.new }
-    ensures output { IsErrOf result ReportFault.Output → Rises (O.faults output.old) (O.faults output.new) }
-    ensures memory { IsErrOf result ReportFault.Memory → HasNumber line.now }
+    ensures cause { HasCause (O.faults output.old) (O.faults output.new) result }
 {
     match *line {
         OneLine::WordsRefused => put_text(output, "words refused\n"),
@@ -52,14 +42,13 @@ pub fn put_line<O: Sink>(
             head,
         } => put_place(
             output,
-            buffer,
             "restart refused torn track volume ",
             volume,
             cylinder,
             head,
         ),
         OneLine::RestartStopped { fault } => {
-            put_numbered(output, buffer, "restart refused stopped fault ", fault)
+            put_numbered(output, "restart refused stopped fault ", fault)
         }
         OneLine::WantOfMemory => put_text(output, "want of memory\n"),
     }

@@ -1,11 +1,12 @@
 // The parts of a report, each put into a sink.
-ghost use Rattle.std.specs.Prelude.{◌≡◌, ◌≤◌, ◌++◌, [], IsOk, IsErrOf, IsOkUnless, length, codes, decimal};
-ghost use Rattle.mss_base.specs.Counts.{Rises};
+ghost use Rattle.std.specs.Prelude.{◌≡◌, ◌≤◌, [], IsOk, IsErrOf, IsOkUnless, length};
+ghost use Rattle.mss_base.specs.Counts.{HasCause, Rises};
 ghost use Rattle.mss_base.specs.Puts.{Puts};
 ghost use Rattle.ckd_track.specs.Track.{reading};
-ghost use Rattle.report_text.specs.Texts.{numbered, entry_text, history_text, track_text, heading_text, place_text, end_text, limit_text, stopped_text};
+ghost use Rattle.report_text.specs.Texts.{numbered, entry_text, history_text, track_text, heading_text, end_text, limit_text, stopped_text};
 
-use crate::text::{push_entry, push_heading, push_numbered, push_place, push_track};
+use crate::pieces::{put_numbered, put_text};
+use crate::text::{push_entry, push_heading, push_track};
 use ckd_plain::Entry;
 use ckd_track::stored_records;
 use mss_base::{Bytes, Cylinder, Failed, Head, NoMemory, Serial, Sink, VolumeNo};
@@ -42,7 +43,7 @@ impl From<NoMemory> for ReportFault {
 }
 
 /// Puts bytes that stand ready.
-pub fn put_bytes<O: Sink>(output: &mut O, bytes: &[u8]) -> Result<(), ReportFault>
+fn put_bytes<O: Sink>(output: &mut O, bytes: &[u8]) -> Result<(), ReportFault>
     ensures bytes { O.tells → Puts result (O.told output.old) (O.told output.new) bytes.now }
     ensures later { O.faults output.old ≤ O.faults output.new }
     ensures output { IsErrOf result ReportFault.Output → Rises (O.faults output.old) (O.faults output.new) }
@@ -50,50 +51,6 @@ pub fn put_bytes<O: Sink>(output: &mut O, bytes: &[u8]) -> Result<(), ReportFaul
 {
     output.put(bytes)?;
     Ok(())
-}
-
-/// Puts the text of a line that is always the same.
-pub fn put_text<O: Sink>(output: &mut O, text: &str) -> Result<(), ReportFault>
-    ensures bytes { O.tells → Puts result (O.told output.old) (O.told output.new) text.now }
-    ensures later { O.faults output.old ≤ O.faults output.new }
-    ensures output { IsErrOf result ReportFault.Output → Rises (O.faults output.old) (O.faults output.new) }
-    ensures no_memory { IsOkUnless result ReportFault.Output }
-{
-    put_bytes(output, text.as_bytes())
-}
-
-/// Puts a line that ends in a number.
-pub fn put_numbered<O: Sink>(
-    output: &mut O,
-    buffer: &mut Bytes,
-    text: &str,
-    number: u64,
-) -> Result<(), ReportFault>
-    ensures bytes { O.tells → Puts result (O.told output.old) (O.told output.new) (text.now ++ decimal number ++ codes "\n") }
-    ensures later { O.faults output.old ≤ O.faults output.new }
-    ensures output { IsErrOf result ReportFault.Output → Rises (O.faults output.old) (O.faults output.new) }
-{
-    buffer.truncate(0);
-    push_numbered(buffer, text, number)?;
-    put_bytes(output, buffer.as_slice())
-}
-
-/// Puts a line that ends in a track, by volume, cylinder and head.
-pub fn put_place<O: Sink>(
-    output: &mut O,
-    buffer: &mut Bytes,
-    text: &str,
-    volume: VolumeNo,
-    cylinder: Cylinder,
-    head: Head,
-) -> Result<(), ReportFault>
-    ensures bytes { O.tells → Puts result (O.told output.old) (O.told output.new) (text.now ++ place_text volume cylinder head ++ codes "\n") }
-    ensures later { O.faults output.old ≤ O.faults output.new }
-    ensures output { IsErrOf result ReportFault.Output → Rises (O.faults output.old) (O.faults output.new) }
-{
-    buffer.truncate(0);
-    push_place(buffer, text, volume, cylinder, head)?;
-    put_bytes(output, buffer.as_slice())
 }
 
 fn put_entry<O: Sink>(
@@ -187,40 +144,31 @@ pub fn put_track<O: Sink>(
     put_bytes(output, buffer.as_slice())
 }
 
-/// Puts the last line of a whole report.
+/// Puts the last line of a whole report. It wants no memory.
 #[tactic(auto, unfolding(crate::specs::Texts::end_text))]
-pub fn put_end<O: Sink>(output: &mut O) -> Result<(), ReportFault>
+pub fn put_end<O: Sink>(output: &mut O) -> Result<(), Failed>
     ensures bytes { O.tells → Puts result (O.told output.old) (O.told output.new) end_text }
-    ensures later { O.faults output.old ≤ O.faults output.new }
-    ensures output { IsErrOf result ReportFault.Output → Rises (O.faults output.old) (O.faults output.new) }
-    ensures no_memory { IsOkUnless result ReportFault.Output }
+    ensures cause { HasCause (O.faults output.old) (O.faults output.new) result }
 {
     put_text(output, "END\n")
 }
 
-/// Puts the last line of a report whose session came to the limit of its calls.
+/// Puts the last line of a report whose session came to the limit of its calls. It wants no memory.
 #[tactic(auto, unfolding(crate::specs::Texts::limit_text))]
-pub fn put_limit<O: Sink>(output: &mut O) -> Result<(), ReportFault>
+pub fn put_limit<O: Sink>(output: &mut O) -> Result<(), Failed>
     ensures bytes { O.tells → Puts result (O.told output.old) (O.told output.new) limit_text }
-    ensures later { O.faults output.old ≤ O.faults output.new }
-    ensures output { IsErrOf result ReportFault.Output → Rises (O.faults output.old) (O.faults output.new) }
-    ensures no_memory { IsOkUnless result ReportFault.Output }
+    ensures cause { HasCause (O.faults output.old) (O.faults output.new) result }
 {
     put_text(output, "LIMIT\n")
 }
 
-/// Puts the last line of a report that a device's failure ended; `fault` is the count of faults then.
+/// Puts the last line of a report that a device's failure ended. It wants no memory.
 ///
-/// The content of the buffer means nothing afterwards.
+/// `fault` is the count of faults then.
 #[tactic(auto, unfolding(crate::specs::Texts::stopped_text))]
-pub fn put_stopped<O: Sink>(
-    output: &mut O,
-    buffer: &mut Bytes,
-    fault: u64,
-) -> Result<(), ReportFault>
+pub fn put_stopped<O: Sink>(output: &mut O, fault: u64) -> Result<(), Failed>
     ensures bytes { O.tells → Puts result (O.told output.old) (O.told output.new) (stopped_text fault) }
-    ensures later { O.faults output.old ≤ O.faults output.new }
-    ensures output { IsErrOf result ReportFault.Output → Rises (O.faults output.old) (O.faults output.new) }
+    ensures cause { HasCause (O.faults output.old) (O.faults output.new) result }
 {
-    put_numbered(output, buffer, "STOPPED ", fault)
+    put_numbered(output, "STOPPED ", fault)
 }

@@ -2,7 +2,7 @@
 use crate::*;
 use channel_commands::{Call, Reply};
 use ckd_plain::Entry;
-use mss_base::{Bytes, Cylinder, Head, HostNo, MemorySink, Serial, Sink, VolumeNo};
+use mss_base::{Bytes, Cylinder, Failed, Head, HostNo, MemorySink, Serial, Sink, VolumeNo};
 use std::alloc::Global;
 use std::test::Fail;
 
@@ -60,7 +60,7 @@ fn a_report_of_a_mount_and_a_read(rt: HostRuntime) -> Result<(), Fail> {
     put_volume(&mut output, &mut buffer)?;
     put_end(&mut output)?;
     put_limit(&mut output)?;
-    put_stopped(&mut output, &mut buffer, 4)?;
+    put_stopped(&mut output, 4)?;
     let report = "MSS REPORT 1
 entry 1 host 1 mount 0 mounted
 entry 2 host 1 ccw 06 status 0C data 414243
@@ -88,6 +88,19 @@ fn a_failed_put_ends_a_history(rt: HostRuntime) -> Result<(), Fail> {
 }
 
 #[test]
+fn a_failed_put_ends_a_line(rt: HostRuntime) -> Result<(), Fail> {
+    let mut output = MemorySink::new(rt.alloc(), &[2])?;
+    let put = put_line(&mut output, &OneLine::RestartStopped { fault: 1 });
+    assert_eq!(rt; put, Err(Failed));
+    assert_eq!(rt;
+        output.bytes(),
+        b"restart refused stopped fault ".as_slice()
+    );
+    assert_eq!(rt; output.faults(), 1);
+    Ok(())
+}
+
+#[test]
 fn outputs_of_one_line(rt: HostRuntime) -> Result<(), Fail> {
     let torn = OneLine::TornTrack {
         volume: VolumeNo::of(0).ok_or("volume")?,
@@ -109,8 +122,7 @@ fn outputs_of_one_line(rt: HostRuntime) -> Result<(), Fail> {
         (OneLine::WantOfMemory, "want of memory\n"),
     ] {
         let mut output = MemorySink::new(rt.alloc(), &[])?;
-        let mut buffer = Bytes::new(rt.alloc());
-        put_line(&mut output, &mut buffer, &line)?;
+        put_line(&mut output, &line)?;
         assert_eq!(rt; output.bytes(), text.as_bytes());
     }
     Ok(())

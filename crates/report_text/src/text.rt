@@ -1,9 +1,9 @@
 // The lines of a report, each put at the end of a buffer.
-ghost use Rattle.std.specs.Prelude.{◌≡◌, ◌++◌, ◌<◌, ◌∷◌, ℕ, true, OnOk, codes, decimal};
+ghost use Rattle.std.specs.Prelude.{◌≡◌, ◌++◌, ◌<◌, ◌∷◌, ℕ, true, OnOk, decimal};
 ghost use Rattle.std.specs.List.{flat_map};
 ghost use Rattle.std.specs.Fmt.{digit_glyph};
 ghost use Rattle.channel_commands.specs.Views.{call_of, reply_of};
-ghost use Rattle.report_text.specs.Texts.{hex_byte, hex, data_text, field_text, bind_text, fault_text, call_text, reply_text, entry_text, record_text, track_line, track_text, heading_text, place_text};
+ghost use Rattle.report_text.specs.Texts.{hex_byte, hex, data_text, field_text, bind_text, fault_text, call_text, reply_text, entry_text, record_text, track_line, track_text, heading_text};
 
 use channel_commands::{Call, Reply};
 use ckd_plain::Entry;
@@ -205,33 +205,5 @@ pub fn push_heading(out: &mut Bytes, number: VolumeNo, serial: &Serial) -> Resul
     push_number(out, u64::from(number.get()))?;
     push_text(out, " ")?;
     out.append(serial.as_slice())?;
-    push_text(out, "\n")
-}
-
-/// A line that ends in a number.
-pub fn push_numbered(out: &mut Bytes, text: &str, number: u64) -> Result<(), NoMemory>
-    ensures { OnOk result (out.new.items ≡ out.old.items ++ (text.now ++ decimal number ++ codes "\n")) }
-{
-    push_text(out, text)?;
-    push_number(out, number)?;
-    push_text(out, "\n")
-}
-
-/// A line that ends in a track, by volume, cylinder and head.
-pub fn push_place(
-    out: &mut Bytes,
-    text: &str,
-    volume: VolumeNo,
-    cylinder: Cylinder,
-    head: Head,
-) -> Result<(), NoMemory>
-    ensures { OnOk result (out.new.items ≡ out.old.items ++ (text.now ++ place_text volume cylinder head ++ codes "\n")) }
-{
-    push_text(out, text)?;
-    push_number(out, u64::from(volume.get()))?;
-    push_text(out, " cylinder ")?;
-    push_number(out, u64::from(cylinder.get()))?;
-    push_text(out, " head ")?;
-    push_number(out, u64::from(head.get()))?;
     push_text(out, "\n")
 }
