@@ -27,12 +27,13 @@ module _ (tells : Type 0) (serials : Serials) (number : ℕ) (site : SiteLog) (w
   pub opening_begun : tells → opening serials writes site ≡ start_of (direct serials (content site))
   opening_begun is_told = ap (λ (n : ℕ). opening serials n site) (counted is_told) ∙ opening_at_start serials site
 
-  pub session_begins : (tells → AreAllTracks serials (content site)) → IsSession tells serials number site fresh_host (begun writes faults)
+  pub session_begins : (tells → AreAllTracks serials (content site)) → IsSession tells serials number site faults fresh_host (begun writes faults)
   session_begins tracks = record {
-    kept = record { few = omega arith; own = tt; marked = refl; there = λ volume bind same. absurd cc };
+    kept = record { few = omega arith; own = tt; marked = refl; faults_ = omega arith; there = λ volume bind same. absurd cc };
     told = λ is_told. record {
       began = omega (arith, counted is_told);
       legal = tt;
+      marked = record { within = tt; shown = λ place mark e is_entry is_mark goes_on. absurd cc };
       going = λ _. record {
         no_stop = tt;
         state = opening_begun is_told ∙ present_fresh serials number site;

@@ -15,10 +15,11 @@ use Rattle.mss_top.specs.Sessions.{session_data}
 use Rattle.mss_top.specs.Machines.{Keeps}
 use Rattle.mss_top.specs.Scripts.{exchange, exchanges, last_reply, SameBeginning, GivesSince, NextIs}
 use Rattle.mss_top.specs.declared.machine.Machine.{Machine}
+use Rattle.mss_top.proofs.SessionLemmas.{get_last}
 
 -- what a machine keeps over several calls
 pub record IsGoingOn (S : Type 0) (tells : Type 0) (told : S → SiteLog) (faults : S → ℕ) (begun now : Machine S) : Type 0 where
-  pub keeps : Keeps tells (told now.site) now
+  pub keeps : Keeps tells (told now.site) (faults now.site) now
   pub going : now.session.stopped ≡ None
   pub beginning : SameBeginning (session_data begun.session) (session_data now.session)
   pub continues : tells → Continues (told begun.site) (told now.site)
@@ -37,10 +38,6 @@ pub record HasRun (words : List CcwData) (begun now : SessionData) (at : Standin
 pub exchanges-push : (history : List EntryData) (e : EntryData) → exchanges (history ++ e ∷ []) ≡ exchanges history ++ exchange e ∷ []
 exchanges-push [] e = refl
 exchanges-push (x ∷ xs) e = ap (λ (l : List Exchange). exchange x ∷ l) (exchanges-push xs e)
-
-get_last : (history : List EntryData) (e : EntryData) → slice_get (history ++ e ∷ []) (length history) ≡ Some e
-get_last [] e = refl
-get_last (x ∷ xs) e = get_last xs e
 
 -- the reply to the last call
 pub last_reply-push : (history : List EntryData) (e : EntryData) → last_reply true (history ++ e ∷ []) ≡ Some e.reply

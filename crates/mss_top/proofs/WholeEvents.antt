@@ -1,5 +1,5 @@
 -- A session is whole after each kind of call.
-use Rattle.std.proofs.Common.{◌≡◌, ℕ, ◌+◌, ◌*◌, ◌%◌, ◌<◌, Bool, true, false, List, length, Option, Some, None, Ok, Err, refl, sym, ◌∙◌, ap, subst}
+use Rattle.std.proofs.Common.{◌≡◌, ℕ, ◌+◌, ◌*◌, ◌%◌, ◌≤◌, ◌<◌, arith, Bool, true, false, List, length, Option, Some, None, Ok, Err, refl, sym, ◌∙◌, ap, subst}
 use Rattle.std.specs.Prelude.{IsSome}
 use Rattle.mss_base.specs.Content.{SiteLog, content}
 use Rattle.ckd_track.specs.Data.{RecordData}
@@ -22,15 +22,16 @@ use Rattle.ckd_plain.specs.Index.{Tracks}
 use Rattle.track_engine.specs.Tracks.{tracks_at}
 use Rattle.track_engine.specs.Writing.{WritesTrack}
 use Rattle.track_engine.specs.Answers.{ran}
+use Rattle.track_engine.specs.Faults.{IsFaultSince}
 use Rattle.mss_top.specs.Direct.{direct, direct_unit}
-use Rattle.mss_top.specs.Session.{SessionData, Serials, present, AreAllTracks, IsSession, Continues}
+use Rattle.mss_top.specs.Session.{SessionData, Serials, present, AreAllTracks, KeptSince, IsSession, Continues}
 use Rattle.mss_top.specs.Events.{is_command, there_for, responded, with_entry}
 use Rattle.mss_top.proofs.SessionLemmas.{with_host_present, host_present, continues_same, kept_entry, told_entry}
 use Rattle.mss_top.proofs.DirectLemmas.{tracks_shown}
 use Rattle.mss_top.proofs.EventLemmas.{Leaves, count_own, alone_present, plain_responds, responded_there, responded_goes_on, run_goes_on, run_refused, run_admitted, unwritten, leaves, writes_continue}
 
-module _ (tells : Type 0) (serials : Serials) (number : ℕ) (site : SiteLog) (host : HostState) (v : SessionData)
-    (holds : IsSession tells serials number site host v) (open_ : v.stopped ≡ None) (few : length v.history < 4096) (mark : ℕ) where
+module _ (tells : Type 0) (serials : Serials) (number : ℕ) (site : SiteLog) (faults : ℕ) (host : HostState) (v : SessionData)
+    (holds : IsSession tells serials number site faults host v) (open_ : v.stopped ≡ None) (few : length v.history < 4096) (mark : ℕ) where
   abbrev pub entry_of : CallData → ReplyData → Option ℕ → EntryData
   entry_of call reply fault = record { host = number; number = length v.history + 1; call = call; reply = reply; fault = fault }
 
@@ -54,14 +55,14 @@ module _ (tells : Type 0) (serials : Serials) (number : ℕ) (site : SiteLog) (h
       ∙ (λ i. ((answer_to call).0, with_host_present serials number (content site) host (answer_to call).1 i))
 
   -- after a call that is no command
-  pub whole_response : (call : CallData) → is_command call ≡ false
-      → IsSession tells serials number site (answer_to call).1 (with_entry v (entry_of call (answer_to call).0 None) mark v.stopped)
-  whole_response call none =
+  pub whole_response : (call : CallData) → is_command call ≡ false → (tells → mark ≡ length site.log)
+      → IsSession tells serials number site faults (answer_to call).1 (with_entry v (entry_of call (answer_to call).0 None) mark v.stopped)
+  whole_response call none marked =
       let e : EntryData = entry_of call (answer_to call).0 None in
       let may = plain_entry now (count_of_host number v.history) e (sym (ap (λ (r : Replied). r.0) (plain_is call none))) counted refl (alone_present serials number (content site) host call) in
       record {
-        kept = kept_entry serials number host (answer_to call).1 v e mark v.stopped holds.kept few refl (responded_there serials host call holds.kept.there);
-        told = λ t. told_entry serials number site site host (answer_to call).1 v e mark v.stopped (holds.told t) open_ (continues_same site) may.0
+        kept = kept_entry serials number faults faults host (answer_to call).1 v e mark v.stopped holds.kept few refl (omega arith) (responded_there serials host call holds.kept.there);
+        told = λ t. told_entry serials number site site host (answer_to call).1 v e mark v.stopped (holds.told t) holds.kept.marked open_ (continues_same site) (marked t) may.0
             (λ _. responded_goes_on host (there_for serials call) call)
             (λ _. may.1 ∙ ap (λ (r : Replied). r.1) (plain_is call none))
             (λ _. ((holds.told t).going open_).tracks);
@@ -105,17 +106,17 @@ module _ (tells : Type 0) (serials : Serials) (number : ℕ) (site : SiteLog) (h
     mounted_there after_ same volume bind is = holds.kept.there volume bind (sym same ∙ is)
 
     -- after a command with the plain reply
-    pub whole_command : (t : SiteLog) (reply : ReplyData) (after_ : HostState) → after_.mounted ≡ host.mounted → (tells → IsCommanded t reply after_)
-        → IsSession tells serials number t after_ (with_entry v (entry_of call reply None) mark v.stopped)
-    whole_command t reply after_ same told = record {
-      kept = kept_entry serials number host after_ v (entry_of call reply None) mark v.stopped holds.kept few refl (mounted_there after_ same);
+    pub whole_command : (t : SiteLog) (later : ℕ) (reply : ReplyData) (after_ : HostState) → after_.mounted ≡ host.mounted → (tells → mark ≡ length t.log) → faults ≤ later → (tells → IsCommanded t reply after_)
+        → IsSession tells serials number t later after_ (with_entry v (entry_of call reply None) mark v.stopped)
+    whole_command t later reply after_ same marked rising told = record {
+      kept = kept_entry serials number faults later host after_ v (entry_of call reply None) mark v.stopped holds.kept few refl rising (mounted_there after_ same);
       told = λ is_told.
           let is = told is_told in
           let e : EntryData = entry_of call reply None in
           let gives = plain_gives is.answer t is.ran_ is.leaves.shows in
           let may = plain_entry now (count_of_host number v.history) e (is.reply_ ∙ sym (ap (λ (r : Replied). r.0) gives)) counted refl (alone_present serials number (content site) host call) in
           let leaves : next now e ≡ present serials number (content t) after_ = may.1 ∙ ap (λ (r : Replied). r.1) gives ∙ ap (present serials number (content t)) (sym is.host_) in
-          told_entry serials number site t host after_ v e mark v.stopped (holds.told is_told) open_ is.continues may.0
+          told_entry serials number site t host after_ v e mark v.stopped (holds.told is_told) holds.kept.marked open_ is.continues (marked is_told) may.0
           (λ _ stop. run_goes_on (tracks_under (direct serials (content site)) host) host code argument chained (subst IsStopped (is.reply_ ∙ ap (λ (x : Answer). x.reply) (sym is.ran_)) stop))
           (λ _. leaves) (λ _. is.leaves.tracks);
     }
@@ -127,11 +128,15 @@ module _ (tells : Type 0) (serials : Serials) (number : ℕ) (site : SiteLog) (h
     abbrev pub checked : HostState
     checked = record host { chain_open = false; prior = prior.Nothing; sense = sense_of check.EquipmentCheck }
 
+    -- the count after a fault is kept
+    fault_kept : (later fault : ℕ) → IsFaultSince faults later fault → KeptSince faults (Some fault) (λ kept. kept ≤ later)
+    fault_kept later fault cause = (omega (arith, cause.rises, cause.count), omega (arith, cause.count))
+
     -- after a read that failed
-    pub whole_check : (t : SiteLog) (fault : ℕ) (c : Command) → admitted (opened host) code argument ≡ Ok c → is_data c ≡ true → (tells → t ≡ site)
-        → IsSession tells serials number t checked (with_entry v (entry_of call equipment_check (Some fault)) mark v.stopped)
-    whole_check t fault c admits data_ same = record {
-      kept = kept_entry serials number host checked v (entry_of call equipment_check (Some fault)) mark v.stopped holds.kept few refl (mounted_there checked refl);
+    pub whole_check : (t : SiteLog) (later fault : ℕ) (c : Command) → admitted (opened host) code argument ≡ Ok c → is_data c ≡ true → (tells → mark ≡ length t.log) → IsFaultSince faults later fault → (tells → t ≡ site)
+        → IsSession tells serials number t later checked (with_entry v (entry_of call equipment_check (Some fault)) mark v.stopped)
+    whole_check t later fault c admits data_ marked cause same = record {
+      kept = kept_entry serials number faults later host checked v (entry_of call equipment_check (Some fault)) mark v.stopped holds.kept few refl (fault_kept later fault cause) (mounted_there checked refl);
       told = λ is_told.
           let e : EntryData = entry_of call equipment_check (Some fault) in
           let may = equipment_entry now (count_of_host number v.history) e counted (alone_present serials number (content site) host call) refl refl (c, admits_now c admits, data_) in
@@ -139,32 +144,32 @@ module _ (tells : Type 0) (serials : Serials) (number : ℕ) (site : SiteLog) (h
           (λ i. with_host now number (record (host_present serials number (content site) host i) { chain_open = false; prior = prior.Nothing; sense = sense_of check.EquipmentCheck }))
           ∙ with_host_present serials number (content site) host checked in
           let leaves : next now e ≡ present serials number (content t) checked = may.1 ∙ host_is ∙ ap (λ (x : SiteLog). present serials number (content x) checked) (sym (same is_told)) in
-          told_entry serials number site t host checked v e mark v.stopped (holds.told is_told) open_ (subst (λ (x : SiteLog). Continues site x) (sym (same is_told)) (continues_same site)) may.0
+          told_entry serials number site t host checked v e mark v.stopped (holds.told is_told) holds.kept.marked open_ (subst (λ (x : SiteLog). Continues site x) (sym (same is_told)) (continues_same site)) (marked is_told) may.0
           (λ _ stop. stop) (λ _. leaves) (λ _. subst (λ (x : SiteLog). AreAllTracks serials (content x)) (sym (same is_told)) ((holds.told is_told).going open_).tracks);
     }
 
     -- after a write that failed, which stops the session
-    pub whole_stop : (t : SiteLog) (fault kept_fault : ℕ) (c : Command) → admitted (opened host) code argument ≡ Ok c → is_write c ≡ true → (tells → Continues site t)
-        → IsSession tells serials number t host (with_entry v (entry_of call stopped (Some fault)) mark (Some kept_fault))
-    whole_stop t fault kept_fault c admits writes more = record {
-      kept = kept_entry serials number host host v (entry_of call stopped (Some fault)) mark (Some kept_fault) holds.kept few refl (mounted_there host refl);
+    pub whole_stop : (t : SiteLog) (later fault kept_fault : ℕ) (c : Command) → admitted (opened host) code argument ≡ Ok c → is_write c ≡ true → (tells → mark ≡ length t.log) → IsFaultSince faults later fault → (tells → Continues site t)
+        → IsSession tells serials number t later host (with_entry v (entry_of call stopped (Some fault)) mark (Some kept_fault))
+    whole_stop t later fault kept_fault c admits writes marked cause more = record {
+      kept = kept_entry serials number faults later host host v (entry_of call stopped (Some fault)) mark (Some kept_fault) holds.kept few refl (fault_kept later fault cause) (mounted_there host refl);
       told = λ is_told.
           let e : EntryData = entry_of call stopped (Some fault) in
           let may = stopped_entry now (count_of_host number v.history) e counted (alone_present serials number (content site) host call) refl refl (c, admits_now c admits, writes) in
-          told_entry serials number site t host host v e mark (Some kept_fault) (holds.told is_told) open_ (more is_told) may.0
-          (λ none. cc) (λ none. cc) (λ none. cc);
+          told_entry serials number site t host host v e mark (Some kept_fault) (holds.told is_told) holds.kept.marked open_ (more is_told) (marked is_told) may.0
+          (λ none. cc) (λ goes_on. absurd (goes_on tt)) (λ none. cc);
     }
 
     -- after a command that the checks refuse
-    pub whole_refusal : (why : UnitCheck) → admitted (opened host) code argument ≡ Err why
+    pub whole_refusal : (why : UnitCheck) → admitted (opened host) code argument ≡ Err why → (tells → mark ≡ length site.log)
         → let a : Answer = refused (record { check = why; host = record (opened host) { prior = prior.Nothing } }) in
-        IsSession tells serials number site a.host (with_entry v (entry_of call a.reply None) mark v.stopped)
-    whole_refusal why refuses =
+        IsSession tells serials number site faults a.host (with_entry v (entry_of call a.reply None) mark v.stopped)
+    whole_refusal why refuses marked =
         let a : Answer = refused (record { check = why; host = record (opened host) { prior = prior.Nothing } }) in
         let tracks = tracks_under (direct serials (content site)) host in
         let is : plain_ran host ≡ a = run_refused tracks host code argument chained why refuses in
         let same : a.host.mounted ≡ host.mounted = ap (λ (x : Answer). x.host.mounted) (sym is) ∙ volume_stays tracks host code argument chained in
-        whole_command site a.reply a.host same (λ is_told. record {
+        whole_command site faults a.reply a.host same marked (omega arith) (λ is_told. record {
           answer = a;
           ran_ = is;
           reply_ = refl;
@@ -174,16 +179,16 @@ module _ (tells : Type 0) (serials : Serials) (number : ℕ) (site : SiteLog) (h
         })
 
     -- after a command that looks at no track
-    pub whole_control : (c : Command) → admitted (opened host) code argument ≡ Ok c → (reply : ReplyData) (after_ : HostState)
+    pub whole_control : (c : Command) → admitted (opened host) code argument ≡ Ok c → (tells → mark ≡ length site.log) → (reply : ReplyData) (after_ : HostState)
         → ((tracks : Tracks) → (reply ≡ (performed tracks (opened host) c argument chained).reply) × (after_ ≡ (performed tracks (opened host) c argument chained).host))
         → ((tracks : Tracks) → (performed tracks (opened host) c argument chained).written ≡ None)
-        → IsSession tells serials number site after_ (with_entry v (entry_of call reply None) mark v.stopped)
-    whole_control c admits reply after_ answers none =
+        → IsSession tells serials number site faults after_ (with_entry v (entry_of call reply None) mark v.stopped)
+    whole_control c admits marked reply after_ answers none =
         let tracks = tracks_under (direct serials (content site)) host in
         let a : Answer = performed tracks (opened host) c argument chained in
         let is : plain_ran host ≡ a = run_admitted tracks host code argument chained c admits in
         let same : after_.mounted ≡ host.mounted = ap (λ (h : HostState). h.mounted) (answers tracks).1 ∙ ap (λ (x : Answer). x.host.mounted) (sym is) ∙ volume_stays tracks host code argument chained in
-        whole_command site reply after_ same (λ is_told. record {
+        whole_command site faults reply after_ same marked (omega arith) (λ is_told. record {
           answer = a;
           ran_ = is;
           reply_ = (answers tracks).0;
@@ -197,19 +202,19 @@ module _ (tells : Type 0) (serials : Serials) (number : ℕ) (site : SiteLog) (h
 
     -- after a search, read or write on the blocks of the mounted volume
     pub whole_data : (c : Command) → admitted (opened host) code argument ≡ Ok c → (volume : ℕ) (bind : Bool) (serial : List ℕ) → host.mounted ≡ Some (volume, bind) → serials volume ≡ Some serial
-        → host.cylinder < 404 → host.head < 19 → (t : SiteLog) (reply : ReplyData) (after_ : HostState) → after_.mounted ≡ host.mounted
+        → host.cylinder < 404 → host.head < 19 → (t : SiteLog) (later : ℕ) (reply : ReplyData) (after_ : HostState) → after_.mounted ≡ host.mounted → (tells → mark ≡ length t.log) → faults ≤ later
         → let unit = direct_unit volume host.cylinder in let first : ℕ = host.cylinder % 202 * 19 in let a : Answer = ran (content site) unit first host c argument chained in
         (tells → (reply ≡ a.reply) × (after_ ≡ a.host)) → (tells → WritesTrack c (opened host) unit first site t a.written)
         → (tells → (track : List RecordData) → a.written ≡ Some track → reading (content t unit (first + host.head)) ≡ reading_of track)
-        → IsSession tells serials number t after_ (with_entry v (entry_of call reply None) mark v.stopped)
-    whole_data c admits volume bind serial is_mounted there low low_head t reply after_ same answers writes exact =
+        → IsSession tells serials number t later after_ (with_entry v (entry_of call reply None) mark v.stopped)
+    whole_data c admits volume bind serial is_mounted there low low_head t later reply after_ same marked rising answers writes exact =
         let unit = direct_unit volume host.cylinder in
         let first : ℕ = host.cylinder % 202 * 19 in
         let a : Answer = ran (content site) unit first host c argument chained in
         let tracks = tracks_under (direct serials (content site)) host in
         let shown : tracks ≡ tracks_at (content site) unit first = ap (λ (m : Option (ℕ × Bool)). tracks_mounted (direct serials (content site)) m host.cylinder) is_mounted ∙ sym (tracks_shown serials (content site) volume host.cylinder serial there low) in
         let is : plain_ran host ≡ a = run_admitted tracks host code argument chained c admits ∙ ap (λ (x : Tracks). performed x (opened host) c argument chained) shown in
-        whole_command t reply after_ same (λ is_told. record {
+        whole_command t later reply after_ same marked rising (λ is_told. record {
           answer = a;
           ran_ = is;
           reply_ = (answers is_told).0;

@@ -1,14 +1,14 @@
 -- What a machine keeps.
-use Rattle.std.specs.Prelude.{◌≡◌, ◌≤◌, ◌<◌, length, None}
+use Rattle.std.specs.Prelude.{◌≡◌, ◌≤◌, ◌<◌, ℕ, length, None}
 use Rattle.mss_base.specs.Content.{SiteLog}
 use Rattle.ckd_plain.specs.Plain.{serial_in}
 use Rattle.mss_top.specs.Session.{IsSession}
 use Rattle.mss_top.specs.Sessions.{session_data}
 use Rattle.mss_top.specs.declared.machine.Machine.{Machine}
 
--- its session is one of its host, on its volumes
-abbrev pub Keeps : {S : Type 0} → Type 0 → SiteLog → Machine S → Type 0
-Keeps tells site m = IsSession tells (serial_in m.volumes.items) m.number site m.host (session_data m.session)
+-- its session is one of its host, on its volumes; faults is its site's count
+abbrev pub Keeps : {S : Type 0} → Type 0 → SiteLog → ℕ → Machine S → Type 0
+Keeps tells site faults m = IsSession tells (serial_in m.volumes.items) m.number site faults m.host (session_data m.session)
 
 -- it is ready for one more entry
 pub record IsReady {S : Type 0} (m : Machine S) : Type 0 where

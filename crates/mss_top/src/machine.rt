@@ -149,7 +149,7 @@ impl<S: Site> Machine<S> {
     ) -> Self
         requires buffer { vec_len buffer ≡ 16384 }
         requires tracks { S.tells → AreAllTracks (serial_in volumes.items) (content (S.told site)) }
-        ensures keeps { Keeps S.tells (S.told site) result }
+        ensures keeps { Keeps S.tells (S.told site) (S.faults site) result }
         ensures opening { S.tells → opening (serial_in volumes.items) result.session.first_write (S.told site)
             ≡ start_of (direct (serial_in volumes.items) (content (S.told site))) }
         ensures session { session_data result.session ≡ record { history = []; marks = []; first_write = S.writes site; first_faults = S.faults site; stopped = None } }
@@ -187,16 +187,17 @@ impl<S: Site> Machine<S> {
     /// Answers a call that is no command.
     fn respond(&mut self, call: Call)
         requires kind { is_command (call_of call) ≡ false }
-        requires keeps { Keeps S.tells (S.told self.old.site) self.old }
+        requires keeps { Keeps S.tells (S.told self.old.site) (S.faults self.old.site) self.old }
         requires ready { IsReady self.old }
-        ensures keeps { Keeps S.tells (S.told self.new.site) self.new }
+        ensures keeps { Keeps S.tells (S.told self.new.site) (S.faults self.new.site) self.new }
         ensures answers { Answers self.old.number (call_of call) (session_data self.old.session) (session_data self.new.session) CallAnswer.Replied }
         ensures same { self.new ≡ record self.old { host = self.new.host; session = self.new.session } }
     {
         let there = is_there(self.volumes.as_slice(), &call);
         let (reply, now) = respond(&self.host, there, &call);
         let entry = self.entry(call, reply, None);
-        self.session.append(entry, self.site.writes());
+        let mark = self.site.writes();
+        self.session.append(entry, mark);
         self.host = now;
     }
 
@@ -217,10 +218,10 @@ impl<S: Site> Machine<S> {
 
     /// Refuses a command by a check that failed.
     fn refuse(&mut self, code: u8, argument: Bytes, chained: bool, check: UnitCheck)
-        requires keeps { Keeps S.tells (S.told self.old.site) self.old }
+        requires keeps { Keeps S.tells (S.told self.old.site) (S.faults self.old.site) self.old }
         requires ready { IsReady self.old }
         requires refuses { admitted (opened self.old.host) code argument.items ≡ Err check }
-        ensures keeps { Keeps S.tells (S.told self.new.site) self.new }
+        ensures keeps { Keeps S.tells (S.told self.new.site) (S.faults self.new.site) self.new }
         ensures answers { Answers self.old.number (command code argument.items chained) (session_data self.old.session) (session_data self.new.session) CallAnswer.Replied }
         ensures same { self.new ≡ record self.old { host = self.new.host; session = self.new.session } }
     {
@@ -239,12 +240,12 @@ impl<S: Site> Machine<S> {
 
     /// Answers a command that looks at no track.
     fn control(&mut self, code: u8, argument: Bytes, chained: bool, asked: Command) -> CallAnswer
-        requires keeps { Keeps S.tells (S.told self.old.site) self.old }
+        requires keeps { Keeps S.tells (S.told self.old.site) (S.faults self.old.site) self.old }
         requires ready { IsReady self.old }
         requires admits { admitted (opened self.old.host) code argument.items ≡ Ok asked }
         requires passes { Passes (opened self.old.host) asked argument.items }
         requires control { is_data asked ≡ false }
-        ensures keeps { Keeps S.tells (S.told self.new.site) self.new }
+        ensures keeps { Keeps S.tells (S.told self.new.site) (S.faults self.new.site) self.new }
         ensures answers { Answers self.old.number (command code argument.items chained) (session_data self.old.session) (session_data self.new.session) result }
         ensures fault { HasStopped (S.faults self.old.site) (S.faults self.new.site) result }
         ensures same { self.new ≡ record self.old { host = self.new.host; session = self.new.session } }
@@ -261,14 +262,14 @@ impl<S: Site> Machine<S> {
 
     /// Answers a search, read or write on the blocks of the mounted volume.
     fn on_tracks(&mut self, code: u8, argument: Bytes, chained: bool, asked: Command) -> CallAnswer
-        requires keeps { Keeps S.tells (S.told self.old.site) self.old }
+        requires keeps { Keeps S.tells (S.told self.old.site) (S.faults self.old.site) self.old }
         requires ready { IsReady self.old }
         requires room { COMMAND_WRITES ≤ S.spare self.old.site }
         requires buffer { vec_len self.old.buffer ≡ 16384 }
         requires admits { admitted (opened self.old.host) code argument.items ≡ Ok asked }
         requires passes { Passes (opened self.old.host) asked argument.items }
         requires on_tracks { is_data asked ≡ true }
-        ensures keeps { Keeps S.tells (S.told self.new.site) self.new }
+        ensures keeps { Keeps S.tells (S.told self.new.site) (S.faults self.new.site) self.new }
         ensures answers { Answers self.old.number (command code argument.items chained) (session_data self.old.session) (session_data self.new.session) result }
         ensures continues { S.tells → Continues (S.told self.old.site) (S.told self.new.site) }
         ensures fault { HasStopped (S.faults self.old.site) (S.faults self.new.site) result }
@@ -312,11 +313,11 @@ impl<S: Site> Machine<S> {
 
     /// Answers a command, where there is room for its entry and its writes.
     fn command(&mut self, code: u8, argument: Bytes, chained: bool) -> CallAnswer
-        requires keeps { Keeps S.tells (S.told self.old.site) self.old }
+        requires keeps { Keeps S.tells (S.told self.old.site) (S.faults self.old.site) self.old }
         requires ready { IsReady self.old }
         requires room { COMMAND_WRITES ≤ S.spare self.old.site }
         requires buffer { vec_len self.old.buffer ≡ 16384 }
-        ensures keeps { Keeps S.tells (S.told self.new.site) self.new }
+        ensures keeps { Keeps S.tells (S.told self.new.site) (S.faults self.new.site) self.new }
         ensures answers { Answers self.old.number (command code argument.items chained) (session_data self.old.session) (session_data self.new.session) result }
         ensures continues { S.tells → Continues (S.told self.old.site) (S.told self.new.site) }
         ensures fault { HasStopped (S.faults self.old.site) (S.faults self.new.site) result }
@@ -341,10 +342,10 @@ impl<S: Site> Machine<S> {
 
     /// Makes room for an entry and the writes of a command; after want of memory the session is as it was.
     fn prepare(&mut self) -> Result<(), NoMemory>
-        requires keeps { Keeps S.tells (S.told self.old.site) self.old }
+        requires keeps { Keeps S.tells (S.told self.old.site) (S.faults self.old.site) self.old }
         requires going { self.old.session.stopped ≡ None }
         requires few { length self.old.session.history.items < 4096 }
-        ensures keeps { Keeps S.tells (S.told self.new.site) self.new }
+        ensures keeps { Keeps S.tells (S.told self.new.site) (S.faults self.new.site) self.new }
         ensures session { session_data self.new.session ≡ session_data self.old.session }
         ensures told { S.tells → S.told self.new.site ≡ S.told self.old.site }
         ensures faults { S.faults self.new.site ≡ S.faults self.old.site }
@@ -363,10 +364,10 @@ impl<S: Site> Machine<S> {
     ///
     /// At the limit of entries and after want of memory the session is as it was.
     pub fn call(&mut self, call: Call) -> CallAnswer
-        requires keeps { Keeps S.tells (S.told self.old.site) self.old }
+        requires keeps { Keeps S.tells (S.told self.old.site) (S.faults self.old.site) self.old }
         requires going { self.old.session.stopped ≡ None }
         requires buffer { vec_len self.old.buffer ≡ 16384 }
-        ensures keeps { Keeps S.tells (S.told self.new.site) self.new }
+        ensures keeps { Keeps S.tells (S.told self.new.site) (S.faults self.new.site) self.new }
         ensures answers { Answers self.old.number (call_of call) (session_data self.old.session) (session_data self.new.session) result }
         ensures continues { S.tells → Continues (S.told self.old.site) (S.told self.new.site) }
         ensures fault { HasStopped (S.faults self.old.site) (S.faults self.new.site) result }

@@ -97,11 +97,11 @@ impl<S: Site> Machine<S> {
     pub fn run_program(&mut self, program: &Program) -> RunEnd
         requires some { 1 ≤ length program.now.items }
         requires few { length program.now.items ≤ 256 }
-        requires keeps { Keeps S.tells (S.told self.old.site) self.old }
+        requires keeps { Keeps S.tells (S.told self.old.site) (S.faults self.old.site) self.old }
         requires going { self.old.session.stopped ≡ None }
         requires buffer { vec_len self.old.buffer ≡ 16384 }
         ensures ends { EndsItem (running (map ccw_of program.now.items)) (session_data self.old.session) (session_data self.new.session) result }
-        ensures keeps { Keeps S.tells (S.told self.new.site) self.new }
+        ensures keeps { Keeps S.tells (S.told self.new.site) (S.faults self.new.site) self.new }
         ensures halts { Halts result self.new.session.stopped }
         ensures beginning { SameBeginning (session_data self.old.session) (session_data self.new.session) }
         ensures continues { S.tells → Continues (S.told self.old.site) (S.told self.new.site) }
@@ -136,11 +136,11 @@ impl<S: Site> Machine<S> {
 
     /// Makes the one call of an item that is no program.
     fn run_call(&mut self, call: Call) -> RunEnd
-        requires keeps { Keeps S.tells (S.told self.old.site) self.old }
+        requires keeps { Keeps S.tells (S.told self.old.site) (S.faults self.old.site) self.old }
         requires going { self.old.session.stopped ≡ None }
         requires buffer { vec_len self.old.buffer ≡ 16384 }
         ensures ends { (item : ItemData) → Asks item (call_of call) → EndsItem item (session_data self.old.session) (session_data self.new.session) result }
-        ensures keeps { Keeps S.tells (S.told self.new.site) self.new }
+        ensures keeps { Keeps S.tells (S.told self.new.site) (S.faults self.new.site) self.new }
         ensures halts { Halts result self.new.session.stopped }
         ensures beginning { SameBeginning (session_data self.old.session) (session_data self.new.session) }
         ensures continues { S.tells → Continues (S.told self.old.site) (S.told self.new.site) }
@@ -160,11 +160,11 @@ impl<S: Site> Machine<S> {
     /// Does what the host's script has next: a mount, a demount, or a channel program to its end.
     pub fn run_item(&mut self, item: &Item) -> RunEnd
         requires runnable { IsRunnable (item_of item.now) }
-        requires keeps { Keeps S.tells (S.told self.old.site) self.old }
+        requires keeps { Keeps S.tells (S.told self.old.site) (S.faults self.old.site) self.old }
         requires going { self.old.session.stopped ≡ None }
         requires buffer { vec_len self.old.buffer ≡ 16384 }
         ensures ends { EndsItem (item_of item.now) (session_data self.old.session) (session_data self.new.session) result }
-        ensures keeps { Keeps S.tells (S.told self.new.site) self.new }
+        ensures keeps { Keeps S.tells (S.told self.new.site) (S.faults self.new.site) self.new }
         ensures halts { Halts result self.new.session.stopped }
         ensures beginning { SameBeginning (session_data self.old.session) (session_data self.new.session) }
         ensures continues { S.tells → Continues (S.told self.old.site) (S.told self.new.site) }
@@ -187,11 +187,11 @@ impl<S: Site> Machine<S> {
     pub fn run_script(&mut self, items: &[Item]) -> RunEnd
         requires runnable { AllByRecursion IsRunnable (map item_of items.now) }
         requires begins { self.old.session.history.items ≡ [] }
-        requires keeps { Keeps S.tells (S.told self.old.site) self.old }
+        requires keeps { Keeps S.tells (S.told self.old.site) (S.faults self.old.site) self.old }
         requires going { self.old.session.stopped ≡ None }
         requires buffer { vec_len self.old.buffer ≡ 16384 }
         ensures ends { EndsScript (map item_of items.now) (session_data self.new.session) result }
-        ensures keeps { Keeps S.tells (S.told self.new.site) self.new }
+        ensures keeps { Keeps S.tells (S.told self.new.site) (S.faults self.new.site) self.new }
         ensures halts { Halts result self.new.session.stopped }
         ensures beginning { SameBeginning (session_data self.old.session) (session_data self.new.session) }
         ensures continues { S.tells → Continues (S.told self.old.site) (S.told self.new.site) }

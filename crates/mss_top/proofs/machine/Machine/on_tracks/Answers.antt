@@ -11,7 +11,7 @@ use Rattle.ckd_plain.specs.declared.host.Prior.TheVariants as prior
 use Rattle.ckd_plain.specs.declared.unit_check.UnitCheck.TheVariants as check
 use Rattle.channel_commands.specs.Codes.{is_write}
 use Rattle.track_engine.specs.Writing.{WritesTrack}
-use Rattle.track_engine.specs.Faults.{LeavesSite, IsByWrite}
+use Rattle.track_engine.specs.Faults.{IsFaultSince, HasFault, LeavesSite, IsByWrite}
 use Rattle.track_engine.specs.Answers.{ran}
 use Rattle.mss_top.specs.Direct.{direct_unit}
 use Rattle.mss_top.specs.Events.{with_entry}
@@ -20,6 +20,7 @@ use Rattle.mss_top.specs.Sessions.{session_data}
 use Rattle.mss_top.specs.declared.machine.Machine.{Machine}
 use Rattle.mss_top.proofs.Admitted.{data_mounted}
 use Rattle.mss_top.proofs.Entered.{same_keeps, stopped_keeps, some_of, placed}
+use Rattle.mss_top.proofs.SessionLemmas.{session_later}
 use Rattle.mss_top.proofs.EventLemmas.{writes_continue}
 use Rattle.mss_top.proofs.WholeEvents.{whole_data, whole_check, whole_stop}
 use Rattle.mss_top.proofs.machine.Machine.on_tracks.Goals as goal
@@ -59,9 +60,10 @@ returns-in-Ok-clause-keeps g c =
     let d : SessionData = with_entry v (record { host = m.number; number = length v.history + 1; call = command c.args.code argument c.args.chained; reply = reply; fault = None }) mark v.stopped in
     let n = c.enter.new.self in
     let moved = c.enter.ensures.same in
-    same_keeps g.S.Site.tells _ (record { volumes = m.volumes.items; number = m.number; log = t; host = c.run_command.new.host; session = d })
-    (λ i. record { volumes = (moved i).volumes.items; number = (moved i).number; log = g.S.Site.told (moved i).site; host = c.run_command.new.host; session = c.enter.ensures.entered i })
-    (whole_data g.S.Site.tells serials m.number site m.host v c.requires.keeps c.requires.ready.going c.requires.ready.few mark c.args.code argument c.args.chained c.args.asked c.requires.admits volume _ serial.0 c.in-Some.is serial.1 place.low place.low_head t reply c.run_command.new.host c.in-Ok.ensures.mounted
+    same_keeps g.S.Site.tells _ (record { volumes = m.volumes.items; number = m.number; log = t; faults = g.S.Site.faults c.run_command.new.site; host = c.run_command.new.host; session = d })
+    (λ i. record { volumes = (moved i).volumes.items; number = (moved i).number; log = g.S.Site.told (moved i).site; faults = g.S.Site.faults (moved i).site; host = c.run_command.new.host; session = c.enter.ensures.entered i })
+    (whole_data g.S.Site.tells serials m.number site (g.S.Site.faults m.site) m.host v c.requires.keeps c.requires.ready.going c.requires.ready.few mark c.args.code argument c.args.chained c.args.asked c.requires.admits volume _ serial.0 c.in-Some.is serial.1 place.low place.low_head t _ reply c.run_command.new.host c.in-Ok.ensures.mounted
+    (g.met.S.Site.counted c.run_command.new.site) c.run_command.ensures.faults
     (λ is_told. let a = c.in-Ok.ensures.answer is_told in (a.reply_ ∙ ap (λ p. (answer p).reply) same, a.host_ ∙ ap (λ p. (answer p).host) same))
     (λ is_told. subst (λ (p : UnitNo × ℕ × List ℕ). WritesTrack c.args.asked (opened m.host) p.0 p.1 site t (answer p).written) same (c.in-Ok.ensures.writes is_told))
     (λ is_told track is. subst (λ (p : UnitNo × ℕ × List ℕ). (answer p).written ≡ Some track → reading (content t p.0 (p.1 + m.host.head)) ≡ reading_of track) same (c.in-Ok.ensures.exact is_told track) is))
@@ -71,12 +73,15 @@ returns-in-Err-ReadFailed-clause-keeps g c =
     let m = c.args.self.now in
     let site : SiteLog = g.S.Site.told m.site in
     let t : SiteLog = g.S.Site.told c.run_command.new.site in
+    let before : ℕ = g.S.Site.faults m.site in
+    let now : ℕ = g.S.Site.faults c.run_command.new.site in
     let moved = c.enter-in-Err-ReadFailed.ensures.same in
     let host = c.checked-self.ensures ∙ ap (λ (x : Machine g.row.S.Denot). record x.host { chain_open = false; prior = prior.Nothing; sense = sense_of check.EquipmentCheck }) moved in
     same_keeps g.S.Site.tells _ _
-    (λ i. record { volumes = (moved i).volumes.items; number = (moved i).number; log = g.S.Site.told (moved i).site; host = host i; session = c.enter-in-Err-ReadFailed.ensures.entered i })
-    (whole_check g.S.Site.tells (serial_in m.volumes.items) m.number site m.host (session_data m.session) c.requires.keeps c.requires.ready.going c.requires.ready.few (g.S.Site.writes c.run_command.new.site)
-    c.args.code c.args.argument.items c.args.chained t _ c.args.asked c.requires.admits c.requires.on_tracks
+    (λ i. record { volumes = (moved i).volumes.items; number = (moved i).number; log = g.S.Site.told (moved i).site; faults = g.S.Site.faults (moved i).site; host = host i; session = c.enter-in-Err-ReadFailed.ensures.entered i })
+    (whole_check g.S.Site.tells (serial_in m.volumes.items) m.number site before m.host (session_data m.session) c.requires.keeps c.requires.ready.going c.requires.ready.few (g.S.Site.writes c.run_command.new.site)
+    c.args.code c.args.argument.items c.args.chained t now _ c.args.asked c.requires.admits c.requires.on_tracks (g.met.S.Site.counted c.run_command.new.site)
+    (subst (IsFaultSince before now) (sym c.in-Err-ReadFailed.fault-is) (subst (HasFault before now) c.in-Err-ReadFailed.field-0-is c.in-Err-ReadFailed.ensures.cause))
     (λ is_told. subst (LeavesSite site t) c.in-Err-ReadFailed.field-0-is (c.in-Err-ReadFailed.ensures.no_write is_told)))
 
 pub returns-in-Err-WriteFailed-clause-keeps : goal.returns-in-Err-WriteFailed-clause-keeps
@@ -85,6 +90,8 @@ returns-in-Err-WriteFailed-clause-keeps g c =
     let serials = serial_in m.volumes.items in
     let site : SiteLog = g.S.Site.told m.site in
     let t : SiteLog = g.S.Site.told c.run_command.new.site in
+    let before : ℕ = g.S.Site.faults m.site in
+    let now : ℕ = g.S.Site.faults c.run_command.new.site in
     let moved = c.enter-in-Err-WriteFailed.ensures.same in
     let volume = c.in-Some.volume in
     let serial = some_of (serials volume) (c.requires.keeps.kept.there volume _ c.in-Some.is) in
@@ -94,8 +101,17 @@ returns-in-Err-WriteFailed-clause-keeps g c =
     let there : UnitNo × ℕ × List ℕ = placed c.cylinder_under-place.result.unit c.cylinder_under-place.result.first_block c.as_slice.result.now in
     let same : there ≡ here = (λ i. placed (place.unit i) (place.first i) c.as_slice.result.now) in
     stopped_keeps g.S.Site.tells _ _ _
-    (λ i. record { volumes = (moved i).volumes.items; number = (moved i).number; log = g.S.Site.told (moved i).site; host = (moved i).host; session = c.enter-in-Err-WriteFailed.ensures.entered i })
-    (whole_stop g.S.Site.tells serials m.number site m.host (session_data m.session) c.requires.keeps c.requires.ready.going c.requires.ready.few (g.S.Site.writes c.run_command.new.site)
-    c.args.code c.args.argument.items c.args.chained t _ _ c.args.asked c.requires.admits (subst (IsByWrite (is_write c.args.asked)) c.in-Err-WriteFailed.field-0-is c.in-Err-WriteFailed.ensures.by_write)
+    (λ i. record { volumes = (moved i).volumes.items; number = (moved i).number; log = g.S.Site.told (moved i).site; faults = g.S.Site.faults (moved i).site; host = (moved i).host; session = c.enter-in-Err-WriteFailed.ensures.entered i })
+    (whole_stop g.S.Site.tells serials m.number site before m.host (session_data m.session) c.requires.keeps c.requires.ready.going c.requires.ready.few (g.S.Site.writes c.run_command.new.site)
+    c.args.code c.args.argument.items c.args.chained t now _ _ c.args.asked c.requires.admits (subst (IsByWrite (is_write c.args.asked)) c.in-Err-WriteFailed.field-0-is c.in-Err-WriteFailed.ensures.by_write) (g.met.S.Site.counted c.run_command.new.site)
+    (subst (IsFaultSince before now) (sym c.in-Err-WriteFailed.fault-is) (subst (HasFault before now) c.in-Err-WriteFailed.field-0-is c.in-Err-WriteFailed.ensures.cause))
     (λ is_told. writes_continue serials m.host volume _ serial.0 site t c.args.asked c.in-Some.is serial.1 place.low place.low_head ((c.requires.keeps.told is_told).going c.requires.ready.going).tracks (answer here).written
     (subst (λ (p : UnitNo × ℕ × List ℕ). WritesTrack c.args.asked (opened m.host) p.0 p.1 site t (answer p).written) same (c.in-Err-WriteFailed.ensures.writes is_told))))
+
+pub returns-in-Err-Memory-clause-keeps : goal.returns-in-Err-Memory-clause-keeps
+returns-in-Err-Memory-clause-keeps g c =
+    let m = c.args.self.now in
+    let site : SiteLog = g.S.Site.told m.site in
+    let t : SiteLog = g.S.Site.told c.run_command.new.site in
+    session_later g.S.Site.tells (serial_in m.volumes.items) m.number site t (g.S.Site.faults m.site) (g.S.Site.faults c.run_command.new.site) m.host (session_data m.session)
+    (λ is_told. subst (LeavesSite site t) c.in-Err-Memory.field-0-is (c.in-Err-Memory.ensures.no_write is_told)) c.run_command.ensures.faults c.requires.keeps

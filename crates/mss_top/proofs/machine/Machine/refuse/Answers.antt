@@ -22,5 +22,5 @@ returns-clause-keeps g c =
     let put : ReplyData → SessionData = λ reply. with_entry v (record { host = m.number; number = length v.history + 1; call = command c.args.code argument c.args.chained; reply = reply; fault = None }) mark v.stopped in
     let entered : session_data c.enter.new.self.session ≡ put (a (opened m.host)).reply = c.enter.ensures.entered ∙ ap put (c.refused-reply.ensures.reply_) in
     let host : c.refused-reply.new.host ≡ (a (opened m.host)).host = c.refused-reply.ensures.host_ ∙ ap (λ (h : HostState). (a h).host) is in
-    entered_keeps g.row.S.Denot g.S.Site.tells g.S.Site.told m c.enter.new.self (a (opened m.host)).host c.refused-reply.new.host (put (a (opened m.host)).reply) c.enter.ensures.same entered host
-    (whole_refusal g.S.Site.tells (serial_in m.volumes.items) m.number site m.host v c.requires.keeps c.requires.ready.going c.requires.ready.few mark c.args.code argument c.args.chained c.args.check c.requires.refuses)
+    entered_keeps g.row.S.Denot g.S.Site.tells g.S.Site.told g.S.Site.faults m c.enter.new.self (a (opened m.host)).host c.refused-reply.new.host (put (a (opened m.host)).reply) c.enter.ensures.same entered host
+    (whole_refusal g.S.Site.tells (serial_in m.volumes.items) m.number site (g.S.Site.faults m.site) m.host v c.requires.keeps c.requires.ready.going c.requires.ready.few mark c.args.code argument c.args.chained c.args.check c.requires.refuses (g.met.S.Site.counted m.site))

@@ -22,8 +22,9 @@ returns-clause-keeps g c =
     let answer = c.respond-reply.ensures ∙ ap (λ (b : Bool). responded m.host b call) there in
     let entry_with : ReplyData → EntryData = λ reply. record { host = m.number; number = length v.history + 1; call = call; reply = reply; fault = None } in
     let entry : c.entry-entry.result ≡ entry_with r.0 = c.entry-entry.ensures ∙ ap (λ (p : ReplyData × HostState). entry_with p.0) answer in
-    let put : EntryData → SessionData = λ e. with_entry v e c.writes.result v.stopped in
-    let data_ : session_data c.append.new.self ≡ put (entry_with r.0) = c.append.ensures ∙ ap put entry in
-    let whole = whole_response g.S.Site.tells serials m.number site m.host v c.requires.keeps c.requires.ready.going c.requires.ready.few c.writes.result call c.requires.kind in
-    subst (λ (x : HostState). IsSession g.S.Site.tells serials m.number site x (session_data c.append.new.self)) (sym (ap (λ (p : ReplyData × HostState). p.1) answer))
-    (subst (λ (x : SessionData). IsSession g.S.Site.tells serials m.number site r.1 x) (sym data_) whole)
+    let mark : ℕ = g.S.Site.writes m.site in
+    let faults : ℕ = g.S.Site.faults m.site in
+    let data_ : session_data c.append.new.self ≡ with_entry v (entry_with r.0) mark v.stopped = cc in
+    let whole = whole_response g.S.Site.tells serials m.number site faults m.host v c.requires.keeps c.requires.ready.going c.requires.ready.few mark call c.requires.kind (g.met.S.Site.counted m.site) in
+    subst (λ (x : HostState). IsSession g.S.Site.tells serials m.number site faults x (session_data c.append.new.self)) (sym (ap (λ (p : ReplyData × HostState). p.1) answer))
+    (subst (λ (x : SessionData). IsSession g.S.Site.tells serials m.number site faults r.1 x) (sym data_) whole)
