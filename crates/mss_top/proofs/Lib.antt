@@ -11,3 +11,4 @@ pub mod Running
 pub mod Begun
 pub mod Items
 pub mod Volumes
+pub mod FirstTexts

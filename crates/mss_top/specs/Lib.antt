@@ -6,3 +6,5 @@ pub mod Sessions
 pub mod Events
 pub mod Machines
 pub mod Scripts
+pub mod FirstJob
+pub mod FirstJobs
