@@ -10,5 +10,9 @@ pub mod Entered
 pub mod Running
 pub mod Begun
 pub mod Items
-pub mod Volumes
+pub mod WholeVolumes
+pub mod Admission
+pub mod Runs
+pub mod Told
+pub mod VolumeTexts
 pub mod FirstTexts

@@ -6,5 +6,9 @@ pub mod Sessions
 pub mod Events
 pub mod Machines
 pub mod Scripts
+pub mod Status
 pub mod FirstJob
 pub mod FirstJobs
+pub mod Reports
+pub mod Serial
+pub mod ReportParts

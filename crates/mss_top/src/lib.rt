@@ -1,10 +1,10 @@
-//! A session of one host on volumes that lie straight on cartridges.
+//! A whole run: words, input, job, devices, session and report, of one host on volumes that lie straight on cartridges.
 //!
-//! `check_volumes` tells whether the volumes' blocks are tracks, so that a session may begin. `Machine` then makes the host's
-//! calls, each with one entry of the history, and `run_program` a whole channel program, `run_script` a whole script. The layers above rely on `Keeps`
-//! (`specs/Machines.antt`): the history is legal from the volumes at the start, and the devices show the volumes after it;
-//! after a stop, those before the write that failed. `read_input` reads a whole job text, and `direct_place` says where a
-//! volume's tracks lie. `read_first_job` takes a text of the form of the first jobs, and no other.
+//! `serial` is what a program calls; its clause `ended` (`specs/Serial.antt`) is the promise of this repository. It goes
+//! through `read_input` and `read_first_job`, `check_volumes` (is every block a track?), a `Machine` that makes the host's
+//! calls, each with one entry of the history, and `put_report`. A machine keeps (`Keeps`, `specs/Machines.antt`) that the
+//! history is legal from the volumes at the start, and that the devices show the volumes after it; after a stop, those
+//! before the write that failed. `direct_place` says where a volume's tracks lie.
 #![tactic(auto)]
 
 mod direct;
@@ -13,18 +13,26 @@ mod first_job;
 mod first_job_tests;
 mod input;
 mod machine;
+mod report;
+mod run;
 mod script;
 mod session;
 mod start;
+mod status;
 #[cfg(test)]
 mod tests;
+mod volumes;
 mod words;
 
 pub use direct::direct_place;
 pub use first_job::{FirstJobFault, read_first_job};
 pub use input::{InputFault, read_input};
 pub use machine::{CallAnswer, Machine};
+pub use report::Last;
+pub use run::{Ended, serial};
 pub use script::RunEnd;
 pub use session::{EntryList, MarkList, Session};
 pub use start::{StartFault, VolumeFault, check_volume, check_volumes};
+pub use status::Status;
+pub use volumes::{VolumesFault, put_volumes};
 pub use words::are_serial;

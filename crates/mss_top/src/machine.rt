@@ -170,6 +170,23 @@ impl<S: Site> Machine<S> {
         }
     }
 
+    /// The site, and the session as far as it came.
+    pub fn into_session(self) -> (S, Session)
+        ensures site { result.0 ≡ self.site }
+        ensures session { result.1 ≡ self.session }
+    {
+        let Machine {
+            site,
+            alloc: _,
+            volumes: _,
+            number: _,
+            host: _,
+            session,
+            buffer: _,
+        } = self;
+        (site, session)
+    }
+
     /// The entry of a call, which comes next.
     fn entry(&self, call: Call, reply: Reply, fault: Option<u64>) -> Entry
         requires { length self.now.session.history.items < 4096 }

@@ -4,7 +4,7 @@ use Rattle.std.proofs.lemmas.Option.{slice_get_read}
 use Rattle.mss_base.specs.Content.{SiteLog, content}
 use Rattle.mss_top.specs.Direct.{AreTracks}
 use Rattle.mss_top.specs.Start.{Walks, AreVolumes}
-use Rattle.mss_top.proofs.Volumes.{all_volumes, next_volume}
+use Rattle.mss_top.proofs.WholeVolumes.{all_volumes, next_volume}
 use Rattle.mss_top.proofs.start.check_volumes.Goals as goal
 
 pub returns-in-Err-clause-walk : goal.returns-in-Err-clause-walk

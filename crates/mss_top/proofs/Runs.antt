@@ -1,0 +1,148 @@
+-- A session that ended, and its report.
+use Rattle.std.proofs.Common.{◌≡◌, ◌≤◌, ℕ, true, false, List, ◌∷◌, [], ◌++◌, ◌+◌, length, take, Option, None, Some, Result, Ok, Err, refl, sym, ◌∙◌, ap, subst, arith}
+use Rattle.std.specs.List.{AllByRecursion}
+use Rattle.mss_base.specs.Content.{SiteLog, content}
+use Rattle.mss_base.specs.Counts.{HasCause}
+use Rattle.mss_base.specs.Puts.{PutsFront, Puts}
+use Rattle.mss_base.specs.declared.site.Failed.{Failed}
+use Rattle.ckd_track.specs.Data.{Volumes}
+use Rattle.ckd_plain.specs.declared.host.HostState.{HostState}
+use Rattle.ckd_plain.specs.Data.{State}
+use Rattle.ckd_plain.specs.Plain.{serial_in}
+use Rattle.ckd_plain.specs.History.{EntryData, IsLegal, after}
+use Rattle.mss_top.specs.declared.script.RunEnd.{RunEnd}
+use Rattle.mss_top.specs.declared.script.RunEnd.TheVariants as run_end
+use Rattle.mss_top.specs.declared.status.Status.{Status}
+use Rattle.mss_top.specs.Direct.{direct}
+use Rattle.mss_top.specs.Reports.{Telling, whole, unread, told_text, tells_volumes, HasReason, IsReported, status_after}
+use Rattle.job_text.specs.Jobs.{ScriptData}
+use Rattle.mss_top.specs.Scripts.{SameBeginning, EndsScript, Halts, HasHalted}
+use Rattle.mss_top.specs.Serial.{IsPlainSession, IsSessionOf, HasSession, Ends, plain_start}
+use Rattle.mss_top.specs.Sessions.{session_data}
+use Rattle.mss_top.specs.declared.session.Session.{Session}
+use Rattle.mss_top.proofs.Items.{halted_since}
+use Rattle.mss_top.specs.Session.{SessionData, opening, AreAllTracks, Continues, IsSession}
+use Rattle.mss_top.specs.Status.{IsPut, whole as put_whole, broken, cut}
+use Rattle.mss_top.proofs.SessionLemmas.{opening_stays, faults_later}
+
+-- ---- what was put, of an equal text
+put_same : (tells : Type 0) (due : Status) (a b : List ℕ) (before now : ℕ) (old new : List ℕ) (told : Status) → (tells → a ≡ b) → IsPut tells due a before now old new told → IsPut tells due b before now old new told
+put_same tells due a b before now old new told same (put_whole is bytes) = put_whole is (λ t. bytes t ∙ ap (λ (l : List ℕ). old ++ l) (same t))
+put_same tells due a b before now old new told same (broken is rose bytes) = broken is rose (λ t. subst (λ (l : List ℕ). PutsFront old new l) (same t) (bytes t))
+put_same tells due a b before now old new told same (cut is bytes) = cut is (λ t. subst (λ (l : List ℕ). PutsFront old new l) (same t) (bytes t))
+
+-- a text whose last part's call had this result, with the status for it
+pub put_ends : (tells : Type 0) (due : Status) (text : List ℕ) (before middle now : ℕ) (old new : List ℕ) (told : Status) (r : Result (Unit {0}) Failed) → told ≡ status_after due r → before ≤ middle → HasCause middle now r
+    → (tells → Puts r old new text) → IsPut tells due text before now old new told
+put_ends tells due text before middle now old new told (Ok _) is later cause bytes = put_whole is bytes
+put_ends tells due text before middle now old new told (Err _) is later cause bytes = broken is (omega (arith, later, cause.failed)) bytes
+
+-- a text shows volumes only where the session's end tells them
+text_same : (shown shown' : Volumes) (volumes : List (ℕ × List ℕ)) (history : List EntryData) (ended : RunEnd) (before now : ℕ) (telling : Telling)
+    → HasReason ended volumes before now telling → (tells_volumes ended ≡ true → shown ≡ shown') → told_text shown volumes history telling ≡ told_text shown' volumes history telling
+text_same shown shown' volumes history ended before now (whole run_end.Finished) reason same = ap (λ (v : Volumes). told_text v volumes history (whole run_end.Finished)) (same (sym (ap tells_volumes reason)))
+text_same shown shown' volumes history ended before now (whole run_end.Limit) reason same = ap (λ (v : Volumes). told_text v volumes history (whole run_end.Limit)) (same (sym (ap tells_volumes reason)))
+text_same shown shown' volumes history ended before now (whole (run_end.Stopped fault)) reason same = refl
+text_same shown shown' volumes history ended before now (whole run_end.Memory) reason same = refl
+text_same shown shown' volumes history ended before now (unread place tracks fault) reason same = ap (λ (v : Volumes). told_text v volumes history (unread place tracks fault)) (same reason.0)
+
+reason_since : (ended : RunEnd) (volumes : List (ℕ × List ℕ)) (before middle now : ℕ) (telling : Telling) → before ≤ middle → HasReason ended volumes middle now telling → HasReason ended volumes before now telling
+reason_since ended volumes before middle now (whole end) later reason = reason
+reason_since ended volumes before middle now (unread place tracks fault) later reason = (reason.0, reason.1, reason.2, reason.3, omega (arith, reason.4))
+
+-- a report over equal volumes, with the count of faults since an earlier moment
+pub reported_since : (tells : Type 0) (shown shown' : Volumes) (volumes : List (ℕ × List ℕ)) (history : List EntryData) (ended : RunEnd)
+    (before middle now sink_before sink_now : ℕ) (old new : List ℕ) (told : Status) → before ≤ middle → (tells → tells_volumes ended ≡ true → shown ≡ shown')
+    → IsReported tells shown volumes history ended middle now sink_before sink_now old new told → IsReported tells shown' volumes history ended before now sink_before sink_now old new told
+reported_since tells shown shown' volumes history ended before middle now sink_before sink_now old new told later same report = record {
+  telling = report.telling;
+  reason = reason_since ended volumes before middle now report.telling later report.reason;
+  put = put_same tells _ _ _ _ _ _ _ _ (λ t. text_same shown shown' volumes history ended middle now report.telling report.reason (same t)) report.put;
+}
+
+-- a run that stopped makes no read for its report
+pub halted_later : (before middle now : ℕ) (ended : RunEnd) → HasHalted before middle ended → middle ≤ now → (tells_volumes ended ≡ false → now ≡ middle) → HasHalted before now ended
+halted_later before middle now run_end.Finished halted later same = omega arith
+halted_later before middle now (run_end.Stopped fault) halted later same = subst (λ (n : ℕ). HasHalted before n (run_end.Stopped fault)) (sym (same refl)) halted
+halted_later before middle now run_end.Limit halted later same = omega arith
+halted_later before middle now run_end.Memory halted later same = omega arith
+
+halted_order : (before middle : ℕ) (ended : RunEnd) → HasHalted before middle ended → before ≤ middle
+halted_order before middle run_end.Finished halted = halted
+halted_order before middle (run_end.Stopped fault) halted = halted.0
+halted_order before middle run_end.Limit halted = halted
+halted_order before middle run_end.Memory halted = halted
+
+-- ---- what a session left over a site that tells
+module _ (volumes : List (ℕ × List ℕ)) (number : ℕ) (start end : SiteLog) (before middle : ℕ) (fresh host : HostState) (begun s : SessionData) (tells : Type 0)
+    (begins : IsSession tells (serial_in volumes) number start before fresh begun)
+    (opens : tells → opening (serial_in volumes) begun.first_write start ≡ plain_start volumes (content start))
+    (first : tells → begun.first_write ≡ length start.log)
+    (same : SameBeginning begun s) (more : tells → Continues start end) (kept : IsSession tells (serial_in volumes) number end middle host s) where
+  opening_is : tells → opening (serial_in volumes) s.first_write end ≡ plain_start volumes (content start)
+  opening_is t =
+      ap (λ (n : ℕ). opening (serial_in volumes) n end) same.first_write
+      ∙ opening_stays (serial_in volumes) begun.first_write start end (more t) (begins.told t).began
+      ∙ opens t
+
+  shows : tells → s.stopped ≡ None → direct (serial_in volumes) (content end) ≡ (after (plain_start volumes (content start)) s.history).volumes
+  shows t going = sym (ap (λ (x : State). x.volumes) (ap (λ (x : State). after x s.history) (sym (opening_is t)) ∙ ((kept.told t).going going).state))
+
+  plain_session : tells → AreAllTracks (serial_in volumes) (content start) → IsPlainSession volumes start end s
+  plain_session t tracks = record {
+    first = same.first_write ∙ first t;
+    tracks = tracks;
+    legal = subst (λ (x : State). IsLegal x s.history) (opening_is t) (kept.told t).legal;
+    shown = shows t;
+    marks = λ place mark e entry marked answered. (kept.told t).marked.shown place mark e entry marked answered ∙ ap (λ (x : State). (after x (take (place + 1) s.history)).volumes) (opening_is t);
+  }
+
+  -- the session and its report, over the site as the report left it
+  module _ (script : ScriptData) (is_host : number ≡ script.host) (final : SiteLog) (now sink_before sink_now : ℕ) (old new : List ℕ) (told : Status) (ended : RunEnd) (sink_tells : Type 0)
+      (first_faults : begun.first_faults ≡ before) (tracks : tells → AreAllTracks (serial_in volumes) (content start))
+      (ends : EndsScript script.items s ended) (halts : Halts ended s.stopped) (halted : HasHalted before middle ended)
+      (unwritten : tells → final ≡ end) (later : middle ≤ now) (unread_ : tells_volumes ended ≡ false → now ≡ middle)
+      (report : IsReported (tells × sink_tells) (direct (serial_in volumes) (content end)) volumes s.history ended middle now sink_before sink_now old new told) where
+    going : tells_volumes ended ≡ true → s.stopped ≡ None
+    going = by_end ended halts
+      where
+        by_end : (e : RunEnd) → Halts e s.stopped → tells_volumes e ≡ true → s.stopped ≡ None
+        by_end run_end.Finished kept_ is = kept_
+        by_end (run_end.Stopped fault) kept_ is = absurd cc
+        by_end run_end.Limit kept_ is = kept_
+        by_end run_end.Memory kept_ is = absurd cc
+
+    pub session_of : IsSessionOf tells sink_tells volumes (script ∷ []) start final before now sink_before sink_now old new told s
+    session_of = record {
+      ended = ended;
+      follows = (subst (λ (n : ℕ). AllByRecursion (λ (e : EntryData). e.host ≡ n) s.history) is_host kept.kept.own, ends);
+      halts = halts;
+      counted = halted_later before middle now ended halted later unread_;
+      began = omega (arith, first_faults, same.first_faults);
+      faults = faults_later s.history s.first_faults middle now later kept.kept.faults_;
+      marked = kept.kept.marked;
+      plain = λ t. subst (λ (l : SiteLog). IsPlainSession volumes start l s) (sym (unwritten t)) (plain_session t (tracks t));
+      report = reported_since (tells × sink_tells) _ _ volumes s.history ended before middle now sink_before sink_now old new told (halted_order before middle ended halted) (λ t is. shows t.0 (going is)) report;
+    }
+
+-- a session of a moment before
+pub session_since : (tells sink_tells : Type 0) (volumes : List (ℕ × List ℕ)) (hosts : List ScriptData) (start start' final : SiteLog) (before before' now sink_before sink_now : ℕ) (old new : List ℕ) (told : Status) (s : SessionData)
+    → (tells → start ≡ start') → before' ≤ before
+    → IsSessionOf tells sink_tells volumes hosts start final before now sink_before sink_now old new told s → IsSessionOf tells sink_tells volumes hosts start' final before' now sink_before sink_now old new told s
+session_since tells sink_tells volumes hosts start start' final before before' now sink_before sink_now old new told s same earlier session = record {
+  ended = session.ended;
+  follows = session.follows;
+  halts = session.halts;
+  counted = halted_since before' before now session.ended earlier session.counted;
+  began = omega (arith, earlier, session.began);
+  faults = session.faults;
+  marked = session.marked;
+  plain = λ t. subst (λ (l : SiteLog). IsPlainSession volumes l final s) (same t) (session.plain t);
+  report = reported_since (tells × sink_tells) _ _ volumes s.history session.ended before' before now sink_before sink_now old new told earlier
+      (λ t is. ap (λ (l : SiteLog). (after (plain_start volumes (content l)) s.history).volumes) (same t.0)) session.report;
+}
+
+-- a run with a session ends with it
+pub ends_with : (Refused : Type 0) (P Q : SessionData → Type 0) (left : Option Session) → ((s : SessionData) → P s → Q s) → HasSession P left → Ends Refused Q left
+ends_with Refused P Q (Some s) leads has = leads (session_data s) has
+ends_with Refused P Q None leads has = absurd has

@@ -1,0 +1,19 @@
+use Rattle.std.proofs.Common.{map, string_bytes}
+use Rattle.mss_top.specs.Serial.{IsRun}
+use Rattle.mss_top.specs.Session.{SessionData}
+use Rattle.mss_top.proofs.Runs.{session_since, ends_with}
+use Rattle.mss_top.proofs.run.serial.Goals as goal
+
+pub returns-clause-ended : goal.returns-clause-ended
+returns-clause-ended g c =
+    let Ran : SessionData → Type 0 =
+    IsRun g.I.Source.tells g.S.Site.tells g.O.Sink.tells (map string_bytes c.args.words.now) (g.I.Source.left c.args.input.now) (g.I.Source.left c.admit.new.input) (g.S.Site.told c.args.site) (g.S.Site.told c.run_job.result.site)
+    (g.S.Site.faults c.args.site) (g.S.Site.faults c.run_job.result.site) (g.O.Sink.faults c.args.output.now) (g.O.Sink.faults c.run_job.new.output) (g.O.Sink.told c.args.output.now) (g.O.Sink.told c.run_job.new.output) c.run_job.result.status in
+    ends_with _ _ Ran c.run_job.result.session
+    (λ s session. record {
+      job = c.in-Ok.job;
+      admitted = c.in-Ok.ensures.job;
+      session = session_since g.S.Site.tells g.O.Sink.tells c.in-Ok.job.config.volumes c.in-Ok.job.hosts (g.S.Site.told c.begin.new.site) (g.S.Site.told c.args.site) _ (g.S.Site.faults c.begin.new.site) (g.S.Site.faults c.args.site) _ _ _ _ _ _ s
+          c.in-Ok-begin.ensures.told c.in-Ok-begin.ensures.later session;
+    })
+    c.run_job.ensures.session

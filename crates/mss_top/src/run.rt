@@ -1,0 +1,204 @@
+//! A whole run: words, input, job, devices, session, report.
+ghost use Rattle.std.specs.Prelude.{◌≡◌, ◌≤◌, [], ◌∷◌, None, map, string_bytes, length, vec_len, IfOk, OnOk};
+ghost use Rattle.std.specs.List.{AllByRecursion};
+ghost use Rattle.mss_base.specs.Content.{content};
+ghost use Rattle.ckd_plain.specs.Plain.{serial_in};
+ghost use Rattle.mss_top.specs.Session.{AreAllTracks, Continues};
+ghost use Rattle.report_text.specs.OneLines.{one_line_text};
+ghost use Rattle.mss_top.specs.Scripts.{IsRunnable};
+ghost use Rattle.mss_top.specs.Serial.{Admits, Begins, Ends, HasSession, IsSessionOf, IsRefused, IsRun, line_status, refusal_of};
+ghost use Rattle.mss_top.specs.Status.{IsPut};
+
+use crate::first_job::{FirstJobFault, read_first_job};
+use crate::input::{InputFault, read_input};
+use crate::machine::Machine;
+use crate::report::status_after;
+use crate::session::Session;
+use crate::start::{StartFault, VolumeFault, check_volumes};
+use crate::status::Status;
+use crate::words::are_serial;
+use job_text::{HostScript, Job, VolumeList};
+use mss_base::{Serial, Sink, Site, Source, VolumeNo};
+use report_text::{OneLine, put_line};
+use std::alloc::Global;
+
+/// The input is read to its end, or to one byte past the longest job text.
+const READ_LIMIT: usize = 4_194_305;
+
+/// How many bytes a block has.
+const BLOCK_LENGTH: usize = 16_384;
+
+/// What a run leaves.
+pub struct Ended<S> {
+    pub status: Status,
+    pub site: S,
+    /// The session, from the moment when the volumes were found whole.
+    pub session: Option<Session>,
+}
+
+/// The job of the input, where the words are the command, or the line that says why there is none.
+fn admit<I: Source>(alloc: Global, words: &[String], input: &mut I) -> Result<Job, OneLine>
+    ensures job { Admits I.tells (map string_bytes words.now) (I.left input.old) (I.left input.new) (I.faults input.old) (I.faults input.new) result }
+    ensures hosts { IfOk result (λ job. length job.hosts ≡ 1) }
+{
+    if !are_serial(words) {
+        return Err(OneLine::WordsRefused);
+    }
+    let text = match read_input(alloc, input, READ_LIMIT) {
+        Ok(text) => text,
+        Err(InputFault::Failed) => return Err(OneLine::InputFault),
+        Err(InputFault::Memory) => return Err(OneLine::WantOfMemory),
+    };
+    match read_first_job(alloc, text.as_slice()) {
+        Ok(job) => Ok(job),
+        Err(FirstJobFault::Later) => Err(OneLine::JobRefusedLater),
+        Err(FirstJobFault::Memory) => Err(OneLine::WantOfMemory),
+    }
+}
+
+/// The line of volumes that weren't taken on.
+fn refusal(refused: &VolumeFault) -> OneLine
+    ensures { result ≡ refusal_of refused.now }
+{
+    match &refused.fault {
+        StartFault::TornTrack { cylinder, head } => OneLine::TornTrack {
+            volume: refused.volume,
+            cylinder: *cylinder,
+            head: *head,
+        },
+        StartFault::Stopped { fault } => OneLine::RestartStopped { fault: *fault },
+    }
+}
+
+/// A buffer for blocks, where every block of the volumes is a track, or the line that says why no session begins.
+fn begin<S: Site>(
+    alloc: Global,
+    site: &mut S,
+    volumes: &[(VolumeNo, Serial)],
+) -> Result<Vec<u8>, OneLine>
+    ensures block { IfOk result (λ block. vec_len block ≡ 16384) }
+    ensures tracks { S.tells → OnOk result (AreAllTracks (serial_in volumes.now) (content (S.told site.old))) }
+    ensures cause { Begins S.tells (content (S.told site.old)) volumes.now (S.faults site.old) (S.faults site.new) result }
+    ensures told { S.tells → S.told site.new ≡ S.told site.old }
+    ensures writes { S.writes site.new ≡ S.writes site.old }
+    ensures later { S.faults site.old ≤ S.faults site.new }
+{
+    let Ok(mut block) = vec![in alloc; 0u8; BLOCK_LENGTH] else {
+        return Err(OneLine::WantOfMemory);
+    };
+    match check_volumes(site, volumes, &mut block) {
+        Ok(()) => Ok(block),
+        Err(refused) => Err(refusal(&refused)),
+    }
+}
+
+/// The status of an output of one line.
+fn line_status(line: OneLine) -> Status
+    ensures { result ≡ line_status line }
+{
+    match line {
+        OneLine::WordsRefused => Status::WordsRefused,
+        OneLine::InputFault => Status::InputFault,
+        OneLine::JobRefusedLater => Status::JobRefused,
+        OneLine::TornTrack { .. } | OneLine::RestartStopped { .. } => Status::RestartRefused,
+        OneLine::WantOfMemory => Status::Memory,
+    }
+}
+
+/// Ends a run without a session by its one line.
+fn refuse<O: Sink, S: Site>(output: &mut O, site: S, line: OneLine) -> Ended<S>
+    ensures put { IsPut O.tells (line_status line) (one_line_text line) (O.faults output.old) (O.faults output.new) (O.told output.old) (O.told output.new) result.status }
+    ensures site { result.site ≡ site }
+    ensures session { result.session ≡ None }
+{
+    let status = status_after(line_status(line), put_line(output, &line));
+    Ended {
+        status,
+        site,
+        session: None,
+    }
+}
+
+/// Runs a host's script on volumes whose every block is a track, and puts the report.
+fn run_host<O: Sink, S: Site>(
+    alloc: Global,
+    volumes: VolumeList,
+    script: &HostScript,
+    block: Vec<u8>,
+    output: &mut O,
+    site: S,
+) -> Ended<S>
+    requires runnable { AllByRecursion IsRunnable script.now.items }
+    requires block { vec_len block ≡ 16384 }
+    requires tracks { S.tells → AreAllTracks (serial_in volumes.items) (content (S.told site)) }
+    ensures session { HasSession (IsSessionOf S.tells O.tells volumes.items (script.now ∷ []) (S.told site) (S.told result.site) (S.faults site) (S.faults result.site) (O.faults output.old) (O.faults output.new) (O.told output.old) (O.told output.new) result.status) result.session }
+    ensures continues { S.tells → Continues (S.told site) (S.told result.site) }
+    ensures later { S.faults site ≤ S.faults result.site }
+{
+    let mut machine = Machine::begin(alloc, site, volumes, script.host, block);
+    let end = machine.run_script(script.items.as_slice());
+    let status = machine.put_report(output, end);
+    let (site, session) = machine.into_session();
+    Ended {
+        status,
+        site,
+        session: Some(session),
+    }
+}
+
+/// Runs a job of one host on volumes whose every block is a track, and puts the report.
+fn run_job<O: Sink, S: Site>(
+    alloc: Global,
+    job: Job,
+    block: Vec<u8>,
+    output: &mut O,
+    site: S,
+) -> Ended<S>
+    requires hosts { length job.hosts ≡ 1 }
+    requires block { vec_len block ≡ 16384 }
+    requires tracks { S.tells → AreAllTracks (serial_in job.config.volumes) (content (S.told site)) }
+    ensures session { HasSession (IsSessionOf S.tells O.tells job.config.volumes job.hosts (S.told site) (S.told result.site) (S.faults site) (S.faults result.site) (O.faults output.old) (O.faults output.new) (O.told output.old) (O.told output.new) result.status) result.session }
+    ensures continues { S.tells → Continues (S.told site) (S.told result.site) }
+    ensures later { S.faults site ≤ S.faults result.site }
+{
+    let Job { config, hosts } = job;
+    let [script] = hosts.as_slice() else {
+        unreachable!()
+    };
+    run_host(alloc, config.volumes, script, block, output, site)
+}
+
+/// Runs the job that the input has, on the volumes of the site, and puts its report.
+///
+/// The words are the command, `serial` alone. The input is read to its end, or to one byte past the longest job text,
+/// before anything is looked at. Nothing is written to the site unless the whole job was admitted and each block of its
+/// volumes is a track. Without a session the output is one line, which says why.
+pub fn serial<I: Source, O: Sink, S: Site>(
+    alloc: Global,
+    words: &[String],
+    input: &mut I,
+    output: &mut O,
+    mut site: S,
+) -> Ended<S>
+    ensures ended { Ends
+        (IsRefused I.tells S.tells O.tells (map string_bytes words.now) (I.left input.old) (I.left input.new) (content (S.told site))
+        (I.faults input.old) (I.faults input.new) (S.faults site) (S.faults result.site) (O.faults output.old) (O.faults output.new)
+        (O.told output.old) (O.told output.new) result.status)
+        (IsRun I.tells S.tells O.tells (map string_bytes words.now) (I.left input.old) (I.left input.new) (S.told site) (S.told result.site)
+        (S.faults site) (S.faults result.site) (O.faults output.old) (O.faults output.new)
+        (O.told output.old) (O.told output.new) result.status)
+        result.session }
+    ensures continues { S.tells → Continues (S.told site) (S.told result.site) }
+    ensures unwritten { result.session ≡ None → S.writes result.site ≡ S.writes site }
+    ensures later { S.faults site ≤ S.faults result.site }
+{
+    let job = match admit(alloc, words, input) {
+        Ok(job) => job,
+        Err(line) => return refuse(output, site, line),
+    };
+    let block = match begin(alloc, &mut site, job.config.volumes.as_slice()) {
+        Ok(block) => block,
+        Err(line) => return refuse(output, site, line),
+    };
+    run_job(alloc, job, block, output, site)
+}
