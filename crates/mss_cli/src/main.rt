@@ -12,7 +12,7 @@ use standard_sink::StandardSink;
 use standard_source::StandardSource;
 use std::alloc::Global;
 use std::env;
-use std::io::{Stdin, Stdout};
+use std::io::{ErrorKind, Stdin, Stdout};
 use std::process::ExitCode;
 use std::rt::Env;
 
@@ -23,12 +23,13 @@ fn main(rt: HostRuntime) -> ExitCode {
     ExitCode::from(status.code())
 }
 
-/// The program's arguments behind its name. They can't be taken where memory is wanting, or where one isn't text.
+/// The program's arguments behind its name; none where one isn't text, since no command has such a word.
 fn words(rt: &(impl Env + AllocGlobal)) -> Result<Vec<String>, NoMemory> {
-    let Ok(arguments) = env::args(rt) else {
-        return Err(NoMemory);
-    };
-    Ok(arguments.skip(1).collect(rt.alloc())?)
+    match env::args(rt) {
+        Ok(arguments) => Ok(arguments.skip(1).collect(rt.alloc())?),
+        Err(error) if error.kind() == ErrorKind::InvalidData => Ok(Vec::new(rt.alloc())),
+        Err(_) => Err(NoMemory),
+    }
 }
 
 /// Runs the command of these words, on devices in memory. Where memory is wanting before it begins, nothing is put.

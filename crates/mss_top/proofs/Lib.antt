@@ -16,3 +16,4 @@ pub mod Runs
 pub mod Told
 pub mod VolumeTexts
 pub mod FirstTexts
+pub mod Completed

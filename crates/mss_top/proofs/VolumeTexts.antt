@@ -1,5 +1,6 @@
 -- How a walk that puts the volumes of a report goes on.
 use Rattle.std.proofs.Common.{◌≡◌, ◌<◌, ◌≤◌, ℕ, zero, suc, ◌+◌, ◌*◌, ◌==◌, List, [], ◌∷◌, ◌++◌, length, take, drop, get_or, Some, Err, inl, inr, refl, sym, ◌∙◌, ap, subst, arith, append_assoc, add-one, drop-cons}
+use Rattle.std.specs.Prelude.{slice_get}
 use Rattle.std.proofs.lemmas.Bool.{cond-true, cond-false, cases_Bool, eq-eqb}
 use Rattle.std.proofs.lemmas.List.{append-nil, take-append-drop, take_more, flat_map_more}
 use Rattle.std.proofs.lemmas.List.Concat.{flat_map-append}
@@ -62,9 +63,9 @@ module _ (tells : Type 0) (track : Tracks) (old now new : List ℕ) (cylinder nu
 -- ---- the listed volumes
 
 -- a volume that is listed has a serial
-record IsListed (volumes : List (ℕ × List ℕ)) (number : ℕ) : Type 0 where
-  serial : List ℕ
-  there : serial_in volumes number ≡ Some serial
+pub record IsListed (volumes : List (ℕ × List ℕ)) (number : ℕ) : Type 0 where
+  pub serial : List ℕ
+  pub there : serial_in volumes number ≡ Some serial
 
 listed_before : (y : ℕ × List ℕ) (ys : List (ℕ × List ℕ)) (number : ℕ) → IsListed ys number → IsListed (y ∷ ys) number
 listed_before y ys number before = elim (cases_Bool (number == y.0)) [
@@ -76,6 +77,13 @@ listed : (volumes : List (ℕ × List ℕ)) (i : ℕ) (x : ℕ × List ℕ) → 
 listed [] i x below is = absurd (omega arith)
 listed (y ∷ ys) zero x below is = record { serial = y.1; there = cond-true (x.0 == y.0) (Some y.1) (serial_in ys x.0) (eq-eqb x.0 y.0 (ap (λ (v : ℕ × List ℕ). v.0) is)) }
 listed (y ∷ ys) (suc i) x below is = listed_before y ys x.0 (listed ys i x (omega arith) is)
+
+pub listed_at : (volumes : List (ℕ × List ℕ)) (i number : ℕ) (serial : List ℕ) → slice_get volumes i ≡ Some (number, serial) → IsListed volumes number
+listed_at [] i number serial at = absurd cc
+listed_at (y ∷ ys) zero number serial at =
+    let same : y ≡ (number, serial) = cc in
+    record { serial = y.1; there = cond-true (number == y.0) (Some y.1) (serial_in ys number) (eq-eqb number y.0 (sym (ap (λ (v : ℕ × List ℕ). v.0) same))) }
+listed_at (y ∷ ys) (suc i) number serial at = listed_before y ys number (listed_at ys i number serial at)
 
 track_shown : (serials : Serials) (c : Content) (number : ℕ) (serial : List ℕ) → serials number ≡ Some serial → (direct serials c).track number ≡ direct_track c number
 track_shown serials c number serial there = λ i cylinder head. track_where (there i) (direct_track c number cylinder head)

@@ -1,5 +1,5 @@
 -- What a run of `serial` promises.
-use Rattle.std.specs.Prelude.{◌≡◌, ◌⊎◌, ◌≤◌, ℕ, ◌+◌, length, take, slice_get, true, false, List, [], ◌∷◌, drop, Option, Some, None, Result, Ok, Err}
+use Rattle.std.specs.Prelude.{◌≡◌, ◌⊎◌, ◌≤◌, ◌<◌, ℕ, ◌+◌, length, take, slice_get, true, false, List, [], ◌∷◌, drop, Option, Some, None, Result, Ok, Err}
 use Rattle.std.specs.List.{AllByRecursion}
 use Rattle.mss_base.specs.Content.{Content, SiteLog, content, image}
 use Rattle.mss_base.specs.Counts.{Rises}
@@ -136,3 +136,15 @@ pub record IsRun (input_tells site_tells sink_tells : Type 0) (words : List (Lis
 abbrev pub Ends : Type 0 → (SessionData → Type 0) → Option Session → Type 0
 Ends Refused Ran None = Refused
 Ends Refused Ran (Some s) = Ran (session_data s)
+
+-- no call of a device failed: its count stayed, and wasn't at its last value
+pub record IsFaultless (before now : ℕ) : Type 0 where
+  pub same : now ≡ before
+  pub counting : before < 18446744073709551615
+
+-- the run did and told all that was asked, or came to the limit of entries, or memory ran out
+abbrev pub IsComplete : Status → Type 0
+IsComplete status.Done = Unit {0}
+IsComplete status.Limit = Unit {0}
+IsComplete status.Memory = Unit {0}
+IsComplete _ = ⊥

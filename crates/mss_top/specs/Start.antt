@@ -1,5 +1,5 @@
 -- What the walk over a volume at the start says.
-use Rattle.std.specs.Prelude.{◌≡◌, ℕ, List, take, slice_get, Some, Result, Ok, Err}
+use Rattle.std.specs.Prelude.{◌≡◌, ◌<◌, ℕ, List, take, slice_get, Some, Result, Ok, Err}
 use Rattle.std.specs.List.{AllByRecursion}
 use Rattle.mss_base.specs.Content.{Content}
 use Rattle.mss_base.specs.Counts.{Rises}
@@ -10,6 +10,8 @@ use Rattle.mss_top.specs.declared.start.StartFault.TheVariants.{TornTrack, Stopp
 
 -- this block is the first, by cylinder and head, that doesn't read as a track
 pub record IsFirstTorn (c : Content) (volume cylinder head : ℕ) : Type 0 where
+  pub on : cylinder < 404
+  pub low : head < 19
   pub before : AreTracksBefore c volume cylinder head
   pub torn : IsTrackAt c volume cylinder head → ⊥
 

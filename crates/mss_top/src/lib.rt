@@ -15,6 +15,8 @@ mod input;
 mod machine;
 mod report;
 mod run;
+#[cfg(test)]
+mod run_tests;
 mod script;
 mod session;
 mod start;

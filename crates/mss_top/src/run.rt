@@ -1,12 +1,15 @@
 //! A whole run: words, input, job, devices, session, report.
-ghost use Rattle.std.specs.Prelude.{◌≡◌, ◌≤◌, [], ◌∷◌, None, map, string_bytes, length, vec_len, IfOk, OnOk};
+ghost use Rattle.std.specs.Prelude.{◌≡◌, ◌≤◌, [], ◌∷◌, None, true, map, string_bytes, length, vec_len, IfOk, OnOk};
 ghost use Rattle.std.specs.List.{AllByRecursion};
 ghost use Rattle.mss_base.specs.Content.{content};
 ghost use Rattle.ckd_plain.specs.Plain.{serial_in};
 ghost use Rattle.mss_top.specs.Session.{AreAllTracks, Continues};
 ghost use Rattle.report_text.specs.OneLines.{one_line_text};
 ghost use Rattle.mss_top.specs.Scripts.{IsRunnable};
-ghost use Rattle.mss_top.specs.Serial.{Admits, Begins, Ends, HasSession, IsSessionOf, IsRefused, IsRun, line_status, refusal_of};
+ghost use Rattle.job_text.specs.Jobs.{JobData};
+ghost use Rattle.mss_top.specs.FirstJob.{first_job};
+ghost use Rattle.mss_top.specs.Words.{are_serial};
+ghost use Rattle.mss_top.specs.Serial.{IsFaultless, IsComplete, Admits, Begins, Ends, HasSession, IsSessionOf, IsRefused, IsRun, line_status, refusal_of};
 ghost use Rattle.mss_top.specs.Status.{IsPut};
 
 use crate::first_job::{FirstJobFault, read_first_job};
@@ -29,6 +32,7 @@ const READ_LIMIT: usize = 4_194_305;
 const BLOCK_LENGTH: usize = 16_384;
 
 /// What a run leaves.
+#[derive(Drop)]
 pub struct Ended<S> {
     pub status: Status,
     pub site: S,
@@ -189,6 +193,9 @@ pub fn serial<I: Source, O: Sink, S: Site>(
         (O.told output.old) (O.told output.new) result.status)
         result.session }
     ensures continues { S.tells → Continues (S.told site) (S.told result.site) }
+    ensures complete { (job : JobData) → IsFaultless (I.faults input.old) (I.faults input.new) → IsFaultless (S.faults site) (S.faults result.site) → IsFaultless (O.faults output.old) (O.faults output.new)
+        → are_serial (map string_bytes words.now) ≡ true → I.tells → first_job (I.left input.old) ≡ Some job → S.tells → AreAllTracks (serial_in job.config.volumes) (content (S.told site))
+        → IsComplete result.status }
     ensures unwritten { result.session ≡ None → S.writes result.site ≡ S.writes site }
     ensures later { S.faults site ≤ S.faults result.site }
 {

@@ -1,6 +1,8 @@
-use Rattle.std.proofs.Common.{map, string_bytes}
-use Rattle.mss_top.specs.Serial.{IsRun}
+use Rattle.std.proofs.Common.{rules, map, string_bytes}
+use Rattle.mss_base.specs.Content.{content}
+use Rattle.mss_top.specs.Serial.{IsRefused, IsRun}
 use Rattle.mss_top.specs.Session.{SessionData}
+use Rattle.mss_top.proofs.Completed.{run_complete, refused_complete}
 use Rattle.mss_top.proofs.Runs.{session_since, ends_with}
 use Rattle.mss_top.proofs.run.serial.Goals as goal
 
@@ -17,3 +19,19 @@ returns-clause-ended g c =
           c.in-Ok-begin.ensures.told c.in-Ok-begin.ensures.later session;
     })
     c.run_job.ensures.session
+
+pub returns-clause-complete : goal.returns-clause-complete
+returns-clause-complete g c = λ job input_none site_none sink_none command can_read asks can_see tracks.
+    run_complete g.I.Source.tells g.S.Site.tells can_read can_see (map string_bytes c.args.words.now) (g.I.Source.left c.args.input.now) (g.I.Source.left c.admit.new.input) (content (g.S.Site.told c.args.site)) job command asks tracks
+    _ _ _ _ _ _ input_none site_none sink_none g.O.Sink.tells (g.O.Sink.told c.args.output.now) (g.O.Sink.told c.run_job.new.output) c.run_job.result.status (g.S.Site.told c.args.site) (g.S.Site.told c.run_job.result.site)
+    c.run_job.result.session (returns-clause-ended g c)
+
+pub returns-in-Err-begin-clause-complete : goal.returns-in-Err-begin-clause-complete
+returns-in-Err-begin-clause-complete g c = λ job input_none site_none sink_none command can_read asks can_see tracks.
+    let refused :
+    IsRefused g.I.Source.tells g.S.Site.tells g.O.Sink.tells (map string_bytes c.args.words.now) (g.I.Source.left c.args.input.now) (g.I.Source.left c.admit.new.input) (content (g.S.Site.told c.args.site))
+    (g.I.Source.faults c.args.input.now) (g.I.Source.faults c.admit.new.input) (g.S.Site.faults c.args.site) (g.S.Site.faults c.refuse-in-Err-begin.result.site) (g.O.Sink.faults c.args.output.now) (g.O.Sink.faults c.refuse-in-Err-begin.new.output)
+    (g.O.Sink.told c.args.output.now) (g.O.Sink.told c.refuse-in-Err-begin.new.output) c.refuse-in-Err-begin.result.status = search rules in
+    refused_complete g.I.Source.tells g.S.Site.tells can_read can_see (map string_bytes c.args.words.now) (g.I.Source.left c.args.input.now) (g.I.Source.left c.admit.new.input) (content (g.S.Site.told c.args.site)) job command asks tracks
+    _ _ _ _ _ _ input_none site_none sink_none g.O.Sink.tells (g.O.Sink.told c.args.output.now) (g.O.Sink.told c.refuse-in-Err-begin.new.output) c.refuse-in-Err-begin.result.status
+    refused
