@@ -45,40 +45,172 @@ const STOPPED_REPORT: &str = "MSS REPORT 1\n\
     STOPPED 1\n";
 
 /// Behind the walk's 7,676 reads, the search reads its track, and so does the write before its first device write.
-const FIRST_WRITE: u64 = 7679;
+const FIRST_WRITE: u64 = 7_679;
 
-/// Which calls of the input and of the output fail, counted from 1.
+/// Calls of the devices that fail, counted from 1.
 #[derive(Clone, Copy)]
 struct Failing<'a> {
     takes: &'a [u64],
     puts: &'a [u64],
+    of_site: Option<u64>,
 }
 
 const NONE: Failing<'static> = Failing {
     takes: &[],
     puts: &[],
+    of_site: None,
 };
 
-/// The status of a run, and what it put.
-fn outcome(
+/// The status of a run over this site, and what it put.
+fn outcome_over(
     alloc: Global,
     word: &str,
     job: &str,
-    site: MemorySite,
+    mut site: MemorySite,
     failing: Failing,
 ) -> Result<(Status, MemorySink), Fail> {
     let words = [String::from_str(alloc, word)?];
     let mut input = MemorySource::of(alloc, job.as_bytes(), failing.takes)?;
     let mut output = MemorySink::new(alloc, failing.puts)?;
+    if let Some(n) = failing.of_site {
+        site.fail(&[SiteFault::Call(n)])?;
+    }
     let ended = serial(alloc, &words, &mut input, &mut output, site);
     Ok((ended.status, output))
 }
 
+/// The same over blank devices.
+fn outcome(
+    alloc: Global,
+    word: &str,
+    job: &str,
+    failing: Failing,
+) -> Result<(Status, MemorySink), Fail> {
+    outcome_over(alloc, word, job, MemorySite::new(alloc)?, failing)
+}
+
 #[test]
 fn a_record_is_written_and_read_back(rt: HostRuntime) -> Result<(), Fail> {
-    let site = MemorySite::new(rt.alloc())?;
-    let (status, output) = outcome(rt.alloc(), "serial", JOB, site, NONE)?;
+    let (status, output) = outcome(rt.alloc(), "serial", JOB, NONE)?;
     assert_eq!(rt; output.bytes(), REPORT.as_bytes());
     assert_eq!(rt; status, Status::Done);
+    Ok(())
+}
+
+/// A run that doesn't go to its end: its word, what of its job is replaced by what, the calls that fail, its status
+/// and what it puts.
+struct Case<'a> {
+    word: &'a str,
+    change: (&'a str, &'a str),
+    failing: Failing<'a>,
+    status: Status,
+    text: &'a str,
+}
+
+const SAME: (&str, &str) = ("", "");
+
+const CASES: [Case; 5] = [
+    Case {
+        word: "serve",
+        change: SAME,
+        failing: NONE,
+        status: Status::WordsRefused,
+        text: "words refused\n",
+    },
+    Case {
+        word: "serial",
+        change: ("host 1", "host 2"),
+        failing: NONE,
+        status: Status::JobRefused,
+        text: "job refused line 0 Later\n",
+    },
+    Case {
+        word: "serial",
+        change: SAME,
+        failing: Failing {
+            takes: &[1],
+            ..NONE
+        },
+        status: Status::InputFault,
+        text: "input fault\n",
+    },
+    Case {
+        word: "serial",
+        change: SAME,
+        failing: Failing { puts: &[1], ..NONE },
+        status: Status::OutputFault,
+        text: "",
+    },
+    Case {
+        word: "serial",
+        change: SAME,
+        failing: Failing {
+            of_site: Some(FIRST_WRITE),
+            ..NONE
+        },
+        status: Status::Stopped,
+        text: STOPPED_REPORT,
+    },
+];
+
+/// The job with its first `change.0` replaced.
+fn changed(alloc: Global, change: (&str, &str)) -> Result<String, Fail> {
+    match JOB.split_once(change.0) {
+        Some((before, after)) => Ok(format!(in alloc; "{before}{}{after}", change.1)?),
+        None => Ok(String::from_str(alloc, JOB)?),
+    }
+}
+
+#[test]
+fn each_fault_has_its_status(rt: HostRuntime) -> Result<(), Fail> {
+    for case in &CASES {
+        let job = changed(rt.alloc(), case.change)?;
+        let (status, output) = outcome(rt.alloc(), case.word, &job, case.failing)?;
+        assert_eq!(rt; output.bytes(), case.text.as_bytes());
+        assert_eq!(rt; status, case.status);
+    }
+    Ok(())
+}
+
+#[test]
+fn a_torn_track_refuses_the_run(rt: HostRuntime) -> Result<(), Fail> {
+    let mut site = MemorySite::new(rt.alloc())?;
+    // An open gate, and a count whose data would run past the block.
+    let unit = UnitNo::Cartridge(CartridgeNo::of(0).ok_or("no cartridge")?);
+    site.reserve(2)?;
+    site.write(unit, 98, 129, &[0xC1])?;
+    site.write(unit, 98, 262, &[0xFF, 0xFF])?;
+    let (status, output) = outcome_over(rt.alloc(), "serial", JOB, site, NONE)?;
+    let line = "restart refused torn track volume 0 cylinder 5 head 3\n";
+    assert_eq!(rt; output.bytes(), line.as_bytes());
+    assert_eq!(rt; status, Status::RestartRefused);
+    Ok(())
+}
+
+/// Whether a run whose n-th call of the site fails has one of the stated ends.
+fn ends_as_stated(alloc: Global, n: u64) -> Result<bool, Fail> {
+    let failing = Failing {
+        of_site: Some(n),
+        ..NONE
+    };
+    let (status, output) = outcome(alloc, "serial", JOB, failing)?;
+    let text = output.bytes();
+    Ok(match status {
+        Status::RestartRefused => text == b"restart refused stopped fault 1\n".as_slice(),
+        Status::Stopped => text.ends_with(b"STOPPED 1\n"),
+        Status::Done => text.ends_with(b"END\n"),
+        _ => false,
+    })
+}
+
+/// All calls of the session, and some of the walk's and of the report's.
+#[test]
+fn any_failing_call_of_the_site_has_a_stated_end(rt: HostRuntime) -> Result<(), Fail> {
+    for n in [1, 98, 7_700, 15_000] {
+        assert!(rt; ends_as_stated(rt.alloc(), n)?, "{n}");
+    }
+    for n in 7_676..7_692 {
+        assert!(rt; ends_as_stated(rt.alloc(), n)?, "{n}");
+    }
     Ok(())
 }
