@@ -12,6 +12,7 @@ use Rattle.job_text.specs.Views.{item_of}
 use Rattle.mss_top.specs.Session.{SessionData}
 use Rattle.mss_top.specs.Scripts.{exchange, exchanges, Asks, GivesSince, EndsItem, EndsScript, HasHalted}
 use Rattle.mss_top.proofs.Running.{exchanges-push}
+use Rattle.mss_top.proofs.ScriptEnds.{not_to_end}
 use Rattle.mss_top.specs.declared.script.RunEnd.{RunEnd}
 use Rattle.mss_top.specs.declared.script.RunEnd.TheVariants as run_end
 
@@ -47,10 +48,17 @@ module _ (items : List ItemData) (i : ℕ) (x : ItemData) (below : i < length it
         (subst (λ (xs : List Exchange). Follows (take i items ++ x ∷ drop (i + 1) items) xs) (sym since.history)
         (Follows-begun (take i items) (drop (i + 1) items) x (exchanges old.history) since.made finished so_far since.gives))
 
+    -- left within an item, it isn't at its end
+    script_goes_on_past : GivesSince x old new false → FollowsToEnd items (exchanges new.history) → ⊥
+    script_goes_on_past since to_end =
+        not_to_end (take i items) (drop (i + 1) items) x (exchanges old.history) since.made so_far since.gives
+        (subst (λ (xs : List Exchange). FollowsToEnd (take i items ++ x ∷ drop (i + 1) items) xs) since.history
+        (subst (λ (l : List ItemData). FollowsToEnd l (exchanges new.history)) (sym items_whole) to_end))
+
     pub script_halts : (result : RunEnd) → (result ≡ run_end.Finished → ⊥) → EndsItem x old new result → EndsScript items new result
     script_halts run_end.Finished goes_on ends = absurd (goes_on refl)
     script_halts (run_end.Stopped fault) goes_on ends = script_left ends.0 ends.1
-    script_halts run_end.Limit goes_on ends = (script_left false ends.0, ends.1)
+    script_halts run_end.Limit goes_on ends = (script_left false ends.0, script_goes_on_past ends.0, ends.1)
     script_halts run_end.Memory goes_on ends = script_left ends.0 ends.1
 
 -- one call of an item that is that call

@@ -17,3 +17,4 @@ pub mod Told
 pub mod VolumeTexts
 pub mod FirstTexts
 pub mod Completed
+pub mod ScriptEnds

@@ -51,11 +51,11 @@ EndsItem item old new (run_end.Stopped fault) = (finished : Bool) × GivesSince 
 EndsItem item old new run_end.Limit = GivesSince item old new false × (length new.history ≡ 4096)
 EndsItem item old new run_end.Memory = (finished : Bool) × GivesSince item old new finished
 
--- how a script ended, from a session without entries
+-- how a script ended, from a session without entries; at the limit it has a further call, since its end isn't reached
 abbrev pub EndsScript : List ItemData → SessionData → RunEnd → Type 0
 EndsScript items s run_end.Finished = FollowsToEnd items (exchanges s.history)
 EndsScript items s (run_end.Stopped fault) = Follows items (exchanges s.history)
-EndsScript items s run_end.Limit = Follows items (exchanges s.history) × (length s.history ≡ 4096)
+EndsScript items s run_end.Limit = Follows items (exchanges s.history) × (FollowsToEnd items (exchanges s.history) → ⊥) × (length s.history ≡ 4096)
 EndsScript items s run_end.Memory = Follows items (exchanges s.history)
 
 -- whether the session is stopped, by how its run ended
