@@ -1,9 +1,11 @@
 // Outputs of one line in place of a report.
+ghost use Rattle.std.specs.Prelude.{◌≡◌};
 ghost use Rattle.mss_base.specs.Counts.{HasCause};
 ghost use Rattle.mss_base.specs.Puts.{Puts};
-ghost use Rattle.report_text.specs.OneLines.{one_line_text};
+ghost use Rattle.report_text.specs.OneLines.{kind_name, one_line_text};
 
-use crate::pieces::{put_numbered, put_place, put_text};
+use crate::pieces::{put_numbered, put_numbered_word, put_place, put_text};
+use job_text::JobKind;
 use mss_base::{Cylinder, Failed, Head, Sink, VolumeNo};
 
 /// An output of one line in place of a report.
@@ -11,6 +13,11 @@ use mss_base::{Cylinder, Failed, Head, Sink, VolumeNo};
 pub enum OneLine {
     WordsRefused,
     InputFault,
+    /// A bad line of the job text, counted from 1, and why it is bad; line 0 where the text is too big.
+    JobRefused {
+        line: u32,
+        kind: JobKind,
+    },
     /// The input is of a form that isn't built yet.
     JobRefusedLater,
     /// Restart found a block that is no track.
@@ -26,6 +33,24 @@ pub enum OneLine {
     WantOfMemory,
 }
 
+/// How a report names a kind of bad lines.
+fn kind_name(kind: JobKind) -> &'static str
+    ensures { result.now ≡ kind_name kind }
+{
+    match kind {
+        JobKind::TooBig => "TooBig",
+        JobKind::BadByte => "BadByte",
+        JobKind::After => "After",
+        JobKind::Unknown => "Unknown",
+        JobKind::Shape => "Shape",
+        JobKind::Range => "Range",
+        JobKind::Twice => "Twice",
+        JobKind::Absent => "Absent",
+        JobKind::Count => "Count",
+        JobKind::Ended => "Ended",
+    }
+}
+
 /// Puts an output of one line, by at most seven calls. It wants no memory, since it tells want of memory too.
 #[tactic(auto, unfolding(crate::specs::OneLines::one_line_text))]
 pub fn put_line<O: Sink>(output: &mut O, line: &OneLine) -> Result<(), Failed>
@@ -35,6 +60,9 @@ pub fn put_line<O: Sink>(output: &mut O, line: &OneLine) -> Result<(), Failed>
     match *line {
         OneLine::WordsRefused => put_text(output, "words refused\n"),
         OneLine::InputFault => put_text(output, "input fault\n"),
+        OneLine::JobRefused { line, kind } => {
+            put_numbered_word(output, "job refused line ", line, kind_name(kind))
+        }
         OneLine::JobRefusedLater => put_text(output, "job refused line 0 Later\n"),
         OneLine::TornTrack {
             volume,

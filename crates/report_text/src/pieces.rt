@@ -35,6 +35,20 @@ pub fn put_numbered<O: Sink>(output: &mut O, text: &str, number: u64) -> Result<
     put_pieces(output, &[text, digits.format(number), "\n"])
 }
 
+/// Puts a line that ends in a number and a word.
+pub fn put_numbered_word<O: Sink>(
+    output: &mut O,
+    text: &str,
+    number: u32,
+    word: &str,
+) -> Result<(), Failed>
+    ensures bytes { O.tells → Puts result (O.told output.old) (O.told output.new) (text.now ++ decimal number ++ codes " " ++ word.now ++ codes "\n") }
+    ensures cause { HasCause (O.faults output.old) (O.faults output.new) result }
+{
+    let mut digits = itoa::Buffer::new();
+    put_pieces(output, &[text, digits.format(number), " ", word, "\n"])
+}
+
 /// Puts a line that ends in a track, by volume, cylinder and head.
 pub fn put_place<O: Sink>(
     output: &mut O,

@@ -2,6 +2,7 @@
 use crate::*;
 use channel_commands::{Call, Reply};
 use ckd_plain::Entry;
+use job_text::JobKind;
 use mss_base::{Bytes, Cylinder, Failed, Head, HostNo, MemorySink, Serial, Sink, VolumeNo};
 use std::alloc::Global;
 use std::test::Fail;
@@ -110,6 +111,13 @@ fn outputs_of_one_line(rt: HostRuntime) -> Result<(), Fail> {
     for (line, text) in [
         (OneLine::WordsRefused, "words refused\n"),
         (OneLine::InputFault, "input fault\n"),
+        (
+            OneLine::JobRefused {
+                line: 12,
+                kind: JobKind::Absent,
+            },
+            "job refused line 12 Absent\n",
+        ),
         (OneLine::JobRefusedLater, "job refused line 0 Later\n"),
         (
             torn,
