@@ -1,5 +1,5 @@
 -- A run without a fault of a device is complete.
-use Rattle.std.proofs.Common.{◌≡◌, inl, inr, ℕ, true, List, Option, Some, None, sym, ◌∙◌, subst, arith}
+use Rattle.std.proofs.Common.{◌≡◌, inl, inr, ℕ, true, List, length, Option, Some, None, Result, Ok, Err, sym, ◌∙◌, ap, subst, arith}
 use Rattle.std.proofs.lemmas.Bool.{false≢true}
 use Rattle.mss_base.specs.Content.{Content, SiteLog}
 use Rattle.mss_base.specs.Counts.{Rises}
@@ -11,7 +11,8 @@ use Rattle.mss_top.specs.declared.script.RunEnd.{RunEnd}
 use Rattle.mss_top.specs.declared.script.RunEnd.TheVariants as run_end
 use Rattle.mss_top.specs.declared.session.Session.{Session}
 use Rattle.mss_top.specs.declared.status.Status.{Status}
-use Rattle.mss_top.specs.FirstJob.{first_job}
+use Rattle.job_text.specs.Grammar.{BadLine, job_of}
+use Rattle.mss_top.specs.Admission.{IsJobText}
 use Rattle.mss_top.specs.Reports.{Telling, whole, unread, told_status, HasReason}
 use Rattle.mss_top.specs.Scripts.{HasHalted}
 use Rattle.mss_top.specs.Serial.{IsFaultless, IsComplete, IsUnread, IsUnbegun, IsAdmitted, IsRefused, IsRun, IsSessionOf, Ends, line_status}
@@ -33,12 +34,19 @@ put_complete tells due text before now old new told none complete (broken is ros
 put_complete tells due text before now old new told none complete (cut is bytes) = subst IsComplete (sym is) tt
 
 module _ (input_tells site_tells : Type 0) (can_read : input_tells) (can_see : site_tells) (words : List (List ℕ)) (text left : List ℕ) (c : Content) (job : JobData)
-    (command : are_serial words ≡ true) (asks : first_job text ≡ Some job) (tracks : AreAllTracks (serial_in job.config.volumes) c) where
+    (command : are_serial words ≡ true) (asks : IsJobText text job) (tracks : AreAllTracks (serial_in job.config.volumes) c) where
+  same_read : (other : JobData) → job_of text ≡ Ok other → other ≡ job
+  same_read other read = let both : ◌≡◌ {A = Result JobData BadLine} (Ok other) (Ok job) = sym read ∙ asks.read in cc
+
   unread_complete : (before now : ℕ) (said : OneLine) → IsFaultless before now → IsUnread input_tells words text left before now said → IsComplete (line_status said)
   unread_complete before now line.WordsRefused none cause = absurd (false≢true (sym cause.0 ∙ command))
   unread_complete before now line.InputFault none cause = absurd (no_rise before now none cause.1)
+  unread_complete before now (line.JobRefused n kind) none cause =
+      let both : ◌≡◌ {A = Result JobData BadLine} (Err (record { line = n; kind = kind })) (Ok job) = sym (cause.1 can_read) ∙ asks.read in absurd cc
   unread_complete before now line.JobRefusedLater none cause =
-      let both : ◌≡◌ {A = Option JobData} None (Some job) = sym (cause.1 can_read) ∙ asks in absurd cc
+      let later = cause.1 can_read in
+      let same : later.job ≡ job = same_read later.job later.read in
+      absurd (omega (arith, later.hosts, asks.hosts, ap (λ (j : JobData). length j.hosts) same))
   unread_complete before now (line.TornTrack volume cylinder head) none cause = absurd cause
   unread_complete before now (line.RestartStopped fault) none cause = absurd cause
   unread_complete before now line.WantOfMemory none cause = tt
@@ -52,13 +60,14 @@ module _ (input_tells site_tells : Type 0) (can_read : input_tells) (can_see : s
   unbegun_complete : (before now : ℕ) (said : OneLine) → IsFaultless before now → IsUnbegun site_tells c job.config.volumes before now said → IsComplete (line_status said)
   unbegun_complete before now line.WordsRefused none cause = absurd cause
   unbegun_complete before now line.InputFault none cause = absurd cause
+  unbegun_complete before now (line.JobRefused n kind) none cause = absurd cause
   unbegun_complete before now line.JobRefusedLater none cause = absurd cause
   unbegun_complete before now (line.TornTrack volume cylinder head) none cause = absurd (not_torn volume cylinder head (cause can_see))
   unbegun_complete before now (line.RestartStopped fault) none cause = absurd (no_rise before now none cause.1)
   unbegun_complete before now line.WantOfMemory none cause = tt
 
   same_job : (other : JobData) → IsAdmitted input_tells words text left other → other ≡ job
-  same_job other admitted = let both : ◌≡◌ {A = Option JobData} (Some other) (Some job) = sym (admitted.text_ can_read) ∙ asks in cc
+  same_job other admitted = same_read other (admitted.text_ can_read).read
 
   -- ---- a run without a session, and one with it
   module _ (input_before input_now site_before site_now sink_before sink_now : ℕ) (input_none : IsFaultless input_before input_now) (site_none : IsFaultless site_before site_now) (sink_none : IsFaultless sink_before sink_now)

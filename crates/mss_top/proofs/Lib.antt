@@ -11,10 +11,9 @@ pub mod Running
 pub mod Begun
 pub mod Items
 pub mod WholeVolumes
-pub mod Admission
+pub mod Taken
 pub mod Runs
 pub mod Told
 pub mod VolumeTexts
-pub mod FirstTexts
 pub mod Completed
 pub mod ScriptEnds

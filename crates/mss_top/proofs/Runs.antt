@@ -1,6 +1,5 @@
 -- A session that ended, and its report.
-use Rattle.std.proofs.Common.{◌≡◌, ◌≤◌, ℕ, true, false, List, ◌∷◌, [], ◌++◌, ◌+◌, length, take, Option, None, Some, Result, Ok, Err, refl, sym, ◌∙◌, ap, subst, arith}
-use Rattle.std.specs.List.{AllByRecursion}
+use Rattle.std.proofs.Common.{◌≡◌, ◌≤◌, ℕ, true, false, List, ◌++◌, ◌+◌, length, take, Option, None, Some, Result, Ok, Err, refl, sym, ◌∙◌, ap, subst, arith}
 use Rattle.mss_base.specs.Content.{SiteLog, content}
 use Rattle.mss_base.specs.Counts.{HasCause}
 use Rattle.mss_base.specs.Puts.{PutsFront, Puts}
@@ -16,8 +15,8 @@ use Rattle.mss_top.specs.declared.status.Status.{Status}
 use Rattle.mss_top.specs.Direct.{direct}
 use Rattle.mss_top.specs.Reports.{Telling, whole, unread, told_text, tells_volumes, HasReason, IsReported, status_after}
 use Rattle.job_text.specs.Jobs.{ScriptData}
-use Rattle.mss_top.specs.Scripts.{SameBeginning, EndsScript, Halts, HasHalted}
-use Rattle.mss_top.specs.Serial.{IsPlainSession, IsSessionOf, HasSession, Ends, plain_start}
+use Rattle.mss_top.specs.Scripts.{SameBeginning, Halts, HasHalted}
+use Rattle.mss_top.specs.Serial.{IsPlainSession, IsSessionOf, FollowsHosts, HasSession, Ends, plain_start}
 use Rattle.mss_top.specs.Sessions.{session_data}
 use Rattle.mss_top.specs.declared.session.Session.{Session}
 use Rattle.mss_top.proofs.Items.{halted_since}
@@ -98,9 +97,9 @@ module _ (volumes : List (ℕ × List ℕ)) (number : ℕ) (start end : SiteLog)
   }
 
   -- the session and its report, over the site as the report left it
-  module _ (script : ScriptData) (is_host : number ≡ script.host) (final : SiteLog) (now sink_before sink_now : ℕ) (old new : List ℕ) (told : Status) (ended : RunEnd) (sink_tells : Type 0)
+  module _ (hosts : List ScriptData) (final : SiteLog) (now sink_before sink_now : ℕ) (old new : List ℕ) (told : Status) (ended : RunEnd) (sink_tells : Type 0)
       (first_faults : begun.first_faults ≡ before) (tracks : tells → AreAllTracks (serial_in volumes) (content start))
-      (ends : EndsScript script.items s ended) (halts : Halts ended s.stopped) (halted : HasHalted before middle ended)
+      (follows : FollowsHosts hosts s ended) (halts : Halts ended s.stopped) (halted : HasHalted before middle ended)
       (unwritten : tells → final ≡ end) (later : middle ≤ now) (unread_ : tells_volumes ended ≡ false → now ≡ middle)
       (report : IsReported (tells × sink_tells) (direct (serial_in volumes) (content end)) volumes s.history ended middle now sink_before sink_now old new told) where
     going : tells_volumes ended ≡ true → s.stopped ≡ None
@@ -112,10 +111,10 @@ module _ (volumes : List (ℕ × List ℕ)) (number : ℕ) (start end : SiteLog)
         by_end run_end.Limit kept_ is = kept_
         by_end run_end.Memory kept_ is = absurd cc
 
-    pub session_of : IsSessionOf tells sink_tells volumes (script ∷ []) start final before now sink_before sink_now old new told s
+    pub session_of : IsSessionOf tells sink_tells volumes hosts start final before now sink_before sink_now old new told s
     session_of = record {
       ended = ended;
-      follows = (subst (λ (n : ℕ). AllByRecursion (λ (e : EntryData). e.host ≡ n) s.history) is_host kept.kept.own, ends);
+      follows = follows;
       halts = halts;
       counted = halted_later before middle now ended halted later unread_;
       began = omega (arith, first_faults, same.first_faults);

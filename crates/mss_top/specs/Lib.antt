@@ -7,8 +7,7 @@ pub mod Events
 pub mod Machines
 pub mod Scripts
 pub mod Status
-pub mod FirstJob
-pub mod FirstJobs
+pub mod Admission
 pub mod Reports
 pub mod Serial
 pub mod ReportParts

@@ -14,11 +14,12 @@ use Rattle.mss_top.specs.declared.start.StartFault.{StartFault}
 use Rattle.mss_top.specs.declared.start.StartFault.TheVariants.{TornTrack, Stopped}
 use Rattle.mss_top.specs.declared.start.VolumeFault.{VolumeFault}
 use Rattle.mss_top.specs.declared.script.RunEnd.{RunEnd}
+use Rattle.mss_top.specs.declared.script.RunEnd.TheVariants as run_end
 use Rattle.mss_top.specs.declared.session.Session.{Session}
 use Rattle.mss_top.specs.declared.status.Status.{Status}
 use Rattle.mss_top.specs.declared.status.Status.TheVariants as status
 use Rattle.mss_top.specs.Direct.{direct}
-use Rattle.mss_top.specs.FirstJob.{first_job}
+use Rattle.mss_top.specs.Admission.{IsJobText, IsLaterText, IsBadText}
 use Rattle.mss_top.specs.Reports.{IsReported}
 use Rattle.mss_top.specs.Scripts.{EndsScript, Halts, HasHalted}
 use Rattle.mss_top.specs.Session.{SessionData, AreAllTracks, AreFaults}
@@ -31,17 +32,18 @@ use Rattle.mss_top.specs.Words.{are_serial}
 abbrev pub READ_LIMIT : ℕ
 READ_LIMIT = 4194305
 
--- the words are the command, and the input that was read is the text of this job
+-- the words are the command, and the input that was read is the text of this job, of at most one host
 pub record IsAdmitted (tells : Type 0) (words : List (List ℕ)) (text left : List ℕ) (job : JobData) : Type 0 where
   pub command : are_serial words ≡ true
-  pub text_ : tells → first_job text ≡ Some job
+  pub text_ : tells → IsJobText text job
   pub read : tells → left ≡ drop READ_LIMIT text
 
 -- why no job is admitted: the words, a fault of the input, or the text; of want of memory nothing is said
 abbrev pub IsUnread : Type 0 → List (List ℕ) → List ℕ → List ℕ → ℕ → ℕ → OneLine → Type 0
 IsUnread tells words text left before now line.WordsRefused = (are_serial words ≡ false) × (tells → left ≡ text)
 IsUnread tells words text left before now line.InputFault = (are_serial words ≡ true) × Rises before now
-IsUnread tells words text left before now line.JobRefusedLater = (are_serial words ≡ true) × (tells → first_job text ≡ None) × (tells → left ≡ drop READ_LIMIT text)
+IsUnread tells words text left before now (line.JobRefused n kind) = (are_serial words ≡ true) × (tells → IsBadText text n kind) × (tells → left ≡ drop READ_LIMIT text)
+IsUnread tells words text left before now line.JobRefusedLater = (are_serial words ≡ true) × (tells → IsLaterText text) × (tells → left ≡ drop READ_LIMIT text)
 IsUnread tells words text left before now line.WantOfMemory = are_serial words ≡ true
 IsUnread tells words text left before now _ = ⊥
 
@@ -74,6 +76,7 @@ refusal_of refused = refusal_by refused.volume refused.fault
 abbrev pub line_status : OneLine → Status
 line_status line.WordsRefused = status.WordsRefused
 line_status line.InputFault = status.InputFault
+line_status (line.JobRefused n kind) = status.JobRefused
 line_status line.JobRefusedLater = status.JobRefused
 line_status (line.TornTrack volume cylinder head) = status.RestartRefused
 line_status (line.RestartStopped fault) = status.RestartRefused
@@ -93,8 +96,9 @@ pub record IsPlainSession (volumes : List (ℕ × List ℕ)) (start end : SiteLo
   pub marks : (place mark : ℕ) (e : EntryData) → slice_get s.history place ≡ Some e → slice_get s.marks place ≡ Some mark → (IsStopped e.reply → ⊥)
       → direct (serial_in volumes) (image end mark None) ≡ (after (plain_start volumes (content start)) (take (place + 1) s.history)).volumes
 
--- the history is that of the one host, and follows its script
+-- the history is that of the one host, and follows its script; without a host it is empty, and the run finished
 abbrev pub FollowsHosts : List ScriptData → SessionData → RunEnd → Type 0
+FollowsHosts [] s ended = (s.history ≡ []) × (ended ≡ run_end.Finished)
 FollowsHosts (script ∷ []) s ended = AllByRecursion (λ (e : EntryData). e.host ≡ script.host) s.history × EndsScript script.items s ended
 FollowsHosts _ s ended = ⊥
 

@@ -1,16 +1,15 @@
-//! A whole run: words, input, job, devices, session and report, of one host on volumes that lie straight on cartridges.
+//! A whole run: words, input, job, devices, session and report, of at most one host, on volumes that lie straight on
+//! cartridges.
 //!
 //! `serial` is what a program calls; its clause `ended` (`specs/Serial.antt`) is the promise of this repository. It goes
-//! through `read_input` and `read_first_job`, `check_volumes` (is every block a track?), a `Machine` that makes the host's
+//! through `read_input` and `job_to_run`, `check_volumes` (is every block a track?), a `Machine` that makes the host's
 //! calls, each with one entry of the history, and `put_report`. A machine keeps (`Keeps`, `specs/Machines.antt`) that the
 //! history is legal from the volumes at the start, and that the devices show the volumes after it; after a stop, those
 //! before the write that failed. `direct_place` says where a volume's tracks lie.
 #![tactic(auto)]
 
+mod admission;
 mod direct;
-mod first_job;
-#[cfg(test)]
-mod first_job_tests;
 mod input;
 mod machine;
 mod report;
@@ -27,7 +26,6 @@ mod volumes;
 mod words;
 
 pub use direct::direct_place;
-pub use first_job::{FirstJobFault, read_first_job};
 pub use input::{InputFault, read_input};
 pub use machine::{CallAnswer, Machine};
 pub use report::Last;

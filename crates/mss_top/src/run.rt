@@ -1,27 +1,30 @@
 //! A whole run: words, input, job, devices, session, report.
-ghost use Rattle.std.specs.Prelude.{◌≡◌, ◌≤◌, [], ◌∷◌, None, true, map, string_bytes, length, vec_len, IfOk, OnOk};
+ghost use Rattle.std.specs.Prelude.{◌≡◌, ◌≤◌, [], None, true, map, string_bytes, length, slice_get, vec_len, IfOk, IfSome, OnOk};
 ghost use Rattle.std.specs.List.{AllByRecursion};
 ghost use Rattle.mss_base.specs.Content.{content};
 ghost use Rattle.ckd_plain.specs.Plain.{serial_in};
 ghost use Rattle.mss_top.specs.Session.{AreAllTracks, Continues};
 ghost use Rattle.report_text.specs.OneLines.{one_line_text};
-ghost use Rattle.mss_top.specs.Scripts.{IsRunnable};
-ghost use Rattle.job_text.specs.Jobs.{JobData};
-ghost use Rattle.mss_top.specs.FirstJob.{first_job};
+ghost use Rattle.mss_top.specs.Scripts.{HasHalted, Halts, IsRunnable, SameBeginning};
+ghost use Rattle.job_text.specs.Jobs.{JobData, ScriptData};
+ghost use Rattle.mss_top.specs.Admission.{IsJobText};
+ghost use Rattle.mss_top.specs.Machines.{Keeps};
+ghost use Rattle.mss_top.specs.Sessions.{session_data};
 ghost use Rattle.mss_top.specs.Words.{are_serial};
-ghost use Rattle.mss_top.specs.Serial.{IsFaultless, IsComplete, Admits, Begins, Ends, HasSession, IsSessionOf, IsRefused, IsRun, line_status, refusal_of};
+ghost use Rattle.mss_top.specs.Serial.{IsFaultless, IsComplete, Admits, Begins, Ends, FollowsHosts, HasSession, IsSessionOf, IsRefused, IsRun, line_status, refusal_of};
 ghost use Rattle.mss_top.specs.Status.{IsPut};
 
-use crate::first_job::{FirstJobFault, read_first_job};
+use crate::admission::job_to_run;
 use crate::input::{InputFault, read_input};
 use crate::machine::Machine;
 use crate::report::status_after;
+use crate::script::RunEnd;
 use crate::session::Session;
 use crate::start::{StartFault, VolumeFault, check_volumes};
 use crate::status::Status;
 use crate::words::are_serial;
 use job_text::{HostScript, Job, VolumeList};
-use mss_base::{Serial, Sink, Site, Source, VolumeNo};
+use mss_base::{HostNo, Serial, Sink, Site, Source, VolumeNo};
 use report_text::{OneLine, put_line};
 use std::alloc::Global;
 
@@ -43,7 +46,7 @@ pub struct Ended<S> {
 /// The job of the input, where the words are the command, or the line that says why there is none.
 fn admit<I: Source>(alloc: Global, words: &[String], input: &mut I) -> Result<Job, OneLine>
     ensures job { Admits I.tells (map string_bytes words.now) (I.left input.old) (I.left input.new) (I.faults input.old) (I.faults input.new) result }
-    ensures hosts { IfOk result (λ job. length job.hosts ≡ 1) }
+    ensures hosts { IfOk result (λ job. length job.hosts ≤ 1) }
 {
     if !are_serial(words) {
         return Err(OneLine::WordsRefused);
@@ -53,11 +56,7 @@ fn admit<I: Source>(alloc: Global, words: &[String], input: &mut I) -> Result<Jo
         Err(InputFault::Failed) => return Err(OneLine::InputFault),
         Err(InputFault::Memory) => return Err(OneLine::WantOfMemory),
     };
-    match read_first_job(alloc, text.as_slice()) {
-        Ok(job) => Ok(job),
-        Err(FirstJobFault::Later) => Err(OneLine::JobRefusedLater),
-        Err(FirstJobFault::Memory) => Err(OneLine::WantOfMemory),
-    }
+    job_to_run(alloc, text.as_slice())
 }
 
 /// The line of volumes that weren't taken on.
@@ -103,7 +102,7 @@ fn line_status(line: OneLine) -> Status
     match line {
         OneLine::WordsRefused => Status::WordsRefused,
         OneLine::InputFault => Status::InputFault,
-        OneLine::JobRefusedLater => Status::JobRefused,
+        OneLine::JobRefused { .. } | OneLine::JobRefusedLater => Status::JobRefused,
         OneLine::TornTrack { .. } | OneLine::RestartStopped { .. } => Status::RestartRefused,
         OneLine::WantOfMemory => Status::Memory,
     }
@@ -123,24 +122,63 @@ fn refuse<O: Sink, S: Site>(output: &mut O, site: S, line: OneLine) -> Ended<S>
     }
 }
 
-/// Runs a host's script on volumes whose every block is a track, and puts the report.
-fn run_host<O: Sink, S: Site>(
+/// The host of the first script, or host 1, which then has no call.
+fn first_host(hosts: &[HostScript]) -> HostNo
+    ensures { IfSome (slice_get hosts.now 0) (λ script. result ≡ script.host) }
+{
+    if let [script, ..] = hosts {
+        return script.host;
+    }
+    let Some(host) = HostNo::of(1) else {
+        unreachable!()
+    };
+    host
+}
+
+/// Runs the script of the one host, where there is one, in a session without entries.
+fn run_scripts<S: Site>(machine: &mut Machine<S>, hosts: &[HostScript]) -> RunEnd
+    requires few { length hosts.now ≤ 1 }
+    requires number { IfSome (slice_get hosts.now 0) (λ script. machine.old.number ≡ script.host) }
+    requires runnable { AllByRecursion (λ (script : ScriptData). AllByRecursion IsRunnable script.items) hosts.now }
+    requires begins { machine.old.session.history.items ≡ [] }
+    requires keeps { Keeps S.tells (S.told machine.old.site) (S.faults machine.old.site) machine.old }
+    requires going { machine.old.session.stopped ≡ None }
+    requires buffer { vec_len machine.old.buffer ≡ 16384 }
+    ensures follows { FollowsHosts hosts.now (session_data machine.new.session) result }
+    ensures keeps { Keeps S.tells (S.told machine.new.site) (S.faults machine.new.site) machine.new }
+    ensures halts { Halts result machine.new.session.stopped }
+    ensures beginning { SameBeginning (session_data machine.old.session) (session_data machine.new.session) }
+    ensures continues { S.tells → Continues (S.told machine.old.site) (S.told machine.new.site) }
+    ensures fault { HasHalted (S.faults machine.old.site) (S.faults machine.new.site) result }
+    ensures volumes { machine.new.volumes ≡ machine.old.volumes }
+    ensures number { machine.new.number ≡ machine.old.number }
+    ensures buffer { vec_len machine.new.buffer ≡ 16384 }
+{
+    match hosts {
+        [script] => machine.run_script(script.items.as_slice()),
+        _ => RunEnd::Finished,
+    }
+}
+
+/// Runs the hosts on volumes whose every block is a track, and puts the report.
+fn run_hosts<O: Sink, S: Site>(
     alloc: Global,
     volumes: VolumeList,
-    script: &HostScript,
+    hosts: &[HostScript],
     block: Vec<u8>,
     output: &mut O,
     site: S,
 ) -> Ended<S>
-    requires runnable { AllByRecursion IsRunnable script.now.items }
+    requires few { length hosts.now ≤ 1 }
+    requires runnable { AllByRecursion (λ (script : ScriptData). AllByRecursion IsRunnable script.items) hosts.now }
     requires block { vec_len block ≡ 16384 }
     requires tracks { S.tells → AreAllTracks (serial_in volumes.items) (content (S.told site)) }
-    ensures session { HasSession (IsSessionOf S.tells O.tells volumes.items (script.now ∷ []) (S.told site) (S.told result.site) (S.faults site) (S.faults result.site) (O.faults output.old) (O.faults output.new) (O.told output.old) (O.told output.new) result.status) result.session }
+    ensures session { HasSession (IsSessionOf S.tells O.tells volumes.items hosts.now (S.told site) (S.told result.site) (S.faults site) (S.faults result.site) (O.faults output.old) (O.faults output.new) (O.told output.old) (O.told output.new) result.status) result.session }
     ensures continues { S.tells → Continues (S.told site) (S.told result.site) }
     ensures later { S.faults site ≤ S.faults result.site }
 {
-    let mut machine = Machine::begin(alloc, site, volumes, script.host, block);
-    let end = machine.run_script(script.items.as_slice());
+    let mut machine = Machine::begin(alloc, site, volumes, first_host(hosts), block);
+    let end = run_scripts(&mut machine, hosts);
     let status = machine.put_report(output, end);
     let (site, session) = machine.into_session();
     Ended {
@@ -150,7 +188,7 @@ fn run_host<O: Sink, S: Site>(
     }
 }
 
-/// Runs a job of one host on volumes whose every block is a track, and puts the report.
+/// Runs a job of at most one host on volumes whose every block is a track, and puts the report.
 fn run_job<O: Sink, S: Site>(
     alloc: Global,
     job: Job,
@@ -158,7 +196,7 @@ fn run_job<O: Sink, S: Site>(
     output: &mut O,
     site: S,
 ) -> Ended<S>
-    requires hosts { length job.hosts ≡ 1 }
+    requires hosts { length job.hosts ≤ 1 }
     requires block { vec_len block ≡ 16384 }
     requires tracks { S.tells → AreAllTracks (serial_in job.config.volumes) (content (S.told site)) }
     ensures session { HasSession (IsSessionOf S.tells O.tells job.config.volumes job.hosts (S.told site) (S.told result.site) (S.faults site) (S.faults result.site) (O.faults output.old) (O.faults output.new) (O.told output.old) (O.told output.new) result.status) result.session }
@@ -166,17 +204,15 @@ fn run_job<O: Sink, S: Site>(
     ensures later { S.faults site ≤ S.faults result.site }
 {
     let Job { config, hosts } = job;
-    let [script] = hosts.as_slice() else {
-        unreachable!()
-    };
-    run_host(alloc, config.volumes, script, block, output, site)
+    run_hosts(alloc, config.volumes, hosts.as_slice(), block, output, site)
 }
 
 /// Runs the job that the input has, on the volumes of the site, and puts its report.
 ///
 /// The words are the command, `serial` alone. The input is read to its end, or to one byte past the longest job text,
-/// before anything is looked at. Nothing is written to the site unless the whole job was admitted and each block of its
-/// volumes is a track. Without a session the output is one line, which says why.
+/// before anything is looked at. A text that is no job is refused with its first bad line, a job of several hosts as one
+/// for later. Nothing is written to the site unless the whole job was admitted and each block of its volumes is a track.
+/// Without a session the output is one line, which says why.
 pub fn serial<I: Source, O: Sink, S: Site>(
     alloc: Global,
     words: &[String],
@@ -194,7 +230,7 @@ pub fn serial<I: Source, O: Sink, S: Site>(
         result.session }
     ensures continues { S.tells → Continues (S.told site) (S.told result.site) }
     ensures complete { (job : JobData) → IsFaultless (I.faults input.old) (I.faults input.new) → IsFaultless (S.faults site) (S.faults result.site) → IsFaultless (O.faults output.old) (O.faults output.new)
-        → are_serial (map string_bytes words.now) ≡ true → I.tells → first_job (I.left input.old) ≡ Some job → S.tells → AreAllTracks (serial_in job.config.volumes) (content (S.told site))
+        → are_serial (map string_bytes words.now) ≡ true → I.tells → IsJobText (I.left input.old) job → S.tells → AreAllTracks (serial_in job.config.volumes) (content (S.told site))
         → IsComplete result.status }
     ensures unwritten { result.session ≡ None → S.writes result.site ≡ S.writes site }
     ensures later { S.faults site ≤ S.faults result.site }

@@ -1,23 +1,12 @@
-use Rattle.std.proofs.Common.{Err, sym, ◌∙◌, ap, subst}
-use Rattle.mss_top.specs.declared.first_job.FirstJobFault.{FirstJobFault}
-use Rattle.mss_top.specs.FirstJob.{first_job}
-use Rattle.mss_top.specs.FirstJobs.{ReadsFirst}
-use Rattle.mss_top.proofs.Admission.{job_of_front, first_job_hosts}
+use Rattle.std.proofs.Common.{map, string_bytes, sym, ◌∙◌}
+use Rattle.mss_top.proofs.Taken.{admits, few_hosts}
 use Rattle.mss_top.proofs.run.admit.Goals as goal
 
-pub returns-in-Ok-read_first_job-clause-job : goal.returns-in-Ok-read_first_job-clause-job
-returns-in-Ok-read_first_job-clause-job g c = record {
-  command = sym c.are_serial.ensures ∙ c.if-not-are_serial.false;
-  text_ = λ t. sym (job_of_front (g.I.Source.left c.args.input.now)) ∙ ap first_job (sym (c.in-Ok.ensures.bytes t)) ∙ ap first_job (sym c.as_slice.ensures) ∙ c.in-Ok-read_first_job.ensures.0;
-  read = λ t. c.in-Ok.ensures.left t;
-}
+pub returns-clause-job : goal.returns-clause-job
+returns-clause-job g c =
+    admits g.I.Source.tells (map string_bytes c.args.words.now) (g.I.Source.left c.args.input.now) (g.I.Source.left c.read_input.new.input) (g.I.Source.faults c.args.input.now) (g.I.Source.faults c.read_input.new.input)
+    c.as_slice.result.now c.job_to_run.result (sym c.are_serial.ensures ∙ c.if-not-are_serial.false)
+    (λ t. c.as_slice.ensures ∙ c.in-Ok.ensures.bytes t) (λ t. c.in-Ok.ensures.left t) c.job_to_run.ensures
 
-pub returns-in-Ok-read_first_job-clause-hosts : goal.returns-in-Ok-read_first_job-clause-hosts
-returns-in-Ok-read_first_job-clause-hosts g c = first_job_hosts c.as_slice.result.now c.in-Ok-read_first_job.job c.in-Ok-read_first_job.ensures.0
-
-pub returns-in-Err-Later-clause-job : goal.returns-in-Err-Later-clause-job
-returns-in-Err-Later-clause-job g c = (
-  sym c.are_serial.ensures ∙ c.if-not-are_serial.false,
-  λ t. sym (job_of_front (g.I.Source.left c.args.input.now)) ∙ ap first_job (sym (c.in-Ok.ensures.bytes t)) ∙ ap first_job (sym c.as_slice.ensures) ∙ subst (λ (e : FirstJobFault). ReadsFirst (Err e) c.as_slice.result.now) c.in-Err-Later.field-0-is c.in-Err-Later.ensures,
-  λ t. c.in-Ok.ensures.left t,
-)
+pub returns-clause-hosts : goal.returns-clause-hosts
+returns-clause-hosts g c = few_hosts c.as_slice.result.now c.job_to_run.result c.job_to_run.ensures

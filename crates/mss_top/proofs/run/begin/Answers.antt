@@ -2,7 +2,7 @@ use Rattle.std.proofs.Common.{sym, subst}
 use Rattle.report_text.specs.declared.one_line.OneLine.{OneLine}
 use Rattle.mss_base.specs.Content.{content}
 use Rattle.mss_top.specs.Serial.{IsUnbegun}
-use Rattle.mss_top.proofs.Admission.{unbegun}
+use Rattle.mss_top.proofs.Taken.{unbegun}
 use Rattle.mss_top.proofs.run.begin.Goals as goal
 
 pub returns-in-Err-clause-cause : goal.returns-in-Err-clause-cause

@@ -1,0 +1,80 @@
+-- The text of the input: what is taken of it, and the line of volumes that aren't taken on.
+use Rattle.std.proofs.Common.{◌≡◌, inl, inr, ℕ, ◌<◌, ◌≤◌, nat_lt, true, false, List, length, take, drop, Result, Ok, Err, IfOk, sym, ◌∙◌, ap, arith}
+use Rattle.std.proofs.lemmas.Bool.{cases_Bool, cond-true}
+use Rattle.std.proofs.lemmas.Bool.Decides.{nat_tests}
+use Rattle.std.proofs.lemmas.List.{take_all, length-take-le}
+use Rattle.job_text.specs.Jobs.{JobData}
+use Rattle.job_text.specs.Grammar.{TEXT_LIMIT, job_of}
+use Rattle.job_text.specs.declared.kind.JobKind.TheVariants.{TooBig}
+use Rattle.report_text.specs.declared.one_line.OneLine.{OneLine}
+use Rattle.report_text.specs.declared.one_line.OneLine.TheVariants as line
+use Rattle.mss_top.specs.Admission.{IsTaken}
+use Rattle.mss_base.specs.Content.{Content}
+use Rattle.mss_top.specs.declared.start.StartFault.{StartFault}
+use Rattle.mss_top.specs.declared.start.StartFault.TheVariants.{TornTrack, Stopped}
+use Rattle.mss_top.specs.declared.start.VolumeFault.{VolumeFault}
+use Rattle.mss_top.specs.Serial.{READ_LIMIT, Admits, IsUnbegun, refusal_by, refusal_of}
+use Rattle.mss_top.specs.Words.{are_serial}
+use Rattle.mss_top.specs.Start.{IsFirstFault, WalksAll, IsCounted, AreCounted}
+
+-- a text that is too long has no job
+too_big : (text : List ℕ) → nat_lt TEXT_LIMIT (length text) ≡ true → job_of text ≡ Err (record { line = 0; kind = TooBig })
+too_big text big = cond-true _ _ _ big
+
+longer : (n : ℕ) → 4194305 < n → nat_lt 4194304 n ≡ true
+longer n long = grind (arith, nat_tests)
+
+shorter : (n : ℕ) → nat_lt 4194305 n ≡ false → n ≤ 4194305
+shorter n short = grind (arith, nat_tests)
+
+is_longer : (n : ℕ) → nat_lt 4194305 n ≡ true → 4194305 < n
+is_longer n long = grind (arith, nat_tests)
+
+-- what is read has the job of the whole text
+job_of_front : (text : List ℕ) → job_of (take READ_LIMIT text) ≡ job_of text
+job_of_front text = elim (cases_Bool (nat_lt READ_LIMIT (length text))) [
+  | inl long ↦
+      let beyond : 4194305 < length text = is_longer (length text) long in
+      let front : length (take READ_LIMIT text) ≡ 4194305 = length-take-le READ_LIMIT text (omega (arith, beyond)) in
+      too_big (take READ_LIMIT text) (ap (λ (n : ℕ). nat_lt TEXT_LIMIT n) front) ∙ sym (too_big text (longer (length text) beyond))
+  | inr short ↦ ap job_of (take_all READ_LIMIT text (shorter (length text) short))
+]
+
+-- what is said of a text's job is said of every text with that job
+taken_alike : (front text : List ℕ) (r : Result JobData OneLine) → job_of front ≡ job_of text → IsTaken front r → IsTaken text r
+taken_alike front text (Ok job) same is = record { read = sym same ∙ is.read; hosts = is.hosts }
+taken_alike front text (Err (line.JobRefused n kind)) same is = sym same ∙ is
+taken_alike front text (Err line.JobRefusedLater) same is = record { job = is.job; read = sym same ∙ is.read; hosts = is.hosts }
+taken_alike front text (Err line.WantOfMemory) same is = tt
+taken_alike front text (Err line.WordsRefused) same is = absurd is
+taken_alike front text (Err line.InputFault) same is = absurd is
+taken_alike front text (Err (line.TornTrack volume cylinder head)) same is = absurd is
+taken_alike front text (Err (line.RestartStopped fault)) same is = absurd is
+
+-- the input's text is taken as what was read of it is
+pub admits : (tells : Type 0) (words : List (List ℕ)) (text left : List ℕ) (before now : ℕ) (front : List ℕ) (r : Result JobData OneLine) → are_serial words ≡ true → (tells → front ≡ take READ_LIMIT text)
+    → (tells → left ≡ drop READ_LIMIT text) → IsTaken front r → Admits tells words text left before now r
+admits tells words text left before now front r command fronts rest is = by_result r (λ t. taken_alike front text r (ap job_of (fronts t) ∙ job_of_front text) is) is
+  where
+    by_result : (r : Result JobData OneLine) → (tells → IsTaken text r) → IsTaken front r → Admits tells words text left before now r
+    by_result (Ok job) whole is = record { command = command; text_ = whole; read = rest }
+    by_result (Err (line.JobRefused n kind)) whole is = (command, whole, rest)
+    by_result (Err line.JobRefusedLater) whole is = (command, whole, rest)
+    by_result (Err line.WantOfMemory) whole is = command
+    by_result (Err line.WordsRefused) whole is = absurd is
+    by_result (Err line.InputFault) whole is = absurd is
+    by_result (Err (line.TornTrack volume cylinder head)) whole is = absurd is
+    by_result (Err (line.RestartStopped fault)) whole is = absurd is
+
+-- a job that is taken has at most one host
+pub few_hosts : (text : List ℕ) (r : Result JobData OneLine) → IsTaken text r → IfOk r (λ job. length job.hosts ≤ 1)
+few_hosts text (Ok job) is = is.hosts
+few_hosts text (Err said) is = tt
+
+-- the line of a walk's fault has the walk's cause
+pub unbegun : (tells : Type 0) (c : Content) (volumes : List (ℕ × List ℕ)) (before now : ℕ) (refused : VolumeFault) → (tells → WalksAll c volumes (Err refused)) → AreCounted before now (Err refused) → IsUnbegun tells c volumes before now (refusal_of refused)
+unbegun tells c volumes before now refused walks counted = by_fault refused.volume refused.fault walks counted
+  where
+    by_fault : (volume : ℕ) (fault : StartFault) → (tells → IsFirstFault c volumes (record { volume = volume; fault = fault })) → IsCounted before now (Err fault) → IsUnbegun tells c volumes before now (refusal_by volume fault)
+    by_fault volume (TornTrack cylinder head) walks counted = walks
+    by_fault volume (Stopped fault) walks counted = counted
