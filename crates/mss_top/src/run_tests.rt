@@ -109,7 +109,7 @@ struct Case<'a> {
 
 const SAME: (&str, &str) = ("", "");
 
-const CASES: [Case; 5] = [
+const CASES: [Case; 6] = [
     Case {
         word: "serve",
         change: SAME,
@@ -119,10 +119,17 @@ const CASES: [Case; 5] = [
     },
     Case {
         word: "serial",
-        change: ("host 1", "host 2"),
+        change: ("done", "host 2\ndone"),
         failing: NONE,
         status: Status::JobRefused,
         text: "job refused line 0 Later\n",
+    },
+    Case {
+        word: "serial",
+        change: ("ccw 06", "ccw 6"),
+        failing: NONE,
+        status: Status::JobRefused,
+        text: "job refused line 15 Shape\n",
     },
     Case {
         word: "serial",
