@@ -25,16 +25,16 @@ use Rattle.ckd_plain.specs.Plain.{opened, cleared, answered, performed, judged, 
 
 -- ---- what holds of whatever a step gives
 
-abbrev Holds : {X : Type 0} → (X → Type 0) → (Refusal → Type 0) → Result X Refusal → Type 0
+abbrev pub Holds : {X : Type 0} → (X → Type 0) → (Refusal → Type 0) → Result X Refusal → Type 0
 Holds P Q (Ok x) = P x
 Holds P Q (Err e) = Q e
 
-after_step : {X Y : Type 0} (P : X → Type 0) (R : Y → Type 0) (Q : Refusal → Type 0) (r : Result X Refusal) (f : X → Result Y Refusal)
+pub after_step : {X Y : Type 0} (P : X → Type 0) (R : Y → Type 0) (Q : Refusal → Type 0) (r : Result X Refusal) (f : X → Result Y Refusal)
     → Holds P Q r → ((x : X) → P x → Holds R Q (f x)) → Holds R Q (r >>= f)
 after_step P R Q (Ok x) f p next = next x p
 after_step P R Q (Err e) f q next = q
 
-anything : {X : Type 0} (r : Result X Refusal) → Holds (λ (x : X). Unit {0}) (λ e. Unit {0}) r
+pub anything : {X : Type 0} (r : Result X Refusal) → Holds (λ (x : X). Unit {0}) (λ e. Unit {0}) r
 anything (Ok x) = tt
 anything (Err e) = tt
 
@@ -219,7 +219,7 @@ module _ (m : Option (ℕ × Bool)) where
   judged-leaves tracks host argument chained (Ok c) has = performed-leaves tracks host c argument chained has
   judged-leaves tracks host argument chained (Err check) has = has
 
-opened_mounted : (host : HostState) → (opened host).mounted ≡ host.mounted
+pub opened_mounted : (host : HostState) → (opened host).mounted ≡ host.mounted
 opened_mounted host =
     elim host.chain_open as (λ (b : Bool). (cond b host (record host { chain_open = true; mask = 0; position = position.Start; passes = 0; prior = prior.Nothing })).mounted ≡ host.mounted) [ true ↦ refl | false ↦ refl ]
 

@@ -7,3 +7,7 @@ pub mod LooksFacts
 pub mod Entries
 pub mod StateFacts
 pub mod BlankFacts
+pub mod HostFacts
+pub mod VolumeFacts
+pub mod CheckFacts
+pub mod CostFacts

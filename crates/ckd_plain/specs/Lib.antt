@@ -7,3 +7,4 @@ pub mod History
 pub mod Near
 pub mod Views
 pub mod StateData
+pub mod Laws

@@ -1,7 +1,7 @@
 //! Laws of histories and of commands, for the layers that keep a history or run commands elsewhere. A function calls a
 //! law to have it in its proof.
-ghost use Rattle.std.specs.Prelude.{◌≡◌, ◌+◌, ◌≤◌, ℕ, Bool, false, List, [], ◌∷◌, ◌++◌, IsSome};
-ghost use Rattle.channel_commands.specs.Data.{equipment_check, no_space, stopped};
+ghost use Rattle.std.specs.Prelude.{◌≡◌, ◌≢◌, ◌+◌, ◌≤◌, ℕ, Bool, false, List, [], ◌∷◌, ◌++◌, IsSome};
+ghost use Rattle.channel_commands.specs.Data.{CallData, equipment_check, no_space, stopped};
 ghost use Rattle.ckd_plain.specs.Data.{State};
 ghost use Rattle.ckd_plain.specs.History.{EntryData, IsLegal, IsNextEntry, IsAlone, IsStopped, HasNoStop, IsDataCommand, IsWriteCommand, after, next, excepted, count_of_host};
 ghost use Rattle.channel_commands.specs.Codes.{is_write};
@@ -9,6 +9,7 @@ ghost use Rattle.channel_commands.specs.declared.command.Command.{Command};
 ghost use Rattle.ckd_plain.specs.declared.host.HostState.{HostState};
 ghost use Rattle.ckd_plain.specs.Effects.{is_data};
 ghost use Rattle.ckd_plain.specs.Index.{Tracks, next_within, next_record};
+ghost use Rattle.ckd_plain.specs.Laws.{IsSameFor, IsUnderHead, IsWithinCost, HasTracks, HasBytes};
 ghost use Rattle.ckd_plain.specs.Plain.{performed, run, plain};
 
 use crate::unit_check::UnitCheck;
@@ -83,4 +84,27 @@ pub fn control_sees_no_track()
 pub fn volume_stays_mounted()
     ensures { (tracks : Tracks) (host : HostState) (code : ℕ) (argument : List ℕ) (chained : Bool)
         → (run tracks host code argument chained).host.mounted ≡ host.mounted }
+{}
+
+/// A call sees the volumes and its own host alone: two states that have the same of both give the same reply, and have
+/// the same of both after it. It leaves the other hosts.
+pub fn host_sees_itself_alone()
+    ensures same { (s t : State) (h : ℕ) (call : CallData) → IsSameFor h s t
+        → ((plain s h call).0 ≡ (plain t h call).0) × IsSameFor h (plain s h call).1 (plain t h call).1 }
+    ensures others { (s : State) (h other : ℕ) (call : CallData) → other ≢ h → (plain s h call).1.host other ≡ s.host other }
+{}
+
+/// Only a write command changes a track, and no other track than the one under its host's head. No call changes which
+/// volumes there are.
+pub fn only_the_track_under_a_write_changes()
+    ensures no_write { (s : State) (h : ℕ) (call : CallData) → (IsWriteCommand s h call → ⊥) → (plain s h call).1.volumes ≡ s.volumes }
+    ensures elsewhere { (s : State) (h : ℕ) (call : CallData) (v c head : ℕ) → (IsUnderHead (s.host h) v c head → ⊥)
+        → (plain s h call).1.volumes.track v c head ≡ s.volumes.track v c head }
+    ensures serials { (s : State) (h : ℕ) (call : CallData) → (plain s h call).1.volumes.serial ≡ s.volumes.serial }
+{}
+
+/// No track ever costs more than 13,165, and where arguments are bytes, tracks stay tracks.
+pub fn tracks_stay_within_their_cost()
+    ensures cost_ { (s : State) (h : ℕ) (call : CallData) → IsWithinCost s.volumes → IsWithinCost (plain s h call).1.volumes }
+    ensures tracks { (s : State) (h : ℕ) (call : CallData) → HasBytes call → HasTracks s.volumes → HasTracks (plain s h call).1.volumes }
 {}

@@ -1,0 +1,43 @@
+-- A command that is admitted passed each check.
+use Rattle.std.proofs.Common.{◌≡◌, ℕ, ◌≤◌, Bool, true, false, List, length, Option, Some, None, Result, Ok, Err, refl, sym}
+use Rattle.std.specs.Prelude.{◌==◌, ◌&&◌, ◌||◌, not, nat_lt, is_some}
+use Rattle.std.proofs.lemmas.Bool.{ltb-false, not-true}
+use Rattle.channel_commands.specs.Codes.{command_of, least}
+use Rattle.channel_commands.specs.declared.command.Command.{Command}
+use Rattle.ckd_plain.specs.declared.host.HostState.{HostState}
+use Rattle.ckd_plain.specs.declared.unit_check.UnitCheck.{UnitCheck}
+use Rattle.ckd_plain.specs.declared.unit_check.UnitCheck.TheVariants as check
+use Rattle.ckd_plain.specs.Checks.{◌>>=◌, demand, known, is_seek_allowed, is_write_allowed, is_prior_permitted, is_address, admitted, Passes}
+
+-- the last four checks of a command
+last_checks : (long seek written address : Bool) (c d : Command)
+    → (demand long check.CommandReject >>= λ _. demand seek check.FileProtected >>= λ _. demand written check.CommandReject >>= λ _. demand address check.CommandReject >>= λ _. Ok c) ≡ Ok d
+    → (c ≡ d) × (long ≡ true) × (written ≡ true) × (address ≡ true)
+last_checks true true true true c d is = (cc, refl, refl, refl)
+last_checks true true true false c d is = absurd cc
+last_checks true true false address c d is = absurd cc
+last_checks true false written address c d is = absurd cc
+last_checks false seek written address c d is = absurd cc
+
+-- all of them, as they depend on the command
+all_checks : (there : Bool) (o : Option Command) (long seek written address : Command → Bool) (d : Command)
+    → (demand there check.InterventionRequired >>= λ _. known o >>= λ c. demand (long c) check.CommandReject >>= λ _. demand (seek c) check.FileProtected
+      >>= λ _. demand (written c) check.CommandReject >>= λ _. demand (address c) check.CommandReject >>= λ _. Ok c) ≡ Ok d
+    → (long d ≡ true) × (written d ≡ true) × (address d ≡ true)
+all_checks true (Some c) long seek written address d is =
+    let p = last_checks (long c) (seek c) (written c) (address c) c d is in
+    rw (sym p.0) (p.1, p.2, p.3)
+all_checks true None long seek written address d is = absurd cc
+all_checks false o long seek written address d is = absurd cc
+
+both : (a b : Bool) → (a && b) ≡ true → (a ≡ true) × (b ≡ true)
+both true b is = (refl, is)
+both false b is = absurd cc
+
+pub admitted_passes : (host : HostState) (code : ℕ) (argument : List ℕ) (c : Command) → admitted host code argument ≡ Ok c → Passes host c argument
+unfolding admitted
+admitted_passes host code argument c is =
+    let p = all_checks (is_some host.mounted || (code == 0x04)) (command_of code) (λ c. not (nat_lt (length argument) (least c))) (λ c. is_seek_allowed host.mask c)
+    (λ c. is_prior_permitted host.prior c && is_write_allowed host.mask c) (λ c. is_address c argument) c is in
+    let long : nat_lt (length argument) (least c) ≡ false = not-true _ p.0 in
+    record { long = ltb-false _ _ long; address = p.2; prior_ = (both _ _ p.1).0 }
