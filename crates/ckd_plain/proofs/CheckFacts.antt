@@ -1,11 +1,14 @@
 -- A command that is admitted passed each check.
-use Rattle.std.proofs.Common.{◌≡◌, ℕ, ◌≤◌, Bool, true, false, List, length, Option, Some, None, Result, Ok, Err, refl, sym}
+use Rattle.std.proofs.Common.{◌≡◌, ℕ, ◌≤◌, Bool, true, false, List, length, Option, Some, None, Ok, refl, sym, ap, ◌∙◌, arith}
 use Rattle.std.specs.Prelude.{◌==◌, ◌&&◌, ◌||◌, not, nat_lt, is_some}
-use Rattle.std.proofs.lemmas.Bool.{ltb-false, not-true}
+use Rattle.std.proofs.lemmas.Bool.{ltb-false, le-ltb, not-true}
+use Rattle.std.proofs.Math.Bool.{or-true}
 use Rattle.channel_commands.specs.Codes.{command_of, least}
 use Rattle.channel_commands.specs.declared.command.Command.{Command}
+use Rattle.channel_commands.specs.declared.command.Command.TheVariants as command
 use Rattle.ckd_plain.specs.declared.host.HostState.{HostState}
-use Rattle.ckd_plain.specs.declared.unit_check.UnitCheck.{UnitCheck}
+use Rattle.ckd_plain.specs.declared.host.Prior.{Prior}
+use Rattle.ckd_plain.specs.declared.host.Prior.TheVariants as prior
 use Rattle.ckd_plain.specs.declared.unit_check.UnitCheck.TheVariants as check
 use Rattle.ckd_plain.specs.Checks.{◌>>=◌, demand, known, is_seek_allowed, is_write_allowed, is_prior_permitted, is_address, admitted, Passes}
 
@@ -22,7 +25,7 @@ last_checks false seek written address c d is = absurd cc
 -- all of them, as they depend on the command
 all_checks : (there : Bool) (o : Option Command) (long seek written address : Command → Bool) (d : Command)
     → (demand there check.InterventionRequired >>= λ _. known o >>= λ c. demand (long c) check.CommandReject >>= λ _. demand (seek c) check.FileProtected
-      >>= λ _. demand (written c) check.CommandReject >>= λ _. demand (address c) check.CommandReject >>= λ _. Ok c) ≡ Ok d
+    >>= λ _. demand (written c) check.CommandReject >>= λ _. demand (address c) check.CommandReject >>= λ _. Ok c) ≡ Ok d
     → (long d ≡ true) × (written d ≡ true) × (address d ≡ true)
 all_checks true (Some c) long seek written address d is =
     let p = last_checks (long c) (seek c) (written c) (address c) c d is in
@@ -41,3 +44,24 @@ admitted_passes host code argument c is =
     (λ c. is_prior_permitted host.prior c && is_write_allowed host.mask c) (λ c. is_address c argument) c is in
     let long : nat_lt (length argument) (least c) ≡ false = not-true _ p.0 in
     record { long = ltb-false _ _ long; address = p.2; prior_ = (both _ _ p.1).0 }
+
+-- a command that passes each check is admitted
+pub admits : (host : HostState) (code : ℕ) (argument : List ℕ) (c : Command) → (is_some host.mounted || (code == 0x04)) ≡ true → command_of code ≡ Some c → least c ≤ length argument
+    → is_seek_allowed host.mask c ≡ true → (is_prior_permitted host.prior c && is_write_allowed host.mask c) ≡ true → is_address c argument ≡ true → admitted host code argument ≡ Ok c
+unfolding admitted
+admits host code argument c there is long seek written address =
+    let is_long : not (nat_lt (length argument) (least c)) ≡ true = ap not (le-ltb _ _ long) in
+    (λ i. demand (there i) check.InterventionRequired >>= λ _. known (is i) >>= λ d. demand (not (nat_lt (length argument) (least d))) check.CommandReject
+    >>= λ _. demand (is_seek_allowed host.mask d) check.FileProtected >>= λ _. demand (is_prior_permitted host.prior d && is_write_allowed host.mask d) check.CommandReject
+    >>= λ _. demand (is_address d argument) check.CommandReject >>= λ _. Ok d)
+    ∙ (λ i. demand (is_long i) check.CommandReject >>= λ _. demand (seek i) check.FileProtected >>= λ _. demand (written i) check.CommandReject >>= λ _. demand (address i) check.CommandReject >>= λ _. Ok c)
+
+sense_permitted : (left : Prior) → is_prior_permitted left command.Sense ≡ true
+sense_permitted prior.Nothing = refl
+sense_permitted (prior.IdEqual k) = refl
+sense_permitted (prior.KeyEqual k) = refl
+sense_permitted (prior.Wrote k) = refl
+
+-- sense is always admitted
+pub sense_admitted : (host : HostState) (argument : List ℕ) → admitted host 0x04 argument ≡ Ok command.Sense
+sense_admitted host argument = admits host 0x04 argument command.Sense (or-true (is_some host.mounted)) refl (omega arith) refl (ap (λ (b : Bool). b && true) (sense_permitted host.prior)) refl

@@ -1,5 +1,5 @@
 -- What commands never do: a command that is no write writes nothing, a control command sees no track, and none mounts.
-use Rattle.std.proofs.Common.{◌≡◌, ℕ, zero, suc, Bool, true, false, cond, List, Option, Some, None, Result, Ok, Err, refl, ap}
+use Rattle.std.proofs.Common.{◌≡◌, ℕ, zero, suc, Bool, true, false, cond, List, Option, Some, None, Result, Ok, Err, refl, ap, ◌∙◌}
 use Rattle.std.specs.Prelude.{◌==◌, bit_and}
 use Rattle.channel_commands.specs.Codes.{is_write}
 use Rattle.channel_commands.specs.declared.command.Command.{Command}
@@ -95,13 +95,13 @@ pub control_sees_none : (a b : Tracks) (host : HostState) (c : Command) (argumen
 unfolding performed
 control_sees_none a b host c argument chained isn't = ap (λ (o : Outcome). answered c chained o) (same_effect a b (cleared c host) host.prior c argument isn't)
 
--- ---- a command leaves the volume that is mounted
+-- ---- what a command does leaves the volume that is mounted, and the sense
 
-module _ (m : Option (ℕ × Bool)) where
-  abbrev Has : HostState → Type 0
-  Has host = host.mounted ≡ m
+module _ (m : Option (ℕ × Bool)) (sense_ : List ℕ) where
+  abbrev pub Has : HostState → Type 0
+  Has host = (host.mounted ≡ m) × (host.sense ≡ sense_)
 
-  abbrev Refuses : Refusal → Type 0
+  abbrev pub Refuses : Refusal → Type 0
   Refuses r = Has r.host
 
   one_of : {X : Type 0} (P : X → Type 0) (b : Bool) (x y : Result X Refusal) → Holds P Refuses x → Holds P Refuses y → Holds P Refuses (cond b x y)
@@ -157,7 +157,7 @@ module _ (m : Option (ℕ × Bool)) where
   unfolding to_home
   to_home-has host multi has = home_from-has host.position host multi has
 
-  abbrev Leaves : Outcome → Type 0
+  abbrev pub Leaves : Outcome → Type 0
   Leaves o = Holds (λ (e : Effect). Has e.host) Refuses o
 
   from_found : (r : Result Found Refusal) (f : Found → Effect) → Finds r → ((x : Found) → Has x.host → Has (f x).host) → Leaves (r >>= λ x. Ok (f x))
@@ -191,7 +191,7 @@ module _ (m : Option (ℕ × Bool)) where
   write_-leaves track host left write.KeyData argument has = after_step found_host effect_host Refuses _ _ (same_record-finds track host _ has) (λ f has'. has')
   write_-leaves track host left write.CountKeyData argument has = after_step found_host effect_host Refuses _ _ (same_record-finds track host _ has) (λ f has'. formatted-leaves _ _ f has')
 
-  effect-leaves : (tracks : Tracks) (host : HostState) (left : Prior) (c : Command) (argument : List ℕ) → Has host → Leaves (effect tracks host left c argument)
+  pub effect-leaves : (tracks : Tracks) (host : HostState) (left : Prior) (c : Command) (argument : List ℕ) → Has host → Leaves (effect tracks host left c argument)
   unfolding effect search
   effect-leaves tracks host left command.NoOp argument has = has
   effect-leaves tracks host left command.Sense argument has = has
@@ -207,17 +207,19 @@ module _ (m : Option (ℕ × Bool)) where
   effect-leaves tracks host left (command.Read kind multi) argument has = read-leaves tracks host kind multi has
   effect-leaves tracks host left (command.Write kind) argument has = write_-leaves (tracks host.head) host left kind argument has
 
-  answered-leaves : (c : Command) (chained : Bool) (o : Outcome) → Leaves o → Has (answered c chained o).host
-  answered-leaves c chained (Ok e) leaves = leaves
-  answered-leaves c chained (Err r) leaves = leaves
+-- a unit check changes the sense, and leaves the volume
+answered_mounted : (m : Option (ℕ × Bool)) (sense_ : List ℕ) (c : Command) (chained : Bool) (o : Outcome) → Leaves m sense_ o → (answered c chained o).host.mounted ≡ m
+answered_mounted m sense_ c chained (Ok e) leaves = leaves.0
+answered_mounted m sense_ c chained (Err r) leaves = leaves.0
 
-  pub performed-leaves : (tracks : Tracks) (host : HostState) (c : Command) (argument : List ℕ) (chained : Bool) → Has host → Has (performed tracks host c argument chained).host
-  unfolding performed
-  performed-leaves tracks host c argument chained has = answered-leaves c chained _ (effect-leaves tracks (cleared c host) host.prior c argument has)
+performed_mounted : (tracks : Tracks) (host : HostState) (c : Command) (argument : List ℕ) (chained : Bool) → (performed tracks host c argument chained).host.mounted ≡ host.mounted
+unfolding performed
+performed_mounted tracks host c argument chained =
+    answered_mounted host.mounted (cleared c host).sense c chained _ (effect-leaves host.mounted (cleared c host).sense tracks (cleared c host) host.prior c argument (refl, refl))
 
-  judged-leaves : (tracks : Tracks) (host : HostState) (argument : List ℕ) (chained : Bool) (r : Result Command UnitCheck) → Has host → Has (judged tracks host argument chained r).host
-  judged-leaves tracks host argument chained (Ok c) has = performed-leaves tracks host c argument chained has
-  judged-leaves tracks host argument chained (Err check) has = has
+judged_mounted : (tracks : Tracks) (host : HostState) (argument : List ℕ) (chained : Bool) (r : Result Command UnitCheck) → (judged tracks host argument chained r).host.mounted ≡ host.mounted
+judged_mounted tracks host argument chained (Ok c) = performed_mounted tracks host c argument chained
+judged_mounted tracks host argument chained (Err check) = refl
 
 pub opened_mounted : (host : HostState) → (opened host).mounted ≡ host.mounted
 opened_mounted host =
@@ -225,4 +227,4 @@ opened_mounted host =
 
 pub volume_stays : (tracks : Tracks) (host : HostState) (code : ℕ) (argument : List ℕ) (chained : Bool) → (run tracks host code argument chained).host.mounted ≡ host.mounted
 unfolding run
-volume_stays tracks host code argument chained = judged-leaves host.mounted tracks (opened host) argument chained (admitted (opened host) code argument) (opened_mounted host)
+volume_stays tracks host code argument chained = judged_mounted tracks (opened host) argument chained (admitted (opened host) code argument) ∙ opened_mounted host

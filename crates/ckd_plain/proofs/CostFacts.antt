@@ -1,10 +1,10 @@
 -- What a write puts on a track: a record of the same lengths, or a new one that fits.
-use Rattle.std.proofs.Common.{◌≡◌, inl, inr, ℕ, zero, suc, ◌+◌, ◌-◌, ◌*◌, ◌<◌, ◌≤◌, Bool, true, false, cond, List, [], ◌∷◌, ◌++◌, length, take, drop, get_or, Option, Some, None, Result, Ok, Err, refl, sym, ap, subst, ◌∙◌, arith, lit≤, length-append, length-take, length-drop}
-use Rattle.std.specs.Prelude.{◌==◌, not, nat_lt, IfSome, IsTrue, slice_get, slice_index, slice_set, replicate, All}
+use Rattle.std.proofs.Common.{◌≡◌, inl, inr, ℕ, zero, suc, ◌+◌, ◌-◌, ◌<◌, ◌≤◌, Bool, true, false, List, [], ◌∷◌, ◌++◌, length, take, drop, get_or, Option, Some, None, Result, Ok, Err, refl, sym, ap, subst, ◌∙◌, arith, lit≤, length-append, length-take, length-drop}
+use Rattle.std.specs.Prelude.{IfSome, slice_get, slice_index, slice_set, replicate, All}
 use Rattle.std.specs.List.{AllByRecursion}
 use Rattle.std.proofs.lemmas.Bool.{ltb-true, ltb-false, not-true, cases_Bool}
 use Rattle.std.proofs.lemmas.List.{length-replicate}
-use Rattle.std.proofs.lemmas.List.Sums.{sum_by-set, sum_by-append, sum_by-take-le}
+use Rattle.std.proofs.lemmas.List.Sums.{sum_by-set}
 use Rattle.std.proofs.lemmas.Option.{slice_get_within, get_or_from_slice_get}
 use Rattle.channel_commands.specs.Codes.{least, is_write}
 use Rattle.channel_commands.specs.Data.{CallData, mount, demount, command, break}
@@ -18,11 +18,11 @@ use Rattle.ckd_plain.specs.declared.host.Prior.{Prior}
 use Rattle.ckd_plain.specs.declared.host.Prior.TheVariants as prior
 use Rattle.ckd_plain.specs.declared.unit_check.Refusal.{Refusal}
 use Rattle.ckd_plain.specs.declared.unit_check.UnitCheck.{UnitCheck}
-use Rattle.ckd_plain.specs.Data.{padded, records_of, record_zero, State}
-use Rattle.ckd_plain.specs.Checks.{◌>>=◌, number_at, is_prior_permitted, admitted, Passes}
+use Rattle.ckd_plain.specs.Data.{padded, record_zero, State}
+use Rattle.ckd_plain.specs.Checks.{◌>>=◌, number_at, is_prior_permitted, Passes}
 use Rattle.ckd_plain.specs.Index.{Tracks, Found, record_at, itself, same_record}
 use Rattle.ckd_plain.specs.Effects.{Effect, Outcome, prior_number, with_body, with_key_body, new_record, fits, formatted, write_, effect}
-use Rattle.ckd_plain.specs.Plain.{opened, cleared, answered, performed, judged, run, plain, tracks_mounted, tracks_under, written_mounted, written_to}
+use Rattle.ckd_plain.specs.Plain.{opened, cleared, answered, performed, judged, run, plain, tracks_mounted, written_to}
 use Rattle.ckd_plain.specs.Laws.{IsWithinCost, HasTracks, HasBytes}
 use Rattle.ckd_plain.proofs.CommandFacts.{Holds, after_step, only_writes}
 use Rattle.ckd_plain.proofs.CheckFacts.{admitted_passes}

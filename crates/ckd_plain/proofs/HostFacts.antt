@@ -2,7 +2,7 @@
 use Rattle.std.proofs.Common.{◌≡◌, ◌≢◌, ℕ, Bool, true, false, cond, None, refl, sym, ap, ◌∙◌, inl, inr}
 use Rattle.std.specs.Prelude.{◌==◌, not, is_some}
 use Rattle.std.proofs.lemmas.Bool.Decides.{eqb_tells}
-use Rattle.channel_commands.specs.Data.{CallData, mount, demount, command, break, ReplyData}
+use Rattle.channel_commands.specs.Data.{CallData, mount, demount, command, break}
 use Rattle.ckd_plain.specs.declared.host.HostState.{HostState}
 use Rattle.ckd_plain.specs.Data.{State}
 use Rattle.ckd_plain.specs.Plain.{Replied, Answer, plain, mount_reply, demount_reply, run, with_host, with_volume, tracks_under, written_to}
@@ -43,9 +43,10 @@ module _ (h : ℕ) where
       (refl, with_same s t _ _ p.volumes (λ i. record (p.host i) { mounted = None })) (refl, p))
   plain_same s t (command code argument chained) p =
       let answer : run (tracks_under s.volumes (s.host h)) (s.host h) code argument chained ≡ run (tracks_under t.volumes (t.host h)) (t.host h) code argument chained =
-      (λ i. run (tracks_under (p.volumes i) (p.host i)) (p.host i) code argument chained) in
-      (ap (λ (a : Answer). a.reply) answer,
-      with_same _ _ _ _ (λ i. written_to (p.volumes i) (p.host i) (answer i).written) (ap (λ (a : Answer). a.host) answer))
+      (λ i. run (tracks_under (p.volumes i) (p.host i)) (p.host i) code argument chained) in (
+        ap (λ (a : Answer). a.reply) answer,
+        with_same _ _ _ _ (λ i. written_to (p.volumes i) (p.host i) (answer i).written) (ap (λ (a : Answer). a.host) answer),
+      )
   plain_same s t (break cause) p = (refl, with_same s t _ _ p.volumes (λ i. record (p.host i) { chain_open = false }))
 
   -- ---- the other hosts

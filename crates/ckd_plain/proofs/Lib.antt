@@ -11,3 +11,4 @@ pub mod HostFacts
 pub mod VolumeFacts
 pub mod CheckFacts
 pub mod CostFacts
+pub mod SenseFacts

@@ -1,6 +1,6 @@
 -- What a call leaves of the volumes.
 use Rattle.std.proofs.Common.{◌≡◌, ◌⊎◌, inl, inr, ℕ, Bool, true, false, cond, List, Option, Some, None, Result, Ok, Err, refl, sym, ap, ◌∙◌}
-use Rattle.std.specs.Prelude.{◌==◌, ◌&&◌, not, is_some, IsTrue}
+use Rattle.std.specs.Prelude.{not, is_some, IsTrue}
 use Rattle.std.proofs.lemmas.Bool.{cases_Bool}
 use Rattle.std.proofs.lemmas.Bool.Decides.{eqb_tells}
 use Rattle.channel_commands.specs.Codes.{is_write}
@@ -12,7 +12,7 @@ use Rattle.ckd_plain.specs.declared.unit_check.UnitCheck.{UnitCheck}
 use Rattle.ckd_plain.specs.Data.{State}
 use Rattle.ckd_plain.specs.Checks.{admitted}
 use Rattle.ckd_plain.specs.Index.{Tracks}
-use Rattle.ckd_plain.specs.Plain.{Replied, opened, judged, run, plain, mount_reply, demount_reply, tracks_mounted, tracks_under, written_there, written_mounted, written_to}
+use Rattle.ckd_plain.specs.Plain.{Replied, opened, judged, run, plain, mount_reply, demount_reply, tracks_under, written_there, written_mounted, written_to}
 use Rattle.ckd_plain.specs.History.{IsWriteCommand}
 use Rattle.ckd_plain.specs.Laws.{IsUnderHead}
 use Rattle.ckd_plain.proofs.CommandFacts.{only_writes}

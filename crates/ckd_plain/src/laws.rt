@@ -1,16 +1,18 @@
 //! Laws of histories and of commands, for the layers that keep a history or run commands elsewhere. A function calls a
 //! law to have it in its proof.
-ghost use Rattle.std.specs.Prelude.{◌≡◌, ◌≢◌, ◌+◌, ◌≤◌, ℕ, Bool, false, List, [], ◌∷◌, ◌++◌, IsSome};
-ghost use Rattle.channel_commands.specs.Data.{CallData, equipment_check, no_space, stopped};
+ghost use Rattle.std.specs.Prelude.{◌≡◌, ◌≢◌, ◌+◌, ◌≤◌, ℕ, Bool, false, List, [], ◌∷◌, ◌++◌, IsSome, if◌then◌else◌};
+ghost use Rattle.channel_commands.specs.Data.{CallData, command, done, equipment_check, no_space, stopped};
 ghost use Rattle.ckd_plain.specs.Data.{State};
 ghost use Rattle.ckd_plain.specs.History.{EntryData, IsLegal, IsNextEntry, IsAlone, IsStopped, HasNoStop, IsDataCommand, IsWriteCommand, after, next, excepted, count_of_host};
 ghost use Rattle.channel_commands.specs.Codes.{is_write};
 ghost use Rattle.channel_commands.specs.declared.command.Command.{Command};
 ghost use Rattle.ckd_plain.specs.declared.host.HostState.{HostState};
-ghost use Rattle.ckd_plain.specs.Effects.{is_data};
+ghost use Rattle.ckd_plain.specs.declared.unit_check.UnitCheck.{UnitCheck};
+ghost use Rattle.ckd_plain.specs.Checks.{admitted};
+ghost use Rattle.ckd_plain.specs.Effects.{DONE, is_data};
 ghost use Rattle.ckd_plain.specs.Index.{Tracks, next_within, next_record};
-ghost use Rattle.ckd_plain.specs.Laws.{IsSameFor, IsUnderHead, IsWithinCost, HasTracks, HasBytes};
-ghost use Rattle.ckd_plain.specs.Plain.{performed, run, plain};
+ghost use Rattle.ckd_plain.specs.Laws.{IsSameFor, IsUnderHead, IsWithinCost, HasTracks, HasBytes, unit_check_of, IsChecked};
+ghost use Rattle.ckd_plain.specs.Plain.{UNIT_CHECK, sense_of, no_sense, keeps_sense, opened, performed, run, plain};
 
 use crate::unit_check::UnitCheck;
 
@@ -107,4 +109,28 @@ pub fn only_the_track_under_a_write_changes()
 pub fn tracks_stay_within_their_cost()
     ensures cost_ { (s : State) (h : ℕ) (call : CallData) → IsWithinCost s.volumes → IsWithinCost (plain s h call).1.volumes }
     ensures tracks { (s : State) (h : ℕ) (call : CallData) → HasBytes call → HasTracks s.volumes → HasTracks (plain s h call).1.volumes }
+{}
+
+/// A command that ends with unit check is answered so, with no data; its host's chain has ended, and the sense says
+/// why. No other command is answered so.
+pub fn unit_check_sets_the_sense()
+    ensures checked { (s : State) (h code : ℕ) (argument : List ℕ) (chained : Bool) (check : UnitCheck)
+        → unit_check_of s h code argument ≡ Some check → IsChecked check h (plain s h (command code argument chained)) }
+    ensures unchecked { (s : State) (h code : ℕ) (argument : List ℕ) (chained : Bool) (bytes : List ℕ)
+        → unit_check_of s h code argument ≡ None → (plain s h (command code argument chained)).0 ≢ done UNIT_CHECK bytes }
+{}
+
+/// The sense that a host asks for after a unit check tells it, and stays.
+pub fn sense_tells_the_unit_check()
+    ensures { (s : State) (h code : ℕ) (argument : List ℕ) (chained : Bool) (check : UnitCheck) (argument' : List ℕ) (chained' : Bool)
+        → unit_check_of s h code argument ≡ Some check
+        → let sensed = plain (plain s h (command code argument chained)).1 h (command 0x04 argument' chained') in
+        (sensed.0 ≡ done DONE (sense_of check)) × ((sensed.1.host h).sense ≡ sense_of check) }
+{}
+
+/// A command that ends without unit check clears the sense, but for no-op and sense, which leave it.
+pub fn next_command_clears_the_sense()
+    ensures { (s : State) (h code : ℕ) (argument : List ℕ) (chained : Bool) (c : Command)
+        → admitted (opened (s.host h)) code argument ≡ Ok c → unit_check_of s h code argument ≡ None
+        → ((plain s h (command code argument chained)).1.host h).sense ≡ (if keeps_sense c then (s.host h).sense else no_sense) }
 {}
