@@ -6,6 +6,9 @@ use Rattle.std.proofs.Math.Bool.{or-true}
 use Rattle.channel_commands.specs.Codes.{command_of, least}
 use Rattle.channel_commands.specs.declared.command.Command.{Command}
 use Rattle.channel_commands.specs.declared.command.Command.TheVariants as command
+use Rattle.channel_commands.specs.declared.command.ReadWhat.TheVariants as what
+use Rattle.channel_commands.specs.declared.command.SearchField.TheVariants as field
+use Rattle.channel_commands.specs.declared.command.SearchTest.TheVariants as test
 use Rattle.ckd_plain.specs.declared.host.HostState.{HostState}
 use Rattle.ckd_plain.specs.declared.host.Prior.{Prior}
 use Rattle.ckd_plain.specs.declared.host.Prior.TheVariants as prior
@@ -26,10 +29,10 @@ last_checks false seek written address c d is = absurd cc
 all_checks : (there : Bool) (o : Option Command) (long seek written address : Command → Bool) (d : Command)
     → (demand there check.InterventionRequired >>= λ _. known o >>= λ c. demand (long c) check.CommandReject >>= λ _. demand (seek c) check.FileProtected
     >>= λ _. demand (written c) check.CommandReject >>= λ _. demand (address c) check.CommandReject >>= λ _. Ok c) ≡ Ok d
-    → (long d ≡ true) × (written d ≡ true) × (address d ≡ true)
+    → (long d ≡ true) × (written d ≡ true) × (address d ≡ true) × (o ≡ Some d)
 all_checks true (Some c) long seek written address d is =
     let p = last_checks (long c) (seek c) (written c) (address c) c d is in
-    rw (sym p.0) (p.1, p.2, p.3)
+    rw (sym p.0) (p.1, p.2, p.3, refl)
 all_checks true None long seek written address d is = absurd cc
 all_checks false o long seek written address d is = absurd cc
 
@@ -37,13 +40,17 @@ both : (a b : Bool) → (a && b) ≡ true → (a ≡ true) × (b ≡ true)
 both true b is = (refl, is)
 both false b is = absurd cc
 
-pub admitted_passes : (host : HostState) (code : ℕ) (argument : List ℕ) (c : Command) → admitted host code argument ≡ Ok c → Passes host c argument
+pub record IsAdmitted (host : HostState) (code : ℕ) (argument : List ℕ) (c : Command) : Type 0 where
+  pub known_ : command_of code ≡ Some c
+  pub passes : Passes host c argument
+
+pub admitted_is : (host : HostState) (code : ℕ) (argument : List ℕ) (c : Command) → admitted host code argument ≡ Ok c → IsAdmitted host code argument c
 unfolding admitted
-admitted_passes host code argument c is =
+admitted_is host code argument c is =
     let p = all_checks (is_some host.mounted || (code == 0x04)) (command_of code) (λ c. not (nat_lt (length argument) (least c))) (λ c. is_seek_allowed host.mask c)
     (λ c. is_prior_permitted host.prior c && is_write_allowed host.mask c) (λ c. is_address c argument) c is in
     let long : nat_lt (length argument) (least c) ≡ false = not-true _ p.0 in
-    record { long = ltb-false _ _ long; address = p.2; prior_ = (both _ _ p.1).0 }
+    record { known_ = p.3; passes = record { long = ltb-false _ _ long; address = p.2; prior_ = (both _ _ p.1).0 } }
 
 -- a command that passes each check is admitted
 pub admits : (host : HostState) (code : ℕ) (argument : List ℕ) (c : Command) → (is_some host.mounted || (code == 0x04)) ≡ true → command_of code ≡ Some c → least c ≤ length argument
@@ -65,3 +72,24 @@ sense_permitted (prior.Wrote k) = refl
 -- sense is always admitted
 pub sense_admitted : (host : HostState) (argument : List ℕ) → admitted host 0x04 argument ≡ Ok command.Sense
 sense_admitted host argument = admits host 0x04 argument command.Sense (or-true (is_some host.mounted)) refl (omega arith) refl (ap (λ (b : Bool). b && true) (sense_permitted host.prior)) refl
+
+search_permitted : (left : Prior) → is_prior_permitted left (command.Search field.Id test.Equal false) ≡ true
+search_permitted prior.Nothing = refl
+search_permitted (prior.IdEqual k) = refl
+search_permitted (prior.KeyEqual k) = refl
+search_permitted (prior.Wrote k) = refl
+
+read_permitted : (left : Prior) → is_prior_permitted left (command.Read what.Data false) ≡ true
+read_permitted prior.Nothing = refl
+read_permitted (prior.IdEqual k) = refl
+read_permitted (prior.KeyEqual k) = refl
+read_permitted (prior.Wrote k) = refl
+
+-- search ID equal and read data are admitted, where a volume is mounted
+pub search_admitted : (host : HostState) (argument : List ℕ) → is_some host.mounted ≡ true → 5 ≤ length argument → admitted host 0x31 argument ≡ Ok (command.Search field.Id test.Equal false)
+search_admitted host argument there long =
+    admits host 0x31 argument (command.Search field.Id test.Equal false) (ap (λ (b : Bool). b || false) there) refl long refl (ap (λ (b : Bool). b && true) (search_permitted host.prior)) refl
+
+pub read_admitted : (host : HostState) (argument : List ℕ) → is_some host.mounted ≡ true → admitted host 0x06 argument ≡ Ok (command.Read what.Data false)
+read_admitted host argument there =
+    admits host 0x06 argument (command.Read what.Data false) (ap (λ (b : Bool). b || false) there) refl (omega arith) refl (ap (λ (b : Bool). b && true) (read_permitted host.prior)) refl

@@ -25,7 +25,7 @@ use Rattle.ckd_plain.specs.Effects.{Effect, Outcome, prior_number, with_body, wi
 use Rattle.ckd_plain.specs.Plain.{opened, cleared, answered, performed, judged, run, plain, tracks_mounted, written_to}
 use Rattle.ckd_plain.specs.Laws.{IsWithinCost, HasTracks, HasBytes}
 use Rattle.ckd_plain.proofs.CommandFacts.{Holds, after_step, only_writes}
-use Rattle.ckd_plain.proofs.CheckFacts.{admitted_passes}
+use Rattle.ckd_plain.proofs.CheckFacts.{admitted_is}
 use Rattle.ckd_plain.proofs.TrackFacts.{found_counted}
 use Rattle.ckd_plain.proofs.VolumeFacts.{kept, mount_leaves, demount_leaves}
 
@@ -146,7 +146,7 @@ module _ (P : List RecordData → Type 0) where
 
     run_writes : (tracks : Tracks) (host : HostState) (code : ℕ) (chained : Bool) → ((head : ℕ) → P (tracks head)) → IfSome (run tracks host code argument chained).written P
     unfolding run
-    run_writes tracks host code chained good = judged_writes tracks (opened host) chained _ (good (opened host).head) (λ c is. admitted_passes (opened host) code argument c is)
+    run_writes tracks host code chained good = judged_writes tracks (opened host) chained _ (good (opened host).head) (λ c is. (admitted_is (opened host) code argument c is).passes)
 
     -- all tracks are as P says
     abbrev AllTracks : Volumes → Type 0

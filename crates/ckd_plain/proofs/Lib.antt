@@ -12,3 +12,5 @@ pub mod VolumeFacts
 pub mod CheckFacts
 pub mod CostFacts
 pub mod SenseFacts
+pub mod ReadBackFacts
+pub mod WrittenFacts

@@ -38,7 +38,7 @@ demount_leaves s h = chosen s.volumes (s.host h).chain_open _ _ refl (chosen s.v
 -- ---- the volumes with what a command wrote
 
 module _ (volumes : Volumes) (host : HostState) where
-  unwritten : (m : Option (ℕ × Bool)) → written_mounted volumes m host None ≡ volumes
+  pub unwritten : (m : Option (ℕ × Bool)) → written_mounted volumes m host None ≡ volumes
   unwritten None = refl
   unwritten (Some m) = refl
 

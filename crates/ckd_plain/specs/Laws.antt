@@ -1,15 +1,16 @@
 -- The words of the laws of the plain machine.
-use Rattle.std.specs.Prelude.{◌≡◌, ℕ, ◌<◌, ◌≤◌, Bool, false, List, [], Option, Some, None, Result, Ok, Err, All}
+use Rattle.std.specs.Prelude.{◌≡◌, ◌≢◌, ℕ, ◌<◌, ◌≤◌, Bool, true, false, List, [], Option, Some, None, Result, Ok, Err, All, IsSome, take, ◌∷◌, ◌++◌, length, map, replicate}
 use Rattle.channel_commands.specs.declared.command.Command.{Command}
-use Rattle.channel_commands.specs.Data.{CallData, command as ask, done}
-use Rattle.ckd_track.specs.Data.{cost, TRACK_COST, IsTrack, Volumes}
+use Rattle.channel_commands.specs.Data.{CallData, command as ask, ReplyData, done}
+use Rattle.ckd_track.specs.Data.{RecordData, cost, TRACK_COST, IsTrack, Volumes}
 use Rattle.ckd_plain.specs.declared.host.HostState.{HostState}
+use Rattle.ckd_plain.specs.declared.host.Position.TheVariants as position
 use Rattle.ckd_plain.specs.declared.unit_check.UnitCheck.{UnitCheck}
 use Rattle.ckd_plain.specs.Data.{State}
 use Rattle.ckd_plain.specs.Checks.{admitted}
-use Rattle.ckd_plain.specs.Index.{Tracks}
-use Rattle.ckd_plain.specs.Effects.{Outcome, effect}
-use Rattle.ckd_plain.specs.Plain.{Replied, UNIT_CHECK, sense_of, opened, cleared, tracks_under}
+use Rattle.ckd_plain.specs.Index.{Tracks, record_at}
+use Rattle.ckd_plain.specs.Effects.{Outcome, DONE, MET, status_of, prior_number, effect}
+use Rattle.ckd_plain.specs.Plain.{Replied, replies_of, UNIT_CHECK, sense_of, opened, cleared, tracks_under}
 
 -- ---- hosts and volumes
 
@@ -57,3 +58,56 @@ pub record IsChecked (check : UnitCheck) (h : ℕ) (replied : Replied) : Type 0 
   pub reply_ : replied.0 ≡ done UNIT_CHECK []
   pub sense_ : (replied.1.host h).sense ≡ sense_of check
   pub chain_ : (replied.1.host h).chain_open ≡ false
+
+-- ---- records searched for and read
+
+-- the records of the track under host h
+abbrev pub track_under : State → ℕ → List RecordData
+track_under s h = tracks_under s.volumes (s.host h) (s.host h).head
+
+-- record k of it, where R0 is record 0
+abbrev pub record_under : State → ℕ → ℕ → Option RecordData
+record_under s h k = record_at (track_under s h) (s.host h) k
+
+-- record k of the track under host h is r, and none before it has its ID
+pub record IsFirst (s : State) (h k : ℕ) (r : RecordData) : Type 0 where
+  pub there : record_under s h k ≡ Some r
+  pub long : length r.id ≡ 5
+  pub earlier : (j : ℕ) (other : RecordData) → j < k → record_under s h j ≡ Some other → other.id ≢ r.id
+
+-- host h has a volume, and its next command begins at the index
+pub record IsAtIndex (s : State) (h : ℕ) : Type 0 where
+  pub mounted_ : IsSome (s.host h).mounted
+  pub index_ : (opened (s.host h)).position ≡ position.Start
+
+-- host h searches so often for an ID, once more, and reads data, in one chain
+abbrev pub search_and_read : ℕ → ℕ → List ℕ → List (ℕ × CallData)
+search_and_read h times id = map (λ (call : CallData). (h, call)) (replicate times (ask 0x31 id true) ++ ask 0x31 id true ∷ ask 0x06 [] false ∷ [])
+
+-- so many searches aren't met, and the next is; then the data of the record
+abbrev pub met_and_read : ℕ → RecordData → List ReplyData
+met_and_read times r = replicate times (done DONE []) ++ done MET [] ∷ done (status_of r) r.body ∷ []
+
+-- a chain that searches for the record from the index on, and reads its data, gets them
+abbrev pub IsReadBack : State → ℕ → ℕ → RecordData → Type 0
+IsReadBack s h k r = replies_of s (search_and_read h k r.id) ≡ met_and_read k r
+
+-- host h has a volume, and it is there
+pub record HasVolume (s : State) (h : ℕ) : Type 0 where
+  pub number : ℕ
+  pub bind : Bool
+  pub mounted_ : (s.host h).mounted ≡ Some (number, bind)
+  pub there : IsSome (s.volumes.serial number)
+
+-- the record behind which host h's next write count key data puts its own
+abbrev pub met_by : State → ℕ → ℕ
+met_by s h = prior_number (opened (s.host h)).prior
+
+-- between s and t the track under host h got this record behind record k, and ends with it
+pub record IsPutBehind (h k : ℕ) (new : RecordData) (s t : State) : Type 0 where
+  pub inside : k ≤ length (track_under s h)
+  pub track_ : track_under t h ≡ take k (track_under s h) ++ new ∷ []
+
+-- none of the records 0 to k of the track under host h has this ID
+abbrev pub IsNewId : State → ℕ → ℕ → List ℕ → Type 0
+IsNewId s h k id = (j : ℕ) (other : RecordData) → j ≤ k → record_under s h j ≡ Some other → other.id ≢ id

@@ -1,7 +1,8 @@
-//! Laws of histories and of commands, for the layers that keep a history or run commands elsewhere. A function calls a
-//! law to have it in its proof.
+//! Laws of histories and of commands, for the layers that keep a history or run commands elsewhere, and what follows
+//! from the definition of the plain machine, for its reader. A function calls a law to have it in its proof.
 ghost use Rattle.std.specs.Prelude.{◌≡◌, ◌≢◌, ◌+◌, ◌≤◌, ℕ, Bool, false, List, [], ◌∷◌, ◌++◌, IsSome, if◌then◌else◌};
 ghost use Rattle.channel_commands.specs.Data.{CallData, command, done, equipment_check, no_space, stopped};
+ghost use Rattle.ckd_track.specs.Data.{RecordData};
 ghost use Rattle.ckd_plain.specs.Data.{State};
 ghost use Rattle.ckd_plain.specs.History.{EntryData, IsLegal, IsNextEntry, IsAlone, IsStopped, HasNoStop, IsDataCommand, IsWriteCommand, after, next, excepted, count_of_host};
 ghost use Rattle.channel_commands.specs.Codes.{is_write};
@@ -9,9 +10,9 @@ ghost use Rattle.channel_commands.specs.declared.command.Command.{Command};
 ghost use Rattle.ckd_plain.specs.declared.host.HostState.{HostState};
 ghost use Rattle.ckd_plain.specs.declared.unit_check.UnitCheck.{UnitCheck};
 ghost use Rattle.ckd_plain.specs.Checks.{admitted};
-ghost use Rattle.ckd_plain.specs.Effects.{DONE, is_data};
+ghost use Rattle.ckd_plain.specs.Effects.{DONE, new_record, is_data};
 ghost use Rattle.ckd_plain.specs.Index.{Tracks, next_within, next_record};
-ghost use Rattle.ckd_plain.specs.Laws.{IsSameFor, IsUnderHead, IsWithinCost, HasTracks, HasBytes, unit_check_of, IsChecked};
+ghost use Rattle.ckd_plain.specs.Laws.{IsSameFor, IsUnderHead, IsWithinCost, HasTracks, HasBytes, unit_check_of, IsChecked, IsAtIndex, IsFirst, IsReadBack, HasVolume, met_by, IsPutBehind, IsNewId};
 ghost use Rattle.ckd_plain.specs.Plain.{UNIT_CHECK, sense_of, no_sense, keeps_sense, opened, performed, run, plain};
 
 use crate::unit_check::UnitCheck;
@@ -133,4 +134,26 @@ pub fn next_command_clears_the_sense()
     ensures { (s : State) (h code : ℕ) (argument : List ℕ) (chained : Bool) (c : Command)
         → admitted (opened (s.host h)) code argument ≡ Ok c → unit_check_of s h code argument ≡ None
         → ((plain s h (command code argument chained)).1.host h).sense ≡ (if keeps_sense c then (s.host h).sense else no_sense) }
+{}
+
+/// A record is found and read by its ID: where no record before it on the track has its ID, a chain that searches for
+/// the ID from the index on meets the record, and the read data behind it gives the record's data.
+pub fn record_is_found_and_read()
+    ensures { (s : State) (h k : ℕ) (r : RecordData) → IsAtIndex s h → IsFirst s h k r → IsReadBack s h k r }
+{}
+
+/// A write count key data that is done puts its record behind the one that its search met, or that was written before
+/// it, and the track ends there.
+pub fn write_puts_its_record()
+    ensures { (s : State) (h : ℕ) (argument : List ℕ) (chained : Bool) → HasVolume s h
+        → (plain s h (command 0x1D argument chained)).0 ≡ done DONE []
+        → IsPutBehind h (met_by s h) (new_record argument) s (plain s h (command 0x1D argument chained)).1 }
+{}
+
+/// A record that was written is read back: where no record up to there has its ID, the next chain finds it by its ID
+/// and reads the data that were written, cut or padded to the length that its count gives.
+pub fn written_record_is_read_back()
+    ensures { (s : State) (h : ℕ) (argument : List ℕ) → HasVolume s h
+        → (plain s h (command 0x1D argument false)).0 ≡ done DONE [] → IsNewId s h (met_by s h) (new_record argument).id
+        → IsReadBack (plain s h (command 0x1D argument false)).1 h (met_by s h + 1) (new_record argument) }
 {}
