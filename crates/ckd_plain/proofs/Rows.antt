@@ -115,8 +115,8 @@ empty_records (suc n) r = then 0x1D (id 0 0 r ++ 0 ∷ 0 ∷ 0 ∷ []) ∷ empty
 
 -- 97 records stand on a track, and a 98th doesn't; a record without data is the end of a file
 ninety_seven_records_fill_a_track : replies (mounts ∷ seek 0 0 ∷ then 0x31 (id 0 0 0) ∷ empty_records 98 1
-    ++ seek 0 0 ∷ then 0x31 (id 0 0 1) ∷ then 0x31 (id 0 0 1) ∷ last 0x06 [] ∷ [])
-    ≡ mounted ∷ ok ∷ met ∷ replicate 97 ok ++ checked ∷ ok ∷ ok ∷ met ∷ end_of_file ∷ []
+    ++ last 0x04 [] ∷ seek 0 0 ∷ then 0x31 (id 0 0 1) ∷ then 0x31 (id 0 0 1) ∷ last 0x06 [] ∷ [])
+    ≡ mounted ∷ ok ∷ met ∷ replicate 97 ok ++ checked ∷ gives (sense 0 0x40 0) ∷ ok ∷ ok ∷ met ∷ end_of_file ∷ []
 unfolding admitted pass_index next_within next_record same_record to_home search read write_ effect performed run plain mount_reply demount_reply replies_of
 ninety_seven_records_fill_a_track = refl
 

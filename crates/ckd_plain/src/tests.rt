@@ -167,3 +167,87 @@ fn checks_refuse_with_their_sense(rt: HostRuntime) -> Result<(), Fail> {
     }
     Ok(())
 }
+
+impl Machine {
+    /// The machine with a volume mounted and a record with key `AB` and data 07 as R1 of its first track.
+    fn with_keyed_record(rt: &impl Abort, alloc: Global) -> Result<Machine, Fail> {
+        let mut machine = Machine::blank(alloc)?;
+        assert!(rt; matches!(machine.mount()?, Reply::Mounted));
+        let write = [
+            Step(0x31, &[0, 0, 0, 0, 0], 0x4C, &[]),
+            Step(0x1D, b"\x00\x00\x00\x00\x01\x02\x00\x01AB\x07", 0x0C, &[]),
+        ];
+        machine.play(rt, &write)?;
+        Ok(machine)
+    }
+
+    /// Whether the sense begins with these bytes.
+    fn senses(&mut self, first: [u8; 3]) -> Result<bool, Fail> {
+        let (_, bytes) = self.command(0x04, &[], false)?;
+        Ok(bytes.as_slice().starts_with(&first))
+    }
+}
+
+/// Each seek command with its status under the masks 00 all seeks, 08 seek cylinder and seek head, 10 seek head, and
+/// 18 no seek.
+fn seeks_under_masks() -> [(u8, [u8; 4]); 4] {
+    [
+        (0x07, [0x0C, 0x0E, 0x0E, 0x0E]),
+        (0x0B, [0x0C, 0x0C, 0x0E, 0x0E]),
+        (0x1B, [0x0C, 0x0C, 0x0C, 0x0E]),
+        (0x13, [0x0C, 0x0E, 0x0E, 0x0E]),
+    ]
+}
+
+#[test]
+fn each_seek_under_each_mask(rt: HostRuntime) -> Result<(), Fail> {
+    let mut machine = Machine::with_keyed_record(&rt, rt.alloc())?;
+    for (code, wants) in seeks_under_masks() {
+        for (mask, want) in [0x00u8, 0x08, 0x10, 0x18].iter().zip(wants) {
+            let (set, _) = machine.command(0x1F, &[*mask], true)?;
+            let (status, _) = machine.command(code, &[0, 0, 0, 5, 0, 3], false)?;
+            assert_eq!(rt; (set, status), (0x0C, want), "{code} under {mask}");
+            if want == 0x0E {
+                assert!(rt; machine.senses([0, 0x04, 0])?, "{code} under {mask}");
+            }
+        }
+    }
+    Ok(())
+}
+
+/// Each write command with its status under the masks 00 no write of home address and R0, 40 no write, 80 no write of
+/// count, key and data, and C0 all writes.
+fn writes_under_masks() -> [(u8, &'static [u8], [u8; 4]); 3] {
+    [
+        (0x05, b"\x08", [0x0C, 0x0E, 0x0C, 0x0C]),
+        (0x0D, b"CD\x09", [0x0C, 0x0E, 0x0C, 0x0C]),
+        (
+            0x1D,
+            b"\x00\x00\x00\x00\x02\x00\x00\x01A",
+            [0x0C, 0x0E, 0x0E, 0x0C],
+        ),
+    ]
+}
+
+#[test]
+fn each_write_under_each_mask(rt: HostRuntime) -> Result<(), Fail> {
+    let mut machine = Machine::with_keyed_record(&rt, rt.alloc())?;
+    for (code, argument, wants) in writes_under_masks() {
+        for (mask, want) in [0x00u8, 0x40, 0x80, 0xC0].iter().zip(wants) {
+            let (set, _) = machine.command(0x1F, &[*mask], true)?;
+            let (passed, _) = machine.command(0x31, &[0, 0, 0, 0, 1], true)?;
+            let (met, _) = machine.command(0x31, &[0, 0, 0, 0, 1], true)?;
+            let (status, _) = machine.command(code, argument, false)?;
+            assert_eq!(rt;
+                (set, passed, met),
+                (0x0C, 0x0C, 0x4C),
+                "{code} under {mask}"
+            );
+            assert_eq!(rt; status, want, "{code} under {mask}");
+            if want == 0x0E {
+                assert!(rt; machine.senses([0x80, 0, 0])?, "{code} under {mask}");
+            }
+        }
+    }
+    Ok(())
+}
