@@ -11,8 +11,6 @@
 mod admission;
 mod direct;
 mod input;
-#[cfg(test)]
-mod job_tests;
 mod machine;
 mod report;
 mod run;

@@ -44,6 +44,13 @@ const STOPPED_REPORT: &str = "MSS REPORT 1\n\
     entry 4 host 1 ccw 1D stopped fault 1\n\
     STOPPED 1\n";
 
+const EMPTY: &str = "mss 1 frames 1 recorders 1\ndone\n";
+
+const TWO_HOSTS: &str = "mss 1 frames 1 recorders 1\nhost 1\nhost 2\ndone\n";
+
+const PROGRAM_WITHOUT_WORDS: &str =
+    "mss 1 frames 1 recorders 1\n# Line 5 ends it.\nhost 1\nprogram\nend\ndone\n";
+
 /// Behind the walk's 7,676 reads, the search reads its track, and so does the write before its first device write.
 const FIRST_WRITE: u64 = 7_679;
 
@@ -109,20 +116,13 @@ struct Case<'a> {
 
 const SAME: (&str, &str) = ("", "");
 
-const CASES: [Case; 6] = [
+const CASES: [Case; 5] = [
     Case {
         word: "serve",
         change: SAME,
         failing: NONE,
         status: Status::WordsRefused,
         text: "words refused\n",
-    },
-    Case {
-        word: "serial",
-        change: ("done", "host 2\ndone"),
-        failing: NONE,
-        status: Status::JobRefused,
-        text: "job refused line 0 Later\n",
     },
     Case {
         word: "serial",
@@ -175,6 +175,24 @@ fn each_fault_has_its_status(rt: HostRuntime) -> Result<(), Fail> {
         let (status, output) = outcome(rt.alloc(), case.word, &job, case.failing)?;
         assert_eq!(rt; output.bytes(), case.text.as_bytes());
         assert_eq!(rt; status, case.status);
+    }
+    Ok(())
+}
+
+#[test]
+fn jobs_are_run_or_refused_by_name(rt: HostRuntime) -> Result<(), Fail> {
+    for (job, due, text) in [
+        (EMPTY, Status::Done, "MSS REPORT 1\nEND\n"),
+        (TWO_HOSTS, Status::JobRefused, "job refused line 0 Later\n"),
+        (
+            PROGRAM_WITHOUT_WORDS,
+            Status::JobRefused,
+            "job refused line 5 Count\n",
+        ),
+    ] {
+        let (status, output) = outcome(rt.alloc(), "serial", job, NONE)?;
+        assert_eq!(rt; output.bytes(), text.as_bytes());
+        assert_eq!(rt; status, due);
     }
     Ok(())
 }
