@@ -4,12 +4,21 @@ ghost use Rattle.mss_base.specs.Content.{content};
 ghost use Rattle.mss_base.specs.MemorySite.{told_of};
 ghost use Rattle.track_engine.specs.Tracks.{AreTracks};
 
+mod by_hand;
+mod programs;
+mod table;
+mod twins;
+
+use crate::tests::by_hand::twins_by_hand;
+use crate::tests::table::{Line, program_of};
+use crate::tests::twins::Twins;
 use crate::{CylinderPlace, EngineFault, is_data, run_command, run_control};
-use channel_commands::{Command, Reply, SearchField, SearchTest};
+use channel_commands::{Command, Reply, SearchField, SearchTest, command_of};
 use ckd_plain::steps::opened;
 use ckd_plain::{HostState, admitted};
 use mss_base::{MemorySite, Site, SiteFault, UnitNo, VolumeNo};
 use std::alloc::Global;
+use std::process::Abort;
 use std::test::Fail;
 
 fn place() -> CylinderPlace
@@ -151,5 +160,87 @@ fn a_failed_read_leaves_the_host(rt: HostRuntime) -> Result<(), Fail> {
     assert_eq!(rt; host, before);
     let again = row(0x31, &[0; 5], 0x4C, &[]);
     assert!(rt; run(alloc, &mut site, &place, &mut buffer, &mut host, &again)?);
+    Ok(())
+}
+
+/// Runs the programs for formatted tracks, each as one chain.
+fn play_on_formats(rt: &impl Abort, twins: &mut Twins) -> Result<(), Fail> {
+    for text in programs::ON_FORMATS {
+        for program in text.split("\n\n") {
+            twins.play(rt, program)?;
+        }
+    }
+    Ok(())
+}
+
+#[test]
+fn commands_are_those_of_the_plain_machine(rt: HostRuntime) -> Result<(), Fail> {
+    let mut twins = Twins::blank(rt.alloc())?;
+    for program in programs::UNMOUNTED.split("\n\n") {
+        twins.play(&rt, program)?;
+    }
+    twins.mount()?;
+    for program in programs::FORMATS.split("\n\n") {
+        twins.play(&rt, program)?;
+    }
+    play_on_formats(&rt, &mut twins)?;
+    for cylinder in 0..404 {
+        twins.compare_cylinder(&rt, cylinder)?;
+    }
+    Ok(())
+}
+
+#[test]
+fn commands_on_blocks_by_hand_are_those_of_the_plain_machine(rt: HostRuntime) -> Result<(), Fail> {
+    let mut twins = twins_by_hand(rt.alloc(), programs::FORMATS)?;
+    twins.compare_cylinder(&rt, 5)?;
+    twins.compare_cylinder(&rt, 6)?;
+    play_on_formats(&rt, &mut twins)?;
+    twins.compare_cylinder(&rt, 5)?;
+    twins.compare_cylinder(&rt, 6)
+}
+
+/// The commands of all programs.
+fn all_lines(alloc: Global) -> Result<Vec<Line>, Fail> {
+    let mut lines = Vec::new(alloc);
+    for text in programs::ON_FORMATS {
+        for program in text.split("\n\n") {
+            for line in program_of(alloc, program)? {
+                lines.push(line)?;
+            }
+        }
+    }
+    for program in programs::UNMOUNTED.split("\n\n") {
+        for line in program_of(alloc, program)? {
+            lines.push(line)?;
+        }
+    }
+    Ok(lines)
+}
+
+#[test]
+fn the_programs_use_each_code_status_and_sense(rt: HostRuntime) -> Result<(), Fail> {
+    let lines = all_lines(rt.alloc())?;
+    for code in 0..=255u8 {
+        if command_of(code).is_ok() {
+            assert!(rt;
+                lines.iter().any(|line| line.code == code),
+                "code {code:02X}"
+            );
+        }
+    }
+    for status in [0x0C, 0x4C, 0x0D, 0x0E] {
+        assert!(rt;
+            lines.iter().any(|line| line.status == status),
+            "status {status:02X}"
+        );
+    }
+    let senses: [&[u8]; 6] = [&[0x80], &[0x40], &[0, 0x40], &[0, 0x20], &[0, 8], &[0, 4]];
+    for sense in senses {
+        let is_given = lines
+            .iter()
+            .any(|line| line.code == 4 && line.bytes.as_slice() == sense);
+        assert!(rt; is_given, "sense {sense:?}");
+    }
     Ok(())
 }
