@@ -1,0 +1,6 @@
+pub mod StateLemmas
+pub mod RowFacts
+pub mod RowLemmas
+pub mod GrammarLemmas
+pub mod SpellingLemmas
+pub mod OneSpelling

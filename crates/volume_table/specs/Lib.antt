@@ -1,0 +1,5 @@
+pub mod States
+pub mod Row
+pub mod RowInside
+pub mod Grammar
+pub mod Changes

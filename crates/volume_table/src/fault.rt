@@ -1,0 +1,44 @@
+// Why bytes are no row.
+ghost use Rattle.std.specs.Prelude.{◌≡◌};
+
+use mss_base::NoMemory;
+
+/// A field of a row.
+#[derive(Clone, Copy, Debug, PartialEq, Eq)]
+pub enum RowField {
+    Version,
+    /// A character of the serial, from 0.
+    Serial(u8),
+    First,
+    Second,
+    /// The frame of a page.
+    Page(u8),
+    /// A byte that is to be zero: 0 is the one in front of the states, 1 to 43 are those behind them.
+    Spare(u8),
+    /// The state of a cylinder.
+    State(u16),
+}
+
+/// A field that no row has so, and what it holds: its byte, or for a cartridge its two bytes as a number.
+#[derive(Clone, Copy, Debug, PartialEq, Eq)]
+pub struct RowFault {
+    pub field: RowField,
+    pub value: u16,
+}
+
+/// Why no row was decoded.
+#[derive(Clone, Copy, Debug, PartialEq, Eq)]
+pub enum DecodeFault {
+    Bad(RowFault),
+    Memory,
+}
+
+impl From<NoMemory> for DecodeFault {
+    ghost use Rattle.volume_table.specs.declared.fault.DecodeFault.TheVariants.{Memory};
+
+    ghost from_gives = { λ _ e. e ≡ Memory };
+
+    fn from(_: NoMemory) -> Self {
+        DecodeFault::Memory
+    }
+}
