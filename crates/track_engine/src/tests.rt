@@ -5,6 +5,7 @@ ghost use Rattle.mss_base.specs.MemorySite.{told_of};
 ghost use Rattle.track_engine.specs.Tracks.{AreTracks};
 
 mod by_hand;
+mod faults;
 mod programs;
 mod table;
 mod twins;

@@ -60,7 +60,7 @@ pub fn single_byte(word: Option<&str>) -> Result<u8, Fail> {
 }
 
 /// Reads a line: `code argument status`, and the data where there are any.
-fn line_of(alloc: Global, text: &str) -> Result<Line, Fail> {
+pub fn line_of(alloc: Global, text: &str) -> Result<Line, Fail> {
     let mut words = text.split(" ");
     let code = single_byte(words.next())?;
     let argument = bytes_of(alloc, words.next().ok_or("no argument")?)?;

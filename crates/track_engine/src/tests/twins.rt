@@ -8,12 +8,14 @@ ghost use Rattle.ckd_plain.specs.Plain.{opened};
 ghost use Rattle.track_engine.specs.Tracks.{AreTracks};
 
 use crate::tests::table::{Line, program_of};
-use crate::{CylinderPlace, is_data, run_command, run_control};
+use crate::{CylinderPlace, EngineFault, is_data, run_command, run_control};
 use channel_commands::{Call, Command, Reply};
 use ckd_plain::steps::{opened, refused};
 use ckd_plain::{HostState, PlainState, Prior, Refusal, UnitCheck, admitted, plain_step};
 use ckd_track::{Record, Track, check_track, read_track};
-use mss_base::{Bytes, Cylinder, Head, HostNo, MemorySite, Serial, Site, UnitNo, VolumeNo};
+use mss_base::{
+    Bytes, Cylinder, Head, HostNo, MemorySite, Serial, Site, SiteFault, UnitNo, VolumeNo,
+};
 use std::alloc::Global;
 use std::process::Abort;
 use std::test::Fail;
@@ -47,7 +49,8 @@ pub fn check_tracks(
     Ok(())
 }
 
-/// A search, read or write that passed its checks, on the blocks of the host's cylinder.
+/// A search, read or write that passed its checks, on the blocks of the host's cylinder. `faults` are those to come, and
+/// none is left then.
 fn run_on_tracks(
     alloc: Global,
     site: &mut MemorySite,
@@ -56,7 +59,8 @@ fn run_on_tracks(
     command: &Command,
     argument: &[u8],
     chained: bool,
-) -> Result<Reply, Fail>
+    faults: &[SiteFault],
+) -> Result<Result<Reply, EngineFault>, Fail>
     requires buffer { length buffer.old ≡ 16384 }
     requires passes { Passes (opened host.old) command.now argument.now }
     requires data { is_data command.now ≡ true }
@@ -64,10 +68,12 @@ fn run_on_tracks(
     site.reserve(4)?;
     let place = place_of(host.cylinder);
     check_tracks(site, &place, buffer)?;
-    let reply = run_command(
+    site.fail(faults)?;
+    let answer = run_command(
         alloc, site, &place, buffer, command, argument, chained, host,
-    )?;
-    Ok(reply)
+    );
+    site.fail(&[])?;
+    Ok(answer)
 }
 
 /// A command that a check refused.
@@ -82,25 +88,28 @@ fn refuse(alloc: Global, host: &mut HostState, check: UnitCheck) -> Reply {
     refused(alloc, host, &refusal)
 }
 
-/// A command on the blocks, by the steps of a session.
+/// A command on the blocks, by the steps of a session. `faults` are those to come.
 pub fn run_on_blocks(
     alloc: Global,
     site: &mut MemorySite,
     buffer: &mut [u8],
     host: &mut HostState,
-    code: u8,
-    argument: &[u8],
+    line: &Line,
     chained: bool,
-) -> Result<Reply, Fail>
+    faults: &[SiteFault],
+) -> Result<Result<Reply, EngineFault>, Fail>
     requires { length buffer.old ≡ 16384 }
 {
-    match admitted(&opened(host), code, argument) {
-        Err(check) => Ok(refuse(alloc, host, check)),
+    let argument = line.argument.as_slice();
+    match admitted(&opened(host), line.code, argument) {
+        Err(check) => Ok(Ok(refuse(alloc, host, check))),
         Ok(command) => {
             if is_data(command) {
-                run_on_tracks(alloc, site, buffer, host, &command, argument, chained)
+                run_on_tracks(
+                    alloc, site, buffer, host, &command, argument, chained, faults,
+                )
             } else {
-                Ok(run_control(alloc, &command, argument, chained, host)?)
+                Ok(Ok(run_control(alloc, &command, argument, chained, host)?))
             }
         }
     }
@@ -133,18 +142,6 @@ fn are_same_records(records: &[Record], others: &[Record]) -> bool {
             .iter()
             .zip(others)
             .all(|(record, other)| is_same_record(record, other))
-}
-
-/// Whether a block has the records of a plain track; `None` is a track without records.
-fn is_same_track(alloc: Global, block: &[u8], plain: Option<&Track>) -> Result<bool, Fail>
-    requires { length block.now ≡ 16384 }
-{
-    let track = read_track(alloc, block)?;
-    let records = track.records.as_slice();
-    Ok(match plain {
-        Some(plain) => are_same_records(records, plain.records.as_slice()),
-        None => records.is_empty(),
-    })
 }
 
 /// Host 1, and volume 0.
@@ -196,7 +193,13 @@ impl Twins {
         Ok(plain_step(self.alloc, &mut self.plain, self.number, &call)?)
     }
 
-    fn block_command(&mut self, line: &Line, chained: bool) -> Result<Reply, Fail> {
+    /// A command on the blocks alone, of which these calls fail.
+    pub fn block_command(
+        &mut self,
+        line: &Line,
+        chained: bool,
+        faults: &[SiteFault],
+    ) -> Result<Result<Reply, EngineFault>, Fail> {
         if self.buffer.len() != 16384 {
             Err("no room for a block")?;
         }
@@ -205,9 +208,9 @@ impl Twins {
             &mut self.site,
             &mut self.buffer,
             &mut self.host,
-            line.code,
-            &line.argument,
+            line,
             chained,
+            faults,
         )
     }
 
@@ -219,7 +222,7 @@ impl Twins {
         line: &Line,
         chained: bool,
     ) -> Result<(), Fail> {
-        let reply = self.block_command(line, chained)?;
+        let reply = self.block_command(line, chained, &[])??;
         let plain = self.plain_command(line, chained)?;
         assert!(rt; is_same_reply(&reply, &plain), "{title}");
         assert_eq!(rt; self.host, *self.plain.host(self.number), "{title}");
@@ -237,15 +240,24 @@ impl Twins {
         Ok(())
     }
 
-    /// Whether the track of a block is the plain one.
-    fn has_same_track(&mut self, cylinder: Cylinder, head: Head) -> Result<bool, Fail> {
+    /// The track of a block.
+    pub fn track(&mut self, cylinder: Cylinder, head: Head) -> Result<Track, Fail> {
         if self.buffer.len() != 16384 {
             Err("no room for a block")?;
         }
         let at = place_of(cylinder).block_of(head);
         self.site.read(at.unit, at.block, &mut self.buffer)?;
-        let plain = self.plain.track(self.volume, cylinder, head);
-        is_same_track(self.alloc, &self.buffer, plain)
+        Ok(read_track(self.alloc, &self.buffer)?)
+    }
+
+    /// Whether the track of a block is the plain one.
+    fn has_same_track(&mut self, cylinder: Cylinder, head: Head) -> Result<bool, Fail> {
+        let track = self.track(cylinder, head)?;
+        let records = track.records.as_slice();
+        Ok(match self.plain.track(self.volume, cylinder, head) {
+            Some(plain) => are_same_records(records, plain.records.as_slice()),
+            None => records.is_empty(),
+        })
     }
 
     /// Each block of a cylinder has the plain machine's track.
