@@ -51,6 +51,17 @@ const TWO_HOSTS: &str = "mss 1 frames 1 recorders 1\nhost 1\nhost 2\ndone\n";
 const PROGRAM_WITHOUT_WORDS: &str =
     "mss 1 frames 1 recorders 1\n# Line 5 ends it.\nhost 1\nprogram\nend\ndone\n";
 
+/// The first search can't read its track, nor can the second of the next program: its first finds the track blank.
+const TWO_FAULTS_REPORT: &str = "MSS REPORT 1\n\
+    entry 1 host 1 mount 0 mounted\n\
+    entry 2 host 1 ccw 07 status 0C\n\
+    entry 3 host 1 ccw 31 equipment check fault 1\n\
+    entry 4 host 1 ccw 07 status 0C\n\
+    entry 5 host 1 ccw 31 status 0C\n\
+    entry 6 host 1 ccw 31 equipment check fault 2\n\
+    volume 0 VOL001\n\
+    END\n";
+
 /// Behind the walk's 7,676 reads, the search reads its track, and so does the write before its first device write.
 const FIRST_WRITE: u64 = 7_679;
 
@@ -59,13 +70,13 @@ const FIRST_WRITE: u64 = 7_679;
 struct Failing<'a> {
     takes: &'a [u64],
     puts: &'a [u64],
-    of_site: Option<u64>,
+    of_site: &'a [u64],
 }
 
 const NONE: Failing<'static> = Failing {
     takes: &[],
     puts: &[],
-    of_site: None,
+    of_site: &[],
 };
 
 /// The status of a run over this site, and what it put.
@@ -79,9 +90,11 @@ fn outcome_over(
     let words = [String::from_str(alloc, word)?];
     let mut input = MemorySource::of(alloc, job.as_bytes(), failing.takes)?;
     let mut output = MemorySink::new(alloc, failing.puts)?;
-    if let Some(n) = failing.of_site {
-        site.fail(&[SiteFault::Call(n)])?;
+    let mut faults = Vec::new(alloc);
+    for n in failing.of_site {
+        faults.push(SiteFault::Call(*n))?;
     }
+    site.fail(&faults)?;
     let ended = serial(alloc, &words, &mut input, &mut output, site);
     Ok((ended.status, output))
 }
@@ -116,7 +129,7 @@ struct Case<'a> {
 
 const SAME: (&str, &str) = ("", "");
 
-const CASES: [Case; 5] = [
+const CASES: [Case; 6] = [
     Case {
         word: "serve",
         change: SAME,
@@ -152,11 +165,21 @@ const CASES: [Case; 5] = [
         word: "serial",
         change: SAME,
         failing: Failing {
-            of_site: Some(FIRST_WRITE),
+            of_site: &[FIRST_WRITE],
             ..NONE
         },
         status: Status::Stopped,
         text: STOPPED_REPORT,
+    },
+    Case {
+        word: "serial",
+        change: SAME,
+        failing: Failing {
+            of_site: &[7_677, 7_679],
+            ..NONE
+        },
+        status: Status::Done,
+        text: TWO_FAULTS_REPORT,
     },
 ];
 
@@ -212,10 +235,42 @@ fn a_torn_track_refuses_the_run(rt: HostRuntime) -> Result<(), Fail> {
     Ok(())
 }
 
+/// A run makes two takes and twelve puts.
+#[test]
+fn any_failing_take_or_put_has_its_status(rt: HostRuntime) -> Result<(), Fail> {
+    for n in 1..3 {
+        let takes = [n];
+        let failing = Failing {
+            takes: &takes,
+            ..NONE
+        };
+        let (status, output) = outcome(rt.alloc(), "serial", JOB, failing)?;
+        assert_eq!(rt; output.bytes(), b"input fault\n".as_slice());
+        assert_eq!(rt; status, Status::InputFault);
+    }
+    for n in 1..14 {
+        let puts = [n];
+        let failing = Failing {
+            puts: &puts,
+            ..NONE
+        };
+        let (status, output) = outcome(rt.alloc(), "serial", JOB, failing)?;
+        assert!(rt; REPORT.as_bytes().starts_with(output.bytes()));
+        let due = if n < 13 {
+            Status::OutputFault
+        } else {
+            Status::Done
+        };
+        assert_eq!(rt; status, due);
+    }
+    Ok(())
+}
+
 /// Whether a run whose n-th call of the site fails has one of the stated ends.
 fn ends_as_stated(alloc: Global, n: u64) -> Result<bool, Fail> {
+    let calls = [n];
     let failing = Failing {
-        of_site: Some(n),
+        of_site: &calls,
         ..NONE
     };
     let (status, output) = outcome(alloc, "serial", JOB, failing)?;
