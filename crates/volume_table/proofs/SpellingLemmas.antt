@@ -65,7 +65,7 @@ length-spelling : (r : RowValue) → IsRow r → length (spelling r) ≡ 510
 unfolding spelling
 length-spelling r row = simp (length-append, length-map) (omega (arith, row.serial.six, row.pages, row.states))
 
-body_splice : (s block : List ℕ) → length s ≡ 510 → 511 ≤ length block → body (splice 1 s block) ≡ s
+pub body_splice : (s block : List ℕ) → length s ≡ 510 → 511 ≤ length block → body (splice 1 s block) ≡ s
 unfolding splice
 body_splice s [] long le = absurd (omega arith)
 body_splice s (x ∷ block) long le = ap (take 510) (splice_fits 0 s block (omega arith)) ∙ take_at s (drop (0 + length s) block) 510 long

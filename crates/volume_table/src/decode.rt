@@ -120,6 +120,16 @@ fn row_of(alloc: Global, body: &[u8]) -> Result<VolumeRow, NoMemory>
     })
 }
 
+/// Whether 512 bytes spell a row; else the first field, in order of places, that no row has so.
+///
+/// The bytes 0 and 511 are not looked at. It takes no memory.
+pub fn check_row(bytes: &[u8]) -> Result<(), RowFault>
+    requires { length bytes.now ≡ 512 }
+    ensures { Finds result (first_fault (body bytes.now)) }
+{
+    check_body(&bytes[1..511])
+}
+
 /// The row that 512 bytes spell, or the first field, in order of places, that no row has so.
 ///
 /// The bytes 0 and 511 are not looked at. What was refused is known before memory is taken.

@@ -2,8 +2,8 @@
 //!
 //! `specs/Row.antt` says what a row is, `specs/Grammar.antt` how its 512 bytes spell it, `specs/Changes.antt` which
 //! changes are allowed and what each does. `decode_row`, `encode_row`, `is_allowed` and `apply` are exactly these
-//! definitions. The layers above rely on them, on `law`, and on the lemmas of `proofs/RowFacts.antt`: what a change does
-//! to each page and each cylinder.
+//! definitions. The layers above rely on them, on `law`, and on the lemmas of `proofs/RowFacts.antt`: what a change
+//! does to each page and each cylinder.
 #![tactic(auto)]
 
 mod changes;
@@ -18,7 +18,7 @@ mod state;
 mod tests;
 
 pub use changes::{Change, apply, is_allowed};
-pub use decode::decode_row;
+pub use decode::{check_row, decode_row};
 pub use encode::encode_row;
 pub use fault::{DecodeFault, RowFault, RowField};
 pub use lists::{PageList, StateList};

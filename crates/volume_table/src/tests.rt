@@ -5,7 +5,7 @@ use std::alloc::Global;
 use std::process::Abort;
 use std::test::Fail;
 
-// Volume VOL001 on the cartridges 258 and 2,047. Page 0 has frame 7 and its cylinder 1 is changed; page 50 has frame 199.
+// Volume VOL001 on the cartridges 258 and 2,047. Page 0 has frame 7 and holds a changed cylinder, page 50 frame 199.
 fn bytes_by_hand() -> [u8; 512] {
     let mut bytes = [0; 512];
     bytes[1..12].copy_from_slice(b"\x01VOL001\x01\x02\x07\xFF");

@@ -1,0 +1,139 @@
+-- The moments of a creation.
+use Rattle.std.proofs.Common.{◌≡◌, ◌⊎◌, inl, inr, true, false, List, ℕ, Some, None, Ok, sym, ◌∙◌, ap, subst}
+use Rattle.mss_base.specs.Content.{SiteLog, content, Writes}
+use Rattle.volume_table.specs.Row.{RowValue}
+use Rattle.volume_table.specs.Grammar.{decode}
+use Rattle.table_pair.specs.declared.copy.TableCopy.TheVariants as copy
+use Rattle.table_pair.specs.Places.{place_of}
+use Rattle.table_pair.specs.Copies.{CopyView, marked, filled, IsRewriting, WritesCopy}
+use Rattle.table_pair.specs.Pair.{known, row_of_copies, HoldsRow, AreClosed, AreMade, StaysCopy, ChangesRow, NoneOrNew}
+use Rattle.table_pair.proofs.PairFacts.{row_by_a, row_by_none}
+use Rattle.table_pair.proofs.PairLemmas.{copy_a, copy_b, ChangesPair, InPair, kept_a, kept_b, from_a, from_b, pair_then, pair_row}
+use Rattle.table_pair.proofs.StayLemmas.{stays, stays_as, stays_marked, stays_filled, stays_rewriting, stays_since, rewriting_made}
+use Rattle.table_pair.proofs.ChangeLemmas.{open_filled, open_as}
+
+abbrev pub Marking : CopyView → CopyView → Type 0
+Marking old now = (now ≡ old) ⊎ (now ≡ marked old)
+
+stays_marking : (old now : CopyView) → Marking old now → StaysCopy old now
+stays_marking old now is = elim is [ inl same ↦ stays_as old now same | inr made ↦ stays_marked old now made ]
+
+gate_marking : (old now : CopyView) → Marking old now → now.is_open ≡ old.is_open
+gate_marking old now is = elim is [ inl same ↦ ap (λ (c : CopyView). c.is_open) same | inr made ↦ ap (λ (c : CopyView). c.is_open) made ]
+
+module _ (volume : ℕ) (row : RowValue) (bytes : List ℕ) (spelled : decode bytes ≡ Ok row) (s : SiteLog) (none : AreClosed volume (content s)) where
+  abbrev a : CopyView
+  a = copy_a volume s
+
+  abbrev b : CopyView
+  b = copy_b volume s
+
+  abbrev Row : CopyView → CopyView → Type 0
+  Row x y = (row_of_copies x y ≡ known None false) ⊎ ((row_of_copies x y ≡ known (Some row) false) × (x.is_made ≡ true) × (y.is_made ≡ true))
+
+  abbrev Pair : SiteLog → SiteLog → SiteLog → Type 0
+  Pair from t u = Writes (ChangesPair volume (InPair a b Row) (content from)) t u
+
+  no_row : (x y : CopyView) → x.is_open ≡ false → y.is_open ≡ false → Row x y
+  no_row x y shut_x shut_y = inl (row_by_none x y shut_x shut_y)
+
+  pub to_row : (u : SiteLog) → Pair s s u → Writes (ChangesRow volume (NoneOrNew volume row) (content s)) s u
+  to_row u w = pair_row volume Row (NoneOrNew volume row) s u (λ c is. elim is [ inl gone ↦ inl gone | inr new ↦ inr (new.0, record { a = new.1; b = new.2 }) ]) w
+
+  -- the mark of copy A
+  pub first_pair : (s1 : SiteLog) → WritesCopy (place_of copy.A volume) (Marking a) s s1 → Pair s s s1
+  first_pair s1 w = from_a volume (Marking a) (InPair a b Row) s s1 (λ x is. record { stays_a = stays_marking a x is; stays_b = stays b; here = no_row x b (gate_marking a x is ∙ none.a) none.b }) w
+
+  module _ (s1 : SiteLog) (w1 : WritesCopy (place_of copy.A volume) (Marking a) s s1) (a1 : copy_a volume s1 ≡ marked a) where
+    b1 : copy_b volume s1 ≡ b
+    b1 = kept_b volume (Marking a) s s1 w1
+
+    -- the mark of copy B
+    within_two : (y : CopyView) → Marking (copy_b volume s1) y → InPair a b Row (copy_a volume s1) y
+    within_two y was =
+        let is : Marking b y = subst (λ (c : CopyView). Marking c y) b1 was in
+        record {
+          stays_a = stays_marked a (copy_a volume s1) a1;
+          stays_b = stays_marking b y is;
+          here = no_row (copy_a volume s1) y (ap (λ (c : CopyView). c.is_open) a1 ∙ none.a) (gate_marking b y is ∙ none.b);
+        }
+
+    pub second_pair : (s2 : SiteLog) → WritesCopy (place_of copy.B volume) (Marking (copy_b volume s1)) s1 s2 → Pair s s s2
+    second_pair s2 w = pair_then volume (InPair a b Row) s s1 s2 (first_pair s1 w1) (from_b volume (Marking (copy_b volume s1)) (InPair a b Row) s1 s2 within_two w)
+
+    module _ (s2 : SiteLog) (w2 : WritesCopy (place_of copy.B volume) (Marking (copy_b volume s1)) s1 s2) (was_b2 : copy_b volume s2 ≡ marked (copy_b volume s1)) where
+      b2 : copy_b volume s2 ≡ marked b
+      b2 = was_b2 ∙ ap marked b1
+
+      a2 : copy_a volume s2 ≡ marked a
+      a2 = kept_a volume (Marking (copy_b volume s1)) s1 s2 w2 ∙ a1
+
+      pub a_closed : (copy_a volume s2).is_open ≡ false
+      a_closed = ap (λ (c : CopyView). c.is_open) a2 ∙ none.a
+
+      b_shut : (copy_b volume s2).is_open ≡ false
+      b_shut = ap (λ (c : CopyView). c.is_open) b2 ∙ none.b
+
+      b_made : (copy_b volume s2).is_made ≡ true
+      b_made = ap (λ (c : CopyView). c.is_made) b2
+
+      -- copy A is filled
+      row_three : (x : CopyView) → IsRewriting bytes (marked a) x → Row x (copy_b volume s2)
+      row_three x is = elim is [
+        | inl same ↦ no_row x (copy_b volume s2) (ap (λ (c : CopyView). c.is_open) same ∙ none.a) b_shut
+        | inr filling ↦ elim filling.gate [
+          | inl closed ↦ no_row x (copy_b volume s2) closed b_shut
+          | inr full ↦ inr (row_by_a row x (copy_b volume s2) (open_as row x (filled bytes (marked a)) full (open_filled row bytes (marked a) spelled)), filling.made, b_made)
+        ]
+      ]
+
+      within_three : (x : CopyView) → IsRewriting bytes (copy_a volume s2) x → InPair a b Row x (copy_b volume s2)
+      within_three x was =
+          let is : IsRewriting bytes (marked a) x = subst (λ (c : CopyView). IsRewriting bytes c x) a2 was in
+          record { stays_a = stays_since a x (stays_rewriting bytes (marked a) x is); stays_b = stays_marked b (copy_b volume s2) b2; here = row_three x is }
+
+      pub third_pair : (s3 : SiteLog) → WritesCopy (place_of copy.A volume) (IsRewriting bytes (copy_a volume s2)) s2 s3 → Pair s s s3
+      third_pair s3 w = pair_then volume (InPair a b Row) s s2 s3 (second_pair s2 w2) (from_a volume (IsRewriting bytes (copy_a volume s2)) (InPair a b Row) s2 s3 within_three w)
+
+      module _ (s3 : SiteLog) (w3 : WritesCopy (place_of copy.A volume) (IsRewriting bytes (copy_a volume s2)) s2 s3) (was_a3 : copy_a volume s3 ≡ filled bytes (copy_a volume s2)) where
+        a3 : copy_a volume s3 ≡ filled bytes (marked a)
+        a3 = was_a3 ∙ ap (filled bytes) a2
+
+        b3 : copy_b volume s3 ≡ marked b
+        b3 = kept_b volume (IsRewriting bytes (copy_a volume s2)) s2 s3 w3 ∙ b2
+
+        pub b_closed : (copy_b volume s3).is_open ≡ false
+        b_closed = ap (λ (c : CopyView). c.is_open) b3 ∙ none.b
+
+        -- copy B is filled
+        within_four : (y : CopyView) → IsRewriting bytes (copy_b volume s3) y → InPair a b Row (copy_a volume s3) y
+        within_four y was =
+            let is : IsRewriting bytes (marked b) y = subst (λ (c : CopyView). IsRewriting bytes c y) b3 was in
+            record {
+              stays_a = stays_since a (copy_a volume s3) (subst (StaysCopy (marked a)) (sym a3) (stays_filled bytes (marked a)));
+              stays_b = stays_since b y (stays_rewriting bytes (marked b) y is);
+              here = inr (
+                row_by_a row (copy_a volume s3) y (open_as row (copy_a volume s3) (filled bytes (marked a)) a3 (open_filled row bytes (marked a) spelled)),
+                ap (λ (c : CopyView). c.is_made) a3,
+                rewriting_made bytes b y is,
+              );
+            }
+
+        pub fourth_pair : (s4 : SiteLog) → WritesCopy (place_of copy.B volume) (IsRewriting bytes (copy_b volume s3)) s3 s4 → Pair s s s4
+        fourth_pair s4 w = pair_then volume (InPair a b Row) s s3 s4 (third_pair s3 w3) (from_b volume (IsRewriting bytes (copy_b volume s3)) (InPair a b Row) s3 s4 within_four w)
+
+        module _ (s4 : SiteLog) (w4 : WritesCopy (place_of copy.B volume) (IsRewriting bytes (copy_b volume s3)) s3 s4) (was_b4 : copy_b volume s4 ≡ filled bytes (copy_b volume s3)) where
+          a4 : copy_a volume s4 ≡ filled bytes (marked a)
+          a4 = kept_a volume (IsRewriting bytes (copy_b volume s3)) s3 s4 w4 ∙ a3
+
+          b4 : copy_b volume s4 ≡ filled bytes (marked b)
+          b4 = was_b4 ∙ ap (filled bytes) b3
+
+          pub created : HoldsRow row volume (content s4)
+          created = record {
+            a = open_as row (copy_a volume s4) (filled bytes (marked a)) a4 (open_filled row bytes (marked a) spelled);
+            b = open_as row (copy_b volume s4) (filled bytes (marked b)) b4 (open_filled row bytes (marked b) spelled);
+          }
+
+          pub both_made : AreMade volume (content s4)
+          both_made = record { a = ap (λ (c : CopyView). c.is_made) a4; b = ap (λ (c : CopyView). c.is_made) b4 }

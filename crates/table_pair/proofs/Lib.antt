@@ -1,0 +1,11 @@
+pub mod CopyLemmas
+pub mod WriteLemmas
+pub mod PairFacts
+pub mod PairLemmas
+pub mod StayLemmas
+pub mod ChangeLemmas
+pub mod CreateLemmas
+pub mod FollowLemmas
+pub mod RepairLemmas
+pub mod ReadLemmas
+pub mod LawLemmas

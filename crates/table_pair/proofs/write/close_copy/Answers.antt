@@ -1,0 +1,19 @@
+use Rattle.std.proofs.Common.{◌∷◌, [], ◌∙◌, refl}
+use Rattle.table_pair.proofs.WriteLemmas.{closing, closed}
+use Rattle.table_pair.proofs.write.close_copy.Goals as goal
+
+pub returns-in_err-write-clause-moments : goal.returns-in_err-write-clause-moments
+returns-in_err-write-clause-moments g c = λ tells.
+    let at = c.args.at.now in
+    let w = c.write.ensures.logged tells in
+    closing at _ _ (g.met.S.Site.whole c.args.site.now at.unit at.block tells) w.0 w.1 (c.requires.told tells ∙ c.if-is_open.true) w.2
+
+pub returns-in_ok-write-clause-moments : goal.returns-in_ok-write-clause-moments
+returns-in_ok-write-clause-moments g c = λ tells.
+    let at = c.args.at.now in
+    closing at _ _ (g.met.S.Site.whole c.args.site.now at.unit at.block tells) (0 ∷ []) refl (c.requires.told tells ∙ c.if-is_open.true) (c.in_ok-write.ensures.ok tells)
+
+pub returns-in_ok-write-clause-done : goal.returns-in_ok-write-clause-done
+returns-in_ok-write-clause-done g c = λ tells.
+    let at = c.args.at.now in
+    closed at _ _ (g.met.S.Site.whole c.args.site.now at.unit at.block tells) (c.in_ok-write.ensures.ok tells)

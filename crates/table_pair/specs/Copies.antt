@@ -1,0 +1,49 @@
+-- One copy of a row, and what it may be while it is written.
+use Rattle.std.specs.Prelude.{◌≡◌, ◌⊎◌, ℕ, Bool, true, false, not, ◌==◌, List, drop, slice_index}
+use Rattle.mss_base.specs.Content.{SiteLog, content, Writes, ChangesBlock}
+use Rattle.mss_base.specs.declared.place.BlockPlace.{BlockPlace}
+use Rattle.volume_table.specs.Grammar.{body}
+
+-- what counts of a copy's block: its gate, the body that spells the row, its made mark, the bytes behind the row
+pub record CopyView : Type 0 where
+  pub is_open : Bool
+  pub spelled : List ℕ
+  pub is_made : Bool
+  pub behind : List ℕ
+
+-- C1 alone is an open gate; the made mark is 00 until the volume is created
+unfoldable pub copy_at : List ℕ → CopyView
+copy_at block = record {
+  is_open = slice_index block 0 == 193;
+  spelled = body block;
+  is_made = not (slice_index block 511 == 0);
+  behind = drop 512 block;
+}
+
+-- a copy after its gate was closed, after it was marked, and open with a body
+abbrev pub shut : CopyView → CopyView
+shut c = record c { is_open = false }
+
+abbrev pub marked : CopyView → CopyView
+marked c = record c { is_made = true }
+
+abbrev pub filled : List ℕ → CopyView → CopyView
+filled bytes c = record c { is_open = true; spelled = bytes }
+
+-- a copy while a body is written behind its closed gate, and the gate then opened: closed, or open with that body
+pub record IsFilling (bytes : List ℕ) (old now : CopyView) : Type 0 where
+  pub made : now.is_made ≡ old.is_made
+  pub behind : now.behind ≡ old.behind
+  pub gate : (now.is_open ≡ false) ⊎ (now ≡ filled bytes old)
+
+-- a copy while it is rewritten: as it was, or being filled
+abbrev pub IsRewriting : List ℕ → CopyView → CopyView → Type 0
+IsRewriting bytes old now = (now ≡ old) ⊎ IsFilling bytes old now
+
+-- the copy in a block of a site
+abbrev pub copy_on : SiteLog → BlockPlace → CopyView
+copy_on s at = copy_at (content s at.unit at.block)
+
+-- the log got writes into this block alone, and P holds of the copy in it at each moment since
+abbrev pub WritesCopy : BlockPlace → (CopyView → Type 0) → SiteLog → SiteLog → Type 0
+WritesCopy at P old new = Writes (ChangesBlock at.unit at.block (λ block. P (copy_at block)) (content old)) old new

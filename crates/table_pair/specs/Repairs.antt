@@ -1,0 +1,44 @@
+-- When copies need no repair, which one is to be rewritten, and what a failed repair keeps.
+use Rattle.std.specs.Prelude.{◌≡◌, ◌≢◌, ◌⊎◌, ℕ, true, false, Option, Some, None, Result, Err}
+use Rattle.mss_base.specs.Content.{Content}
+use Rattle.mss_base.specs.declared.place.UnitNo.TheVariants.{TableA, TableB}
+use Rattle.volume_table.specs.Row.{RowValue}
+use Rattle.table_pair.specs.declared.copy.TableCopy.{TableCopy}
+use Rattle.table_pair.specs.declared.copy.TableCopy.TheVariants as copy
+use Rattle.table_pair.specs.Copies.{CopyView, copy_at}
+use Rattle.table_pair.specs.Pair.{row_of, row_of_copies, known, IsOpenWith, HoldsRow}
+use Rattle.table_pair.specs.Reads.{IsKept}
+use Rattle.table_pair.specs.declared.copy.RepairFault.{RepairFault}
+use Rattle.table_pair.specs.declared.copy.RepairFault.TheVariants.{Failed}
+
+-- both copies are open with the same body
+pub record AreEqual (a b : CopyView) : Type 0 where
+  pub open_a : a.is_open ≡ true
+  pub open_b : b.is_open ≡ true
+  pub same : b.spelled ≡ a.spelled
+
+-- there is no row to follow, or the copies are equal
+abbrev pub NeedNoRepair : CopyView → CopyView → Type 0
+NeedNoRepair a b = ((row : RowValue) → row_of_copies a b ≢ known (Some row) false) ⊎ AreEqual a b
+
+abbrev pub NeedsNoRepair : ℕ → Content → Type 0
+NeedsNoRepair volume c = NeedNoRepair (copy_at (c TableA volume)) (copy_at (c TableB volume))
+
+-- the copy that differs from the row which the other one tells, if any
+abbrev pub IsStale : Option TableCopy → CopyView → CopyView → Type 0
+IsStale None a b = NeedNoRepair a b
+IsStale (Some copy.A) a b = (a.is_open ≡ false) × ((row : RowValue) × IsOpenWith row b)
+IsStale (Some copy.B) a b = (AreEqual a b → ⊥) × ((row : RowValue) × IsOpenWith row a)
+
+-- the row stays
+abbrev pub KeepsRow : ℕ → Content → Content → Type 0
+KeepsRow volume old new = row_of new volume ≡ row_of old volume
+
+-- the row that was told, if any, stands in both copies
+abbrev pub HoldsToldRow : ℕ → Content → Content → Type 0
+HoldsToldRow volume old new = (row : RowValue) → row_of old volume ≡ known (Some row) false → HoldsRow row volume new
+
+-- a failure keeps the count of a fault that rose in the call
+abbrev pub KeepsRepairFault : {T : Type 0} → ℕ → ℕ → Result T RepairFault → Type 0
+KeepsRepairFault before now (Err (Failed fault)) = IsKept before now fault
+KeepsRepairFault before now _ = Unit {0}

@@ -1,0 +1,103 @@
+// The two copies of a row, and what reading or repairing them answers.
+ghost use Rattle.std.specs.Prelude.{◌≡◌};
+ghost use Rattle.table_pair.specs.Places.{place_of};
+
+use mss_base::{BlockPlace, NoMemory, UnitNo, VolumeNo};
+use std::alloc::AllocError;
+use volume_table::{RowFault, VolumeRow};
+
+/// A copy of the table.
+#[derive(Clone, Copy, Debug, PartialEq, Eq)]
+pub enum TableCopy {
+    A,
+    B,
+}
+
+/// The block of a volume's row in a copy.
+pub fn place_of(copy: TableCopy, volume: VolumeNo) -> BlockPlace
+    ensures { result ≡ place_of copy volume }
+{
+    let unit = match copy {
+        TableCopy::A => UnitNo::TableA,
+        TableCopy::B => UnitNo::TableB,
+    };
+    BlockPlace {
+        unit,
+        block: volume.get() as u32,
+    }
+}
+
+/// A row, or none. Where one copy couldn't be read and the row is known all the same, `unread` is the site's count of
+/// faults after that read.
+#[derive(Drop)]
+pub struct RowRead {
+    pub row: Option<VolumeRow>,
+    pub unread: Option<u64>,
+}
+
+/// Why it isn't known whether there is a row.
+#[derive(Clone, Copy, Debug, PartialEq, Eq)]
+pub enum RowTrouble {
+    /// The copy that counts spells no row.
+    Damaged { copy: TableCopy, fault: RowFault },
+    /// What could be read doesn't tell. `fault` is the site's count of faults after the last failed read.
+    Unread { fault: u64 },
+    Memory,
+}
+
+impl From<NoMemory> for RowTrouble {
+    ghost use Rattle.table_pair.specs.declared.copy.RowTrouble.TheVariants.{Memory};
+
+    ghost from_gives = { λ _ e. e ≡ Memory };
+
+    fn from(_: NoMemory) -> Self {
+        RowTrouble::Memory
+    }
+}
+
+impl From<AllocError> for RowTrouble {
+    ghost use Rattle.table_pair.specs.declared.copy.RowTrouble.TheVariants.{Memory};
+
+    ghost from_gives = { λ _ e. e ≡ Memory };
+
+    fn from(_: AllocError) -> Self {
+        RowTrouble::Memory
+    }
+}
+
+/// Why two copies weren't made equal.
+#[derive(Clone, Copy, Debug, PartialEq, Eq)]
+pub enum RepairFault {
+    /// A read or a write failed. `fault` is the site's count of faults after it.
+    Failed { fault: u64 },
+    /// Memory ran out before the first write.
+    Memory,
+}
+
+impl From<NoMemory> for RepairFault {
+    ghost use Rattle.table_pair.specs.declared.copy.RepairFault.TheVariants.{Memory};
+
+    ghost from_gives = { λ _ e. e ≡ Memory };
+
+    fn from(_: NoMemory) -> Self {
+        RepairFault::Memory
+    }
+}
+
+impl From<AllocError> for RepairFault {
+    ghost use Rattle.table_pair.specs.declared.copy.RepairFault.TheVariants.{Memory};
+
+    ghost from_gives = { λ _ e. e ≡ Memory };
+
+    fn from(_: AllocError) -> Self {
+        RepairFault::Memory
+    }
+}
+
+/// What a read of a copy told.
+#[derive(Drop)]
+pub enum CopyState {
+    Unread { fault: u64 },
+    Closed { made: bool },
+    Open(Result<VolumeRow, RowFault>),
+}

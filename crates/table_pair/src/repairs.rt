@@ -1,0 +1,144 @@
+// Making two copies equal.
+ghost use Rattle.std.specs.Prelude.{◌≡◌, ◌≢◌, ◌≤◌, ℕ, ◌+◌, Ok, Err, Some, None, true, false, length, OnOk, IsTrue, ◌↔◌, MatchResult};
+ghost use Rattle.mss_base.specs.Content.{content, Writes};
+ghost use Rattle.mss_base.specs.Counts.{HasCause};
+ghost use Rattle.mss_base.specs.declared.place.UnitNo.TheVariants.{TableA, TableB};
+ghost use Rattle.volume_table.specs.Row.{RowValue};
+ghost use Rattle.volume_table.specs.Grammar.{decode};
+ghost use Rattle.table_pair.specs.Copies.{copy_at};
+ghost use Rattle.table_pair.specs.Pair.{ChangesRow, HoldsRow, row_of, known};
+ghost use Rattle.table_pair.specs.Repairs.{NeedsNoRepair, IsStale, KeepsRow, HoldsToldRow, KeepsRepairFault};
+ghost use Rattle.table_pair.specs.declared.copy.RepairFault.TheVariants.{Memory};
+
+use crate::copy::{RepairFault, TableCopy, place_of};
+use crate::write::{OPEN, rewrite_copy};
+use mss_base::{BlockPlace, Failed, Site, VolumeNo};
+use std::alloc::Global;
+use volume_table::check_row;
+
+fn is_open(block: &[u8]) -> bool
+    requires { length block.now ≡ 16384 }
+    ensures { result ≡ (copy_at block.now).is_open }
+{
+    block[0] == OPEN
+}
+
+/// Whether an open copy spells a row.
+fn has_row(block: &[u8]) -> bool
+    requires { length block.now ≡ 16384 }
+    ensures { IsTrue result ↔ ((row : RowValue) × (decode (copy_at block.now).spelled ≡ Ok row)) }
+{
+    check_row(&block[0..512]).is_ok()
+}
+
+fn same_body(a: &[u8], b: &[u8]) -> bool
+    requires a { length a.now ≡ 16384 }
+    requires b { length b.now ≡ 16384 }
+    ensures { IsTrue result ↔ ((copy_at b.now).spelled ≡ (copy_at a.now).spelled) }
+{
+    b[1..511] == a[1..511]
+}
+
+/// The copy that has to be rewritten, if any. Copy A is followed where it is open, else an open copy B; a copy that
+/// spells no row isn't followed.
+fn stale_copy(a: &[u8], b: &[u8]) -> Option<TableCopy>
+    requires a { length a.now ≡ 16384 }
+    requires b { length b.now ≡ 16384 }
+    ensures { IsStale result (copy_at a.now) (copy_at b.now) }
+{
+    if is_open(a) {
+        if !has_row(a) {
+            return None;
+        }
+        if is_open(b) && same_body(a, b) {
+            return None;
+        }
+        return Some(TableCopy::B);
+    }
+    if is_open(b) && has_row(b) {
+        return Some(TableCopy::A);
+    }
+    None
+}
+
+/// Makes the copies, which were read as `a` and `b`, equal.
+fn follow<S: Site>(site: &mut S, volume: VolumeNo, a: &[u8], b: &[u8]) -> Result<(), Failed>
+    requires a { length a.now ≡ 16384 }
+    requires b { length b.now ≡ 16384 }
+    requires told_a { S.tells → content (S.told site.old) TableA volume ≡ a.now }
+    requires told_b { S.tells → content (S.told site.old) TableB volume ≡ b.now }
+    requires room { 3 ≤ S.spare site.old }
+    ensures moments { S.tells → Writes
+        (ChangesRow volume (KeepsRow volume (content (S.told site.old))) (content (S.told site.old)))
+        (S.told site.old) (S.told site.new) }
+    ensures done { S.tells → OnOk result
+        (HoldsToldRow volume (content (S.told site.old)) (content (S.told site.new))) }
+    ensures untouched { S.tells → NeedsNoRepair volume (content (S.told site.old))
+        → S.told site.new ≡ S.told site.old }
+    ensures room { S.spare site.old ≤ S.spare site.new + 3 }
+    ensures cause { HasCause (S.faults site.old) (S.faults site.new) result }
+{
+    match stale_copy(a, b) {
+        None => Ok(()),
+        Some(TableCopy::A) => {
+            rewrite_copy(site, &place_of(TableCopy::A, volume), false, &b[1..511])
+        }
+        Some(TableCopy::B) => {
+            rewrite_copy(
+                site,
+                &place_of(TableCopy::B, volume),
+                is_open(b),
+                &a[1..511],
+            )
+        }
+    }
+}
+
+/// Reads a block, or tells the count of faults after the read.
+fn read_block<S: Site>(site: &mut S, at: &BlockPlace, block: &mut [u8]) -> Result<(), RepairFault>
+    requires { length block.old ≡ 16384 }
+    ensures block { S.tells → OnOk result (block.new ≡ content (S.told site.old) at.now.unit at.now.block) }
+    ensures told { S.tells → S.told site.new ≡ S.told site.old }
+    ensures spare { S.spare site.new ≡ S.spare site.old }
+    ensures writes { S.writes site.new ≡ S.writes site.old }
+    ensures kept { KeepsRepairFault (S.faults site.old) (S.faults site.new) result }
+    ensures later { S.faults site.old ≤ S.faults site.new }
+{
+    match site.read(at.unit, at.block, block) {
+        Ok(()) => Ok(()),
+        Err(Failed) => Err(RepairFault::Failed {
+            fault: site.faults(),
+        }),
+    }
+}
+
+/// Makes the two copies of a volume's row equal, where one of them tells a row: the row that `read_row` tells stands in
+/// both after that. Elsewhere, and where they are equal, nothing is written.
+///
+/// It makes at most three writes, for which it takes the room itself. The row is the same at every moment.
+pub fn repair<S: Site>(site: &mut S, alloc: Global, volume: VolumeNo) -> Result<(), RepairFault>
+    ensures moments { S.tells → Writes
+        (ChangesRow volume (KeepsRow volume (content (S.told site.old))) (content (S.told site.old)))
+        (S.told site.old) (S.told site.new) }
+    ensures done { S.tells → OnOk result
+        (HoldsToldRow volume (content (S.told site.old)) (content (S.told site.new))) }
+    ensures untouched { S.tells → NeedsNoRepair volume (content (S.told site.old))
+        → S.told site.new ≡ S.told site.old }
+    ensures memory { result ≡ Err Memory → S.writes site.new ≡ S.writes site.old }
+    ensures memory_told { S.tells → result ≡ Err Memory → S.told site.new ≡ S.told site.old }
+    ensures room { S.spare site.old ≤ S.spare site.new + 3 }
+    ensures kept { KeepsRepairFault (S.faults site.old) (S.faults site.new) result }
+    ensures later { S.faults site.old ≤ S.faults site.new }
+{
+    site.reserve(3)?;
+    let mut a = vec![in alloc; 0u8; 16384]?;
+    let mut b = vec![in alloc; 0u8; 16384]?;
+    read_block(site, &place_of(TableCopy::A, volume), &mut a)?;
+    read_block(site, &place_of(TableCopy::B, volume), &mut b)?;
+    match follow(site, volume, &a, &b) {
+        Ok(()) => Ok(()),
+        Err(Failed) => Err(RepairFault::Failed {
+            fault: site.faults(),
+        }),
+    }
+}
