@@ -9,7 +9,8 @@ use Rattle.channel_commands.specs.Data.{CcwData, device, transfer}
 use Rattle.channel_program.specs.Script.{ItemData, mounting, demounting, program as running}
 use Rattle.job_text.specs.declared.kind.Place.TheVariants as place
 use Rattle.job_text.specs.declared.kind.Keyword.TheVariants as keyword
-use Rattle.job_text.specs.Configs.{VolumeData, IsVolume}
+use Rattle.job_text.proofs.Serials.{from_serial}
+use Rattle.mss_base.specs.Configs.{VolumeData, IsVolume}
 use Rattle.job_text.specs.Jobs.{ScriptData, JobData, IsWord, IsItem, IsScript, IsJob, word_size, item_size, script_size, WORD_LIMIT, ITEM_LIMIT, ARGUMENT_LIMIT, TOTAL_LIMIT}
 use Rattle.job_text.specs.Lines.{LineData, mss, volume, host, done, mount, demount, program, ccw, tic, end}
 use Rattle.job_text.specs.Grammar.{SoFar, nothing, after, judged, mounting_of, is_twice, is_absent, is_beyond, scripts, job}
@@ -163,7 +164,7 @@ volumes_lead (v ∷ vs) before f r each numbers serials =
     let rest = volumes_lead vs (before ++ v ∷ []) f r each.1
     (subst (λ (xs : List VolumeData). IsDistinct ◌==◌ (map (λ w. w.0) xs)) (sym apart) numbers)
     (subst (λ (xs : List VolumeData). IsDistinct bytes_eq (map (λ w. w.1) xs)) (sym apart) serials) in
-    leads_to s _ _ (map (λ w. volume w.0 w.1) (v ∷ vs)) (leads_on s (volume v.0 v.1) (map (λ w. volume w.0 w.1) vs) _ each.0 refl (good s (volume v.0 v.1) twice refl refl) rest)
+    leads_to s _ _ (map (λ w. volume w.0 w.1) (v ∷ vs)) (leads_on s (volume v.0 v.1) (map (λ w. volume w.0 w.1) vs) _ (each.0.0, from_serial v.1 each.0.1) refl (good s (volume v.0 v.1) twice refl refl) rest)
     (ap (at_volumes f r) apart)
 
 -- what is known at a job's end

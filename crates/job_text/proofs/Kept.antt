@@ -12,7 +12,8 @@ use Rattle.job_text.specs.declared.kind.Keyword.{Keyword}
 use Rattle.job_text.specs.declared.kind.Place.{Place}
 use Rattle.job_text.specs.declared.kind.Place.TheVariants as place
 use Rattle.job_text.specs.Words.{is_skipped, is_printable, words_of}
-use Rattle.job_text.specs.Configs.{VolumeData, IsVolume}
+use Rattle.job_text.proofs.Serials.{to_serial}
+use Rattle.mss_base.specs.Configs.{VolumeData, IsVolume}
 use Rattle.job_text.specs.Jobs.{ScriptData, IsWord, IsItem, IsProgram, IsScript, word_size, item_size, script_size, WORD_LIMIT, ITEM_LIMIT, ARGUMENT_LIMIT, TOTAL_LIMIT}
 use Rattle.job_text.specs.Lines.{LineData, mss, volume, host, done, mount, demount, program, ccw, tic, end, spelling, allowed, keyword_at, line_of}
 use Rattle.job_text.specs.Grammar.{SoFar, BadLine, nothing, after, judged, ◌>>=◌, spoken, spoken_by, is_after, line_after, told, lines_after, number_of_serial, is_twice, is_absent, is_beyond, scripts}
@@ -252,7 +253,7 @@ kept_on place.Head (mss f r) s here kept is allowed a b d =
     let hostless : IsHostless start = record { none_closed = refl; none_present = refl; no_words = refl; no_bytes = refl } in
     subst (λ (x : SoFar). IsKeptAt place.Volumes (after x (mss f r))) (sym kept) (base, hostless)
 kept_on place.Volumes (volume n serial) s here kept is allowed a b d =
-    subst (λ (q : Place). IsKeptAt q (after s (volume n serial))) (sym here) (volume_kept s n serial kept.0 kept.1 is a)
+    subst (λ (q : Place). IsKeptAt q (after s (volume n serial))) (sym here) (volume_kept s n serial kept.0 kept.1 (is.0, to_serial serial is.1) a)
 kept_on place.Volumes (host n) s here kept is allowed a b d = host_kept s n kept.0 (whole_hostless s kept.1) is a
 kept_on place.Volumes done s here kept is allowed a b d = done_kept s kept.0 (whole_hostless s kept.1)
 kept_on place.Host (host n) s here kept is allowed a b d = host_kept s n kept.0 (whole_open s kept.1 kept.0 kept.2 kept.3) is a

@@ -11,7 +11,8 @@ use Rattle.std.proofs.lemmas.Bool.{cases_Bool, eqb-true, eqb-false, ne_eqb}
 use Rattle.std.proofs.lemmas.Cmp.{ranked}
 use Rattle.job_text.proofs.Lists.{all_weaker, found_has, bytes_eq-same}
 use Rattle.job_text.specs.Words.{is_serial}
-use Rattle.job_text.specs.Configs.{VolumeData, IsVolume}
+use Rattle.job_text.proofs.Serials.{from_serial}
+use Rattle.mss_base.specs.Configs.{VolumeData, IsVolume}
 use Rattle.job_text.specs.Jobs.{by_number}
 use Rattle.job_text.specs.Canonical.{serial_of}
 
@@ -83,7 +84,7 @@ is_found (w ∷ vs) n v each differ e = elim (cases_Bool (w.0 == n)) [
   | inl is ↦
       let same : w ≡ v = (let this : Some w ≡ Some v = rw is at e in cc) in
       subst (λ (u : VolumeData). (u.0 ≡ n) × (is_serial u.1 ≡ true) × (find (λ x. bytes_eq x.1 u.1) (w ∷ vs) ≡ Some u)) same
-      (eqb-true w.0 n is, each.0.1, rw (bytes_eq-same w.1) refl)
+      (eqb-true w.0 n is, from_serial w.1 each.0.1, rw (bytes_eq-same w.1) refl)
   | inr isnt ↦
       let later : find (has_number n) vs ≡ Some v = rw isnt at e in
       let rest = is_found vs n v each.1 differ.1 later in

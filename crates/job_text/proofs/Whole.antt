@@ -10,7 +10,7 @@ use Rattle.std.specs.Str.{bytes_eq}
 use Rattle.std.proofs.lemmas.Bool.{cases_Bool, eqb-true, eqb-false, ne_eqb}
 use Rattle.channel_program.specs.Script.{ItemData, mounting, demounting, program as running}
 use Rattle.job_text.specs.Words.{lines_of}
-use Rattle.job_text.specs.Configs.{VolumeData, IsVolume, IsConfig}
+use Rattle.mss_base.specs.Configs.{VolumeData, IsVolume, IsConfig}
 use Rattle.job_text.specs.Jobs.{ScriptData, JobData, by_number, IsItem, IsScript, IsJob}
 use Rattle.job_text.specs.Grammar.{SoFar, BadLine, TEXT_LIMIT, nothing, lines_after, job, job_of, job_of_reading}
 use Rattle.job_text.proofs.Lists.{all_weaker, all_of_map, cons_all, found_test, found_in, bytes_eq-is}

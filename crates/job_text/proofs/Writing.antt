@@ -3,7 +3,7 @@ use Rattle.std.proofs.Common.{◌≡◌, ℕ, ◌≤◌, List, [], ◌∷◌, �
 use Rattle.std.specs.List.{flat_map, join_with_byte}
 use Rattle.std.proofs.lemmas.Grind.{flat_map-append}
 use Rattle.std.proofs.lemmas.List.{take_all}
-use Rattle.job_text.specs.Configs.{VolumeData, ConfigData}
+use Rattle.mss_base.specs.Configs.{VolumeData, ConfigData}
 use Rattle.job_text.specs.Jobs.{JobData, ScriptData}
 use Rattle.job_text.specs.Lines.{mss, volume, done}
 use Rattle.job_text.specs.Canonical.{line_text, script_lines, config_lines, config_text, job_text}

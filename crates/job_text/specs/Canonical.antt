@@ -10,7 +10,7 @@ use Rattle.job_text.specs.Words.{is_serial}
 use Rattle.job_text.specs.Grammar.{SoFar, judged}
 use Rattle.channel_commands.specs.Data.{CcwData, device, transfer}
 use Rattle.channel_program.specs.Script.{ItemData, mounting, demounting, program as running}
-use Rattle.job_text.specs.Configs.{VolumeData, ConfigData}
+use Rattle.mss_base.specs.Configs.{VolumeData, ConfigData}
 use Rattle.job_text.specs.Jobs.{ScriptData, JobData}
 use Rattle.job_text.specs.Lines.{LineData, mss, volume, host, done, mount, demount, program, ccw, tic, end, spelling, keyword_at}
 

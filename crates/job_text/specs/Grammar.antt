@@ -11,7 +11,7 @@ use Rattle.job_text.specs.declared.kind.Place.TheVariants as place
 use Rattle.job_text.specs.Words.{lines_of, words_of, is_skipped, is_printable}
 use Rattle.channel_commands.specs.Data.{CcwData, device, transfer}
 use Rattle.channel_program.specs.Script.{ItemData, mounting, demounting, program as running}
-use Rattle.job_text.specs.Configs.{VolumeData}
+use Rattle.mss_base.specs.Configs.{VolumeData}
 use Rattle.job_text.specs.Jobs.{ScriptData, JobData, by_number, WORD_LIMIT, ITEM_LIMIT, ARGUMENT_LIMIT, TOTAL_LIMIT}
 use Rattle.job_text.specs.Lines.{LineData, mss, volume, host, done, mount, demount, program, ccw, tic, end, keyword_at, line_of}
 

@@ -3,7 +3,7 @@ use Rattle.std.specs.Prelude.{ℕ, ◌≤◌, ◌<◌, ◌==◌, List, length, m
 use Rattle.std.specs.List.{AllByRecursion, IsDistinct, filter_map, find, range_with_len}
 use Rattle.channel_commands.specs.Data.{CcwData, device, transfer}
 use Rattle.channel_program.specs.Script.{ItemData, mounting, demounting, program as running}
-use Rattle.job_text.specs.Configs.{VolumeData, ConfigData, IsConfig}
+use Rattle.mss_base.specs.Configs.{VolumeData, ConfigData, IsConfig}
 
 -- a host with what it does, in order
 pub record ScriptData : Type 0 where

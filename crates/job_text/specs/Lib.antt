@@ -1,5 +1,4 @@
 pub mod Words
-pub mod Configs
 pub mod Jobs
 pub mod Lines
 pub mod Grammar

@@ -1,7 +1,6 @@
 //! Jobs.
-use crate::config::Config;
 use channel_program::Program;
-use mss_base::{HostNo, Listed, VolumeNo};
+use mss_base::{Config, HostNo, Listed, VolumeNo};
 use std::marker::Model;
 
 /// What a host does next.

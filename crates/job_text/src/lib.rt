@@ -5,11 +5,11 @@
 //! A job's programs and items are those of `channel_program`, so that following a script speaks of the same lists.
 #![tactic(auto)]
 
-mod config;
 mod job;
 mod kind;
 mod law;
 mod line;
+mod numbered;
 mod read;
 mod reading;
 #[cfg(test)]
@@ -17,7 +17,6 @@ mod tests;
 mod words;
 mod write;
 
-pub use config::{Config, VolumeList};
 pub use job::{HostScript, HostScripts, Item, ItemList, Job};
 pub use kind::{JobKind, Keyword, Place};
 pub use law::{job_back, jobs_are_whole, line_back, lines_back, one_spelling, text_back};

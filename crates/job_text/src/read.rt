@@ -8,12 +8,12 @@ ghost use Rattle.job_text.specs.Grammar.{nothing, lines_after, job_of};
 ghost use Rattle.job_text.specs.Outcomes.{Reads};
 ghost use Rattle.job_text.specs.SoFar.{so_far};
 
-use crate::config::{Config, VolumeList, volume_with};
 use crate::job::Job;
 use crate::kind::{JobKind, Place};
 use crate::line::LineFault;
+use crate::numbered::volume_with;
 use crate::reading::Reading;
-use mss_base::{NoMemory, Serial, VolumeNo};
+use mss_base::{Config, NoMemory, Serial, VolumeList, VolumeNo};
 use std::alloc::{AllocError, Global};
 
 /// Why a text has no job.

@@ -9,14 +9,13 @@ ghost use Rattle.job_text.specs.Outcomes.{Steps};
 ghost use Rattle.job_text.specs.Views.{said};
 ghost use Rattle.job_text.specs.SoFar.{so_far};
 
-use crate::config::VolumeList;
 use crate::job::{HostScript, HostScripts, Item, ItemList};
 use crate::kind::{JobKind, Keyword, Place};
 use crate::line::{Line, LineFault, line_of};
 use crate::words::{are_printable, is_skipped, is_word, words_of};
 use channel_commands::Ccw;
 use channel_program::Program;
-use mss_base::{Bytes, HostNo, Listed, NoMemory, Serial, VolumeNo};
+use mss_base::{Bytes, HostNo, Listed, NoMemory, Serial, VolumeList, VolumeNo};
 use std::alloc::Global;
 use std::mem;
 

@@ -8,12 +8,12 @@ ghost use Rattle.job_text.specs.Lines.{spelling, mss, volume, host, mount, ccw};
 ghost use Rattle.job_text.specs.Views.{item_of};
 ghost use Rattle.job_text.specs.Canonical.{hex, line_text, word_line, serial_of, item_lines, script_lines, config_text, job_text};
 
-use crate::config::{Config, volume_with};
 use crate::job::{HostScript, Item, Job};
 use crate::kind::Keyword;
+use crate::numbered::volume_with;
 use crate::reading::spelling;
 use channel_commands::Ccw;
-use mss_base::{Bytes, HostNo, NoMemory, Serial, VolumeNo};
+use mss_base::{Bytes, Config, HostNo, NoMemory, Serial, VolumeNo};
 
 fn digit(value: u8) -> u8
     requires { value < 16 }

@@ -1,7 +1,7 @@
 use crate::{
-    BlockPlace, Bytes, CartridgeNo, Cylinder, Failed, FrameNo, Head, MemorySink, MemorySite,
-    MemorySource, Serial, SilentSite, Sink, Site, SiteFault, Source, UnitNo, cartridge_block,
-    frame_block,
+    BlockPlace, Bytes, CartridgeNo, Cylinder, Failed, FrameNo, Head, ImageFault, MemorySink,
+    MemorySite, MemorySource, Serial, SilentSite, Sink, Site, SiteFault, Source, UnitNo,
+    cartridge_block, frame_block,
 };
 use std::test::Fail;
 
@@ -28,6 +28,32 @@ fn a_call_fails_where_it_was_told_to(rt: HostRuntime) -> Result<(), Fail> {
     assert_eq!(rt; site.read(UnitNo::TableA, 0, &mut block), Err(Failed));
     assert_eq!(rt; site.read(UnitNo::TableB, 0, &mut block), Ok(()));
     assert_eq!(rt; (block[0], site.faults()), (0, 2));
+    Ok(())
+}
+
+#[test]
+fn a_stop_leaves_the_first_writes_and_a_tear(rt: HostRuntime) -> Result<(), Fail> {
+    let mut site = MemorySite::new(rt.alloc())?;
+    site.reserve(2)?;
+    site.fail(&[SiteFault::ReadsOf(UnitNo::TableA)])?;
+    assert_eq!(rt; site.write(UnitNo::TableA, 5, 10, b"abc"), Ok(()));
+    assert_eq!(rt; site.write(UnitNo::TableA, 5, 11, b"XYZ"), Ok(()));
+    let mut block = [1; 16384];
+    for (moment, tear, left) in [
+        (0, None, b"\0\0\0\0"),
+        (1, None, b"abc\0"),
+        (1, Some(b"12345".as_slice()), b"a123"),
+        (1, Some(b"1".as_slice()), b"a1\0\0"),
+        (2, Some(b"12345".as_slice()), b"aXYZ"),
+    ] {
+        let Ok(mut image) = site.image(moment, tear) else {
+            return Err("image".into());
+        };
+        assert_eq!(rt; image.read(UnitNo::TableA, 5, &mut block), Ok(()));
+        assert_eq!(rt; &block[10..14], left.as_slice());
+        assert_eq!(rt; (image.writes(), image.faults()), (0, 0));
+    }
+    assert_eq!(rt; site.image(3, None).err(), Some(ImageFault::NoSuchMoment));
     Ok(())
 }
 

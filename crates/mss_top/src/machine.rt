@@ -20,8 +20,7 @@ use crate::session::Session;
 use channel_commands::{BreakCause, Call, Command, Reply};
 use ckd_plain::steps::{opened, refused, sense_of};
 use ckd_plain::{Entry, HostState, Prior, Refusal, UnitCheck, admitted};
-use job_text::VolumeList;
-use mss_base::{Bytes, HostNo, NoMemory, Serial, Site, VolumeNo};
+use mss_base::{Bytes, HostNo, NoMemory, Serial, Site, VolumeList, VolumeNo};
 use std::alloc::Global;
 use track_engine::{EngineFault, is_data, run_command, run_control};
 

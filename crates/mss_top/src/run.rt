@@ -23,8 +23,8 @@ use crate::session::Session;
 use crate::start::{StartFault, VolumeFault, check_volumes};
 use crate::status::Status;
 use crate::words::are_serial;
-use job_text::{HostScript, Job, VolumeList};
-use mss_base::{HostNo, Serial, Sink, Site, Source, VolumeNo};
+use job_text::{HostScript, Job};
+use mss_base::{HostNo, Serial, Sink, Site, Source, VolumeList, VolumeNo};
 use report_text::{OneLine, put_line};
 use std::alloc::Global;
 

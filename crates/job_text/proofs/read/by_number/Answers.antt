@@ -2,7 +2,7 @@ use Rattle.std.proofs.Common.{◌≡◌, ℕ, List, ◌++◌, sym, ap, ◌∙◌
 use Rattle.std.specs.Prelude.{◌==◌}
 use Rattle.std.specs.List.{find, filter_map, range_with_len}
 use Rattle.std.specs.Option.{option_to_list}
-use Rattle.job_text.specs.Configs.{VolumeData}
+use Rattle.mss_base.specs.Configs.{VolumeData}
 use Rattle.job_text.proofs.Parts.{numbered_more}
 use Rattle.job_text.proofs.read.by_number.Goals as goal
 

@@ -1,6 +1,6 @@
 use Rattle.std.proofs.Common.{◌≡◌, ℕ, List, ◌++◌, subst}
 use Rattle.std.specs.Prelude.{OnOk}
-use Rattle.job_text.specs.Configs.{ConfigData}
+use Rattle.mss_base.specs.Configs.{ConfigData}
 use Rattle.job_text.specs.Canonical.{config_text}
 use Rattle.job_text.proofs.Writing.{config_put}
 use Rattle.job_text.proofs.write.push_config.Goals as goal

@@ -1,7 +1,7 @@
 use Rattle.std.proofs.Common.{◌≡◌, ℕ, List, sym, ◌∙◌, ap, subst}
 use Rattle.ckd_plain.specs.Plain.{serial_in}
 use Rattle.mss_base.specs.Content.{content}
-use Rattle.job_text.specs.Configs.{ConfigData}
+use Rattle.mss_base.specs.Configs.{ConfigData}
 use Rattle.job_text.specs.Jobs.{JobData}
 use Rattle.mss_top.specs.Session.{AreAllTracks}
 use Rattle.mss_top.proofs.run.run_job.Goals as goal

@@ -1,10 +1,10 @@
 -- Configurations as plain data.
-use Rattle.std.specs.Prelude.{◌≡◌, ℕ, ◌≤◌, true, List, map}
+use Rattle.std.specs.Prelude.{ℕ, ◌≤◌, List, map}
 use Rattle.std.specs.List.{AllByRecursion, IsDistinct}
 use Rattle.std.specs.Ordering.{nat_cmp}
 use Rattle.std.specs.List.Sorted.{IsStrictlySortedBy}
 use Rattle.std.specs.Str.{bytes_eq}
-use Rattle.job_text.specs.Words.{is_serial}
+use Rattle.mss_base.specs.Serial.{IsSerial}
 
 -- a volume: its number and its serial
 abbrev pub VolumeData : Type 0
@@ -16,7 +16,7 @@ pub record ConfigData : Type 0 where
   pub volumes : List VolumeData
 
 abbrev pub IsVolume : VolumeData → Type 0
-IsVolume v = (v.0 ≤ 31) × (is_serial v.1 ≡ true)
+IsVolume v = (v.0 ≤ 31) × IsSerial v.1
 
 -- 1 to 200 frames, 1 to 8 recorders, and volumes in rising order of number whose serials differ
 pub record IsConfig (config : ConfigData) : Type 0 where

@@ -1,8 +1,5 @@
-//! What a session is made of.
-ghost use Rattle.std.specs.Prelude.{◌≡◌, ◌==◌};
-ghost use Rattle.std.specs.List.{find};
-
-use mss_base::{Listed, Serial, VolumeNo};
+// What a session is made of.
+use crate::{Listed, Serial, VolumeNo};
 use std::marker::Model;
 
 /// Volumes, each with its serial.
@@ -20,18 +17,11 @@ pub struct Config {
 }
 
 impl Model for Config {
-    ghost use Rattle.job_text.specs.Configs.{ConfigData, IsConfig};
+    ghost use Rattle.mss_base.specs.Configs.{ConfigData, IsConfig};
 
     ghost Value = { ConfigData };
 
     ghost view = { λ c. record { frames = c.frames; recorders = c.recorders; volumes = c.volumes.items } };
 
     ghost invariant = { λ c. IsConfig (record { frames = c.frames; recorders = c.recorders; volumes = c.volumes.items }) };
-}
-
-/// The volume with a number, if there is one.
-pub fn volume_with(volumes: &[(VolumeNo, Serial)], number: u8) -> Option<(VolumeNo, Serial)>
-    ensures { result ≡ find (λ v. v.0 == number) volumes.now }
-{
-    volumes.iter().copied().find(|v| v.0.get() == number)
 }

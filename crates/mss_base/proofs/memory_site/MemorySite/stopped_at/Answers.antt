@@ -1,0 +1,19 @@
+use Rattle.std.proofs.Common.{◌≡◌, ◌∙◌, ap, length}
+use Rattle.std.specs.Prelude.{option_map}
+use Rattle.mss_base.specs.Content.{SiteLog, content}
+use Rattle.mss_base.specs.Memory.{held}
+use Rattle.mss_base.specs.MemorySite.{told_of}
+use Rattle.mss_base.proofs.ContentLemmas.{length-image}
+use Rattle.mss_base.proofs.MemoryLemmas.{held_clone}
+use Rattle.mss_base.proofs.memory_site.MemorySite.stopped_at.Goals as goal
+
+pub holding-requires-clause-whole : goal.holding-requires-clause-whole
+holding-requires-clause-whole c unit block =
+    let s = c.args.self.now in
+    ap (λ d. length (d unit block)) c.in_ok-start.ensures ∙ length-image (told_of s) c.args.moment (option_map (λ t. t.now) c.args.tear) unit block ∙ s.whole unit block
+
+pub holding-requires-clause-same : goal.holding-requires-clause-same
+holding-requires-clause-same c = held_clone c.in_ok-start.start c.in_ok-blocks.blocks c.in_ok-blocks.ensures.cases
+
+pub returns-clause-content : goal.returns-clause-content
+returns-clause-content c = ap content c.holding.ensures.told ∙ c.in_ok-start.ensures
