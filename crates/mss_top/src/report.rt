@@ -69,7 +69,8 @@ impl<S: Site> Machine<S> {
     /// Puts the history, the volumes and the last line.
     fn put_session<O: Sink>(&mut self, output: &mut O, last: Last) -> Result<(), VolumesFault>
         requires { vec_len self.old.buffer ≡ 16384 }
-        ensures bytes { PutsSession (S.tells × O.tells) (direct (serial_in self.old.volumes.items) (content (S.told self.old.site))) self.old.volumes.items self.old.session.history.items (last_text last) (O.told output.old) (O.told output.new) result }
+        ensures bytes { PutsSession (S.tells × O.tells) (direct (serial_in self.old.volumes.items) (content (S.told self.old.site)))
+            self.old.volumes.items self.old.session.history.items (last_text last) (O.told output.old) (O.told output.new) result }
         ensures counted { IsReadCounted (S.faults self.old.site) (S.faults self.new.site) result }
         ensures told { S.tells → S.told self.new.site ≡ S.told self.old.site }
         ensures later { S.faults self.old.site ≤ S.faults self.new.site }
@@ -88,7 +89,9 @@ impl<S: Site> Machine<S> {
     /// Tells a session that wasn't stopped, and the volumes.
     fn put_ended<O: Sink>(&mut self, output: &mut O, last: Last) -> Status
         requires { vec_len self.old.buffer ≡ 16384 }
-        ensures report { IsReported (S.tells × O.tells) (direct (serial_in self.old.volumes.items) (content (S.told self.old.site))) self.old.volumes.items self.old.session.history.items (end_of last) (S.faults self.old.site) (S.faults self.new.site) (O.faults output.old) (O.faults output.new) (O.told output.old) (O.told output.new) result }
+        ensures report { IsReported (S.tells × O.tells) (direct (serial_in self.old.volumes.items) (content (S.told self.old.site)))
+            self.old.volumes.items self.old.session.history.items (end_of last) (S.faults self.old.site) (S.faults self.new.site)
+            (O.faults output.old) (O.faults output.new) (O.told output.old) (O.told output.new) result }
         ensures told { S.tells → S.told self.new.site ≡ S.told self.old.site }
         ensures later { S.faults self.old.site ≤ S.faults self.new.site }
         ensures session { self.new.session ≡ self.old.session }
@@ -104,7 +107,9 @@ impl<S: Site> Machine<S> {
 
     /// Tells a session that a failed write stopped.
     fn put_stop<O: Sink>(&self, output: &mut O, fault: u64) -> Status
-        ensures { IsReported (S.tells × O.tells) (direct (serial_in self.now.volumes.items) (content (S.told self.now.site))) self.now.volumes.items self.now.session.history.items (RunEnd.Stopped fault) (S.faults self.now.site) (S.faults self.now.site) (O.faults output.old) (O.faults output.new) (O.told output.old) (O.told output.new) result }
+        ensures { IsReported (S.tells × O.tells) (direct (serial_in self.now.volumes.items) (content (S.told self.now.site)))
+            self.now.volumes.items self.now.session.history.items (RunEnd.Stopped fault) (S.faults self.now.site) (S.faults self.now.site)
+            (O.faults output.old) (O.faults output.new) (O.told output.old) (O.told output.new) result }
     {
         let mut line = Bytes::new(self.alloc);
         match put_history(output, &mut line, self.session.history.as_slice()) {
@@ -119,7 +124,9 @@ impl<S: Site> Machine<S> {
     /// it ends there with the count of faults. After want of memory the report is one line, if nothing was put yet.
     pub fn put_report<O: Sink>(&mut self, output: &mut O, end: RunEnd) -> Status
         requires { vec_len self.old.buffer ≡ 16384 }
-        ensures report { IsReported (S.tells × O.tells) (direct (serial_in self.old.volumes.items) (content (S.told self.old.site))) self.old.volumes.items self.old.session.history.items end (S.faults self.old.site) (S.faults self.new.site) (O.faults output.old) (O.faults output.new) (O.told output.old) (O.told output.new) result }
+        ensures report { IsReported (S.tells × O.tells) (direct (serial_in self.old.volumes.items) (content (S.told self.old.site)))
+            self.old.volumes.items self.old.session.history.items end (S.faults self.old.site) (S.faults self.new.site)
+            (O.faults output.old) (O.faults output.new) (O.told output.old) (O.told output.new) result }
         ensures told { S.tells → S.told self.new.site ≡ S.told self.old.site }
         ensures later { S.faults self.old.site ≤ S.faults self.new.site }
         ensures unread { tells_volumes end ≡ false → S.faults self.new.site ≡ S.faults self.old.site }

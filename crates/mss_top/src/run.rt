@@ -173,7 +173,9 @@ fn run_hosts<O: Sink, S: Site>(
     requires runnable { AllByRecursion (λ (script : ScriptData). AllByRecursion IsRunnable script.items) hosts.now }
     requires block { vec_len block ≡ 16384 }
     requires tracks { S.tells → AreAllTracks (serial_in volumes.items) (content (S.told site)) }
-    ensures session { HasSession (IsSessionOf S.tells O.tells volumes.items hosts.now (S.told site) (S.told result.site) (S.faults site) (S.faults result.site) (O.faults output.old) (O.faults output.new) (O.told output.old) (O.told output.new) result.status) result.session }
+    ensures session { HasSession (IsSessionOf S.tells O.tells volumes.items hosts.now
+        (S.told site) (S.told result.site) (S.faults site) (S.faults result.site)
+        (O.faults output.old) (O.faults output.new) (O.told output.old) (O.told output.new) result.status) result.session }
     ensures continues { S.tells → Continues (S.told site) (S.told result.site) }
     ensures later { S.faults site ≤ S.faults result.site }
 {
@@ -199,7 +201,9 @@ fn run_job<O: Sink, S: Site>(
     requires hosts { length job.hosts ≤ 1 }
     requires block { vec_len block ≡ 16384 }
     requires tracks { S.tells → AreAllTracks (serial_in job.config.volumes) (content (S.told site)) }
-    ensures session { HasSession (IsSessionOf S.tells O.tells job.config.volumes job.hosts (S.told site) (S.told result.site) (S.faults site) (S.faults result.site) (O.faults output.old) (O.faults output.new) (O.told output.old) (O.told output.new) result.status) result.session }
+    ensures session { HasSession (IsSessionOf S.tells O.tells job.config.volumes job.hosts
+        (S.told site) (S.told result.site) (S.faults site) (S.faults result.site)
+        (O.faults output.old) (O.faults output.new) (O.told output.old) (O.told output.new) result.status) result.session }
     ensures continues { S.tells → Continues (S.told site) (S.told result.site) }
     ensures later { S.faults site ≤ S.faults result.site }
 {
@@ -229,8 +233,10 @@ pub fn serial<I: Source, O: Sink, S: Site>(
         (O.told output.old) (O.told output.new) result.status)
         result.session }
     ensures continues { S.tells → Continues (S.told site) (S.told result.site) }
-    ensures complete { (job : JobData) → IsFaultless (I.faults input.old) (I.faults input.new) → IsFaultless (S.faults site) (S.faults result.site) → IsFaultless (O.faults output.old) (O.faults output.new)
-        → are_serial (map string_bytes words.now) ≡ true → I.tells → IsJobText (I.left input.old) job → S.tells → AreAllTracks (serial_in job.config.volumes) (content (S.told site))
+    ensures complete { (job : JobData) → IsFaultless (I.faults input.old) (I.faults input.new) → IsFaultless (S.faults site) (S.faults result.site)
+        → IsFaultless (O.faults output.old) (O.faults output.new)
+        → are_serial (map string_bytes words.now) ≡ true → I.tells → IsJobText (I.left input.old) job → S.tells
+        → AreAllTracks (serial_in job.config.volumes) (content (S.told site))
         → IsComplete result.status }
     ensures unwritten { result.session ≡ None → S.writes result.site ≡ S.writes site }
     ensures later { S.faults site ≤ S.faults result.site }
