@@ -1,6 +1,9 @@
 // Blocks made by hand, and a record formatted, read back and updated.
+ghost use Rattle.ckd_track.specs.Formatting.{IsRecord};
+
 use crate::*;
 use mss_base::{BlockPlace, MemorySite, Site, UnitNo};
+use std::process::Abort;
 use std::test::Fail;
 
 // R1 of cylinder 5, head 3: no key, three bytes of data.
@@ -62,7 +65,7 @@ fn names_the_bad_record(rt: HostRuntime) -> Result<(), Fail> {
 }
 
 #[test]
-fn formats_and_updates_the_first_record(rt: HostRuntime) -> Result<(), Fail> {
+fn a_torn_update_shows_its_bytes(rt: HostRuntime) -> Result<(), Fail> {
     let mut site = MemorySite::new(rt.alloc())?;
     site.reserve(5)?;
     let at = BlockPlace {
@@ -84,5 +87,76 @@ fn formats_and_updates_the_first_record(rt: HostRuntime) -> Result<(), Fail> {
     let found = find_record(&block, 1).ok_or("no record")?;
     assert_eq!(rt; found.body, b"XYZ".as_slice());
     assert_eq!(rt; site.writes(), 3);
+
+    let tear = Some([0xFF, 0, 0xFF].as_slice());
+    assert_left(&rt, &site, &at, (2, None), &[b"ABC"])?;
+    assert_left(&rt, &site, &at, (2, tear), &[&[0xFF, 0, 0xFF]])?;
+    assert_left(&rt, &site, &at, (3, tear), &[b"XYZ"])
+}
+
+// A record of cylinder 5, head 3, without a key.
+fn record_of(number: u8, data: &[u8; 3]) -> [u8; 11]
+    ensures { IsRecord result }
+{
+    [0, 5, 0, 3, number, 0, 0, 3, data[0], data[1], data[2]]
+}
+
+// Formats a record of a track with room for it.
+fn format(site: &mut MemorySite, at: &BlockPlace, number: u8, data: &[u8; 3]) -> Result<(), Fail> {
+    let record = record_of(number, data);
+    let mut block = [0; 16384];
+    site.reserve(4)?;
+    site.read(at.unit, at.block, &mut block)?;
+    if number == 0 || number > record_count(&block) + 1 {
+        return Err("the number of the record".into());
+    }
+    if cost_of_front(&block, number - 1) + cost_at(&record, 0) > COST_LIMIT {
+        return Err("the cost of the record".into());
+    }
+    format_record(site, at, &block, number, &record)?;
+    Ok(())
+}
+
+// A stop at this moment leaves a track of these records.
+fn assert_left(
+    rt: &impl Abort,
+    site: &MemorySite,
+    at: &BlockPlace,
+    (moment, tear): (u64, Option<&[u8]>),
+    records: &[&[u8; 3]],
+) -> Result<(), Fail> {
+    let Ok(mut image) = site.image(moment, tear) else {
+        return Err("image".into());
+    };
+    let mut block = [0; 16384];
+    image.read(at.unit, at.block, &mut block)?;
+    check_track(&block)?;
+    assert_eq!(rt; record_count(&block) as usize, records.len());
+    for (stored, data) in stored_records(&block).zip(records) {
+        assert_eq!(rt; stored.body, data.as_slice());
+    }
+    Ok(())
+}
+
+// Three records take two writes each. The second is formatted again: its gate and the next are closed, it is put, its gate opened.
+#[test]
+fn a_stop_within_a_format_ends_the_track_before_its_record(rt: HostRuntime) -> Result<(), Fail> {
+    let mut site = MemorySite::new(rt.alloc())?;
+    let at = BlockPlace {
+        unit: UnitNo::Staging(0),
+        block: 7,
+    };
+    for (number, data) in [(1, b"ABC"), (2, b"DEF"), (3, b"GHI"), (2, b"XYZ")] {
+        format(&mut site, &at, number, data)?;
+    }
+    for (moment, records) in [
+        (6, [b"ABC", b"DEF", b"GHI"].as_slice()),
+        (7, [b"ABC"].as_slice()),
+        (9, [b"ABC"].as_slice()),
+        (10, [b"ABC", b"XYZ"].as_slice()),
+    ] {
+        assert_left(&rt, &site, &at, (moment, None), records)?;
+    }
+    assert_eq!(rt; site.writes(), 10);
     Ok(())
 }
