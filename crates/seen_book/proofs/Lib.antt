@@ -1,0 +1,5 @@
+pub mod Fronts
+pub mod Own
+pub mod Keeps
+pub mod BookFacts
+pub mod CallFacts

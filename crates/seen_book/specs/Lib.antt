@@ -1,0 +1,5 @@
+pub mod Openings
+pub mod Entries
+pub mod Views
+pub mod Rule
+pub mod Books
