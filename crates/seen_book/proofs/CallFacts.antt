@@ -1,6 +1,7 @@
 -- What the calls end with, from what their steps tell.
 use Rattle.std.proofs.Common.{◌≡◌, ℕ, zero, suc, true, Some, List, [], ◌∷◌, ◌++◌, map, length, refl, ap, sym, ◌∙◌, subst, All}
-use Rattle.std.specs.Prelude.{Contains, slice_get}
+use Rattle.std.specs.Prelude.{Contains, slice_get, nat_eq}
+use Rattle.std.specs.List.{IsDistinct}
 use mathlib.Core.List.{IsPrefix}
 use Rattle.std.proofs.lemmas.List.Elements.{All-nil, All-cons, All-head, All-tail, All-push}
 use Rattle.atomic_table.specs.Seated.{TableId}
@@ -9,8 +10,8 @@ use Rattle.seen_book.specs.declared.rule.View.{View}
 use Rattle.seen_book.specs.Entries.{entries_of}
 use Rattle.seen_book.specs.Openings.{OpeningData, IsLegalFrom}
 use Rattle.seen_book.specs.Views.{book_view, pass_view, with_book, grown, without_book, book_of}
-use Rattle.seen_book.specs.Rule.{Appended, Looked}
-use Rattle.seen_book.specs.Books.{IsOfOne, AreOfThese, IsBook, IsPass, PassData, Begins, Shows, AreNested, closing_view}
+use Rattle.seen_book.specs.Rule.{Appended, Looked, hosts_of}
+use Rattle.seen_book.specs.Books.{IsOfOne, AreOfThese, IsBook, IsPass, PassData, Begins, Shows, AreNested, HaveOneEach, closing_view}
 use Rattle.seen_book.proofs.Fronts.{prefixes_nest}
 use Rattle.seen_book.proofs.BookFacts.{Knows, Sits, book_is, pass_is}
 
@@ -140,10 +141,15 @@ begins_all log (p ∷ ps) olds taken =
 pub nested : (log : List EntryData) (ps : List PassData) → All (Begins log) ps → AreNested ps
 nested log ps a j k p q at_j at_k = prefixes_nest p.seen q.seen log (all_get (Begins log) ps j p a at_j).0 (all_get (Begins log) ps k q a at_k).0
 
+taken_hosts : (ps : List PassData) → hosts_of (map (λ (p : PassData). (p.host, p.mine)) ps) ≡ map (λ (p : PassData). p.host) ps
+taken_hosts [] = refl
+taken_hosts (p ∷ ps) = ap (λ (hosts : List ℕ). p.host ∷ hosts) (taken_hosts ps)
+
 pub close_ends : (log : List EntryData) (made : List ℕ) (ps : List PassData) (found : ℕ) (j a : Sits)
     → j.me ≡ (closing_view log made ps, []) → Looked j.me.0 found a.me.0 → a.me.1 ≡ j.me.1
-    → (found ≡ length log) × All (Begins log) ps
+    → (found ≡ length log) × All (Begins log) ps × HaveOneEach ps
 close_ends log made ps found j a is told same =
     let view = closing_view log made ps in
-    let known = whole_looked view found (looked_is view found j.me a.me is told same).1 refl in
-    (sym known.0, begins_all log ps known.1 known.3)
+    let looked = (looked_is view found j.me a.me is told same).1 in
+    let known = whole_looked view found looked refl in
+    (sym known.0, begins_all log ps known.1 known.3, subst (IsDistinct nat_eq) (taken_hosts ps) looked.differ)

@@ -84,6 +84,10 @@ Shows p n = (log : List EntryData) × (length log ≡ n) × Begins log p
 abbrev pub AreNested : List PassData → Type 0
 AreNested ps = (j k : ℕ) (p q : PassData) → slice_get ps j ≡ Some p → slice_get ps k ≡ Some q → IsPrefix p.seen q.seen ⊎ IsPrefix q.seen p.seen
 
+-- no two passes are of one host
+abbrev pub HaveOneEach : List PassData → Type 0
+HaveOneEach ps = IsDistinct nat_eq (map (λ (p : PassData). p.host) ps)
+
 -- the view of a book that took in these passes
 abbrev pub closing_view : List EntryData → List ℕ → List PassData → View
 closing_view log made ps = record {

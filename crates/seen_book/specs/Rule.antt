@@ -1,5 +1,6 @@
 -- The rule of the word, and what its steps tell.
-use Rattle.std.specs.Prelude.{◌≡◌, ℕ, true, List, [], ◌∷◌, length, Option, Some, None, All, Contains}
+use Rattle.std.specs.Prelude.{◌≡◌, ℕ, true, List, [], ◌∷◌, length, map, Option, Some, None, All, Contains, nat_eq}
+use Rattle.std.specs.List.{IsDistinct}
 use mathlib.Core.Option.{some}
 use mathlib.Core.List.{IsPrefix}
 use lib.ListN.{get_elem?}
@@ -13,18 +14,23 @@ use Rattle.seen_book.specs.Views.{grown}
 abbrev pub IsGone : (ℕ → Option ℕ) → List EntryData → List ℕ → ℕ × List EntryData → Type 0
 IsGone owner log made t = (owner t.0 ≡ None) × (entries_of t.0 log ≡ t.1) × Contains made t.0
 
+-- the hosts of passes that ended
+abbrev pub hosts_of : List (ℕ × List EntryData) → List ℕ
+hosts_of ended = map (λ (t : ℕ × List EntryData). t.0) ended
+
 -- What the rule says of one seat's view. `holder` is the seat that knows the whole history, and `owner` gives the seat
--- of a host's pass, so no two seats hold and no two are of one host. The history's entries are told by no view but by
--- those beginnings; the lists are legal by the types of books and passes.
+-- of a host's pass: so no two seats hold, and no two are of one host. That lists are legal is kept by the types of books
+-- and passes.
 pub record Fits (log : List EntryData) (made : List ℕ) (holder : ℕ) (owner : ℕ → Option ℕ) (seat : ℕ) (v : View) : Type 0 where
   pub holder_ : v.holds ≡ true → (seat ≡ holder) × (v.seen ≡ log) × (v.made ≡ made)
   pub seen_ : IsPrefix v.seen log
   pub olds_ : All (λ old. IsPrefix old log) v.olds
   pub own : v.hosted ≡ true → (owner v.host ≡ Some seat) × (entries_of v.host log ≡ v.mine) × Contains made v.host
   pub taken_ : All (IsGone owner log made) v.taken
+  pub differ : IsDistinct nat_eq (hosts_of v.taken)
 
--- The rule: there is one history. The word counts its entries, each is of a host for which a pass was made, and each
--- seat's view fits it. A spent view fits any.
+-- The rule: there is one history. The word counts its entries, each is of a host for which a pass was made, one seat
+-- holds the whole of it, and each seat's view fits it. A spent view fits any.
 pub record Kept (s : State (Unit {0}) View) : Type 0 where
   pub log : List EntryData
   pub made : List ℕ
@@ -32,6 +38,7 @@ pub record Kept (s : State (Unit {0}) View) : Type 0 where
   pub owner : ℕ → Option ℕ
   pub word : s.words ≡ length log ∷ []
   pub hosts : All (λ (e : EntryData). Contains made e.host) log
+  pub held : (v : View) × (get_elem? s.views holder ≡ some v) × (v.holds ≡ true)
   pub views : (seat : ℕ) (v : View) → get_elem? s.views seat ≡ some v → Fits log made holder owner seat v
 
 -- the entry was added to the whole history, of which the earlier lists are beginnings
@@ -52,3 +59,4 @@ pub record Looked (v : View) (found : ℕ) (w : View) : Type 0 where
   pub olds_ : All (λ old. IsPrefix old log) v.olds
   pub own : v.hosted ≡ true → entries_of v.host log ≡ v.mine
   pub taken_ : All (λ (t : ℕ × List EntryData). entries_of t.0 log ≡ t.1) v.taken
+  pub differ : IsDistinct nat_eq (hosts_of v.taken)

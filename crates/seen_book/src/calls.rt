@@ -3,7 +3,7 @@ ghost use Rattle.std.specs.Prelude.{◌≡◌, ◌<◌, [], ◌∷◌, ◌++◌,
 ghost use mathlib.Core.List.{IsPrefix};
 ghost use Rattle.seen_book.specs.Openings.{IsLegalFrom};
 ghost use Rattle.seen_book.specs.Views.{book_view, pass_view, with_pass};
-ghost use Rattle.seen_book.specs.Books.{Begins, Shows, AreNested, AreMade, AreOfThese, closing_view};
+ghost use Rattle.seen_book.specs.Books.{Begins, Shows, AreNested, HaveOneEach, AreMade, AreOfThese, closing_view};
 
 use crate::moves::{append_entry, join_book, join_pass, load, split_book, split_host};
 use crate::rule::View;
@@ -170,6 +170,7 @@ pub fn close<N: Name>(word: Word<N>, book: Book<N>, passes: PassList<N>) -> u64
     ensures count { result ≡ length book.list }
     ensures passes { All (Begins book.list) passes.items }
     ensures nested { AreNested passes.items }
+    ensures one_each { HaveOneEach passes.items }
     ensures hosts { AreOfThese N.hosts book.list }
     ensures made { AreMade N.hosts book.made }
     ensures legal { IsLegalFrom N.opening book.list }

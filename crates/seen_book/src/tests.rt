@@ -1,5 +1,7 @@
 // Two hosts, and what each call answers.
-ghost use Rattle.std.specs.Prelude.{◌≡◌, Contains};
+ghost use Rattle.std.specs.Prelude.{◌≡◌, [], Contains, None};
+ghost use Rattle.channel_commands.specs.Views.{call_of, reply_of};
+ghost use Rattle.ckd_plain.specs.Plain.{fresh_host};
 
 use crate::{Blank, Name, append, close, host_pass, look, make, see, start_book};
 use channel_commands::{Call, Reply};
@@ -23,7 +25,7 @@ fn look_and_close_count_three_entries(rt: HostRuntime) -> Result<(), Fail> {
     Ok(())
 }
 
-/// Two appends of host 1 and one of host 2. The answers of `look` on host 1's pass, and of `close`.
+/// Two appends of host 1 and one of host 2, legal from blank volumes. The answers of `look` on host 1's pass, and of `close`.
 fn row<N: Name>(
     alloc: Global,
     blank: Blank,
@@ -34,7 +36,7 @@ fn row<N: Name>(
     requires word { blank ≡ N.table }
     requires hosts { Contains N.hosts one × Contains N.hosts two }
     requires differ { (one ≡ 1) × (two ≡ 2) }
-    requires tells { N.opening.tells → ⊥ }
+    requires state { N.opening.state ≡ record { volumes = record { serial = λ v. Some []; track = λ v c h. [] }; host = λ h. fresh_host } }
 {
     let (word, book) = start_book::<N>(blank);
     let (book, first) = host_pass(&word, book, one);
@@ -62,7 +64,7 @@ fn row<N: Name>(
 }
 
 fn entry(host: HostNo, number: u64, call: Call, reply: Reply) -> Entry
-    ensures { result.host ≡ host }
+    ensures { result ≡ record { host = host; number = number; call = call_of call; reply = reply_of reply; fault = None } }
 {
     Entry {
         host,

@@ -21,3 +21,8 @@ returns-clause-hosts g c = subst (AreOfThese g.N.Name.hosts) (ap (λ b. b.list) 
 
 pub returns-clause-made : goal.returns-clause-made
 returns-clause-made g c = subst (AreMade g.N.Name.hosts) (ap (λ b. b.made) c.book.view_is) c.book.invariant.made_
+
+pub returns-clause-one_each : goal.returns-clause-one_each
+returns-clause-one_each g c =
+    let v = c.book.inside.seat.me.0 in
+    (close_ends v.seen v.made c.args.passes.items c.load.result c.end_passes.new.book c.load.new.seat c.end_passes.ensures.me c.load.ensures.looked c.load.ensures.seat.1).2
