@@ -1,5 +1,5 @@
 -- Books and passes, put together from their parts.
-use Rattle.std.proofs.Common.{◌≡◌, ℕ, List, [], ◌∷◌, ◌++◌, refl, ap, sym, ◌∙◌, subst, All}
+use Rattle.std.proofs.Common.{◌≡◌, ℕ, List, [], ◌∷◌, ◌++◌, refl, ap, sym, ◌∙◌, subst}
 use Rattle.std.specs.Prelude.{nat_eq, Bool, true, false, Contains}
 use Rattle.std.specs.List.{IsDistinct, list_any}
 use Rattle.std.proofs.lemmas.Bool.{eqb-true}
@@ -14,7 +14,7 @@ use Rattle.seen_book.specs.declared.rule.View.{View}
 use Rattle.seen_book.specs.Entries.{entries_of}
 use Rattle.seen_book.specs.Openings.{OpeningData, IsLegalFrom}
 use Rattle.seen_book.specs.Views.{book_view, pass_view}
-use Rattle.seen_book.specs.Books.{IsIn, IsOfOne, AreAmong, AreOfThese, AreMade, IsBook, IsPass}
+use Rattle.seen_book.specs.Books.{IsIn, AreOfThese, AreMade, IsBook, IsPass}
 
 -- what a seat knows, with the slots that are out with it, of which there are none
 abbrev pub Knows : Type 0

@@ -356,7 +356,7 @@ joins_pass id v other w holds hosted s h at apart there =
     let G = IsGone h.owner h.log h.made in
     let G' = IsGone owner' h.log h.made in
     let own : (j : ℕ) (u : View) → j ≢ other → Fits h.log h.made h.holder h.owner j u → u.hosted ≡ true
-          → (owner' u.host ≡ Some j) × (entries_of u.host h.log ≡ u.mine) × Contains h.made u.host =
+    → (owner' u.host ≡ Some j) × (entries_of u.host h.log ≡ u.mine) × Contains h.made u.host =
     λ j u not_other f hosted'. let o' = f.own hosted' in
     (with_else h.owner w.host None u.host (λ same. not_other (cc (o.0, o'.0, ap h.owner same))) ∙ o'.0, o'.1, o'.2) in
     let all : (ts : List (ℕ × List EntryData)) → All G ts → All G' ts =

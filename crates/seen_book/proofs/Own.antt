@@ -1,5 +1,5 @@
 -- The entries of one host in a list that grows.
-use Rattle.std.proofs.Common.{◌≡◌, ◌≢◌, ℕ, zero, suc, Bool, true, false, cond, List, [], ◌∷◌, ◌++◌, length, filter, eqb, eq-eqb, ne_eqb, refl, ap, sym, ◌∙◌, subst, All, Contains, Some, None, Option}
+use Rattle.std.proofs.Common.{◌≡◌, ◌≢◌, ℕ, Bool, cond, List, [], ◌∷◌, ◌++◌, eqb, eq-eqb, ne_eqb, refl, ap, ◌∙◌, subst, All, Contains}
 use Rattle.std.proofs.lemmas.List.{append-nil}
 use Rattle.std.proofs.lemmas.List.Elements.{filter-append, All-head, All-tail}
 use Rattle.ckd_plain.specs.History.{EntryData}

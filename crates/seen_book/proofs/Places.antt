@@ -1,5 +1,5 @@
 -- The views of all seats, where the views of one or two are written.
-use Rattle.std.proofs.Common.{◌≡◌, ◌≢◌, ℕ, zero, suc, List, [], ◌∷◌, ◌++◌, length, set, refl, sym, ap, ◌∙◌, subst, ⊎_elim}
+use Rattle.std.proofs.Common.{◌≡◌, ◌≢◌, ℕ, zero, suc, List, [], ◌∷◌, ◌++◌, length, set, refl, sym, ◌∙◌, subst, ⊎_elim}
 use mathlib.Core.Option.{some, some-ne-none}
 use lib.ListN.{get_elem?}
 use Rattle.atomic_table.proofs.Lists.{at_set, set_else}
@@ -36,8 +36,8 @@ pub fits_joined : (P : ℕ → View → Type 0) (views : List View) (id other : 
 fits_joined P views id other both spent rest mine theirs =
     let Q : ℕ → View → Type 0 = λ j u. j ≢ other → P j u in
     fits_set P (set views id both) other spent
-        (λ j u not_other e. fits_set Q views id both (λ k x not_id e' not_other'. rest k x not_other' not_id e') (λ _. mine) j u e not_other)
-        theirs
+    (λ j u not_other e. fits_set Q views id both (λ k x not_id e' not_other'. rest k x not_other' not_id e') (λ _. mine) j u e not_other)
+    theirs
 
 -- what stood at the other place before the first was written
 pub other_before : (views : List View) (id other : ℕ) (both w : View) → (other ≡ id → ⊥) → get_elem? (set views id both) other ≡ some w → get_elem? views other ≡ some w

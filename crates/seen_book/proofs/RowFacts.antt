@@ -3,7 +3,7 @@ use Rattle.std.proofs.Common.{◌≡◌, ℕ, false, List, [], ◌∷◌, refl, 
 use Rattle.channel_commands.specs.Data.{CallData, ReplyData, mount, demount, mounted, demounted}
 use Rattle.ckd_plain.specs.Data.{State}
 use Rattle.ckd_plain.specs.Plain.{fresh_host, plain, mount_reply, demount_reply}
-use Rattle.ckd_plain.specs.History.{EntryData, IsLegal, next, IsNextEntry}
+use Rattle.ckd_plain.specs.History.{EntryData, IsLegal, next}
 use Rattle.seen_book.specs.Openings.{OpeningData, IsLegalFrom}
 
 -- each volume is there, with blank tracks, and no host has called
@@ -42,11 +42,11 @@ three_are_legal v = (
 
 pub row_is_legal : (opening : OpeningData) (v one two : ℕ) → opening.state ≡ blank_volumes → one ≡ 1 → two ≡ 2
     → IsLegalFrom opening (told one 1 (mount v false) mounted ∷ [])
-      × IsLegalFrom opening (told one 1 (mount v false) mounted ∷ told one 2 demount demounted ∷ [])
-      × IsLegalFrom opening (told one 1 (mount v false) mounted ∷ told one 2 demount demounted ∷ told two 1 (mount v false) mounted ∷ [])
+    × IsLegalFrom opening (told one 1 (mount v false) mounted ∷ told one 2 demount demounted ∷ [])
+    × IsLegalFrom opening (told one 1 (mount v false) mounted ∷ told one 2 demount demounted ∷ told two 1 (mount v false) mounted ∷ [])
 row_is_legal opening v one two state is_one is_two =
     subst (λ (x : State × ℕ × ℕ).
-      (opening.tells → IsLegal x.0 (told x.1 1 (mount v false) mounted ∷ []))
-      × (opening.tells → IsLegal x.0 (told x.1 1 (mount v false) mounted ∷ told x.1 2 demount demounted ∷ []))
-      × (opening.tells → IsLegal x.0 (told x.1 1 (mount v false) mounted ∷ told x.1 2 demount demounted ∷ told x.2 1 (mount v false) mounted ∷ [])))
-      (λ i. (sym state i, sym is_one i, sym is_two i)) ((λ t. one_is_legal v), (λ t. two_are_legal v), (λ t. three_are_legal v))
+    (opening.tells → IsLegal x.0 (told x.1 1 (mount v false) mounted ∷ []))
+    × (opening.tells → IsLegal x.0 (told x.1 1 (mount v false) mounted ∷ told x.1 2 demount demounted ∷ []))
+    × (opening.tells → IsLegal x.0 (told x.1 1 (mount v false) mounted ∷ told x.1 2 demount demounted ∷ told x.2 1 (mount v false) mounted ∷ [])))
+    (λ i. (sym state i, sym is_one i, sym is_two i)) ((λ t. one_is_legal v), (λ t. two_are_legal v), (λ t. three_are_legal v))

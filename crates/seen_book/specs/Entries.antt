@@ -1,6 +1,5 @@
 -- Lists of entries.
-use Rattle.std.specs.Prelude.{ℕ, ◌==◌, List, [], filter, None, Contains}
-use Rattle.std.specs.List.{AllByRecursion}
+use Rattle.std.specs.Prelude.{ℕ, ◌==◌, List, filter, None}
 use Rattle.channel_commands.specs.Data.{demount, demounted}
 use Rattle.ckd_plain.specs.History.{EntryData}
 

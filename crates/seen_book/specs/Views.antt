@@ -1,5 +1,5 @@
 -- What a seat at the word knows, and what the six kinds of step make of it.
-use Rattle.std.specs.Prelude.{ℕ, true, false, List, [], ◌∷◌, ◌++◌, map}
+use Rattle.std.specs.Prelude.{ℕ, true, false, List, [], ◌∷◌, ◌++◌}
 use Rattle.ckd_plain.specs.History.{EntryData}
 use Rattle.seen_book.specs.declared.rule.View.{View}
 

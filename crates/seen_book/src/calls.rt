@@ -12,7 +12,7 @@ use atomic_table::{Seat, Table};
 use ckd_plain::Entry;
 use mss_base::{HostNo, NoMemory};
 use std::alloc::Global;
-use std::marker::{Brand, PhantomData};
+use std::marker::Brand;
 
 /// A fresh word, for a history without entries.
 ///
@@ -40,18 +40,9 @@ pub fn host_pass<N: Name>(word: &Word<N>, book: Book<N>, host: HostNo) -> (Book<
     ensures book { result.0 ≡ record { list = book.list; made = book.made ++ host ∷ [] } }
     ensures pass { result.1 ≡ record { host = host; seen = book.list; mine = [] } }
 {
-    let Book { mut seat, of: _ } = book;
+    let Book { mut seat, .. } = book;
     let pass = split_host::<Brand>(&word.table, &mut seat, host);
-    let book = Book {
-        seat,
-        of: PhantomData,
-    };
-    let pass = HostPass {
-        host,
-        seat: pass,
-        of: PhantomData,
-    };
-    (book, pass)
+    (Book::over(seat), HostPass::over(host, pass))
 }
 
 /// Puts the entry last in the history, which has fewer than 4,096 entries and stays legal. The pass is of the entry's
@@ -69,25 +60,12 @@ pub fn append<N: Name>(
     ensures pass { result.1 ≡ record { host = pass.host; seen = book.list ++ entry.now ∷ []; mine = pass.mine ++ entry.now ∷ [] } }
     ensures earlier { IsPrefix pass.seen book.list }
 {
-    let HostPass {
-        host,
-        mut seat,
-        of: _,
-    } = pass;
-    let Book { seat: whole, of: _ } = book;
+    let HostPass { host, mut seat, .. } = pass;
+    let Book { seat: whole, .. } = book;
     join_book(&word.table, &mut seat, whole);
     append_entry::<Brand>(&word.table, &mut seat, entry);
     let whole = split_book(&word.table, &mut seat);
-    let book = Book {
-        seat: whole,
-        of: PhantomData,
-    };
-    let pass = HostPass {
-        host,
-        seat,
-        of: PhantomData,
-    };
-    (book, pass)
+    (Book::over(whole), HostPass::over(host, seat))
 }
 
 /// Lets the pass see the whole history. Its own entries are as before.
@@ -97,25 +75,12 @@ pub fn see<N: Name>(word: &Word<N>, book: Book<N>, pass: HostPass<N>) -> (Book<N
     ensures earlier { IsPrefix pass.seen book.list }
     ensures legal { IsLegalFrom N.opening book.list }
 {
-    let HostPass {
-        host,
-        mut seat,
-        of: _,
-    } = pass;
-    let Book { seat: whole, of: _ } = book;
+    let HostPass { host, mut seat, .. } = pass;
+    let Book { seat: whole, .. } = book;
     join_book(&word.table, &mut seat, whole);
     load(&word.table, &mut seat);
     let whole = split_book(&word.table, &mut seat);
-    let book = Book {
-        seat: whole,
-        of: PhantomData,
-    };
-    let pass = HostPass {
-        host,
-        seat,
-        of: PhantomData,
-    };
-    (book, pass)
+    (Book::over(whole), HostPass::over(host, seat))
 }
 
 /// The length of a history of which the pass has seen a beginning, while others may append to it. It needs no book.
@@ -123,18 +88,9 @@ pub fn look<N: Name>(word: &Word<N>, pass: HostPass<N>) -> (HostPass<N>, u64)
     ensures same { result.0 ≡ pass }
     ensures shows { Shows pass result.1 }
 {
-    let HostPass {
-        host,
-        mut seat,
-        of: _,
-    } = pass;
+    let HostPass { host, mut seat, .. } = pass;
     let count = load(&word.table, &mut seat);
-    let pass = HostPass {
-        host,
-        seat,
-        of: PhantomData,
-    };
-    (pass, count)
+    (HostPass::over(host, seat), count)
 }
 
 /// Takes one pass into the book's seat, for good.
@@ -144,11 +100,7 @@ fn end_pass<N: Name>(word: &Word<N>, book: &mut Seat<(), View>, pass: HostPass<N
     ensures table { book.new.table_id ≡ book.old.table_id }
     ensures me { book.new.me ≡ (with_pass book.old.me.0 (pass_view pass.host pass.seen pass.mine), book.old.me.1) }
 {
-    let HostPass {
-        host: _,
-        seat,
-        of: _,
-    } = pass;
+    let HostPass { seat, .. } = pass;
     join_pass(&word.table, book, seat);
 }
 
@@ -175,7 +127,7 @@ pub fn close<N: Name>(word: Word<N>, book: Book<N>, passes: PassList<N>) -> u64
     ensures made { AreMade N.hosts book.made }
     ensures legal { IsLegalFrom N.opening book.list }
 {
-    let Book { mut seat, of: _ } = book;
+    let Book { mut seat, .. } = book;
     end_passes(&word, &mut seat, passes);
     load(&word.table, &mut seat)
 }

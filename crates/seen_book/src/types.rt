@@ -2,7 +2,7 @@
 ghost use Rattle.std.specs.Prelude.{◌≡◌, [], Contains};
 ghost use Rattle.seen_book.specs.Openings.{IsLegalFrom};
 ghost use Rattle.seen_book.specs.Entries.{entries_of};
-ghost use Rattle.seen_book.specs.Books.{AreOfThese};
+ghost use Rattle.seen_book.specs.Books.{AreOfThese, IsBook, IsPass};
 
 use crate::rule::{HistoryRule, View};
 use atomic_table::{Seat, Table};
@@ -78,7 +78,7 @@ pub struct Word<N: Name> {
 #[derive(Drop)]
 pub struct Book<N: Name> {
     pub(crate) seat: Seat<(), View>,
-    pub(crate) of: PhantomData<N>,
+    of: PhantomData<N>,
 }
 
 impl<N: Name> Model for Book<N> {
@@ -97,7 +97,7 @@ impl<N: Name> Model for Book<N> {
 pub struct HostPass<N: Name> {
     pub(crate) host: HostNo,
     pub(crate) seat: Seat<(), View>,
-    pub(crate) of: PhantomData<N>,
+    of: PhantomData<N>,
 }
 
 impl<N: Name> Model for HostPass<N> {
@@ -124,15 +124,34 @@ impl Blank {
             table,
             of: PhantomData,
         };
-        let book = Book {
+        (word, Book::over(seat))
+    }
+}
+
+impl<N: Name> Book<N> {
+    pub(crate) fn over(seat: Seat<(), View>) -> Self
+        requires { IsBook N.table N.opening N.hosts seat }
+        ensures { result ≡ record { list = seat.me.0.seen; made = seat.me.0.made } }
+    {
+        Book {
             seat,
             of: PhantomData,
-        };
-        (word, book)
+        }
     }
 }
 
 impl<N: Name> HostPass<N> {
+    pub(crate) fn over(host: HostNo, seat: Seat<(), View>) -> Self
+        requires { IsPass N.table N.opening N.hosts host seat }
+        ensures { result ≡ record { host = host; seen = seat.me.0.seen; mine = seat.me.0.mine } }
+    {
+        HostPass {
+            host,
+            seat,
+            of: PhantomData,
+        }
+    }
+
     /// Its host. The clauses also show what a pass keeps.
     pub fn host(&self) -> HostNo
         ensures host { result ≡ self.now.host }

@@ -4,8 +4,8 @@ use Rattle.seen_book.specs.Openings.{IsLegalFrom}
 use Rattle.seen_book.proofs.CallFacts.{append_ends}
 use Rattle.seen_book.proofs.calls.append.Goals as goal
 
-pub invariant_of-book : goal.invariant_of-book
-invariant_of-book g c =
+pub over-requires : goal.over-requires
+over-requires g c =
     let n = g.N.Name in
     let opening = g.N.Opening.opening in
     let j = c.join_book.new.pass in
@@ -16,8 +16,8 @@ invariant_of-book g c =
     (subst (λ (log : List EntryData). IsLegalFrom opening (log ++ c.args.entry.now ∷ [])) (ap (λ b. b.list) (sym c.book.view_is)) c.requires.legal)
     c.join_book.ensures a.ensures.seat a.ensures.appended w.ensures.pass w.ensures.book).book_
 
-pub invariant_of-pass : goal.invariant_of-pass
-invariant_of-pass g c =
+pub over-requires-2 : goal.over-requires-2
+over-requires-2 g c =
     let n = g.N.Name in
     let opening = g.N.Opening.opening in
     let j = c.join_book.new.pass in

@@ -1,4 +1,4 @@
-use Rattle.std.proofs.Common.{◌≡◌, ℕ, List, [], ◌∷◌, ◌++◌, ◌∙◌, ap, sym, subst, Contains}
+use Rattle.std.proofs.Common.{ℕ, List, [], ◌∷◌, ◌++◌, ◌∙◌, ap, sym, subst, Contains}
 use Rattle.std.proofs.lemmas.List.Elements.{All-weaker, Contains-append_left}
 use Rattle.seen_book.specs.Views.{with_made}
 use Rattle.seen_book.specs.Books.{IsOfOne}
@@ -6,8 +6,8 @@ use Rattle.seen_book.proofs.Own.{own_none}
 use Rattle.seen_book.proofs.BookFacts.{Knows, book_is, pass_is, made_more}
 use Rattle.seen_book.proofs.calls.host_pass.Goals as goal
 
-pub invariant_of-book : goal.invariant_of-book
-invariant_of-book g c =
+pub over-requires : goal.over-requires
+over-requires g c =
     let n = g.N.Name in
     let i = c.book.invariant in
     let v = c.book.inside.seat.me.0 in
@@ -18,8 +18,8 @@ invariant_of-book g c =
     (made_more n.hosts v.made host i.made_ (subst (λ (m : List ℕ). Contains m host → ⊥) (ap (λ b. b.made) (sym c.book.view_is)) c.requires.fresh) c.requires.host)
     (All-weaker (IsOfOne v.made) (IsOfOne (v.made ++ host ∷ [])) (λ x has. Contains-append_left v.made (host ∷ []) x.host has) v.seen i.kept) i.entries
 
-pub invariant_of-pass : goal.invariant_of-pass
-invariant_of-pass g c =
+pub over-requires-2 : goal.over-requires-2
+over-requires-2 g c =
     let n = g.N.Name in
     let i = c.book.invariant in
     let v = c.book.inside.seat.me.0 in

@@ -1,4 +1,4 @@
-use Rattle.std.proofs.Common.{ℕ, ◌≡◌, ◌+◌, ◌%◌, ◌^◌, arith, sym, subst}
+use Rattle.std.proofs.Common.{◌≡◌, ◌+◌, ◌%◌, ◌^◌, arith, sym, subst}
 use Rattle.atomic_table.specs.Table.{Allows}
 use Rattle.ckd_plain.specs.History.{EntryData}
 use Rattle.seen_book.specs.Rule.{Kept, Appended}

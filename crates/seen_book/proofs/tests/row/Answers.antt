@@ -24,5 +24,5 @@ append-book-requires-3-clause-legal g c =
     let a = c.args in
     let d = c.requires.differ in
     let is : c.append-book-2.result.0.list ++ c.entry-other.result ∷ []
-             ≡ told a.one 1 (mount a.volume false) mounted ∷ told a.one 2 demount demounted ∷ told a.two 1 (mount a.volume false) mounted ∷ [] = search rules in
+    ≡ told a.one 1 (mount a.volume false) mounted ∷ told a.one 2 demount demounted ∷ told a.two 1 (mount a.volume false) mounted ∷ [] = search rules in
     subst (λ (l : List EntryData). IsLegalFrom g.N.Opening.opening l) (sym is) (row_is_legal g.N.Opening.opening a.volume a.one a.two c.requires.state d.0 d.1).2

@@ -4,8 +4,8 @@ use Rattle.seen_book.specs.Books.{IsOfOne}
 use Rattle.seen_book.proofs.BookFacts.{book_is, legal_empty, none_made}
 use Rattle.seen_book.proofs.types.Blank.named.Goals as goal
 
-pub invariant_of-book : goal.invariant_of-book
-invariant_of-book g c =
+pub over-requires : goal.over-requires
+over-requires g c =
     let i = c.self.invariant in
     let n = g.N.Name in
     let opening = g.N.Opening.opening in
