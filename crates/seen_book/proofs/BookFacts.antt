@@ -30,17 +30,20 @@ pub none_made : (hosts : List ℕ) → AreMade hosts []
 unfolding IsDistinct
 none_made hosts = (tt, All-nil (IsIn hosts))
 
-differ_by : (made : List ℕ) (host : ℕ) → IsDistinct nat_eq made → (Contains made host → ⊥) → (b : Bool) → list_any (nat_eq host) made ≡ b → IsDistinct nat_eq (made ++ host ∷ [])
+differ_by : (made : List ℕ) (host : ℕ) → IsDistinct nat_eq made → (Contains made host → ⊥) → (b : Bool)
+    → list_any (nat_eq host) made ≡ b → IsDistinct nat_eq (made ++ host ∷ [])
 differ_by made host differ out true is = absurd (out (Contains-from_any (λ x y e. eqb-true x y e) host made is))
 differ_by made host differ out false is = IsDistinct-push nat_eq_equiv made host differ is
 
 -- a host that has no pass yet may get one
-pub made_more : (hosts made : List ℕ) (host : ℕ) → AreMade hosts made → (Contains made host → ⊥) → Contains hosts host → AreMade hosts (made ++ host ∷ [])
+pub made_more : (hosts made : List ℕ) (host : ℕ) → AreMade hosts made → (Contains made host → ⊥) → Contains hosts host
+    → AreMade hosts (made ++ host ∷ [])
 made_more hosts made host so_far out has =
     (differ_by made host so_far.0 out (list_any (nat_eq host) made) refl, All-push (IsIn hosts) made host so_far.1 has)
 
 pub book_is : (table : TableId) (opening : OpeningData) (hosts : List ℕ) (seat : Sits) (log : List EntryData) (made : List ℕ)
-    → seat.table_id ≡ table → seat.me ≡ (book_view log made, []) → IsLegalFrom opening log → AreMade hosts made → AreOfThese made log → AreOfThese hosts log
+    → seat.table_id ≡ table → seat.me ≡ (book_view log made, []) → IsLegalFrom opening log → AreMade hosts made
+    → AreOfThese made log → AreOfThese hosts log
     → IsBook table opening hosts seat
 book_is table opening hosts seat log made here me legal made_ kept entries = record {
   table_ = here;
@@ -52,7 +55,8 @@ book_is table opening hosts seat log made here me legal made_ kept entries = rec
 }
 
 pub pass_is : (table : TableId) (opening : OpeningData) (hosts : List ℕ) (host : ℕ) (seat : Sits) (seen mine : List EntryData)
-    → seat.table_id ≡ table → seat.me ≡ (pass_view host seen mine, []) → IsLegalFrom opening seen → Contains hosts host → entries_of host seen ≡ mine → AreOfThese hosts seen
+    → seat.table_id ≡ table → seat.me ≡ (pass_view host seen mine, []) → IsLegalFrom opening seen → Contains hosts host
+    → entries_of host seen ≡ mine → AreOfThese hosts seen
     → IsPass table opening hosts host seat
 pass_is table opening hosts host seat seen mine here me legal known own entries = record {
   table_ = here;

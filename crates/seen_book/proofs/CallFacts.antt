@@ -26,14 +26,16 @@ joined_is : (host : ℕ) (seen mine log : List EntryData) (made : List ℕ) (pas
     → joined ≡ (holding host seen mine log made, [])
 joined_is host seen mine log made pass book joined p b e = e ∙ (λ i. (with_book (p i).0 (b i).0, (p i).1))
 
-added_is : (v : View) (e : EntryData) (found : ℕ) (joined after : Knows) → joined ≡ (v, []) → Appended e joined.0 found after.0 → after.1 ≡ joined.1
+added_is : (v : View) (e : EntryData) (found : ℕ) (joined after : Knows) → joined ≡ (v, [])
+    → Appended e joined.0 found after.0 → after.1 ≡ joined.1
     → (after ≡ (grown e v, [])) × Appended e v found (grown e v)
 added_is v e found joined after is added same =
     let view : after.0 ≡ grown e v = added.view ∙ ap (λ (x : Knows). grown e x.0) is in
     let slots : after.1 ≡ [] = same ∙ ap (λ (x : Knows). x.1) is in
     ((λ i. (view i, slots i)), subst (λ (y : View × View). Appended e y.0 found y.1) (λ i. ((is i).0, view i)) added)
 
-looked_is : (v : View) (found : ℕ) (joined after : Knows) → joined ≡ (v, []) → Looked joined.0 found after.0 → after.1 ≡ joined.1
+looked_is : (v : View) (found : ℕ) (joined after : Knows) → joined ≡ (v, []) → Looked joined.0 found after.0
+    → after.1 ≡ joined.1
     → (after ≡ (v, [])) × Looked v found v
 looked_is v found joined after is looked same =
     let view : after.0 ≡ v = looked.view ∙ ap (λ (x : Knows). x.0) is in
@@ -57,10 +59,12 @@ pub record Ends (table : TableId) (opening : OpeningData) (hosts : List ℕ) (ho
   pub earlier : IsPrefix before log
 
 pub append_ends : (table : TableId) (opening : OpeningData) (hosts : List ℕ) (host : ℕ) (p b j a pass book : Sits) (e : EntryData) (found : ℕ)
-    → IsPass table opening hosts host p → IsBook table opening hosts b → host ≡ e.host → IsLegalFrom opening (b.me.0.seen ++ e ∷ [])
+    → IsPass table opening hosts host p → IsBook table opening hosts b → host ≡ e.host
+    → IsLegalFrom opening (b.me.0.seen ++ e ∷ [])
     → (j.table_id ≡ p.table_id) × (j.me ≡ (with_book p.me.0 b.me.0, p.me.1))
     → (a.table_id ≡ j.table_id) × (a.me.1 ≡ j.me.1) → Appended e j.me.0 found a.me.0
-    → (pass.table_id ≡ a.table_id) × (pass.me ≡ (without_book a.me.0, a.me.1)) → (book.table_id ≡ a.table_id) × (book.me ≡ (book_of a.me.0, []))
+    → (pass.table_id ≡ a.table_id) × (pass.me ≡ (without_book a.me.0, a.me.1))
+    → (book.table_id ≡ a.table_id) × (book.me ≡ (book_of a.me.0, []))
     → Ends table opening hosts host p.me.0.seen b.me.0.seen (p.me.0.mine ++ e ∷ []) pass book
 append_ends table opening hosts host p b j a pass book e found ip ib same legal joined seat told splits split =
     let seen = p.me.0.seen in
@@ -84,7 +88,8 @@ pub see_ends : (table : TableId) (opening : OpeningData) (hosts : List ℕ) (hos
     → IsPass table opening hosts host p → IsBook table opening hosts b
     → (j.table_id ≡ p.table_id) × (j.me ≡ (with_book p.me.0 b.me.0, p.me.1))
     → (a.table_id ≡ j.table_id) × (a.me.1 ≡ j.me.1) → Looked j.me.0 found a.me.0
-    → (pass.table_id ≡ a.table_id) × (pass.me ≡ (without_book a.me.0, a.me.1)) → (book.table_id ≡ a.table_id) × (book.me ≡ (book_of a.me.0, []))
+    → (pass.table_id ≡ a.table_id) × (pass.me ≡ (without_book a.me.0, a.me.1))
+    → (book.table_id ≡ a.table_id) × (book.me ≡ (book_of a.me.0, []))
     → Ends table opening hosts host p.me.0.seen b.me.0.seen p.me.0.mine pass book
 see_ends table opening hosts host p b j a pass book found ip ib joined seat told splits split =
     let seen = p.me.0.seen in
@@ -127,7 +132,8 @@ all_get P (y ∷ ys) zero x a e = subst P (cc e) (All-head P y ys a)
 all_get P (y ∷ ys) (suc k) x a e = all_get P ys k x (All-tail P y ys a) e
 
 begins_all : (log : List EntryData) (ps : List PassData) → All (λ old. IsPrefix old log) (map (λ (p : PassData). p.seen) ps)
-    → All (λ (t : ℕ × List EntryData). entries_of t.0 log ≡ t.1) (map (λ (p : PassData). (p.host, p.mine)) ps) → All (Begins log) ps
+    → All (λ (t : ℕ × List EntryData). entries_of t.0 log ≡ t.1) (map (λ (p : PassData). (p.host, p.mine)) ps)
+    → All (Begins log) ps
 begins_all log [] olds taken = All-nil (Begins log)
 begins_all log (p ∷ ps) olds taken =
     let O : List EntryData → Type 0 = λ old. IsPrefix old log in

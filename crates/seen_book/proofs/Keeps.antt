@@ -32,7 +32,8 @@ none_differ : IsDistinct nat_eq []
 unfolding IsDistinct
 none_differ = tt
 
-fits_spent : (log : List EntryData) (made : List ℕ) (holder : ℕ) (owner : ℕ → Option ℕ) (k : ℕ) → Fits log made holder owner k spent
+fits_spent : (log : List EntryData) (made : List ℕ) (holder : ℕ) (owner : ℕ → Option ℕ) (k : ℕ)
+    → Fits log made holder owner k spent
 fits_spent log made holder owner k = record {
   holder_ = λ e. off e;
   seen_ = (log, refl);
@@ -107,12 +108,14 @@ looks slots id v c s h count at fits =
 -- ---- an append
 
 -- what the entry leaves of the passes that ended, and of the other views
-after_entry : (log : List EntryData) (made : List ℕ) (holder : ℕ) (owner : ℕ → Option ℕ) (e : EntryData) (id : ℕ) → owner e.host ≡ Some id
+after_entry : (log : List EntryData) (made : List ℕ) (holder : ℕ) (owner : ℕ → Option ℕ) (e : EntryData) (id : ℕ)
+    → owner e.host ≡ Some id
     → (t : ℕ × List EntryData) → IsGone owner log made t → IsGone owner (log ++ e ∷ []) made t
 after_entry log made holder owner e id is t gone =
     (gone.0, own_stays t.0 log e (λ (same : e.host ≡ t.0). absurd (cc (gone.0, is, ap owner same))) ∙ gone.1, gone.2)
 
-other_after : (log : List EntryData) (made : List ℕ) (holder : ℕ) (owner : ℕ → Option ℕ) (e : EntryData) (id : ℕ) → owner e.host ≡ Some id → id ≡ holder
+other_after : (log : List EntryData) (made : List ℕ) (holder : ℕ) (owner : ℕ → Option ℕ) (e : EntryData) (id : ℕ)
+    → owner e.host ≡ Some id → id ≡ holder
     → (j : ℕ) (u : View) → j ≢ id → Fits log made holder owner j u → Fits (log ++ e ∷ []) made holder owner j u
 other_after log made holder owner e id is here j u apart f = record {
   holder_ = λ holds. absurd (apart ((f.holder_ holds).0 ∙ sym here));
@@ -123,7 +126,8 @@ other_after log made holder owner e id is here j u apart f = record {
   differ = f.differ;
 }
 
-grown_after : (log : List EntryData) (made : List ℕ) (holder : ℕ) (owner : ℕ → Option ℕ) (e : EntryData) (id : ℕ) (v : View) → v.holds ≡ true → v.hosted ≡ true → v.host ≡ e.host
+grown_after : (log : List EntryData) (made : List ℕ) (holder : ℕ) (owner : ℕ → Option ℕ) (e : EntryData) (id : ℕ) (v : View)
+    → v.holds ≡ true → v.hosted ≡ true → v.host ≡ e.host
     → Fits log made holder owner id v → Fits (log ++ e ∷ []) made holder owner id (grown e v)
 grown_after log made holder owner e id v holds hosted same f =
     let h = f.holder_ holds in
@@ -138,7 +142,8 @@ grown_after log made holder owner e id v holds hosted same f =
       differ = f.differ;
     }
 
-pub appends : (e : EntryData) (slots id : ℕ) (v : View) (c : List (ℕ × Unit {0})) → v.holds ≡ true → v.hosted ≡ true → v.host ≡ e.host → length v.seen < 4096
+pub appends : (e : EntryData) (slots id : ℕ) (v : View) (c : List (ℕ × Unit {0})) → v.holds ≡ true → v.hosted ≡ true
+    → v.host ≡ e.host → length v.seen < 4096
     → Allows {S = Unit {0}} Kept slots id (v, c) 0 (λ n. (n + 1) % 2 ^ 64) (λ found w. Appended e v found w.0 × (w.1 ≡ c))
 appends e slots id v c holds hosted same room s h count at fits =
     let mine = h.views id v at in
@@ -146,6 +151,8 @@ appends e slots id v c holds hosted same room s h count at fits =
     let o = mine.own hosted in
     let is : h.owner e.host ≡ Some id = subst (λ k. h.owner k ≡ Some id) same o.0 in
     let long : (length h.log + 1) % 2 ^ 64 ≡ length (h.log ++ e ∷ []) = omega (arith, length-append h.log (e ∷ []), ap length known.1, room) in
+    let hosts = All-push (HostIn h.made) h.log e h.hosts (subst (Contains h.made) same o.2) in
+    let written = set s.views id (grown e v) in
     let after = grown_after h.log h.made h.holder h.owner e id v holds hosted same mine in (
       grown e v,
       keeps,
@@ -156,8 +163,8 @@ appends e slots id v c holds hosted same room s h count at fits =
         holder = h.holder;
         owner = h.owner;
         word = ap (λ (ws : List ℕ). slice_set ws 0 ((slice_index ws 0 + 1) % 2 ^ 64)) h.word ∙ ap (λ (n : ℕ). n ∷ []) long;
-        hosts = All-push (HostIn h.made) h.log e h.hosts (subst (Contains h.made) same o.2);
-        held = (grown e v, subst (λ k. get_elem? (set s.views id (grown e v)) k ≡ some (grown e v)) known.0 (set_there s.views id v (grown e v) at), holds);
+        hosts = hosts;
+        held = (grown e v, subst (λ k. get_elem? written k ≡ some (grown e v)) known.0 (set_there s.views id v (grown e v) at), holds);
         views = fits_set (Fits (h.log ++ e ∷ []) h.made h.holder h.owner) s.views id (grown e v)
             (λ j u apart there. other_after h.log h.made h.holder h.owner e id is known.0 j u apart (h.views j u there))
             after;
@@ -168,7 +175,7 @@ appends e slots id v c holds hosted same room s h count at fits =
           length_ = ap (λ (ws : List ℕ). slice_index ws 0) h.word ∙ sym (ap length known.1);
           olds_ = subst (λ (l : List EntryData). All (Old l) v.olds) (sym known.1) mine.olds_;
           own = ap (λ (l : List EntryData). entries_of v.host (l ++ e ∷ [])) known.1 ∙ (after.own hosted).1;
-          hosts = subst (λ (y : List EntryData × List ℕ). All (HostIn y.1) (y.0 ++ e ∷ [])) (λ i. (sym known.1 i, sym known.2 i)) (All-push (HostIn h.made) h.log e h.hosts (subst (Contains h.made) same o.2));
+          hosts = subst (λ (y : List EntryData × List ℕ). All (HostIn y.1) (y.0 ++ e ∷ [])) (λ i. (sym known.1 i, sym known.2 i)) hosts;
         },
         refl,
       ),
@@ -206,7 +213,8 @@ joins_book id v other w holds s h at apart there =
       word = h.word;
       hosts = h.hosts;
       held = (with_book v w, joined_there s.views id other v (with_book v w) spent apart at, refl);
-      views = fits_joined (Fits h.log h.made id h.owner) s.views id other (with_book v w) spent rest both (fits_spent h.log h.made id h.owner other);
+      views = fits_joined (Fits h.log h.made id h.owner) s.views id other (with_book v w) spent rest both
+          (fits_spent h.log h.made id h.owner other);
     }
 
 -- ---- the book is split off
@@ -271,7 +279,8 @@ made_gone log made owner host x out t gone = (
   Contains-append_left made (host ∷ []) t.0 gone.2,
 )
 
-made_own : (log : List EntryData) (made : List ℕ) (owner : ℕ → Option ℕ) (host : ℕ) (x : Option ℕ) (j : ℕ) (u : View) → (Contains made host → ⊥)
+made_own : (log : List EntryData) (made : List ℕ) (owner : ℕ → Option ℕ) (host : ℕ) (x : Option ℕ) (j : ℕ) (u : View)
+    → (Contains made host → ⊥)
     → (owner u.host ≡ Some j) × (entries_of u.host log ≡ u.mine) × Contains made u.host
     → (owner_with owner host x u.host ≡ Some j) × (entries_of u.host log ≡ u.mine) × Contains (made ++ host ∷ []) u.host
 made_own log made owner host x j u out o = (
@@ -288,10 +297,14 @@ splits_host host id v holds out s h at =
     let fresh : Contains h.made host → ⊥ = λ has. out (subst (λ (m : List ℕ). Contains m host) (sym known.2) has) in
     let owner' = owner_with h.owner host (Some new) in
     let made' = h.made ++ host ∷ [] in
-    let gone : (ts : List (ℕ × List EntryData)) → All (IsGone h.owner h.log h.made) ts → All (IsGone owner' h.log made') ts =
-    λ ts a. All-weaker (IsGone h.owner h.log h.made) (IsGone owner' h.log made') (made_gone h.log h.made h.owner host (Some new) fresh) ts a in
-    let is_there : get_elem? (set s.views id (with_made host v) ++ host_of host v ∷ []) id ≡ some (with_made host v) =
-    at_longer (set s.views id (with_made host v)) (host_of host v ∷ []) id (with_made host v) (set_there s.views id v (with_made host v) at) in
+    let G = IsGone h.owner h.log h.made in
+    let G' = IsGone owner' h.log made' in
+    let gone : (ts : List (ℕ × List EntryData)) → All G ts → All G' ts =
+    λ ts a. All-weaker G G' (made_gone h.log h.made h.owner host (Some new) fresh) ts a in
+    let left = with_made host v in
+    let right = host_of host v in
+    let written = set s.views id left in
+    let is_there = at_longer written (right ∷ []) id left (set_there s.views id v left at) in
     record {
       log = h.log;
       made = made';
@@ -299,7 +312,7 @@ splits_host host id v holds out s h at =
       owner = owner';
       word = h.word;
       hosts = All-weaker (HostIn h.made) (HostIn made') (λ e has. Contains-append_left h.made (host ∷ []) e.host has) h.log h.hosts;
-      held = (with_made host v, subst (λ k. get_elem? (set s.views id (with_made host v) ++ host_of host v ∷ []) k ≡ some (with_made host v)) known.0 is_there, holds);
+      held = (left, subst (λ k. get_elem? (written ++ right ∷ []) k ≡ some left) known.0 is_there, holds);
       views = fits_split (Fits h.log made' h.holder owner') s.views id (with_made host v) (host_of host v)
           (λ j u apart e. let f = h.views j u e in record {
             holder_ = λ held. absurd (apart ((f.holder_ held).0 ∙ sym known.0));
@@ -333,14 +346,16 @@ splits_host host id v holds out s h at =
 
 -- ---- a host's seat is joined into the book's, for good
 
-gone_more : (log : List EntryData) (made : List ℕ) (owner : ℕ → Option ℕ) (host : ℕ) (t : ℕ × List EntryData) → IsGone owner log made t
+gone_more : (log : List EntryData) (made : List ℕ) (owner : ℕ → Option ℕ) (host : ℕ) (t : ℕ × List EntryData)
+    → IsGone owner log made t
     → (b : Bool) → eqb t.0 host ≡ b → IsGone (owner_with owner host None) log made t
 gone_more log made owner host t gone true is = (ap (λ (b : Bool). cond b None (owner t.0)) is, gone.1, gone.2)
 gone_more log made owner host t gone false is = (ap (λ (b : Bool). cond b None (owner t.0)) is ∙ gone.0, gone.1, gone.2)
 
 -- a host that still has a seat is none of those whose passes ended
 gone_apart : (log : List EntryData) (made : List ℕ) (owner : ℕ → Option ℕ) (host seat : ℕ) → owner host ≡ Some seat
-    → (ts : List (ℕ × List EntryData)) → All (IsGone owner log made) ts → AllByRecursion (λ y. nat_eq host y ≡ false) (hosts_of ts)
+    → (ts : List (ℕ × List EntryData)) → All (IsGone owner log made) ts
+    → AllByRecursion (λ y. nat_eq host y ≡ false) (hosts_of ts)
 gone_apart log made owner host seat is [] all = tt
 gone_apart log made owner host seat is (t ∷ ts) all =
     let gone = All-head (IsGone owner log made) t ts all in
@@ -378,7 +393,8 @@ joins_pass id v other w holds hosted s h at apart there =
       taken_ = all u.taken f.taken_;
       differ = f.differ;
     } in
-    let at_id = joined_there s.views id other v (with_pass v w) spent apart at in
+    let taken = with_pass v w in
+    let at_id = joined_there s.views id other v taken spent apart at in
     record {
       log = h.log;
       made = h.made;
@@ -386,6 +402,7 @@ joins_pass id v other w holds hosted s h at apart there =
       owner = owner';
       word = h.word;
       hosts = h.hosts;
-      held = (with_pass v w, subst (λ k. get_elem? (set (set s.views id (with_pass v w)) other spent) k ≡ some (with_pass v w)) known.0 at_id, holds);
-      views = fits_joined (Fits h.log h.made h.holder owner') s.views id other (with_pass v w) spent rest both (fits_spent h.log h.made h.holder owner' other);
+      held = (taken, subst (λ k. get_elem? (set (set s.views id taken) other spent) k ≡ some taken) known.0 at_id, holds);
+      views = fits_joined (Fits h.log h.made h.holder owner') s.views id other taken spent rest both
+          (fits_spent h.log h.made h.holder owner' other);
     }

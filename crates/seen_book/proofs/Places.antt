@@ -12,7 +12,8 @@ set_there (x ∷ xs) zero a b e = refl
 set_there (x ∷ xs) (suc i) a b e = set_there xs i a b e
 
 -- one view is written
-pub fits_set : (P : ℕ → View → Type 0) (views : List View) (by : ℕ) (w : View) → ((j : ℕ) (u : View) → j ≢ by → get_elem? views j ≡ some u → P j u) → P by w
+pub fits_set : (P : ℕ → View → Type 0) (views : List View) (by : ℕ) (w : View)
+    → ((j : ℕ) (u : View) → j ≢ by → get_elem? views j ≡ some u → P j u) → P by w
     → (j : ℕ) (u : View) → get_elem? (set views by w) j ≡ some u → P j u
 fits_set P views by w others mine j u e =
     ⊎_elim
@@ -21,8 +22,10 @@ fits_set P views by w others mine j u e =
     (at_set views by j w u e)
 
 -- one is written, and one is put last
-pub fits_split : (P : ℕ → View → Type 0) (views : List View) (by : ℕ) (left right : View) → ((j : ℕ) (u : View) → j ≢ by → get_elem? views j ≡ some u → P j u)
-    → P by left → P (length (set views by left)) right → (j : ℕ) (u : View) → get_elem? (set views by left ++ right ∷ []) j ≡ some u → P j u
+pub fits_split : (P : ℕ → View → Type 0) (views : List View) (by : ℕ) (left right : View)
+    → ((j : ℕ) (u : View) → j ≢ by → get_elem? views j ≡ some u → P j u)
+    → P by left → P (length (set views by left)) right → (j : ℕ) (u : View)
+    → get_elem? (set views by left ++ right ∷ []) j ≡ some u → P j u
 fits_split P views by left right others mine new j u e =
     ⊎_elim
     (λ was. fits_set P views by left others mine j u was)
@@ -40,7 +43,8 @@ fits_joined P views id other both spent rest mine theirs =
     theirs
 
 -- what stood at the other place before the first was written
-pub other_before : (views : List View) (id other : ℕ) (both w : View) → (other ≡ id → ⊥) → get_elem? (set views id both) other ≡ some w → get_elem? views other ≡ some w
+pub other_before : (views : List View) (id other : ℕ) (both w : View) → (other ≡ id → ⊥)
+    → get_elem? (set views id both) other ≡ some w → get_elem? views other ≡ some w
 other_before views id other both w apart there =
     ⊎_elim
     (λ (t : (other ≡ id) × (both ≡ w)). absurd (apart t.0))

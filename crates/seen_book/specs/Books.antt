@@ -1,5 +1,5 @@
 -- What contracts see of a book and of a pass, and what their types keep.
-use Rattle.std.specs.Prelude.{◌≡◌, ◌⊎◌, ℕ, true, false, List, [], map, length, Some, slice_get, nat_eq, All, Contains}
+use Rattle.std.specs.Prelude.{◌≡◌, ◌⊎◌, ℕ, List, [], map, length, Some, slice_get, nat_eq, All, Contains}
 use Rattle.std.specs.List.{IsDistinct}
 use mathlib.Core.List.{IsPrefix}
 use Rattle.atomic_table.specs.Seated.{TableId}
@@ -82,7 +82,8 @@ Shows p n = (log : List EntryData) × (length log ≡ n) × Begins log p
 
 -- of any two passes one has seen a beginning of what the other has seen
 abbrev pub AreNested : List PassData → Type 0
-AreNested ps = (j k : ℕ) (p q : PassData) → slice_get ps j ≡ Some p → slice_get ps k ≡ Some q → IsPrefix p.seen q.seen ⊎ IsPrefix q.seen p.seen
+AreNested ps =
+    (j k : ℕ) (p q : PassData) → slice_get ps j ≡ Some p → slice_get ps k ≡ Some q → IsPrefix p.seen q.seen ⊎ IsPrefix q.seen p.seen
 
 -- no two passes are of one host
 abbrev pub HaveOneEach : List PassData → Type 0
@@ -90,13 +91,7 @@ HaveOneEach ps = IsDistinct nat_eq (map (λ (p : PassData). p.host) ps)
 
 -- the view of a book that took in these passes
 abbrev pub closing_view : List EntryData → List ℕ → List PassData → View
-closing_view log made ps = record {
-  holds = true;
-  hosted = false;
-  host = 0;
-  seen = log;
-  mine = [];
-  made = made;
+closing_view log made ps = record (book_view log made) {
   olds = map (λ (p : PassData). p.seen) ps;
   taken = map (λ (p : PassData). (p.host, p.mine)) ps;
 }

@@ -9,11 +9,11 @@ spent = record { holds = false; hosted = false; host = 0; seen = []; mine = []; 
 
 -- a book
 abbrev pub book_view : List EntryData → List ℕ → View
-book_view log made = record { holds = true; hosted = false; host = 0; seen = log; mine = []; made = made; olds = []; taken = [] }
+book_view log made = record spent { holds = true; seen = log; made = made }
 
 -- a host's pass
 abbrev pub pass_view : ℕ → List EntryData → List EntryData → View
-pass_view host seen mine = record { holds = false; hosted = true; host = host; seen = seen; mine = mine; made = []; olds = []; taken = [] }
+pass_view host seen mine = record spent { hosted = true; host = host; seen = seen; mine = mine }
 
 -- a host's seat is split off: the book's gets the host among those with a pass
 abbrev pub with_made : ℕ → View → View
@@ -37,7 +37,7 @@ without_book v = pass_view v.host v.seen v.mine
 
 -- and the book's has the rest
 abbrev pub book_of : View → View
-book_of v = record { holds = v.holds; hosted = false; host = 0; seen = v.seen; mine = []; made = v.made; olds = []; taken = v.taken }
+book_of v = record v { hosted = false; host = 0; mine = []; olds = [] }
 
 -- a host's seat w is joined into the book v, for good
 abbrev pub with_pass : View → View → View

@@ -4,7 +4,8 @@
 //! them. A `Book` knows the whole history, each host's `HostPass` a beginning of it and all entries of its own host. So
 //! a reply that comes from another thread can say where in the one history it stands, and that what its host had seen
 //! before begins that history. The layers above rely on the clauses of the calls (`specs/Books.antt`); the rule of the
-//! word is `Kept` of `specs/Rule.antt`, and each of the six kinds of step keeps it (`proofs/Keeps.antt`).
+//! word is `Kept` of `specs/Rule.antt`, and each of the six kinds of step keeps it (`proofs/Keeps.antt`). The crate
+//! starts no thread and waits for nothing, so it needs no handle.
 #![tactic(auto)]
 
 mod calls;

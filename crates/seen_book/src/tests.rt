@@ -3,7 +3,9 @@ ghost use Rattle.std.specs.Prelude.{◌≡◌, [], Contains, None};
 ghost use Rattle.channel_commands.specs.Views.{call_of, reply_of};
 ghost use Rattle.ckd_plain.specs.Plain.{fresh_host};
 
-use crate::{Blank, Name, append, close, host_pass, look, make, see, start_book};
+use crate::{
+    Blank, Book, HostPass, Name, Word, append, close, host_pass, look, make, see, start_book,
+};
 use channel_commands::{Call, Reply};
 use ckd_plain::Entry;
 use mss_base::{HostNo, NoMemory, VolumeNo};
@@ -26,7 +28,7 @@ fn look_and_close_count_three_entries(rt: HostRuntime) -> Result<(), Fail> {
 }
 
 /// Two appends of host 1 and one of host 2, legal from blank volumes. The answers of `look` on host 1's pass, and of `close`.
-fn row<N: Name>(
+fn row<N: Name + Send + Sync>(
     alloc: Global,
     blank: Blank,
     one: HostNo,
@@ -55,6 +57,7 @@ fn row<N: Name>(
     let (book, first) = append(&word, book, first, &mounted);
     let (book, first) = append(&word, book, first, &demounted);
     let (book, second) = append(&word, book, second, &other);
+    threads_may_have(&word, &book, &second);
     let (first, looked) = look(&word, first);
     let (book, first) = see(&word, book, first);
     let mut passes = Vec::new(alloc);
@@ -73,4 +76,15 @@ fn entry(host: HostNo, number: u64, call: Call, reply: Reply) -> Entry
         reply,
         fault: None,
     }
+}
+
+fn may_cross<T: Send>(_: &T) {}
+
+fn may_be_shared<T: Sync>(_: &T) {}
+
+fn threads_may_have<N: Name + Send + Sync>(word: &Word<N>, book: &Book<N>, pass: &HostPass<N>) {
+    may_be_shared(word);
+    may_cross(word);
+    may_cross(book);
+    may_cross(pass);
 }
