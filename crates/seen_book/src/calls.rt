@@ -14,7 +14,8 @@ use mss_base::{HostNo, NoMemory};
 use std::alloc::Global;
 use std::marker::Brand;
 
-/// A fresh word, for a history without entries.
+/// A fresh word, for a history without entries. A blank can't carry the opening that `P` tells; the name of its word and
+/// book carries it.
 ///
 /// # Errors
 ///
