@@ -88,6 +88,7 @@ pub fn see<N: Name>(word: &Word<N>, book: Book<N>, pass: HostPass<N>) -> (Book<N
 pub fn look<N: Name>(word: &Word<N>, pass: HostPass<N>) -> (HostPass<N>, u64)
     ensures same { result.0 ≡ pass }
     ensures shows { Shows pass result.1 }
+    ensures legal { IsLegalFrom N.opening pass.seen }
 {
     let HostPass { host, mut seat, .. } = pass;
     let count = load(&word.table, &mut seat);
