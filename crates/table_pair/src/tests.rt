@@ -1,4 +1,5 @@
-// The reading table row by row, and a row created, changed and repaired with each call failing in turn.
+// The reading table row by row, a row created, changed and repaired with each call failing in turn, and a creation and a
+// change stopped at each moment.
 ghost use Rattle.std.specs.Prelude.{◌≡◌, ◌≤◌, ℕ, IfOk, length};
 ghost use Rattle.mss_base.specs.Content.{content};
 ghost use Rattle.mss_base.specs.MemorySite.{told_of, room_of};
@@ -302,6 +303,79 @@ fn a_failed_repair_keeps_the_row(rt: HostRuntime) -> Result<(), Fail> {
         let outcome = repair(&mut site, rt.alloc(), volume);
         assert_eq!(rt; outcome, Err(RepairFault::Failed { fault: 1 }));
         assert_eq!(rt; told_by(&mut site, rt.alloc(), volume), row_of(1, None));
+    }
+    Ok(())
+}
+
+// The first cartridge that is told after a stop at this moment, where the stop leaves of the write under way nothing,
+// 00, C1, or FF00FF.
+fn assert_left(
+    rt: &impl Abort,
+    (site, alloc): (&MemorySite, Global),
+    volume: VolumeNo,
+    moment: u64,
+    firsts: [Option<u16>; 4],
+) -> Result<(), Fail> {
+    let closed = b"\x00".as_slice();
+    let open = b"\xC1".as_slice();
+    let other = b"\xFF\x00\xFF".as_slice();
+    for (tear, first) in [None, Some(closed), Some(open), Some(other)]
+        .into_iter()
+        .zip(firsts)
+    {
+        let Ok(mut image) = site.image(moment, tear) else {
+            return Err("image".into());
+        };
+        let told = told_by(&mut image, alloc, volume);
+        let unread = None;
+        assert_eq!(rt; told, Ok(Told { first, unread }), "{moment} {tear:?}");
+    }
+    Ok(())
+}
+
+// Marks of A and B, body and gate of A, body and gate of B. The new row is there once the gate of A is C1.
+#[test]
+fn a_stop_within_a_creation_leaves_no_row_or_the_new_one(rt: HostRuntime) -> Result<(), Fail> {
+    let volume = VolumeNo::of(7).ok_or("volume")?;
+    let row = row_on(rt.alloc(), 1)?;
+    let mut site = blank_site(rt.alloc(), 0)?;
+    assert_eq!(rt; create_row(&mut site, volume, &row), Ok(()));
+    assert_eq!(rt; site.writes(), 6);
+    let new = Some(1);
+    for (moment, firsts) in [
+        (0, [None, None, None, None]),
+        (1, [None, None, None, None]),
+        (2, [None, None, None, None]),
+        (3, [None, None, new, None]),
+        (4, [new, new, new, new]),
+        (5, [new, new, new, new]),
+        (6, [new, new, new, new]),
+    ] {
+        assert_left(&rt, (&site, rt.alloc()), volume, moment, firsts)?;
+    }
+    Ok(())
+}
+
+// After the six writes of the creation: gate, body, gate of A, then of B. A closed copy A leaves the row to copy B.
+#[test]
+fn a_stop_within_a_change_leaves_the_old_row_or_the_new(rt: HostRuntime) -> Result<(), Fail> {
+    let volume = VolumeNo::of(7).ok_or("volume")?;
+    let row = row_on(rt.alloc(), 2)?;
+    let mut site = held_site(rt.alloc(), volume, 0)?;
+    assert_eq!(rt; change_row(&mut site, volume, &row), Ok(()));
+    assert_eq!(rt; site.writes(), 12);
+    let old = Some(1);
+    let new = Some(2);
+    for (moment, firsts) in [
+        (6, [old, old, old, old]),
+        (7, [old, old, old, old]),
+        (8, [old, old, new, old]),
+        (9, [new, new, new, new]),
+        (10, [new, new, new, new]),
+        (11, [new, new, new, new]),
+        (12, [new, new, new, new]),
+    ] {
+        assert_left(&rt, (&site, rt.alloc()), volume, moment, firsts)?;
     }
     Ok(())
 }
