@@ -1,5 +1,5 @@
-// The reading table row by row, a row created, changed and repaired with each call failing in turn, and a creation and a
-// change stopped at each moment.
+// The reading table row by row, a row created, changed and repaired with each call failing in turn, and a creation and
+// a change stopped at each moment.
 ghost use Rattle.std.specs.Prelude.{◌≡◌, ◌≤◌, ℕ, IfOk, length};
 ghost use Rattle.mss_base.specs.Content.{content};
 ghost use Rattle.mss_base.specs.MemorySite.{told_of, room_of};
