@@ -283,14 +283,54 @@ fn ends_as_stated(alloc: Global, n: u64) -> Result<bool, Fail> {
     })
 }
 
-/// All calls of the session, and some of the walk's and of the report's.
+/// Each of these calls of the site fails, in a run of its own.
+fn each_ends_as_stated(alloc: Global, first: u64, last: u64) -> Result<(), Fail> {
+    for n in first..last {
+        if !ends_as_stated(alloc, n)? {
+            return Err("a failing call without a stated end".into());
+        }
+    }
+    Ok(())
+}
+
+/// The walk over 404 cylinders of 19 tracks.
 #[test]
-fn any_failing_call_of_the_site_has_a_stated_end(rt: HostRuntime) -> Result<(), Fail> {
-    for n in [1, 98, 7_700, 15_000] {
-        assert!(rt; ends_as_stated(rt.alloc(), n)?, "{n}");
-    }
-    for n in 7_676..7_692 {
-        assert!(rt; ends_as_stated(rt.alloc(), n)?, "{n}");
-    }
+fn any_failing_read_of_the_walk_has_a_stated_end(rt: HostRuntime) -> Result<(), Fail> {
+    each_ends_as_stated(rt.alloc(), 1, 7_677)
+}
+
+/// Five reads and two writes.
+#[test]
+fn any_failing_call_of_the_session_has_a_stated_end(rt: HostRuntime) -> Result<(), Fail> {
+    each_ends_as_stated(rt.alloc(), 7_677, 7_684)
+}
+
+#[test]
+fn any_failing_read_of_the_reports_first_tracks_has_a_stated_end(
+    rt: HostRuntime,
+) -> Result<(), Fail> {
+    each_ends_as_stated(rt.alloc(), 7_684, 10_000)
+}
+
+#[test]
+fn any_failing_read_of_the_reports_later_tracks_has_a_stated_end(
+    rt: HostRuntime,
+) -> Result<(), Fail> {
+    each_ends_as_stated(rt.alloc(), 10_000, 12_500)
+}
+
+#[test]
+fn any_failing_read_of_the_reports_last_tracks_has_a_stated_end(
+    rt: HostRuntime,
+) -> Result<(), Fail> {
+    each_ends_as_stated(rt.alloc(), 12_500, 15_360)?;
+    let beyond = [15_360];
+    let failing = Failing {
+        of_site: &beyond,
+        ..NONE
+    };
+    let (status, output) = outcome(rt.alloc(), "serial", JOB, failing)?;
+    assert_eq!(rt; output.bytes(), REPORT.as_bytes());
+    assert_eq!(rt; status, Status::Done);
     Ok(())
 }
