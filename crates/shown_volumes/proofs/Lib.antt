@@ -1,0 +1,14 @@
+pub mod WalkFacts
+pub mod HalfLemmas
+pub mod PageLemmas
+pub mod TrackLemmas
+pub mod FaultFacts
+pub mod PlaceFacts
+pub mod ShownFacts
+pub mod OutsideFacts
+pub mod FrameFacts
+pub mod RowFacts
+pub mod StateLemmas
+pub mod AllowedFacts
+pub mod BlankFacts
+pub mod MomentFacts

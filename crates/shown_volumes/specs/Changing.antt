@@ -1,0 +1,61 @@
+-- Which blocks the shown volumes stand on, and which changes of rows show the same.
+use Rattle.std.specs.Prelude.{◌≡◌, ◌≢◌, ◌⊎◌, ◌≤◌, ℕ, ◌+◌, ◌<◌, ◌==◌, false, List, [], Some, None, if◌then◌else◌}
+use Rattle.std.specs.Option.{ForSome}
+use Rattle.mss_base.specs.Content.{Content}
+use Rattle.mss_base.specs.declared.place.BlockPlace.{BlockPlace}
+use Rattle.ckd_track.specs.Data.{Volumes}
+use Rattle.volume_table.specs.Row.{RowValue, state_of}
+use Rattle.volume_table.specs.declared.changes.Change.{Change}
+use Rattle.volume_table.specs.declared.changes.Change.TheVariants.{Create, Assign, Free, Staged, Changed, Destaged}
+use Rattle.table_pair.specs.Pair.{is_table}
+use Rattle.shown_volumes.specs.Shown.{RowsOf, rows_of, on_cartridge, in_page, source, shown_by, shown}
+use Rattle.shown_volumes.specs.Sound.{frame_in, IsStagedAs, IsSameAt, AreSound, IsSound}
+
+-- a block that a track of a row's volume stands on: the shown one, or the one in the frame where the cylinder is staged
+pub record StandsOn (r : RowValue) (cylinder head : ℕ) (place : BlockPlace) : Type 0 where
+  pub cylinder_in : cylinder < 404
+  pub head_in : head < 19
+  pub there : (source r cylinder head ≡ Some place) ⊎ ((2 ≤ state_of r cylinder) × (in_page r cylinder head ≡ Some place))
+
+-- a block that is no table's, and that no track of a shown volume stands on
+pub record IsOutside (c : Content) (place : BlockPlace) : Type 0 where
+  pub no_table : is_table place.unit ≡ false
+  pub unused : (volume cylinder head : ℕ) (r : RowValue) → rows_of c volume ≡ Some r → StandsOn r cylinder head place → ⊥
+
+-- rows with another row of one volume
+abbrev pub with_row : ℕ → RowValue → RowsOf → RowsOf
+with_row volume r rows v = if v == volume then Some r else rows v
+
+-- with the new row of a volume the content shows the same, and is sound
+pub record MayChange (frames volume : ℕ) (row : RowValue) (c : Content) : Type 0 where
+  pub low : volume < 32
+  pub sound : IsSound frames c
+  pub same : shown_by (with_row volume row (rows_of c)) c ≡ shown c
+  pub still : AreSound frames (with_row volume row (rows_of c)) c
+
+-- the blocks are as an allowed change says, and the frame that it assigns is free. A volume that is there can't be created.
+abbrev pub IsReady : ℕ → Change → RowValue → Content → Type 0
+IsReady frames (Create serial first second) r c = Unit {0}
+IsReady frames (Assign page frame) r c = (frame < frames) × ((volume other : ℕ) → other < 51 → frame_in (rows_of c) volume other ≢ Some frame)
+IsReady frames (Free page) r c = Unit {0}
+IsReady frames (Staged cylinder) r c = (head : ℕ) → head < 19 → IsStagedAs c (state_of r cylinder + 2) (in_page r cylinder head) (on_cartridge r cylinder head)
+IsReady frames (Changed cylinder) r c = Unit {0}
+IsReady frames (Destaged cylinder) r c = (head : ℕ) → head < 19 → ForSome (in_page r cylinder head) (IsSameAt c (on_cartridge r cylinder head))
+
+-- a volume without a row, and two cartridges that no row names
+pub record IsFresh (volume first second : ℕ) (c : Content) : Type 0 where
+  pub low : volume < 32
+  pub none : rows_of c volume ≡ None
+  pub apart : first ≢ second
+  pub unnamed : (v : ℕ) (r : RowValue) → rows_of c v ≡ Some r → (r.first ≢ first) × (r.second ≢ first) × (r.first ≢ second) × (r.second ≢ second)
+
+-- volumes with a blank one more
+abbrev pub with_blank : ℕ → List ℕ → Volumes → Volumes
+with_blank volume serial volumes = record {
+  serial = λ v. if v == volume then Some serial else volumes.serial v;
+  track = λ v cylinder head. if v == volume then [] else volumes.track v cylinder head;
+}
+
+-- what a stop within a creation shows: the volumes, or those with the new one
+abbrev pub WithOrWithout : ℕ → List ℕ → Volumes → Volumes → Type 0
+WithOrWithout volume serial volumes shown = (shown ≡ volumes) ⊎ (shown ≡ with_blank volume serial volumes)

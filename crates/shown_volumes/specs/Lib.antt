@@ -1,0 +1,4 @@
+pub mod Shown
+pub mod Sound
+pub mod Faults
+pub mod Changing

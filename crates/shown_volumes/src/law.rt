@@ -1,0 +1,90 @@
+//! Laws of shown volumes, of sound content and of its first fault. A function calls a law to have it in its proof.
+ghost use Rattle.std.specs.Prelude.{◌≡◌, ◌↔◌, ◌≤◌, ◌<◌, ◌/◌, ℕ, false, List, Option, Some, None};
+ghost use Rattle.mss_base.specs.Content.{Content, SiteLog, Write, Writes, content, written, ChangesBlock};
+ghost use Rattle.mss_base.specs.Places.{frame_block};
+ghost use Rattle.ckd_plain.specs.Plain.{with_track};
+ghost use Rattle.ckd_track.specs.Track.{reading, reading_of};
+ghost use Rattle.volume_table.specs.Row.{RowValue, IsRow, frame_of, state_of, blank_row};
+ghost use Rattle.volume_table.specs.Changes.{IsAllowed, effect};
+ghost use Rattle.volume_table.specs.declared.changes.Change.{Change};
+ghost use Rattle.table_pair.specs.Pair.{known, row_of, ChangesRow, OldOrNew, NoneOrNew};
+ghost use Rattle.table_pair.specs.Repairs.{KeepsRow};
+ghost use Rattle.shown_volumes.specs.Shown.{rows_of, shown, block_at, on_cartridge};
+ghost use Rattle.shown_volumes.specs.Sound.{IsSound, SoundAs, HasSerialsAsked};
+ghost use Rattle.shown_volumes.specs.Faults.{first_fault};
+ghost use Rattle.shown_volumes.specs.Changing.{IsOutside, IsReady, IsFresh, MayChange, WithOrWithout, with_blank};
+
+/// A content has a first fault exactly where it isn't sound, or a row has another serial than is asked.
+pub fn first_fault_is_of_unsound_content()
+    ensures { (frames : ℕ) (asked : ℕ → Option (List ℕ)) (c : Content)
+        → (first_fault frames asked c ≡ None) ↔ (IsSound frames c × HasSerialsAsked asked (rows_of c)) }
+{}
+
+/// A write into a block outside leaves the content sound, and shows the same.
+pub fn writes_outside_change_nothing()
+    ensures { (frames : ℕ) (c : Content) (w : Write) → IsOutside c (record { unit = w.unit; block = w.block }) → IsSound frames c
+        → SoundAs frames (shown c) (written c w) }
+{}
+
+/// The cartridge's blocks of a changed cylinder are outside what is shown.
+pub fn changed_cylinders_leave_their_cartridge()
+    ensures { (frames volume cylinder head : ℕ) (r : RowValue) (c : Content) → IsSound frames c → rows_of c volume ≡ Some r
+        → state_of r cylinder ≡ 4 → cylinder < 404 → head < 19 → IsOutside c (on_cartridge r cylinder head) }
+{}
+
+/// The frame's blocks of a cylinder that isn't staged are outside what is shown.
+pub fn unstaged_cylinders_leave_their_frame()
+    ensures { (frames volume cylinder head frame : ℕ) (r : RowValue) (c : Content) → IsSound frames c → rows_of c volume ≡ Some r
+        → frame_of r (cylinder / 8) ≡ Some frame → state_of r cylinder < 2 → cylinder < 404 → head < 19
+        → IsOutside c (frame_block frame cylinder head) }
+{}
+
+/// The frame's blocks of a staged cylinder read as the tracks that are shown.
+pub fn staged_cylinders_stand_in_their_frame()
+    ensures { (frames volume cylinder head frame : ℕ) (r : RowValue) (c : Content) → IsSound frames c → rows_of c volume ≡ Some r
+        → frame_of r (cylinder / 8) ≡ Some frame → 2 ≤ state_of r cylinder → state_of r cylinder ≤ 4 → cylinder < 404 → head < 19
+        → reading (block_at c (frame_block frame cylinder head)) ≡ reading_of ((shown c).track volume cylinder head) }
+{}
+
+/// Where the frame's block of a changed cylinder becomes another track, this track is shown there, and else the same.
+pub fn tracks_written_into_a_frame_are_shown()
+    ensures { (frames volume cylinder head frame : ℕ) (r : RowValue) (c d : Content) → IsSound frames c → rows_of c volume ≡ Some r
+        → frame_of r (cylinder / 8) ≡ Some frame → state_of r cylinder ≡ 4 → cylinder < 404 → head < 19
+        → let place = frame_block frame cylinder head in
+        ChangesBlock place.unit place.block (λ block. (reading block).bad ≡ None) c d
+        → SoundAs frames (with_track (shown c) volume cylinder head (reading (block_at d place)).records) d }
+{}
+
+/// With the row that an allowed change makes, where the blocks are ready for it, the content shows the same and is sound.
+pub fn allowed_changes_show_the_same()
+    ensures { (frames volume : ℕ) (change : Change) (r : RowValue) (c : Content) → IsSound frames c → rows_of c volume ≡ Some r
+        → IsRow r → IsAllowed change r → IsReady frames change r c → MayChange frames volume (effect change r) c }
+{}
+
+/// At each moment of a change of a row that may change so, the content is sound and shows the same.
+pub fn changes_of_rows_show_the_same()
+    ensures { (frames volume : ℕ) (row : RowValue) (s t : SiteLog) → MayChange frames volume row (content s)
+        → Writes (ChangesRow volume (OldOrNew volume row (content s)) (content s)) s t
+        → Writes (SoundAs frames (shown (content s))) s t }
+{}
+
+/// At each moment of a repair the content is sound and shows the same.
+pub fn repairs_show_the_same()
+    ensures { (frames volume : ℕ) (s t : SiteLog) → IsSound frames (content s)
+        → Writes (ChangesRow volume (KeepsRow volume (content s)) (content s)) s t
+        → Writes (SoundAs frames (shown (content s))) s t }
+{}
+
+/// At each moment of a creation the content is sound and shows the same volumes, or those and the new one, which is
+/// blank; once the row is told, it shows them with the new one.
+pub fn creations_show_a_blank_volume()
+    ensures moments { (frames volume first second : ℕ) (serial : List ℕ) (s t : SiteLog)
+        → IsSound frames (content s) → IsFresh volume first second (content s)
+        → Writes (ChangesRow volume (NoneOrNew volume (blank_row serial first second)) (content s)) s t
+        → Writes (λ d. IsSound frames d × WithOrWithout volume serial (shown (content s)) (shown d)) s t }
+    ensures created { (frames volume first second : ℕ) (serial : List ℕ) (c d : Content)
+        → IsSound frames c → IsFresh volume first second c
+        → ChangesRow volume (NoneOrNew volume (blank_row serial first second)) c d
+        → row_of d volume ≡ known (Some (blank_row serial first second)) false
+        → SoundAs frames (with_blank volume serial (shown c)) d }
+{}

@@ -1,0 +1,12 @@
+//! The volumes that a content shows, whether the content is sound, and its first fault.
+//!
+//! `specs/Shown.antt` says which volumes the rows of a content show, `specs/Sound.antt` when rows and blocks agree,
+//! `specs/Faults.antt` which fault of a content is the first, `specs/Changing.antt` which blocks the shown volumes
+//! stand on and when a row may change. The layers above rely on these definitions and on `law`: what a write, or a
+//! change of a row, leaves of the shown volumes. `Refused` names each fault.
+#![tactic(auto)]
+
+pub mod law;
+mod refused;
+
+pub use refused::{Half, Refused};
