@@ -1,0 +1,34 @@
+-- How walks that only read go on.
+use Rattle.std.proofs.Common.{◌≡◌, ℕ, ◌+◌, ◌≤◌, ◌<◌, Option, Some, None, Result, Err, sym, ◌∙◌, subst}
+use Rattle.mss_base.specs.Content.{Content, SiteLog, content}
+use Rattle.shown_volumes.specs.declared.refused.Refused.{Refused}
+use Rattle.shown_volumes.specs.declared.refused.Refused.TheVariants.{RowUnread}
+use Rattle.shown_volumes.specs.Faults.{first_below}
+use Rattle.shown_volumes.proofs.WalkFacts.{none_next, found_first}
+use Rattle.mss_restart.specs.Survey.{FindsFault, Finds}
+
+-- what a walk keeps of its site and its two buffers, and what it knows so far
+pub record IsGoing (tells : Type 0) (begun now : SiteLog) (spare_begun spare writes_begun writes faults_begun faults shown staged : ℕ) (Known : Content → Type 0) : Type 0 where
+  pub told : tells → now ≡ begun
+  pub known : tells → Known (content begun)
+  pub room : spare ≡ spare_begun
+  pub written : writes ≡ writes_begun
+  pub later : faults_begun ≤ faults
+  pub shown_whole : shown ≡ 16384
+  pub staged_whole : staged ≡ 16384
+
+-- what is found in a part is found in the whole
+pub finds_more : (e : Refused) (part whole : Option Refused) → (part ≡ Some e → whole ≡ Some e) → FindsFault e part → FindsFault e whole
+finds_more (RowUnread v f) part whole more found = found
+finds_more e part whole more found = λ of. more (found of)
+
+-- a walk by number: it goes on, or ends at its fault
+module _ (F : Content → ℕ → Option Refused) (begun now : SiteLog) (i at : ℕ) (same : now ≡ begun) (number : at ≡ i) (so_far : first_below i (F (content begun)) ≡ None) where
+  here : F (content begun) i ≡ F (content now) at
+  here = λ k. F (content (sym same k)) (sym number k)
+
+  pub goes_on : F (content now) at ≡ None → first_below (i + 1) (F (content begun)) ≡ None
+  goes_on none = none_next i (F (content begun)) so_far (here ∙ none)
+
+  pub ends_at : {T : Type 0} (n : ℕ) (e : Refused) (result : Result T Refused) → result ≡ Err e → i < n → FindsFault e (F (content now) at) → Finds result (first_below n (F (content begun)))
+  ends_at n e result is lt found = subst (λ (r : Result _ Refused). Finds r (first_below n (F (content begun)))) (sym is) (finds_more e (F (content now) at) (first_below n (F (content begun))) (λ at_fault. found_first n (F (content begun)) i e lt so_far (here ∙ at_fault)) found)

@@ -1,0 +1,29 @@
+-- Rows in a list, and the tracks of one of them.
+use Rattle.std.proofs.Common.{◌≡◌, ℕ, zero, suc, ◌<◌, List, [], ◌∷◌, length, get_or, Option, Some, None, refl, sym, ◌∙◌, ap, arith}
+use Rattle.std.specs.Option.{option_and_then}
+use Rattle.mss_base.specs.Content.{Content}
+use Rattle.volume_table.specs.Row.{RowValue}
+use Rattle.shown_volumes.specs.Shown.{RowsOf}
+use Rattle.shown_volumes.specs.declared.refused.Refused.{Refused}
+use Rattle.shown_volumes.specs.Faults.{first_below, row_track_fault, tracks_fault}
+use Rattle.shown_volumes.proofs.WalkFacts.{all_none}
+use Rattle.mss_restart.specs.Listed.{listed}
+use Rattle.mss_restart.specs.Walks.{row_tracks_fault}
+
+get_any : {A : Type 0} (xs : List A) (k : ℕ) (d e : A) → k < length xs → get_or xs k d ≡ get_or xs k e
+get_any [] k d e lt = absurd (omega arith)
+get_any (x ∷ xs) zero d e lt = refl
+get_any (x ∷ xs) (suc k) d e lt = get_any xs k d e (omega arith)
+
+-- what an index gave is the row of the volume
+pub listed_at : (rows : List (Option RowValue)) (k volume : ℕ) (o : Option RowValue) → k ≡ volume → volume < length rows → o ≡ get_or rows k o → listed rows volume ≡ o
+listed_at rows k volume o same lt is = get_any rows volume None o lt ∙ ap (λ (n : ℕ). get_or rows n o) (sym same) ∙ sym is
+
+abbrev tracks_of : Content → ℕ → Option RowValue → Option Refused
+tracks_of c volume o = first_below 404 (λ y. first_below 19 (λ h. option_and_then (row_track_fault c volume y h) o))
+
+pub row_tracks : (rows : RowsOf) (c : Content) (volume : ℕ) (r : RowValue) → rows volume ≡ Some r → tracks_fault rows c volume ≡ row_tracks_fault c volume r
+row_tracks rows c volume r is = ap (tracks_of c volume) is
+
+pub no_tracks : (rows : RowsOf) (c : Content) (volume : ℕ) → rows volume ≡ None → tracks_fault rows c volume ≡ None
+no_tracks rows c volume is = ap (tracks_of c volume) is ∙ all_none 404 (λ y. first_below 19 (λ h. None)) (λ y _. all_none 19 (λ h. None) (λ h _. refl))

@@ -1,0 +1,8 @@
+use Rattle.std.proofs.Common.{◌≡◌, None}
+use Rattle.shown_volumes.specs.Faults.{first_below}
+use Rattle.mss_restart.specs.Walks.{lower_pages}
+use Rattle.mss_restart.specs.Listed.{listed}
+use Rattle.mss_restart.proofs.pages.lower_page.Given as goal
+
+abbrev pub invariant-loop-number : goal.invariant-loop-number
+invariant-loop-number l = first_below l.number (lower_pages (listed l.rows) l.frame) ≡ None

@@ -1,0 +1,8 @@
+use Rattle.std.proofs.Common.{◌≡◌, None}
+use Rattle.shown_volumes.specs.Faults.{first_below}
+use Rattle.shown_volumes.specs.Faults.{page_with}
+use Rattle.mss_restart.specs.Listed.{listed}
+use Rattle.mss_restart.proofs.pages.page_among.Given as goal
+
+abbrev pub invariant-loop-number : goal.invariant-loop-number
+invariant-loop-number l = first_below l.number (page_with (listed l.rows) l.frame l.volume) ≡ None

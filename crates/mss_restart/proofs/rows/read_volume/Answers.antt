@@ -1,0 +1,26 @@
+use Rattle.std.proofs.Common.{Err, Ok, sym, ◌∙◌}
+use Rattle.mss_base.specs.Content.{content}
+use Rattle.table_pair.specs.Pair.{reading}
+use Rattle.mss_restart.proofs.RowLemmas.{was_read, serial_told}
+use Rattle.mss_restart.proofs.rows.read_volume.Goals as goal
+
+pub returns-in-Some-clause-read : goal.returns-in-Some-clause-read
+returns-in-Some-clause-read g c = λ tells.
+    let reads = c.in-Ok.ensures.row tells in
+    record {
+      read = reading reads.a reads.b;
+      is = was_read (g.S.Site.faults c.args.site.now) (g.S.Site.faults c.read_row.new.site) c.args.volume (content (g.S.Site.told c.args.site.now)) (Ok c.in-Ok.read) reads;
+      tells = serial_told c.args.volume c.in-Ok.read.row _ c.args.asked (reading reads.a reads.b) c.in-Some.fault reads.told (sym c.serial_fault.ensures ∙ c.in-Some.is);
+    }
+
+pub returns-in-Err-clause-read : goal.returns-in-Err-clause-read
+returns-in-Err-clause-read g c = λ tells.
+    let reads = c.in-Err.ensures.row tells in
+    record {
+      read = reading reads.a reads.b;
+      is = was_read (g.S.Site.faults c.args.site.now) (g.S.Site.faults c.read_row.new.site) c.args.volume (content (g.S.Site.told c.args.site.now)) (Err c.in-Err.trouble) reads;
+      tells = c.refused_row.ensures.told c.args.asked (reading reads.a reads.b) reads.told;
+    }
+
+pub returns-in-Err-clause-kept : goal.returns-in-Err-clause-kept
+returns-in-Err-clause-kept g c = c.refused_row.ensures.kept _ _ c.in-Err.ensures.kept

@@ -1,0 +1,35 @@
+use Rattle.std.proofs.Common.{sym, ◌∙◌, subst, Option}
+use Rattle.mss_base.specs.Content.{content}
+use Rattle.shown_volumes.specs.declared.refused.Refused.{Refused}
+use Rattle.mss_restart.specs.Listed.{listed}
+use Rattle.mss_restart.specs.Survey.{Finds}
+use Rattle.mss_restart.specs.Walks.{rest_fault}
+use Rattle.mss_restart.proofs.SurveyFacts.{content_kept, found_content, halves_content, pages_content, halves_rest, pages_rest, rest_is}
+use Rattle.mss_restart.proofs.surveying.check_rows.Goals as goal
+
+pub returns-in-Some-clause-kept : goal.returns-in-Some-clause-kept
+returns-in-Some-clause-kept g c = content_kept _ _ c.in-Some.fault (halves_content (listed c.args.rows.now) c.in-Some.fault (sym c.halves_fault.ensures ∙ c.in-Some.is))
+
+pub returns-in-Some-pages_fault-clause-kept : goal.returns-in-Some-pages_fault-clause-kept
+returns-in-Some-pages_fault-clause-kept g c =
+    content_kept _ _ c.in-Some-pages_fault.fault (pages_content c.args.frames (listed c.args.rows.now) c.in-Some-pages_fault.fault (sym c.pages_fault.ensures ∙ c.in-Some-pages_fault.is))
+
+pub returns-clause-finds : goal.returns-clause-finds
+returns-clause-finds g c = λ tells.
+    let rows = listed c.args.rows.now in
+    let k = content (g.S.Site.told c.args.site.now) in
+    subst (λ (o : Option Refused). Finds c.check_tracks.result o)
+    (sym (rest_is c.args.frames rows k (sym c.halves_fault.ensures ∙ c.in_default.is) (sym c.pages_fault.ensures ∙ c.in_default-pages_fault.is))) (c.check_tracks.ensures.finds tells)
+
+pub returns-in-Some-clause-finds : goal.returns-in-Some-clause-finds
+returns-in-Some-clause-finds g c = λ tells.
+    let rows = listed c.args.rows.now in
+    let is = sym c.halves_fault.ensures ∙ c.in-Some.is in
+    found_content c.in-Some.fault (rest_fault c.args.frames rows _) (halves_content rows c.in-Some.fault is) (halves_rest c.args.frames rows _ c.in-Some.fault is)
+
+pub returns-in-Some-pages_fault-clause-finds : goal.returns-in-Some-pages_fault-clause-finds
+returns-in-Some-pages_fault-clause-finds g c = λ tells.
+    let rows = listed c.args.rows.now in
+    let is = sym c.pages_fault.ensures ∙ c.in-Some-pages_fault.is in
+    found_content c.in-Some-pages_fault.fault (rest_fault c.args.frames rows _) (pages_content c.args.frames rows c.in-Some-pages_fault.fault is)
+    (pages_rest c.args.frames rows _ c.in-Some-pages_fault.fault (sym c.halves_fault.ensures ∙ c.in_default.is) is)

@@ -1,0 +1,54 @@
+use Rattle.std.proofs.Common.{◌≡◌, refl, sym, ◌∙◌, ap, subst, Ok, Err, List, Option, None, Result}
+use Rattle.std.proofs.lemmas.Result.{err_from_is_err_and}
+use Rattle.mss_base.specs.Content.{Content, content}
+use Rattle.ckd_plain.specs.Plain.{serial_in}
+use Rattle.mss_base.specs.Configs.{ConfigData}
+use Rattle.volume_table.specs.Row.{RowValue}
+use Rattle.shown_volumes.specs.declared.refused.Refused.{Refused}
+use Rattle.mss_restart.specs.declared.rows.RowsRead.{RowsRead}
+use Rattle.mss_restart.specs.Listed.{listed}
+use Rattle.mss_restart.specs.Walks.{rest_fault}
+use Rattle.mss_restart.specs.Survey.{FindsFault, Surveys, rows_read}
+use Rattle.mss_restart.proofs.Surveyed.{rows_survey, good_survey, bad_survey, renamed}
+use Rattle.mss_restart.proofs.surveying.survey_rows.Goals as goal
+
+pub returns-in_err-read-clause-found : goal.returns-in_err-read-clause-found
+returns-in_err-read-clause-found g c = λ tells.
+    let p = err_from_is_err_and c.from_residual.result c.from_residual.ensures.1 in
+    let before = g.S.Site.faults c.args.site.now in
+    let now = g.S.Site.faults c.read_rows.new.site in
+    let k = content (g.S.Site.told c.args.site.now) in
+    let e = c.in_err-read.field-0.0 in
+    subst (λ (r : Result RowsRead Refused). Surveys before now c.args.config.now.frames (serial_in c.args.config.now.volumes) k (rows_read r)) (sym (p.1 ∙ ap Err p.2))
+    (renamed before now c.config.inside.frames c.args.config.now.frames c.as_slice.result.now c.args.config.now.volumes k k (Err e)
+    (ap (λ (x : ConfigData). x.frames) c.config.view_is) (c.as_slice.ensures ∙ ap (λ (x : ConfigData). x.volumes) c.config.view_is) refl
+    (rows_survey before now c.config.inside.frames (serial_in c.as_slice.result.now) k e (c.in_err-read.ensures.read tells)))
+
+pub returns-in_err-check_rows-clause-found : goal.returns-in_err-check_rows-clause-found
+returns-in_err-check_rows-clause-found g c = λ tells.
+    let p = err_from_is_err_and c.from_residual-in_err-check_rows.result c.from_residual-in_err-check_rows.ensures.1 in
+    let before = g.S.Site.faults c.args.site.now in
+    let mid = g.S.Site.faults c.read_rows.new.site in
+    let now = g.S.Site.faults c.check_rows.new.site in
+    let k = content (g.S.Site.told c.args.site.now) in
+    let e = c.in_err-check_rows.field-0.0 in
+    let rows = c.in_ok-read.read.rows.items in
+    let found = subst (λ (x : Content). FindsFault e (rest_fault c.config.inside.frames (listed rows) x)) (ap content (c.in_ok-read.ensures.told tells))
+    (subst (λ (x : List (Option RowValue)). FindsFault e (rest_fault c.config.inside.frames (listed x) (content (g.S.Site.told c.read_rows.new.site)))) c.as_slice-2.ensures (c.in_err-check_rows.ensures.finds tells)) in
+    subst (λ (r : Result RowsRead Refused). Surveys before now c.args.config.now.frames (serial_in c.args.config.now.volumes) k (rows_read r)) (sym (p.1 ∙ ap Err p.2))
+    (renamed before now c.config.inside.frames c.args.config.now.frames c.as_slice.result.now c.args.config.now.volumes k k (Err e)
+    (ap (λ (x : ConfigData). x.frames) c.config.view_is) (c.as_slice.ensures ∙ ap (λ (x : ConfigData). x.volumes) c.config.view_is) refl
+    (bad_survey before mid now c.config.inside.frames (serial_in c.as_slice.result.now) k rows c.in_ok-read.read.unread (c.in_ok-read.ensures.read tells) c.in_ok-read.ensures.whole c.in_err-check_rows.ensures.later e found))
+
+pub returns-clause-found : goal.returns-clause-found
+returns-clause-found g c = λ tells.
+    let before = g.S.Site.faults c.args.site.now in
+    let mid = g.S.Site.faults c.read_rows.new.site in
+    let now = g.S.Site.faults c.check_rows.new.site in
+    let k = content (g.S.Site.told c.args.site.now) in
+    let rows = c.in_ok-read.read.rows.items in
+    let none = subst (λ (x : Content). rest_fault c.config.inside.frames (listed rows) x ≡ None) (ap content (c.in_ok-read.ensures.told tells))
+    (subst (λ (x : List (Option RowValue)). rest_fault c.config.inside.frames (listed x) (content (g.S.Site.told c.read_rows.new.site)) ≡ None) c.as_slice-2.ensures (c.in_ok-check_rows.ensures.finds tells)) in
+    renamed before now c.config.inside.frames c.args.config.now.frames c.as_slice.result.now c.args.config.now.volumes k k (Ok rows)
+    (ap (λ (x : ConfigData). x.frames) c.config.view_is) (c.as_slice.ensures ∙ ap (λ (x : ConfigData). x.volumes) c.config.view_is) refl
+    (good_survey before mid now c.config.inside.frames (serial_in c.as_slice.result.now) k rows c.in_ok-read.read.unread (c.in_ok-read.ensures.read tells) c.in_ok-read.ensures.whole c.in_ok-check_rows.ensures.later none)

@@ -1,0 +1,39 @@
+use Rattle.std.proofs.Common.{refl, ap, Err, ◌∙◌, arith, ℕ}
+use Rattle.std.proofs.lemmas.Result.{err_from_is_err_and}
+use Rattle.mss_base.specs.Content.{Content, content}
+use Rattle.shown_volumes.specs.Faults.{row_track_fault}
+use Rattle.shown_volumes.proofs.WalkFacts.{none_yet}
+use Rattle.mss_restart.proofs.Going.{goes_on, ends_at}
+use Rattle.mss_restart.proofs.tracks.check_cylinder.Goals as goal
+
+pub loop-number-init : goal.loop-number-init
+loop-number-init g c = record {
+  told = λ tells. refl;
+  known = λ tells. none_yet ((λ (k : Content). λ (h : ℕ). row_track_fault k c.args.volume c.args.cylinder h c.args.row.now) (content (g.S.Site.told c.args.site.now)));
+  room = refl;
+  written = refl;
+  later = omega arith;
+  shown_whole = c.requires.shown;
+  staged_whole = c.requires.staged;
+}
+
+pub returns-in_err-check_track_of-clause-finds : goal.returns-in_err-check_track_of-clause-finds
+returns-in_err-check_track_of-clause-finds g c = λ tells.
+    let p = err_from_is_err_and c.from_residual.result c.from_residual.ensures.1 in
+    let known = c.loop-number.invariant in
+    ends_at (λ (k : Content). λ (h : ℕ). row_track_fault k c.args.volume c.args.cylinder h c.args.row.now) (g.S.Site.told c.args.site.now) (g.S.Site.told c.loop-number.site) c.loop-number.number c.head_at.result (known.told tells) c.head_at.ensures (known.known tells)
+    19 c.in_err-check_track_of.field-0.0 c.from_residual.result (p.1 ∙ ap Err p.2) (omega (arith, c.loop-number-test.true)) (c.in_err-check_track_of.ensures.finds tells)
+
+pub loop-number-preserved : goal.loop-number-preserved
+loop-number-preserved g c =
+    let known = c.loop-number.invariant in
+    record {
+      told = λ tells. c.check_track_of.ensures.told tells ∙ known.told tells;
+      known = λ tells. goes_on (λ (k : Content). λ (h : ℕ). row_track_fault k c.args.volume c.args.cylinder h c.args.row.now) (g.S.Site.told c.args.site.now) (g.S.Site.told c.loop-number.site) c.loop-number.number c.head_at.result (known.told tells) c.head_at.ensures (known.known tells)
+          (c.in_ok-check_track_of.ensures.finds tells);
+      room = c.check_track_of.ensures.spare ∙ known.room;
+      written = c.check_track_of.ensures.writes ∙ known.written;
+      later = omega (arith, known.later, c.check_track_of.ensures.later);
+      shown_whole = omega (arith, known.shown_whole, c.check_track_of.auto.shown);
+      staged_whole = omega (arith, known.staged_whole, c.check_track_of.auto.staged);
+    }

@@ -1,0 +1,110 @@
+// The walk over the halves of volumes: each cartridge stands in one of them.
+ghost use Rattle.std.specs.Prelude.{◌≡◌, length};
+ghost use Rattle.shown_volumes.specs.Sound.{cartridge_of};
+ghost use Rattle.shown_volumes.specs.Faults.{half_with, earlier_half, half_fault, halves_fault, first_below};
+ghost use Rattle.mss_restart.specs.Listed.{listed};
+
+use crate::numbers::volume_at;
+use mss_base::{CartridgeNo, VolumeNo};
+use shown_volumes::{Half, Refused};
+use volume_table::VolumeRow;
+
+/// The cartridge of a half, if the volume has a row.
+fn cartridge_of(rows: &[Option<VolumeRow>], volume: VolumeNo, second: bool) -> Option<CartridgeNo>
+    requires { length rows.now ≡ 32 }
+    ensures { result ≡ cartridge_of (listed rows.now) volume second }
+{
+    let Some(row) = &rows[volume.get() as usize] else {
+        return None;
+    };
+    if second {
+        Some(row.second)
+    } else {
+        Some(row.first)
+    }
+}
+
+/// The first half of a volume that has a cartridge.
+fn half_with(rows: &[Option<VolumeRow>], cartridge: CartridgeNo, volume: VolumeNo) -> Option<Half>
+    requires { length rows.now ≡ 32 }
+    ensures { result ≡ half_with (listed rows.now) cartridge volume }
+{
+    if cartridge_of(rows, volume, false) == Some(cartridge) {
+        return Some(Half {
+            volume,
+            second: false,
+        });
+    }
+    if cartridge_of(rows, volume, true) == Some(cartridge) {
+        return Some(Half {
+            volume,
+            second: true,
+        });
+    }
+    None
+}
+
+/// The first half of a volume before this one that has a cartridge.
+fn lower_half(rows: &[Option<VolumeRow>], cartridge: CartridgeNo, volume: VolumeNo) -> Option<Half>
+    requires { length rows.now ≡ 32 }
+    ensures { result ≡ first_below volume (half_with (listed rows.now) cartridge) }
+{
+    for number in 0..volume.get() {
+        let half = half_with(rows, cartridge, volume_at(number));
+        if half.is_some() {
+            return half;
+        }
+    }
+    None
+}
+
+/// The fault of a half, if an earlier one has the same cartridge.
+fn half_fault(rows: &[Option<VolumeRow>], volume: VolumeNo, second: bool) -> Option<Refused>
+    requires { length rows.now ≡ 32 }
+    ensures { result ≡ half_fault (listed rows.now) volume second }
+{
+    let Some(cartridge) = cartridge_of(rows, volume, second) else {
+        return None;
+    };
+    let mut first = lower_half(rows, cartridge, volume);
+    if first.is_none() && second && cartridge_of(rows, volume, false) == Some(cartridge) {
+        first = Some(Half {
+            volume,
+            second: false,
+        });
+    }
+    let Some(first) = first else {
+        return None;
+    };
+    Some(Refused::CartridgeTwice {
+        cartridge,
+        first,
+        second: Half { volume, second },
+    })
+}
+
+/// The fault of a volume's first half, or else of its second.
+fn volume_fault(rows: &[Option<VolumeRow>], volume: VolumeNo) -> Option<Refused>
+    requires { length rows.now ≡ 32 }
+    ensures { result ≡ halves_fault (listed rows.now) volume }
+{
+    let first = half_fault(rows, volume, false);
+    if first.is_some() {
+        return first;
+    }
+    half_fault(rows, volume, true)
+}
+
+/// The first half whose cartridge stands in an earlier one.
+pub fn halves_fault(rows: &[Option<VolumeRow>]) -> Option<Refused>
+    requires { length rows.now ≡ 32 }
+    ensures { result ≡ first_below 32 (halves_fault (listed rows.now)) }
+{
+    for number in 0..32 {
+        let fault = volume_fault(rows, volume_at(number));
+        if fault.is_some() {
+            return fault;
+        }
+    }
+    None
+}

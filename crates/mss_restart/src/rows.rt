@@ -1,0 +1,127 @@
+// The walk over the rows: each is read by the table of two copies, and its serial compared.
+ghost use Rattle.std.specs.Prelude.{◌≡◌, ◌≤◌, ℕ, List, Option, Err, length, IfOk, IfSome};
+ghost use Rattle.mss_base.specs.Content.{Content, content};
+ghost use Rattle.ckd_plain.specs.Plain.{serial_in};
+ghost use Rattle.table_pair.specs.Pair.{RowReading};
+ghost use Rattle.table_pair.specs.Reads.{Tells, KeepsCount};
+ghost use Rattle.shown_volumes.specs.Faults.{serial_fault};
+ghost use Rattle.mss_restart.specs.Survey.{KeepsCause, KeepsFault, KeepsUnread, ReadsVolume, TellsRow, ReadsRows};
+ghost use Rattle.table_pair.specs.Reads.{IsKept};
+
+use crate::numbers::volume_at;
+use mss_base::{Listed, Serial, Site, VolumeNo};
+use shown_volumes::Refused;
+use std::alloc::Global;
+use table_pair::{RowRead, RowTrouble, read_row};
+use volume_table::VolumeRow;
+
+/// The rows of the 32 volumes, by number.
+pub type Rows = Listed<Option<VolumeRow>>;
+
+/// The rows as they were read. Where one copy alone told a row, since a read of the other failed, `unread` is the site's
+/// count of faults after the first such read.
+#[derive(Drop)]
+pub struct RowsRead {
+    pub rows: Rows,
+    pub unread: Option<u64>,
+}
+
+/// The serial that is asked of a volume, if one is.
+fn serial_asked(volumes: &[(VolumeNo, Serial)], volume: VolumeNo) -> Option<Serial>
+    ensures { result ≡ serial_in volumes.now volume }
+{
+    for entry in volumes {
+        if volume == entry.0 {
+            return Some(entry.1);
+        }
+    }
+    None
+}
+
+/// The fault of a row's serial, if it isn't the one that is asked.
+fn serial_fault(volume: VolumeNo, row: &Option<VolumeRow>, asked: Option<Serial>) -> Option<Refused>
+    ensures { result ≡ serial_fault volume row.now asked }
+{
+    let Some(row) = row else {
+        return None;
+    };
+    let Some(asked) = asked else {
+        return None;
+    };
+    if row.serial == asked {
+        return None;
+    }
+    Some(Refused::SerialDiffers {
+        volume,
+        kept: row.serial,
+        asked,
+    })
+}
+
+/// Why a row isn't known.
+fn refused_row(volume: VolumeNo, trouble: RowTrouble) -> Refused
+    ensures told { (asked : Option (List ℕ)) (r : RowReading) → Tells (Err trouble) r → TellsRow volume asked r (Err result) }
+    ensures kept { (before now : ℕ) → KeepsCount before now (Err trouble) → KeepsCause before now result }
+{
+    match trouble {
+        RowTrouble::Damaged { copy, fault } => Refused::RowDamaged {
+            volume,
+            copy,
+            fault,
+        },
+        RowTrouble::Unread { fault } => Refused::RowUnread { volume, fault },
+        RowTrouble::Memory => Refused::Memory,
+    }
+}
+
+/// Reads the row of a volume, and compares its serial with the one that is asked.
+fn read_volume<S: Site>(
+    site: &mut S,
+    alloc: Global,
+    volume: VolumeNo,
+    asked: Option<Serial>,
+) -> Result<RowRead, Refused>
+    ensures read { S.tells → ReadsVolume (S.faults site.old) (S.faults site.new) volume asked (content (S.told site.old)) result }
+    ensures unread { KeepsUnread (S.faults site.old) (S.faults site.new) result }
+    ensures kept { KeepsFault (S.faults site.old) (S.faults site.new) result }
+    ensures told { S.tells → S.told site.new ≡ S.told site.old }
+    ensures spare { S.spare site.new ≡ S.spare site.old }
+    ensures writes { S.writes site.new ≡ S.writes site.old }
+    ensures later { S.faults site.old ≤ S.faults site.new }
+{
+    match read_row(site, alloc, volume) {
+        Ok(read) => match serial_fault(volume, &read.row, asked) {
+            None => Ok(read),
+            Some(fault) => Err(fault),
+        },
+        Err(trouble) => Err(refused_row(volume, trouble)),
+    }
+}
+
+/// Reads the rows of all volumes, and compares their serials with those that are asked.
+pub fn read_rows<S: Site>(
+    site: &mut S,
+    alloc: Global,
+    volumes: &[(VolumeNo, Serial)],
+) -> Result<RowsRead, Refused>
+    ensures read { S.tells → ReadsRows (S.faults site.old) (S.faults site.new) (serial_in volumes.now) (content (S.told site.old)) result }
+    ensures whole { IfOk result (λ read. length read.rows.items ≡ 32) }
+    ensures unread { IfOk result (λ read. IfSome read.unread (IsKept (S.faults site.old) (S.faults site.new))) }
+    ensures kept { KeepsFault (S.faults site.old) (S.faults site.new) result }
+    ensures told { S.tells → S.told site.new ≡ S.told site.old }
+    ensures spare { S.spare site.new ≡ S.spare site.old }
+    ensures writes { S.writes site.new ≡ S.writes site.old }
+    ensures later { S.faults site.old ≤ S.faults site.new }
+{
+    let mut rows = Rows::new(alloc);
+    rows.reserve(32)?;
+    let mut unread = None;
+    for number in 0..32 {
+        let volume = volume_at(number);
+        let asked = serial_asked(volumes, volume);
+        let read = read_volume(site, alloc, volume, asked)?;
+        unread = unread.or(read.unread);
+        rows.push(read.row);
+    }
+    Ok(RowsRead { rows, unread })
+}

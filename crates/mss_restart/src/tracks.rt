@@ -1,0 +1,296 @@
+// The walk over the tracks: the shown block is a track, and the block in a frame stands for it.
+ghost use Rattle.std.specs.Prelude.{◌≡◌, ◌≤◌, ◌<◌, ◌/◌, not, Option, Some, OnOk, IfErr, length};
+ghost use Rattle.mss_base.specs.Content.{content};
+ghost use Rattle.ckd_track.specs.Track.{reading};
+ghost use Rattle.volume_table.specs.Row.{frame_of, state_of};
+ghost use Rattle.shown_volumes.specs.Shown.{block_at, on_cartridge};
+ghost use Rattle.shown_volumes.specs.Faults.{where_so, is_torn, is_blank, is_same_list, row_track_fault, track_fault, cylinder_fault, tracks_fault, first_below};
+ghost use Rattle.shown_volumes.specs.declared.refused.Refused.TheVariants.{TornTrack, StagedDiffers};
+ghost use Rattle.mss_restart.specs.Listed.{listed};
+ghost use Rattle.mss_restart.specs.Walks.{row_cylinder_fault, row_tracks_fault};
+ghost use Rattle.mss_restart.specs.Survey.{FindsFault, Finds, KeepsFault};
+ghost use Rattle.shown_volumes.specs.declared.refused.Refused.{Refused};
+
+use crate::numbers::{cylinder_at, head_at, volume_at};
+use ckd_track::{check_track, is_blank};
+use mss_base::{
+    BlockPlace, Cylinder, FrameNo, Head, Site, UnitNo, VolumeNo, cartridge_block, frame_block,
+};
+use shown_volumes::Refused;
+use volume_table::{CylinderState, VolumeRow};
+
+/// Reads the block at a place.
+fn read_block<S: Site>(site: &mut S, place: &BlockPlace, into: &mut [u8]) -> Result<(), Refused>
+    requires { length into.old ≡ 16384 }
+    ensures block { S.tells → OnOk result (into.new ≡ block_at (content (S.told site.old)) place.now) }
+    ensures device { IfErr result (λ r. (found : Option Refused) → FindsFault r found) }
+    ensures kept { KeepsFault (S.faults site.old) (S.faults site.new) result }
+    ensures told { S.tells → S.told site.new ≡ S.told site.old }
+    ensures spare { S.spare site.new ≡ S.spare site.old }
+    ensures writes { S.writes site.new ≡ S.writes site.old }
+    ensures later { S.faults site.old ≤ S.faults site.new }
+{
+    if site.read(place.unit, place.block, into).is_err() {
+        return Err(Refused::Stopped {
+            fault: site.faults(),
+        });
+    }
+    Ok(())
+}
+
+/// Reads the block that is shown, which has to be a track.
+fn check_shown<S: Site>(
+    site: &mut S,
+    place: &BlockPlace,
+    volume: VolumeNo,
+    cylinder: Cylinder,
+    head: Head,
+    into: &mut [u8],
+) -> Result<(), Refused>
+    requires { length into.old ≡ 16384 }
+    ensures finds { S.tells → Finds result
+        (where_so (is_torn (content (S.told site.old)) (Some place.now)) (TornTrack volume cylinder head)) }
+    ensures block { S.tells → OnOk result (into.new ≡ block_at (content (S.told site.old)) place.now) }
+    ensures kept { KeepsFault (S.faults site.old) (S.faults site.new) result }
+    ensures told { S.tells → S.told site.new ≡ S.told site.old }
+    ensures spare { S.spare site.new ≡ S.spare site.old }
+    ensures writes { S.writes site.new ≡ S.writes site.old }
+    ensures later { S.faults site.old ≤ S.faults site.new }
+{
+    read_block(site, place, into)?;
+    if check_track(into).is_err() {
+        return Err(Refused::TornTrack {
+            volume,
+            cylinder,
+            head,
+        });
+    }
+    Ok(())
+}
+
+/// Reads the frame's block of a cylinder that is blank, which has to be a blank track.
+fn check_blank<S: Site>(
+    site: &mut S,
+    place: &BlockPlace,
+    volume: VolumeNo,
+    cylinder: Cylinder,
+    head: Head,
+    into: &mut [u8],
+) -> Result<(), Refused>
+    requires { length into.old ≡ 16384 }
+    ensures finds { S.tells → Finds result
+        (where_so (not (is_blank (reading (block_at (content (S.told site.old)) place.now)))) (StagedDiffers volume cylinder head)) }
+    ensures kept { KeepsFault (S.faults site.old) (S.faults site.new) result }
+    ensures told { S.tells → S.told site.new ≡ S.told site.old }
+    ensures spare { S.spare site.new ≡ S.spare site.old }
+    ensures writes { S.writes site.new ≡ S.writes site.old }
+    ensures later { S.faults site.old ≤ S.faults site.new }
+{
+    read_block(site, place, into)?;
+    if !is_blank(into) {
+        return Err(Refused::StagedDiffers {
+            volume,
+            cylinder,
+            head,
+        });
+    }
+    Ok(())
+}
+
+/// Reads the frame's block of a cylinder that stands as on its cartridge, which has to be the cartridge's.
+fn check_copy<S: Site>(
+    site: &mut S,
+    place: &BlockPlace,
+    volume: VolumeNo,
+    cylinder: Cylinder,
+    head: Head,
+    shown: &[u8],
+    into: &mut [u8],
+) -> Result<(), Refused>
+    requires { length into.old ≡ 16384 }
+    ensures finds { S.tells → Finds result
+        (where_so (not (is_same_list (block_at (content (S.told site.old)) place.now) shown.now)) (StagedDiffers volume cylinder head)) }
+    ensures kept { KeepsFault (S.faults site.old) (S.faults site.new) result }
+    ensures told { S.tells → S.told site.new ≡ S.told site.old }
+    ensures spare { S.spare site.new ≡ S.spare site.old }
+    ensures writes { S.writes site.new ≡ S.writes site.old }
+    ensures later { S.faults site.old ≤ S.faults site.new }
+{
+    read_block(site, place, into)?;
+    if *into != *shown {
+        return Err(Refused::StagedDiffers {
+            volume,
+            cylinder,
+            head,
+        });
+    }
+    Ok(())
+}
+
+/// The place of a track on its cartridge.
+fn on_cartridge(row: &VolumeRow, cylinder: Cylinder, head: Head) -> BlockPlace
+    ensures { result ≡ on_cartridge row.now cylinder head }
+{
+    let cartridge = if cylinder.get() < 202 {
+        row.first
+    } else {
+        row.second
+    };
+    BlockPlace {
+        unit: UnitNo::Cartridge(cartridge),
+        block: cartridge_block(cylinder, head),
+    }
+}
+
+/// The frame of a staged cylinder's page.
+fn frame_of_staged(row: &VolumeRow, cylinder: Cylinder) -> FrameNo
+    requires { 2 ≤ state_of row.now cylinder }
+    ensures { Some result ≡ frame_of row.now (cylinder / 8) }
+{
+    let _ = &row.states;
+    let Some(frame) = row.frame(cylinder.page()) else {
+        unreachable!()
+    };
+    frame
+}
+
+/// Checks a track of a row.
+fn check_track_of<S: Site>(
+    site: &mut S,
+    row: &VolumeRow,
+    volume: VolumeNo,
+    cylinder: Cylinder,
+    head: Head,
+    shown: &mut [u8],
+    staged: &mut [u8],
+) -> Result<(), Refused>
+    requires shown { length shown.old ≡ 16384 }
+    requires staged { length staged.old ≡ 16384 }
+    ensures finds { S.tells → Finds result
+        (row_track_fault (content (S.told site.old)) volume cylinder head row.now) }
+    ensures kept { KeepsFault (S.faults site.old) (S.faults site.new) result }
+    ensures told { S.tells → S.told site.new ≡ S.told site.old }
+    ensures spare { S.spare site.new ≡ S.spare site.old }
+    ensures writes { S.writes site.new ≡ S.writes site.old }
+    ensures later { S.faults site.old ≤ S.faults site.new }
+{
+    match row.state(cylinder) {
+        CylinderState::Blank => Ok(()),
+        CylinderState::OnCartridge => {
+            let place = on_cartridge(row, cylinder, head);
+            check_shown(site, &place, volume, cylinder, head, shown)
+        }
+        CylinderState::StagedBlank => {
+            let place = frame_block(frame_of_staged(row, cylinder), cylinder, head);
+            check_blank(site, &place, volume, cylinder, head, staged)
+        }
+        CylinderState::Staged => {
+            let place = on_cartridge(row, cylinder, head);
+            check_shown(site, &place, volume, cylinder, head, shown)?;
+            let place = frame_block(frame_of_staged(row, cylinder), cylinder, head);
+            check_copy(site, &place, volume, cylinder, head, shown, staged)
+        }
+        CylinderState::Changed => {
+            let place = frame_block(frame_of_staged(row, cylinder), cylinder, head);
+            check_shown(site, &place, volume, cylinder, head, shown)
+        }
+    }
+}
+
+/// Checks the tracks of a cylinder, by head.
+fn check_cylinder<S: Site>(
+    site: &mut S,
+    row: &VolumeRow,
+    volume: VolumeNo,
+    cylinder: Cylinder,
+    shown: &mut [u8],
+    staged: &mut [u8],
+) -> Result<(), Refused>
+    requires shown { length shown.old ≡ 16384 }
+    requires staged { length staged.old ≡ 16384 }
+    ensures finds { S.tells → Finds result
+        (row_cylinder_fault (content (S.told site.old)) volume row.now cylinder) }
+    ensures kept { KeepsFault (S.faults site.old) (S.faults site.new) result }
+    ensures told { S.tells → S.told site.new ≡ S.told site.old }
+    ensures spare { S.spare site.new ≡ S.spare site.old }
+    ensures writes { S.writes site.new ≡ S.writes site.old }
+    ensures later { S.faults site.old ≤ S.faults site.new }
+{
+    for number in 0..19 {
+        check_track_of(site, row, volume, cylinder, head_at(number), shown, staged)?;
+    }
+    Ok(())
+}
+
+/// Checks the tracks of a row, by cylinder and head.
+fn check_row<S: Site>(
+    site: &mut S,
+    row: &VolumeRow,
+    volume: VolumeNo,
+    shown: &mut [u8],
+    staged: &mut [u8],
+) -> Result<(), Refused>
+    requires shown { length shown.old ≡ 16384 }
+    requires staged { length staged.old ≡ 16384 }
+    ensures finds { S.tells → Finds result (row_tracks_fault (content (S.told site.old)) volume row.now) }
+    ensures kept { KeepsFault (S.faults site.old) (S.faults site.new) result }
+    ensures told { S.tells → S.told site.new ≡ S.told site.old }
+    ensures spare { S.spare site.new ≡ S.spare site.old }
+    ensures writes { S.writes site.new ≡ S.writes site.old }
+    ensures later { S.faults site.old ≤ S.faults site.new }
+{
+    for number in 0..404 {
+        check_cylinder(site, row, volume, cylinder_at(number), shown, staged)?;
+    }
+    Ok(())
+}
+
+/// Checks the tracks of a volume, if it has a row.
+fn check_volume<S: Site>(
+    site: &mut S,
+    rows: &[Option<VolumeRow>],
+    volume: VolumeNo,
+    shown: &mut [u8],
+    staged: &mut [u8],
+) -> Result<(), Refused>
+    requires rows { length rows.now ≡ 32 }
+    requires shown { length shown.old ≡ 16384 }
+    requires staged { length staged.old ≡ 16384 }
+    ensures finds { S.tells → Finds result (tracks_fault (listed rows.now) (content (S.told site.old)) volume) }
+    ensures kept { KeepsFault (S.faults site.old) (S.faults site.new) result }
+    ensures told { S.tells → S.told site.new ≡ S.told site.old }
+    ensures spare { S.spare site.new ≡ S.spare site.old }
+    ensures writes { S.writes site.new ≡ S.writes site.old }
+    ensures later { S.faults site.old ≤ S.faults site.new }
+{
+    let Some(row) = &rows[volume.get() as usize] else {
+        return Ok(());
+    };
+    check_row(site, row, volume, shown, staged)
+}
+
+/// Checks the tracks of the rows, by volume, cylinder and head.
+///
+/// It reads each block that is shown once, and of a staged cylinder the frame's block too. A blank track has none.
+pub fn check_tracks<S: Site>(
+    site: &mut S,
+    rows: &[Option<VolumeRow>],
+    shown: &mut [u8],
+    staged: &mut [u8],
+) -> Result<(), Refused>
+    requires rows { length rows.now ≡ 32 }
+    requires shown { length shown.old ≡ 16384 }
+    requires staged { length staged.old ≡ 16384 }
+    ensures finds { S.tells → Finds result
+        (first_below 32 (tracks_fault (listed rows.now) (content (S.told site.old)))) }
+    ensures kept { KeepsFault (S.faults site.old) (S.faults site.new) result }
+    ensures told { S.tells → S.told site.new ≡ S.told site.old }
+    ensures spare { S.spare site.new ≡ S.spare site.old }
+    ensures writes { S.writes site.new ≡ S.writes site.old }
+    ensures later { S.faults site.old ≤ S.faults site.new }
+{
+    for number in 0..32 {
+        check_volume(site, rows, volume_at(number), shown, staged)?;
+    }
+    Ok(())
+}
