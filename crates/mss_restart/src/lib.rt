@@ -10,6 +10,8 @@ mod halves;
 mod numbers;
 mod pages;
 mod rows;
+#[cfg(test)]
+mod survey_tables;
 mod surveying;
 #[cfg(test)]
 mod tests;

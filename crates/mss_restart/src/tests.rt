@@ -1,17 +1,14 @@
 // Contents with one fault each, and the refusal that each gives.
 use crate::*;
-use job_text::read_job;
 use mss_base::{
-    CartridgeNo, Cylinder, FrameNo, Head, MemorySite, Page, Serial, Site, SiteFault, UnitNo,
-    VolumeNo,
+    CartridgeNo, Config, Cylinder, FrameNo, Head, MemorySite, Page, Serial, Site, SiteFault,
+    UnitNo, VolumeList, VolumeNo,
 };
 use std::alloc::Global;
 use std::process::Abort;
 use std::test::Fail;
 use table_pair::TableCopy;
 use volume_table::{RowFault, RowField, VolumeRow, encode_row};
-
-const JOB: &[u8] = b"mss 1 frames 8 recorders 1\nvolume 0 VOL001\ndone\n";
 
 /// Bytes that a test puts into a block.
 #[derive(Clone, Copy)]
@@ -40,7 +37,24 @@ fn block_0(unit: &UnitNo, offset: u16, bytes: &'static [u8]) -> Poke {
     }
 }
 
-fn put(
+fn config_of(alloc: Global, volume: VolumeNo, serial: Serial) -> Result<Config, Fail> {
+    let mut volumes = VolumeList::new(alloc);
+    volumes.reserve(1)?;
+    volumes.push((volume, serial));
+    Ok(Config {
+        frames: 8,
+        recorders: 1,
+        volumes,
+    })
+}
+
+// Volume 0 is asked for as VOL001, with eight frames.
+pub fn asked_config(alloc: Global) -> Result<Config, Fail> {
+    let serial = Serial::of(*b"VOL001").ok_or("serial")?;
+    config_of(alloc, volume(0)?, serial)
+}
+
+pub fn put(
     site: &mut MemorySite,
     unit: UnitNo,
     block: u32,
@@ -55,8 +69,14 @@ fn put(
     Ok(())
 }
 
-// Copy A of the row of a volume whose cartridges are 2v and 2v + 1.
-fn put_row(site: &mut MemorySite, alloc: Global, volume: u8, serial: [u8; 6]) -> Result<(), Fail> {
+// One copy of the row of a volume whose cartridges are 2v and 2v + 1.
+pub fn put_row(
+    site: &mut MemorySite,
+    alloc: Global,
+    unit: UnitNo,
+    volume: u8,
+    serial: [u8; 6],
+) -> Result<(), Fail> {
     let serial = Serial::of(serial).ok_or("serial")?;
     let first = CartridgeNo::of(u16::from(volume) * 2).ok_or("first")?;
     let second = CartridgeNo::of(u16::from(volume) * 2 + 1).ok_or("second")?;
@@ -65,20 +85,20 @@ fn put_row(site: &mut MemorySite, alloc: Global, volume: u8, serial: [u8; 6]) ->
     encode_row(&row, &mut bytes);
     bytes[0] = 0xC1;
     bytes[511] = 0x4D;
-    put(site, UnitNo::TableA, u32::from(volume), 0, &bytes)
+    put(site, unit, u32::from(volume), 0, &bytes)
 }
 
 // What the survey of two good rows with these bytes answers, where no read fails or these do.
 fn refusal(alloc: Global, pokes: &[Poke], fails: &[SiteFault]) -> Result<Option<Refused>, Fail> {
-    let job = read_job(alloc, JOB)?;
+    let config = asked_config(alloc)?;
     let mut site = MemorySite::new(alloc)?;
-    put_row(&mut site, alloc, 0, *b"VOL001")?;
-    put_row(&mut site, alloc, 1, *b"VOL002")?;
+    put_row(&mut site, alloc, UnitNo::TableA, 0, *b"VOL001")?;
+    put_row(&mut site, alloc, UnitNo::TableA, 1, *b"VOL002")?;
     for poke in pokes {
         put(&mut site, poke.unit, poke.block, poke.offset, poke.bytes)?;
     }
     site.fail(fails)?;
-    match survey(&mut site, alloc, &job.config) {
+    match survey(&mut site, alloc, &config) {
         Ok(rows) => {
             if rows.as_slice().iter().filter(|row| row.is_some()).count() == 2 {
                 Ok(None)
@@ -90,7 +110,7 @@ fn refusal(alloc: Global, pokes: &[Poke], fails: &[SiteFault]) -> Result<Option<
     }
 }
 
-fn volume(number: u8) -> Result<VolumeNo, Fail> {
+pub fn volume(number: u8) -> Result<VolumeNo, Fail> {
     Ok(VolumeNo::of(number).ok_or("volume")?)
 }
 
