@@ -177,8 +177,8 @@ fn torn_track(number: u16) -> Result<Refused, Fail> {
     })
 }
 
-// What lies past the end of a block is zeros. A block that ends before its gates is blank, one with 97 open gates has as
-// many empty records, whose costs are 13,095; with 98 they are 13,230, which no track has.
+// What lies past the end of a block is zeros. A block that ends before its gates is blank, and one with 97 open gates
+// has as many empty records, which cost 13,095. With 98 they cost 13,230, which no track does.
 #[test]
 fn reads_a_block_that_ends_early(rt: HostRuntime) -> Result<(), Fail> {
     let differs = Refused::StagedDiffers {
@@ -233,41 +233,53 @@ fn small_site(alloc: Global) -> Result<MemorySite, Fail> {
     Ok(site)
 }
 
-// The calls of that survey are reads: 1 of copy A of volume 0, 2 of copy A of volume 1, 3 and 4 of the copies of volume 2,
-// 5 to 62 of those of the 29 volumes without a row, 63 to 81 of the tracks on the cartridge, 82 to 119 of the staged
-// ones and their cartridge's, 120 to 138 of those staged blank. Where 1 or 3 fails copy B tells the row; where one of 5 to
-// 62 fails the other copy is closed and never made, and tells that there is none. Each earlier call has failed once.
+// The calls of that survey are reads: 1 of copy A of volume 0, 2 of copy A of volume 1, 3 and 4 of the copies of volume
+// 2, 5 to 62 of those of the 29 volumes without a row, 63 to 81 of the tracks on the cartridge, 82 to 119 of the staged
+// ones and their cartridge's, 120 to 138 of those staged blank. Where 1 or 3 fails, copy B tells the row. Where one of 5
+// to 62 fails, the other copy is closed and never made, and tells that there is none.
 fn answer_past(failing: u64) -> Result<Result<usize, Refused>, Fail> {
     Ok(match failing {
         2 => Err(Refused::RowUnread {
             volume: volume(1)?,
-            fault: 2,
+            fault: 1,
         }),
         4 => Err(Refused::RowUnread {
             volume: volume(2)?,
-            fault: 4,
+            fault: 1,
         }),
-        63..=138 => Err(Refused::Stopped { fault: failing }),
+        63..=138 => Err(Refused::Stopped { fault: 1 }),
         _ => Ok(3),
     })
 }
 
-#[test]
-fn tells_each_call_that_fails(rt: HostRuntime) -> Result<(), Fail> {
-    let mut site = small_site(rt.alloc())?;
+// Surveys that site where one call fails; there are no more than 138.
+fn check_failing(rt: &impl Abort, alloc: Global, failing: u64) -> Result<(), Fail> {
+    let mut site = small_site(alloc)?;
     let writes = site.writes();
-    for failing in 1..139 {
-        site.fail(&[SiteFault::Call(failing)])?;
-        assert_eq!(rt;
-            surveyed(rt.alloc(), &mut site)?,
-            answer_past(failing)?,
-            "call {failing}"
-        );
-        assert_eq!(rt; site.faults(), failing);
+    site.fail(&[SiteFault::Call(failing)])?;
+    assert_eq!(rt;
+        surveyed(alloc, &mut site)?,
+        answer_past(failing)?,
+        "call {failing}"
+    );
+    let faults = if failing < 139 { 1 } else { 0 };
+    assert_eq!(rt; site.faults(), faults, "call {failing}");
+    assert_eq!(rt; site.writes(), writes, "call {failing}");
+    Ok(())
+}
+
+#[test]
+fn tells_each_read_of_a_row_that_fails(rt: HostRuntime) -> Result<(), Fail> {
+    for failing in 1..63 {
+        check_failing(&rt, rt.alloc(), failing)?;
     }
-    site.fail(&[SiteFault::Call(139)])?;
-    assert_eq!(rt; surveyed(rt.alloc(), &mut site)?, Ok(3));
-    assert_eq!(rt; site.faults(), 138);
-    assert_eq!(rt; site.writes(), writes);
+    Ok(())
+}
+
+#[test]
+fn tells_each_read_of_a_track_that_fails(rt: HostRuntime) -> Result<(), Fail> {
+    for failing in 63..140 {
+        check_failing(&rt, rt.alloc(), failing)?;
+    }
     Ok(())
 }
