@@ -4,3 +4,11 @@ pub mod RowLemmas
 pub mod ReadRows
 pub mod SurveyFacts
 pub mod Surveyed
+pub mod Repaired
+pub mod Pigeons
+pub mod FreshFacts
+pub mod CreatedFacts
+pub mod Creating
+pub mod OpenedRows
+pub mod KnownRows
+pub mod Completed

@@ -10,9 +10,10 @@ use Rattle.table_pair.specs.Reads.{IsReadOf, ReadsRow}
 use Rattle.table_pair.specs.declared.copy.RowRead.{RowRead}
 use Rattle.table_pair.specs.declared.copy.RowTrouble.{RowTrouble}
 use Rattle.shown_volumes.specs.declared.refused.Refused.{Refused}
-use Rattle.shown_volumes.specs.declared.refused.Refused.TheVariants.{SerialDiffers}
+use Rattle.shown_volumes.specs.declared.refused.Refused.TheVariants.{SerialDiffers, RowUnread, Stopped, Memory}
 use Rattle.shown_volumes.specs.Faults.{where_so, is_same_list, serial_fault, read_fault}
-use Rattle.mss_restart.specs.Survey.{IsReading, TellsRow}
+use Rattle.mss_restart.specs.Opening.{IsStop}
+use Rattle.mss_restart.specs.Survey.{KeepsCause, IsReading, TellsRow}
 
 pub later_rise : (first before now last : ℕ) → first ≤ before → now ≤ last → Rises before now → Rises first last
 later_rise first before now last start end rises = omega arith
@@ -50,3 +51,19 @@ serial_told volume (Some q) missing (Some a) r e told is = by (not (is_same_list
     by true found =
         let same : SerialDiffers volume q.serial a ≡ e = cc in
         subst (λ (x : Refused). TellsRow volume (Some a) r (Err x)) same (λ _. ap (read_fault volume (Some a)) told ∙ is ∙ ap (λ (x : Refused). Some x) (sym same))
+
+-- a fault that was kept in a later part of a call was kept in the call
+pub cause_since : (begun before now : ℕ) (e : Refused) → begun ≤ before → KeepsCause before now e → KeepsCause begun now e
+cause_since begun before now (RowUnread v f) start kept = (later_rise begun before f f start (omega arith) kept.0, kept.1)
+cause_since begun before now (Stopped f) start kept = (later_rise begun before f f start (omega arith) kept.0, kept.1)
+cause_since begun before now e start kept = tt
+
+pub stop_since : (begun before now : ℕ) (e : Refused) → begun ≤ before → IsStop before now e → IsStop begun now e
+stop_since begun before now (Stopped f) start kept = (later_rise begun before f f start (omega arith) kept.0, kept.1)
+stop_since begun before now Memory start kept = tt
+stop_since begun before now _ start kept = absurd kept
+
+pub stop_kept : (before now : ℕ) (e : Refused) → IsStop before now e → KeepsCause before now e
+stop_kept before now (Stopped f) kept = kept
+stop_kept before now Memory kept = tt
+stop_kept before now _ kept = absurd kept

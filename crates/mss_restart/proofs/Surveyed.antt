@@ -21,17 +21,17 @@ use Rattle.mss_restart.specs.Survey.{FindsFault, KeepsFault, IsReading, TellsRow
 use Rattle.mss_restart.proofs.RowLemmas.{later_reading}
 
 module _ (frames : ℕ) (asked : ℕ → Option (List ℕ)) (readings : ℕ → RowReading) (c : Content) where
-  abbrev row_walk : Option Refused
+  abbrev pub row_walk : Option Refused
   row_walk = first_below 32 (row_fault asked readings)
 
-  is_rest : first_fault_of frames asked readings c ≡ (row_walk or rest_fault frames (rows_in readings) c)
+  pub is_rest : first_fault_of frames asked readings c ≡ (row_walk or rest_fault frames (rows_in readings) c)
   unfolding first_fault_of
   is_rest = refl
 
   at_row : (e : Refused) → row_walk ≡ Some e → first_fault_of frames asked readings c ≡ Some e
   at_row e is = is_rest ∙ or_first row_walk (rest_fault frames (rows_in readings) c) e is
 
-  behind : (o : Option Refused) → row_walk ≡ None → rest_fault frames (rows_in readings) c ≡ o → first_fault_of frames asked readings c ≡ o
+  pub behind : (o : Option Refused) → row_walk ≡ None → rest_fault frames (rows_in readings) c ≡ o → first_fault_of frames asked readings c ≡ o
   behind o none is = is_rest ∙ ap (λ x. x or rest_fault frames (rows_in readings) c) none ∙ is
 
   tells_rest : (e : Refused) (part : Option Refused) → FindsFault e part → (part ≡ Some e → first_fault_of frames asked readings c ≡ Some e) → SurveyTells frames asked readings c (Err e)

@@ -1,3 +1,5 @@
 pub mod Listed
 pub mod Walks
 pub mod Survey
+pub mod Cartridges
+pub mod Opening

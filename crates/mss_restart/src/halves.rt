@@ -1,5 +1,5 @@
 // The walk over the halves of volumes: each cartridge stands in one of them.
-ghost use Rattle.std.specs.Prelude.{◌≡◌, length};
+ghost use Rattle.std.specs.Prelude.{◌≡◌, ◌≤◌, length};
 ghost use Rattle.shown_volumes.specs.Sound.{cartridge_of};
 ghost use Rattle.shown_volumes.specs.Faults.{half_with, earlier_half, half_fault, halves_fault, first_below};
 ghost use Rattle.mss_restart.specs.Listed.{listed};
@@ -44,12 +44,13 @@ fn half_with(rows: &[Option<VolumeRow>], cartridge: CartridgeNo, volume: VolumeN
     None
 }
 
-/// The first half of a volume before this one that has a cartridge.
-fn lower_half(rows: &[Option<VolumeRow>], cartridge: CartridgeNo, volume: VolumeNo) -> Option<Half>
-    requires { length rows.now ≡ 32 }
-    ensures { result ≡ first_below volume (half_with (listed rows.now) cartridge) }
+/// The first half of the first `count` volumes that has a cartridge.
+pub fn half_among(rows: &[Option<VolumeRow>], cartridge: CartridgeNo, count: u8) -> Option<Half>
+    requires rows { length rows.now ≡ 32 }
+    requires count { count ≤ 32 }
+    ensures { result ≡ first_below count (half_with (listed rows.now) cartridge) }
 {
-    for number in 0..volume.get() {
+    for number in 0..count {
         let half = half_with(rows, cartridge, volume_at(number));
         if half.is_some() {
             return half;
@@ -66,7 +67,7 @@ fn half_fault(rows: &[Option<VolumeRow>], volume: VolumeNo, second: bool) -> Opt
     let Some(cartridge) = cartridge_of(rows, volume, second) else {
         return None;
     };
-    let mut first = lower_half(rows, cartridge, volume);
+    let mut first = half_among(rows, cartridge, volume.get());
     if first.is_none() && second && cartridge_of(rows, volume, false) == Some(cartridge) {
         first = Some(Half {
             volume,

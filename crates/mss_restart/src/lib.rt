@@ -1,14 +1,20 @@
-//! The survey of a site: the rows of its volumes, or the first fault of what it holds.
+//! The survey of a site: the rows of its volumes, or the first fault of what it holds. And its opening: the rows are
+//! repaired, and volumes that have none get one.
 //!
-//! The layers above rely on `survey`: it writes nothing, and answers over every content and every failing device. Where
-//! no read failed the answer is exactly `first_fault` of `shown_volumes`; where one failed it is that of the rows as they
-//! were read. `specs/Survey.antt` says both, and which count of faults `RowUnread` and `Stopped` keep. A survey takes
-//! memory for the rows and for two blocks, and reads each block that is shown once.
+//! The layers above rely on `survey` and on `open_rows`, which answer over every content and every failing device. The
+//! survey writes nothing. Where no read failed its answer is exactly `first_fault` of `shown_volumes`; where one failed it
+//! is that of the rows as they were read. `specs/Survey.antt` says both, and which count of faults `RowUnread` and
+//! `Stopped` keep; `specs/Opening.antt` says what an opened site is, and what it shows at each moment within. A survey
+//! takes memory for the rows and for two blocks, and reads each block that is shown once.
 #![tactic(auto)]
 
+mod cartridges;
+mod creations;
 mod halves;
 mod numbers;
+mod opening;
 mod pages;
+mod repairs;
 mod rows;
 #[cfg(test)]
 mod survey_tables;
@@ -17,6 +23,7 @@ mod surveying;
 mod tests;
 mod tracks;
 
+pub use opening::open_rows;
 pub use rows::Rows;
 pub use shown_volumes::{Half, Refused};
 pub use surveying::survey;

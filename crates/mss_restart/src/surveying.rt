@@ -43,7 +43,11 @@ fn check_rows<S: Site>(
 }
 
 /// Surveys a site, and says whether a row was known from one copy alone.
-fn survey_rows<S: Site>(site: &mut S, alloc: Global, config: &Config) -> Result<RowsRead, Refused>
+pub fn survey_rows<S: Site>(
+    site: &mut S,
+    alloc: Global,
+    config: &Config,
+) -> Result<RowsRead, Refused>
     ensures found { S.tells → Surveys (S.faults site.old) (S.faults site.new) config.now.frames (serial_in config.now.volumes)
         (content (S.told site.old)) (rows_read result) }
     ensures read { S.tells → IfOk result (λ read. AreRead (S.faults site.old) (S.faults site.new) 32 (serial_in config.now.volumes)

@@ -2,7 +2,7 @@ use Rattle.std.proofs.Common.{sym, ◌∙◌, ap, arith}
 use Rattle.shown_volumes.specs.Faults.{half_with}
 use Rattle.shown_volumes.proofs.WalkFacts.{none_yet, none_next, none_is, found_here}
 use Rattle.mss_restart.specs.Listed.{listed}
-use Rattle.mss_restart.proofs.halves.lower_half.Goals as goal
+use Rattle.mss_restart.proofs.halves.half_among.Goals as goal
 
 pub loop-number-init : goal.loop-number-init
 loop-number-init c = none_yet (half_with (listed c.args.rows.now) c.args.cartridge)
@@ -10,7 +10,7 @@ loop-number-init c = none_yet (half_with (listed c.args.rows.now) c.args.cartrid
 pub returns-then-is_some : goal.returns-then-is_some
 returns-then-is_some c =
     let f = half_with (listed c.args.rows.now) c.args.cartridge in
-    found_here c.args.volume f c.loop-number.number c.half_with-half.result (omega (arith, c.loop-number-test.true, c.get-number-end.ensures.value)) c.loop-number.invariant
+    found_here c.args.count f c.loop-number.number c.half_with-half.result (omega (arith, c.loop-number-test.true)) c.loop-number.invariant
     (ap f (sym c.volume_at.ensures) ∙ sym c.half_with-half.ensures) (sym c.is_some.ensures ∙ c.if-is_some.true)
 
 pub loop-number-preserved : goal.loop-number-preserved

@@ -1,0 +1,90 @@
+-- Rows that all which was read of both copies tells.
+use Rattle.std.proofs.Common.{◌≡◌, inl, inr, ℕ, ◌<◌, true, false, List, length, Option, None, Ok, Err, sym, ◌∙◌, ap, subst, arith}
+use Rattle.std.specs.Prelude.{is_some}
+use Rattle.std.proofs.lemmas.Bool.{cases_Bool, cases_lt, cond-true, cond-false, lt-ltb, le-ltb}
+use Rattle.std.proofs.lemmas.List.{get_or_past}
+use Rattle.ckd_plain.specs.Plain.{serial_in}
+use Rattle.mss_base.specs.Configs.{ConfigData}
+use Rattle.mss_base.specs.Content.{Content}
+use Rattle.mss_base.specs.declared.place.UnitNo.TheVariants.{TableB}
+use Rattle.volume_table.specs.Row.{RowValue}
+use Rattle.table_pair.specs.Copies.{copy_at}
+use Rattle.table_pair.specs.Pair.{CopyRead, unread, closed, opened, RowReading, known, reading, read_of, row_of}
+use Rattle.shown_volumes.specs.declared.refused.Refused.{Refused}
+use Rattle.shown_volumes.specs.declared.refused.Refused.TheVariants.{RowUnread, Stopped, Memory}
+use Rattle.shown_volumes.specs.Shown.{RowsOf, told_row, rows_in, rows_of}
+use Rattle.shown_volumes.specs.Faults.{first_below, read_fault, row_fault, first_fault}
+use Rattle.shown_volumes.proofs.WalkFacts.{none_below, all_none, or_none}
+use Rattle.mss_restart.specs.Listed.{listed}
+use Rattle.mss_restart.specs.Walks.{rest_fault}
+use Rattle.mss_restart.specs.Survey.{IsReading, AreRead, Surveys, IsExact}
+use Rattle.mss_restart.specs.Opening.{RowsAre, OpensExactly}
+use Rattle.mss_restart.proofs.Surveyed.{is_rest, behind, row_walk}
+
+no_copy_a : (b : CopyRead) (o : Option RowValue) → known o false ≡ reading unread b → ⊥
+no_copy_a unread o is = cc
+no_copy_a (closed true) o is = cc
+no_copy_a (closed false) o is = cc
+no_copy_a (opened (Ok row)) o is = cc
+no_copy_a (opened (Err fault)) o is = cc
+
+-- an open copy A tells the row whatever stands in copy B
+any_copy_b : (a d : CopyRead) (o : Option RowValue) → known o false ≡ reading a unread → reading a d ≡ known o false
+any_copy_b unread d o is = absurd cc
+any_copy_b (closed true) d o is = absurd cc
+any_copy_b (closed false) d o is = absurd cc
+any_copy_b (opened row) d o is = sym is
+
+known_row : (before now v : ℕ) (c : Content) (o : Option RowValue) → IsReading before now v c (known o false) → row_of c v ≡ known o false
+known_row before now v c o is = elim is.a_read [
+  | inl failed ↦ absurd (no_copy_a is.b o (is.told ∙ ap (λ (a : CopyRead). reading a is.b) failed.0))
+  | inr a_told ↦ elim is.b_read [
+    | inl failed ↦
+        ap (λ (a : CopyRead). reading a (read_of (copy_at (c TableB v)))) (sym a_told)
+        ∙ any_copy_b is.a (read_of (copy_at (c TableB v))) o (is.told ∙ ap (λ (b : CopyRead). reading is.a b) failed.0)
+    | inr b_told ↦ (λ i. reading (sym a_told i) (sym b_told i)) ∙ sym is.told
+  ]
+]
+
+none_some : is_some (let o : Option ℕ = None in o) ≡ true → ⊥
+none_some is = cc
+
+module _ (before now : ℕ) (asked : ℕ → Option (List ℕ)) (c : Content) (rows : List (Option RowValue)) (read : AreRead before now 32 asked c rows None) where
+  told : (v : ℕ) → v < 32 → read.readings v ≡ known (listed rows v) false
+  told v low =
+      let row = read.known v low in
+      elim (cases_Bool row.missing) [
+        | inl lacks ↦ absurd (none_some (row.kept lacks))
+        | inr both ↦ row.is ∙ ap (known (listed rows v)) both
+      ]
+
+  pub rows_told : RowsAre rows c
+  rows_told v low = known_row before now v c (listed rows v) (subst (λ (r : RowReading). IsReading before now v c r) (told v low) (read.each v))
+
+  same_walk : first_below 32 (row_fault asked (row_of c)) ≡ None
+  same_walk =
+      all_none 32 (row_fault asked (row_of c))
+      (λ v low. ap (read_fault v (asked v)) (rows_told v low ∙ sym (told v low)) ∙ none_below 32 (row_fault asked read.readings) read.none v low)
+
+-- a list of all rows is the rows of the content
+pub rows_listed : (rows : List (Option RowValue)) (c : Content) → length rows ≡ 32 → RowsAre rows c → listed rows ≡ rows_of c
+rows_listed rows c long are = λ i v. at v i
+  where
+    at : (v : ℕ) → listed rows v ≡ rows_of c v
+    at v = elim (cases_lt v 32) [
+      | inl low ↦ sym (ap told_row (are v low)) ∙ sym (cond-true _ _ _ (lt-ltb v 32 low))
+      | inr past ↦ get_or_past rows v None (omega (arith, long, past)) ∙ sym (cond-false _ _ _ (le-ltb v 32 past))
+    ]
+
+pub faultless : (before now frames : ℕ) (asked : ℕ → Option (List ℕ)) (c : Content) (rows : List (Option RowValue)) → length rows ≡ 32 → AreRead before now 32 asked c rows None → Surveys before now frames asked c (Ok rows)
+    → first_fault frames asked c ≡ None
+faultless before now frames asked c rows long read surveys =
+    let parts = or_none (row_walk frames asked surveys.readings c) (rest_fault frames (rows_in surveys.readings) c) (sym (is_rest frames asked surveys.readings c) ∙ surveys.tells.1) in
+    let same : rows_in surveys.readings ≡ rows_of c = sym surveys.tells.0 ∙ rows_listed rows c long (rows_told before now asked c rows read) in
+    behind frames asked (row_of c) c None (same_walk before now asked c rows read) (ap (λ (x : RowsOf). rest_fault frames x c) (sym same) ∙ parts.1)
+
+pub exact_refusal : (config : ConfigData) (c : Content) (e : Refused) → IsExact config.frames (serial_in config.volumes) c (Err e) → OpensExactly config c (Err e)
+exact_refusal config c (RowUnread v f) is = is
+exact_refusal config c (Stopped f) is = is
+exact_refusal config c Memory is = tt
+exact_refusal config c _ is = is

@@ -1,0 +1,60 @@
+-- One repair after another.
+use Rattle.std.proofs.Common.{◌≡◌, ℕ, ◌+◌, ◌<◌, List, ◌==◌, inl, inr, refl, sym, ◌∙◌, ap, subst, arith}
+use Rattle.std.proofs.lemmas.Bool.{cases_Bool, cases_lt, eqb-true, eq-eqb, false≢true}
+use Rattle.mss_base.specs.Content.{SiteLog, content, Writes}
+use Rattle.mss_base.specs.declared.place.UnitNo.TheVariants.{TableA, TableB}
+use Rattle.mss_base.proofs.Moments.{started, then, ended_with}
+use Rattle.ckd_track.specs.Data.{Volumes}
+use Rattle.table_pair.specs.Copies.{copy_at}
+use Rattle.table_pair.specs.Pair.{row_of, row_of_copies, ChangesRow, HoldsRow, IsOpenWith}
+use Rattle.table_pair.specs.Repairs.{KeepsRow, HoldsToldRow}
+use Rattle.shown_volumes.specs.Shown.{shown}
+use Rattle.shown_volumes.specs.Sound.{IsSound, SoundAs}
+use Rattle.shown_volumes.proofs.MomentFacts.{repair_moments}
+
+-- at each moment since then a sound content shows the same, and the rows are the same now
+pub record IsRepaired (begun now : SiteLog) : Type 0 where
+  pub moments : (frames : ℕ) → IsSound frames (content begun) → Writes (SoundAs frames (shown (content begun))) begun now
+  pub rows : (v : ℕ) → row_of (content now) v ≡ row_of (content begun) v
+
+pub nothing_repaired : (s : SiteLog) → IsRepaired s s
+nothing_repaired s = record { moments = λ frames sound. started (SoundAs frames (shown (content s))) s (record { sound = sound; same = refl }); rows = λ v. refl }
+
+module _ (begun mid now : SiteLog) (volume : ℕ) (so_far : IsRepaired begun mid) (one : Writes (ChangesRow volume (KeepsRow volume (content mid)) (content mid)) mid now) where
+  change : ChangesRow volume (KeepsRow volume (content mid)) (content mid) (content now)
+  change = ended_with (ChangesRow volume (KeepsRow volume (content mid)) (content mid)) mid now one
+
+  row_kept : (v : ℕ) → row_of (content now) v ≡ row_of (content mid) v
+  row_kept v = elim (cases_Bool (volume == v)) [
+    | inl same ↦ let e = eqb-true volume v same in ap (row_of (content now)) (sym e) ∙ change.here ∙ ap (row_of (content mid)) e
+    | inr other ↦ (λ i. row_of_copies (copy_at (change.others TableA v other i)) (copy_at (change.others TableB v other i)))
+  ]
+
+  pub repaired_too : IsRepaired begun now
+  repaired_too = record {
+    moments = λ frames sound.
+        let before = so_far.moments frames sound in
+        let at_mid = ended_with (SoundAs frames (shown (content begun))) begun mid before in
+        then (SoundAs frames (shown (content begun))) begun mid now before
+        (subst (λ (V : Volumes). Writes (SoundAs frames V) mid now) at_mid.same (repair_moments frames volume mid now at_mid.sound one));
+    rows = λ v. row_kept v ∙ so_far.rows v;
+  }
+
+  -- rows that stand in both copies still do
+  pub held_too : (n : ℕ) → ((v : ℕ) → v < n → HoldsToldRow v (content begun) (content mid)) → volume ≡ n → HoldsToldRow volume (content mid) (content now)
+      → (v : ℕ) → v < n + 1 → HoldsToldRow v (content begun) (content now)
+  held_too n before here one_held v lt row told = elim (cases_Bool (volume == v)) [
+    | inl same ↦
+        let e : volume ≡ v = eqb-true volume v same in
+        subst (λ (x : ℕ). HoldsRow row x (content now)) e (one_held row (so_far.rows volume ∙ ap (row_of (content begun)) e ∙ told))
+    | inr other ↦
+        let apart : v < n = elim (cases_lt v n) [
+          | inl below ↦ below
+          | inr from ↦ let e : volume ≡ v = omega (arith, here, lt, from) in absurd (false≢true (sym other ∙ eq-eqb volume v e))
+        ] in
+        let was = before v apart row told in
+        record {
+          a = subst (λ (b : List ℕ). IsOpenWith row (copy_at b)) (sym (change.others TableA v other)) was.a;
+          b = subst (λ (b : List ℕ). IsOpenWith row (copy_at b)) (sym (change.others TableB v other)) was.b;
+        }
+  ]

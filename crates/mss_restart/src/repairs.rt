@@ -1,0 +1,42 @@
+// The copies of each row made equal.
+ghost use Rattle.std.specs.Prelude.{◌≡◌, ◌≤◌, ◌<◌, ℕ, Err, OnOk};
+ghost use Rattle.mss_base.specs.Content.{content, Writes};
+ghost use Rattle.table_pair.specs.Pair.{row_of};
+ghost use Rattle.table_pair.specs.Repairs.{HoldsToldRow, KeepsRepairFault};
+ghost use Rattle.shown_volumes.specs.Shown.{shown};
+ghost use Rattle.shown_volumes.specs.Sound.{IsSound, SoundAs};
+ghost use Rattle.mss_restart.specs.Opening.{IsStop, StopsAlone};
+
+use crate::numbers::volume_at;
+use mss_base::Site;
+use shown_volumes::Refused;
+use std::alloc::Global;
+use table_pair::{RepairFault, repair};
+
+/// Why copies weren't made equal.
+fn refused_repair(fault: RepairFault) -> Refused
+    ensures { (before now : ℕ) → KeepsRepairFault {T = Unit {0}} before now (Err fault) → IsStop before now result }
+{
+    match fault {
+        RepairFault::Failed { fault } => Refused::Stopped { fault },
+        RepairFault::Memory => Refused::Memory,
+    }
+}
+
+/// Makes the two copies of each row equal, and open with it. The rows stay, and a sound content shows the same at each moment.
+pub fn repair_rows<S: Site>(site: &mut S, alloc: Global) -> Result<(), Refused>
+    ensures moments { S.tells → (frames : ℕ) → IsSound frames (content (S.told site.old))
+        → Writes (SoundAs frames (shown (content (S.told site.old)))) (S.told site.old) (S.told site.new) }
+    ensures rows { S.tells → (volume : ℕ) → row_of (content (S.told site.new)) volume ≡ row_of (content (S.told site.old)) volume }
+    ensures held { S.tells → OnOk result ((volume : ℕ) → volume < 32
+        → HoldsToldRow volume (content (S.told site.old)) (content (S.told site.new))) }
+    ensures stops { StopsAlone (S.faults site.old) (S.faults site.new) result }
+    ensures later { S.faults site.old ≤ S.faults site.new }
+{
+    for number in 0..32 {
+        if let Err(fault) = repair(site, alloc, volume_at(number)) {
+            return Err(refused_repair(fault));
+        }
+    }
+    Ok(())
+}
