@@ -12,6 +12,8 @@ mod cartridges;
 mod creations;
 mod halves;
 mod numbers;
+#[cfg(test)]
+mod open_tests;
 mod opening;
 mod pages;
 mod repairs;

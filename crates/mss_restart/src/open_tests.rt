@@ -1,0 +1,204 @@
+// One old and two new volumes: what opening makes of them, also where a stop or a failure comes within.
+ghost use Rattle.std.specs.Prelude.{◌≡◌, IfOk, [], ◌∷◌};
+
+use crate::numbers::volume_at;
+use crate::*;
+use mss_base::{
+    CartridgeNo, Config, MemorySite, Serial, Site, SiteFault, UnitNo, VolumeList, VolumeNo,
+};
+use std::alloc::Global;
+use std::process::Abort;
+use std::test::Fail;
+use volume_table::{VolumeRow, encode_row};
+
+/// A volume, the last character of its serial, and its two cartridges.
+type Named = (usize, u8, u16, u16);
+
+const OLD: &[Named] = &[(3, b'4', 0, 2)];
+
+const WITH_ONE: &[Named] = &[(0, b'1', 1, 3), (3, b'4', 0, 2)];
+
+const WITH_BOTH: &[Named] = &[(0, b'1', 1, 3), (3, b'4', 0, 2), (5, b'6', 4, 5)];
+
+// VOL001 to VOL009.
+fn serial_with(digit: u8) -> Result<Serial, Fail>
+    ensures { IfOk result (λ serial. serial ≡ 86 ∷ 79 ∷ 76 ∷ 48 ∷ 48 ∷ digit ∷ []) }
+{
+    let Some(serial) = Serial::of([b'V', b'O', b'L', b'0', b'0', digit]) else {
+        return Err(Fail::from("serial"));
+    };
+    Ok(serial)
+}
+
+fn config_of(alloc: Global, one: Serial, four: Serial, six: Serial) -> Result<Config, Fail>
+    requires one { one ≡ 86 ∷ 79 ∷ 76 ∷ 48 ∷ 48 ∷ 49 ∷ [] }
+    requires four { four ≡ 86 ∷ 79 ∷ 76 ∷ 48 ∷ 48 ∷ 52 ∷ [] }
+    requires six { six ≡ 86 ∷ 79 ∷ 76 ∷ 48 ∷ 48 ∷ 54 ∷ [] }
+{
+    let mut volumes = VolumeList::new(alloc);
+    volumes.reserve(3)?;
+    volumes.push((volume_at(0), one));
+    volumes.push((volume_at(3), four));
+    volumes.push((volume_at(5), six));
+    Ok(Config {
+        frames: 8,
+        recorders: 1,
+        volumes,
+    })
+}
+
+// Volumes 0, 3 and 5 are asked for.
+fn asked_config(alloc: Global) -> Result<Config, Fail> {
+    let one = serial_with(49)?;
+    let four = serial_with(52)?;
+    let six = serial_with(54)?;
+    config_of(alloc, one, four, six)
+}
+
+// Devices with the row of volume 3 in copy A, which is open, and a made mark in copy B, which is closed.
+fn old_site(alloc: Global) -> Result<MemorySite, Fail> {
+    let serial = serial_with(52)?;
+    let first = CartridgeNo::of(0).ok_or("first")?;
+    let second = CartridgeNo::of(2).ok_or("second")?;
+    let row = VolumeRow::blank(alloc, serial, first, second)?;
+    let mut bytes = [0; 512];
+    encode_row(&row, &mut bytes);
+    bytes[0] = 0xC1;
+    bytes[511] = 0x4D;
+    let mut site = MemorySite::new(alloc)?;
+    site.reserve(2)?;
+    site.write(UnitNo::TableA, 3, 0, &bytes)?;
+    site.write(UnitNo::TableB, 3, 511, b"M")?;
+    Ok(site)
+}
+
+fn named(alloc: Global, rows: &Rows) -> Result<Vec<Named>, Fail> {
+    let mut list = Vec::new(alloc);
+    for (volume, row) in rows.as_slice().iter().enumerate() {
+        if let Some(row) = row {
+            let digit = row.serial.as_slice()[5];
+            list.push((volume, digit, row.first.get(), row.second.get()))?;
+        }
+    }
+    Ok(list)
+}
+
+// The volumes that a site shows, which have to be the old one with a front of the new ones.
+fn front(alloc: Global, config: &Config, site: &mut MemorySite) -> Result<usize, Fail> {
+    match survey(site, alloc, config) {
+        Ok(rows) => {
+            let list = named(alloc, &rows)?;
+            let shown = list.as_slice();
+            if shown == OLD || shown == WITH_ONE || shown == WITH_BOTH {
+                Ok(shown.len())
+            } else {
+                Err(Fail::from("no front"))
+            }
+        }
+        Err(_) => Err(Fail::from("refused")),
+    }
+}
+
+// The site that was opened, and its volumes.
+fn opened(
+    alloc: Global,
+    config: &Config,
+    site: MemorySite,
+) -> Result<(MemorySite, Vec<Named>), Fail> {
+    match open_rows(site, alloc, config) {
+        Ok((site, rows)) => {
+            let list = named(alloc, &rows)?;
+            Ok((site, list))
+        }
+        Err(_) => Err(Fail::from("refused")),
+    }
+}
+
+#[test]
+fn opens_one_old_and_two_new_volumes(rt: HostRuntime) -> Result<(), Fail> {
+    let alloc = rt.alloc();
+    let config = asked_config(alloc)?;
+    let (mut site, list) = opened(alloc, &config, old_site(alloc)?)?;
+    assert_eq!(rt; list.as_slice(), WITH_BOTH);
+    assert_eq!(rt; site.writes(), 16);
+    assert_eq!(rt; front(alloc, &config, &mut site)?, 3);
+    let (site, list) = opened(alloc, &config, site)?;
+    assert_eq!(rt; list.as_slice(), WITH_BOTH);
+    assert_eq!(rt; site.writes(), 16);
+    Ok(())
+}
+
+// What a stop leaves shows a front of the new volumes, and is opened as if there had been no stop.
+fn check_stop(
+    alloc: Global,
+    config: &Config,
+    site: &MemorySite,
+    moment: u64,
+    tear: Option<&[u8]>,
+) -> Result<usize, Fail> {
+    let mut image = site.image(moment, tear)?;
+    let shown = front(alloc, config, &mut image)?;
+    let (_, list) = opened(alloc, config, image)?;
+    if list.as_slice() == WITH_BOTH {
+        Ok(shown)
+    } else {
+        Err(Fail::from("not opened"))
+    }
+}
+
+#[test]
+fn shows_a_front_of_the_new_volumes_after_each_stop(rt: HostRuntime) -> Result<(), Fail> {
+    let alloc = rt.alloc();
+    let config = asked_config(alloc)?;
+    let (site, _) = opened(alloc, &config, old_site(alloc)?)?;
+    // The repair writes the body of copy B and opens it. Each creation makes two marks, writes and opens copy A, then
+    // copy B; its volume is shown from the opening of copy A on.
+    let shown = [1, 1, 1, 1, 1, 1, 2, 2, 2, 2, 2, 2, 3, 3, 3];
+    for (index, count) in shown.iter().enumerate() {
+        let moment = index as u64 + 2;
+        assert_eq!(rt; check_stop(alloc, &config, &site, moment, None)?, *count);
+        check_stop(alloc, &config, &site, moment, Some(b"\x55\x55"))?;
+    }
+    Ok(())
+}
+
+// What opening answers where the n-th call fails; a failure loses none of the volumes that were shown.
+fn refusal(alloc: Global, config: &Config, call: u64) -> Result<Option<Refused>, Fail> {
+    let mut site = old_site(alloc)?;
+    site.fail(&[SiteFault::Call(call)])?;
+    match open_rows(site, alloc, config) {
+        Ok((mut site, _)) => {
+            site.fail(&[])?;
+            front(alloc, config, &mut site)?;
+            Ok(None)
+        }
+        Err((mut site, fault)) => {
+            site.fail(&[])?;
+            front(alloc, config, &mut site)?;
+            Ok(Some(fault))
+        }
+    }
+}
+
+const CALLS: &[u64] = &[
+    1, 6, 7, 8, 63, 64, 71, 72, 73, 74, 129, 130, 131, 132, 133, 134, 135, 136, 137, 138, 145, 146,
+];
+
+// The survey reads both copies of each volume, but of volume 3 copy A alone, which is open; without it the row isn't
+// known: 63 calls. The repair reads both of each and writes twice: 66. Each creation reads two blocks before it marks
+// them, and writes six times: 16.
+#[test]
+fn refuses_each_failing_call_by_name(rt: HostRuntime) -> Result<(), Fail> {
+    let alloc = rt.alloc();
+    let config = asked_config(alloc)?;
+    let volume = VolumeNo::of(3).ok_or("volume")?;
+    for call in CALLS {
+        let expected = match *call {
+            7 => Some(Refused::RowUnread { volume, fault: 1 }),
+            146 => None,
+            _ => Some(Refused::Stopped { fault: 1 }),
+        };
+        assert_eq!(rt; refusal(alloc, &config, *call)?, expected);
+    }
+    Ok(())
+}
