@@ -180,25 +180,44 @@ fn refusal(alloc: Global, config: &Config, call: u64) -> Result<Option<Refused>,
     }
 }
 
-const CALLS: &[u64] = &[
-    1, 6, 7, 8, 63, 64, 71, 72, 73, 74, 129, 130, 131, 132, 133, 134, 135, 136, 137, 138, 145, 146,
-];
-
-// The survey reads both copies of each volume, but of volume 3 copy A alone, which is open; without it the row isn't
-// known: 63 calls. The repair reads both of each and writes twice: 66. Each creation reads two blocks before it marks
-// them, and writes six times: 16.
-#[test]
-fn refuses_each_failing_call_by_name(rt: HostRuntime) -> Result<(), Fail> {
-    let alloc = rt.alloc();
-    let config = asked_config(alloc)?;
+// Each of these calls fails, in an opening of its own.
+fn check_calls(
+    rt: &impl Abort,
+    alloc: Global,
+    config: &Config,
+    first: u64,
+    last: u64,
+) -> Result<(), Fail> {
     let volume = VolumeNo::of(3).ok_or("volume")?;
-    for call in CALLS {
-        let expected = match *call {
+    for call in first..last {
+        let expected = match call {
             7 => Some(Refused::RowUnread { volume, fault: 1 }),
             146 => None,
             _ => Some(Refused::Stopped { fault: 1 }),
         };
-        assert_eq!(rt; refusal(alloc, &config, *call)?, expected);
+        assert_eq!(rt; refusal(alloc, config, call)?, expected);
     }
     Ok(())
+}
+
+// The survey reads both copies of each volume, but of volume 3 copy A alone, which is open; without it the row isn't
+// known.
+#[test]
+fn refuses_each_failing_read_of_the_survey_by_name(rt: HostRuntime) -> Result<(), Fail> {
+    let config = asked_config(rt.alloc())?;
+    check_calls(&rt, rt.alloc(), &config, 1, 64)
+}
+
+// The repair reads both copies of each volume and writes twice: 66 calls.
+#[test]
+fn refuses_each_failing_call_of_the_repair_by_name(rt: HostRuntime) -> Result<(), Fail> {
+    let config = asked_config(rt.alloc())?;
+    check_calls(&rt, rt.alloc(), &config, 64, 130)
+}
+
+// Each of the two creations reads two blocks before it marks them, and writes six times. No call is the 146th.
+#[test]
+fn refuses_each_failing_call_of_a_creation_by_name(rt: HostRuntime) -> Result<(), Fail> {
+    let config = asked_config(rt.alloc())?;
+    check_calls(&rt, rt.alloc(), &config, 130, 147)
 }
