@@ -6,44 +6,47 @@ ghost use Rattle.mss_base.specs.Counts.{HasCause, next_count};
 
 use mss_base::{Failed, Source};
 use std::io;
-use std::io::{ErrorKind, Read, Stdin};
+use std::io::{ErrorKind, Read};
 use std::marker::Model;
 
-/// Standard input, which doesn't tell its bytes: no clause can say what a process is given.
+/// A reader, as standard input. What a process is given no clause can say; but of a reader that tells what is left each clause
+/// speaks of it.
 #[derive(Drop)]
-pub struct StandardSource {
-    input: Stdin,
+pub struct StandardSource<R: Read> {
+    input: R,
     faults: u64,
 }
 
-impl Model for StandardSource {
-    ghost use Rattle.std.specs.Prelude.{ℕ};
+impl<R: Read> Model for StandardSource<R> {
+    ghost use Rattle.mss_cli.specs.Output.{Input};
 
-    ghost Value = { ℕ };
+    ghost Value = { Input };
 
-    ghost view = { λ s. s.faults };
+    ghost view = { λ s. record { left = R.remaining s.input; faults = s.faults } };
 }
 
-impl StandardSource {
-    pub fn new(input: Stdin) -> Self
-        ensures { result ≡ 0 }
+impl<R: Read> StandardSource<R> {
+    pub fn new(input: R) -> Self
+        ensures { result ≡ record { left = R.remaining input; faults = 0 } }
     {
         StandardSource { input, faults: 0 }
     }
 }
 
-impl Source for StandardSource {
+impl<R: Read> Source for StandardSource<R> {
     ghost tells = { ⊥ };
 
     ghost left = { λ _. [] };
 
-    ghost faults = { λ faults. faults };
+    ghost faults = { λ input. input.faults };
 
     /// Reads once.
     fn take(&mut self, into: &mut [u8]) -> Result<usize, Failed>
         ensures within { IfOk result (λ n. n ≤ length into.old) }
-        ensures counted { self.new ≡ (if is_err result then next_count self.old else self.old) }
-        ensures cause { HasCause self.old self.new result }
+        ensures bytes { IfOk result (λ n. Consumes self.old.left self.new.left (take n into.new)) }
+        ensures end { IfOk result (λ n. n ≡ 0 → 1 ≤ length into.old → IsAtEnd self.new.left) }
+        ensures counted { self.new.faults ≡ (if is_err result then next_count self.old.faults else self.old.faults) }
+        ensures cause { HasCause self.old.faults self.new.faults result }
     {
         match read_once(&mut self.input, into) {
             Ok(count) => Ok(count),
