@@ -1,6 +1,6 @@
 //! Standard output as a sink of bytes.
 ghost use Rattle.std.specs.Prelude.{◌≡◌, [], is_err, IfOk, OnOk, if◌then◌else◌};
-ghost use Rattle.std.specs.Io.KnownBytes.{Appends, Keeps};
+ghost use Rattle.std.specs.Io.KnownBytes.{Appends, Keeps, append_known};
 ghost use Rattle.mss_base.specs.Counts.{HasCause, next_count};
 
 use mss_base::{Failed, NoMemory, Sink};
@@ -28,7 +28,9 @@ impl<W: Write + Drop> Model for StandardSink<W> {
 }
 
 impl<W: Write + Drop> StandardSink<W> {
+    /// Nothing waits yet. After want of memory the writer is let go of.
     pub fn new(alloc: Global, output: W) -> Result<Self, NoMemory>
+        ensures contents { IfOk result (λ sink. sink.contents ≡ append_known (W.contents output) []) }
         ensures empty { IfOk result (λ sink. sink.waiting ≡ []) }
         ensures faults { IfOk result (λ sink. sink.faults ≡ 0) }
     {
