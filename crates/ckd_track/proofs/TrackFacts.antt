@@ -7,6 +7,7 @@ use Rattle.std.proofs.lemmas.List.Sums.{sum_by-cons, sum_by-take-le, sum_by_push
 use Rattle.std.proofs.lemmas.Bool.{ltb-false}
 use Rattle.std.proofs.lemmas.Bool.Decides.{nat_tests}
 use Rattle.mss_base.specs.Zeros.{zeros}
+use Rattle.mss_base.proofs.AllFacts.{all_take, all_push}
 use Rattle.ckd_track.specs.Data.{RecordData, cost, cost_of, cost_of_lengths, HasCount, IsTrack}
 use Rattle.ckd_track.specs.Track.{Reading, reading_of, key_length, data_length, record_length, record_at, cost_at, is_open, reached, reading_from, reading, AreBytes}
 use Rattle.ckd_track.specs.Formatting.{IsRecord, formatted}
@@ -40,22 +41,13 @@ each_found (x ∷ rs) (suc i) r all e = each_found rs i r all.1 e
 pub found_counted : (rs : List RecordData) (i : ℕ) (r : RecordData) → IsTrack rs → slice_get rs i ≡ Some r → HasCount r
 found_counted rs i r t e = each_found rs i r t.each e
 
-each_take : (n : ℕ) (rs : List RecordData) → AllByRecursion HasCount rs → AllByRecursion HasCount (take n rs)
-each_take zero rs all = tt
-each_take (suc n) [] all = tt
-each_take (suc n) (r ∷ rs) all = (all.0, each_take n rs all.1)
-
-each_push : (rs : List RecordData) (r : RecordData) → AllByRecursion HasCount rs → HasCount r → AllByRecursion HasCount (rs ++ r ∷ [])
-each_push [] r all here = (here, tt)
-each_push (x ∷ rs) r all here = (all.0, each_push rs r all.1 here)
-
 -- the front of a track is a track
 pub track_take : (n : ℕ) (rs : List RecordData) → IsTrack rs → IsTrack (take n rs)
-track_take n rs t = record { cost_ = omega (arith, cost-take-le n rs, t.cost_); each = each_take n rs t.each }
+track_take n rs t = record { cost_ = omega (arith, cost-take-le n rs, t.cost_); each = all_take HasCount n rs t.each }
 
 -- a track with one more record, where it fits
 pub track_push : (rs : List RecordData) (r : RecordData) → IsTrack rs → HasCount r → cost rs + cost_of r ≤ 13165 → IsTrack (rs ++ r ∷ [])
-track_push rs r t here fits = record { cost_ = omega (arith, cost-push rs r, fits); each = each_push rs r t.each here }
+track_push rs r t here fits = record { cost_ = omega (arith, cost-push rs r, fits); each = all_push HasCount rs r t.each here }
 
 -- a record that stands inside its block has the lengths of its count
 module _ (place : ℕ) (b : List ℕ) (inside : place + record_length place b ≤ length b) where

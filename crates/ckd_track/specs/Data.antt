@@ -1,6 +1,7 @@
 -- Records and tracks as plain data, and volumes of them.
 use Rattle.std.specs.Prelude.{◌≡◌, ℕ, ◌+◌, ◌<◌, ◌≤◌, ◌==◌, List, [], length, Option, sum_by, if◌then◌else◌}
 use Rattle.std.specs.List.{AllByRecursion}
+use Rattle.ckd_track.specs.declared.layout.TheConstants.{TRACK_COST}
 
 -- a record: its ID of five bytes, its key and its data
 pub record RecordData : Type 0 where
@@ -23,10 +24,6 @@ cost_of r = cost_of_lengths (length r.key) (length r.body)
 -- what records take together
 abbrev pub cost : List RecordData → ℕ
 cost rs = sum_by cost_of rs
-
--- the costs on a track are at most this together
-abbrev pub TRACK_COST : ℕ
-TRACK_COST = 13165
 
 -- a count can tell the record's lengths
 pub record HasCount (r : RecordData) : Type 0 where

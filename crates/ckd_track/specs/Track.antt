@@ -1,6 +1,8 @@
 -- The track of a block: the records from byte 256 on, record k while the gate at byte 128 + k is open.
 use Rattle.std.specs.Prelude.{ℕ, zero, suc, ◌+◌, ◌*◌, ◌<◌, ◌==◌, nat_lt, Bool, true, false, List, [], ◌∷◌, length, take, drop, slice_index, Option, Some, None}
-use Rattle.ckd_track.specs.Data.{RecordData, cost_of_lengths, TRACK_COST}
+use Rattle.mss_base.specs.declared.block.TheConstants.{OPEN}
+use Rattle.ckd_track.specs.Data.{RecordData, cost_of_lengths}
+use Rattle.ckd_track.specs.declared.layout.TheConstants.{TRACK_COST}
 use Rattle.ckd_track.specs.declared.track.BadRecord.{BadRecord}
 use Rattle.ckd_track.specs.declared.track.TrackCause.TheVariants.{RunsPast, Overfull}
 
@@ -39,7 +41,7 @@ cost_at place block = cost_of_lengths (key_length place block) (data_length plac
 
 -- whether the gate of a record is open
 abbrev pub is_open : ℕ → List ℕ → Bool
-is_open number block = slice_index block (128 + number) == 193
+is_open number block = slice_index block (128 + number) == OPEN
 
 -- a record before others
 abbrev pub before : RecordData → Reading → Reading

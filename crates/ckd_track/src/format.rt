@@ -1,12 +1,14 @@
 // Formatting a record: at most four writes, such that a stop at any moment leaves a track.
-ghost use Rattle.std.specs.Prelude.{◌≡◌, ◌⊎◌, ◌≤◌, ◌<◌, ℕ, ◌+◌, ◌-◌, [], ◌∷◌, ◌++◌, true, false, length, take, slice_index, OnOk};
-ghost use Rattle.mss_base.specs.Counts.{HasCause};
-ghost use Rattle.ckd_track.specs.Data.{IsTrack, TRACK_COST, cost, cost_of};
+ghost use Rattle.std.specs.Prelude.{◌≡◌, ◌⊎◌, ◌≤◌, ◌<◌, ℕ, ◌+◌, ◌-◌, [], ◌∷◌, ◌++◌, Bool, true, false, length, take, slice_index, IsOk, OnOk, OnErr};
+ghost use Rattle.mss_base.specs.Counts.{HasCause, Rises};
+ghost use Rattle.mss_base.specs.Sites.{MayWrite};
+ghost use Rattle.mss_base.specs.declared.place.UnitNo.{UnitNo};
+ghost use Rattle.ckd_track.specs.Data.{IsTrack, cost, cost_of};
 ghost use Rattle.ckd_track.specs.Track.{reading, reading_of, record_at, is_open, place_after};
 ghost use Rattle.ckd_track.specs.Formatting.{block_of, WritesBlock, formatted, IsRecord, IsFormatting, SameBytes, EndsAfter, Holds};
 
-use crate::layout::{FIRST_PLACE, GATES, GATES_END, OPEN, record_length};
-use mss_base::{BlockPlace, Failed, Site};
+use crate::layout::{FIRST_PLACE, GATES, GATES_END, TRACK_COST, record_length};
+use mss_base::{BLOCK_BYTES, BlockPlace, Failed, OPEN, Site};
 
 /// Closes the gate of the record behind `before` others, where it is open.
 fn close_gate<S: Site>(
@@ -15,18 +17,21 @@ fn close_gate<S: Site>(
     block: &[u8],
     before: u8,
 ) -> Result<(), Failed>
-    requires whole { length block.now ≡ 16384 }
+    requires whole { length block.now ≡ BLOCK_BYTES }
     requires told { S.tells → block_of (S.told site.old) at.now ≡ block.now }
     requires few { before ≤ 96 }
     requires room { 1 ≤ S.spare site.old }
-    ensures moments { S.tells → WritesBlock at.now (λ b. (b ≡ block.now) ⊎ EndsAfter before block.now b)
+    ensures moments { S.tells → WritesBlock at.now
+        (λ b. (b ≡ block.now) ⊎ EndsAfter before block.now b)
         (S.told site.old) (S.told site.new) }
     ensures closed { S.tells →
         OnOk result (EndsAfter before block.now (block_of (S.told site.new) at.now)) }
     ensures later { S.tells →
         OnOk result (SameBytes (130 + before) 227 block.now (block_of (S.told site.new) at.now)) }
-    ensures room { S.spare site.old ≤ S.spare site.new + 1 }
+    ensures devices { MayWrite 1 S.spare S.writes S.faults S.never_fails_but site.old site.new }
     ensures cause { HasCause (S.faults site.old) (S.faults site.new) result }
+    ensures counted { OnErr result (Rises (S.writes site.old) (S.writes site.new)) }
+    ensures works { (but : UnitNo → Bool) → S.never_fails_but site.old but → IsOk result }
 {
     let gate = GATES + 1 + before as u16;
     if block[gate as usize] == OPEN {
@@ -68,7 +73,7 @@ fn close_later<S: Site>(
     block: &[u8],
     before: u8,
 ) -> Result<(), Failed>
-    requires whole { length block.now ≡ 16384 }
+    requires whole { length block.now ≡ BLOCK_BYTES }
     requires ends { S.tells → EndsAfter before block.now (block_of (S.told site.old) at.now) }
     requires later { S.tells →
         SameBytes (130 + before) 227 block.now (block_of (S.told site.old) at.now) }
@@ -80,8 +85,10 @@ fn close_later<S: Site>(
         OnOk result (EndsAfter before block.now (block_of (S.told site.new) at.now)) }
     ensures next { S.tells →
         OnOk result (is_open (before + 2) (block_of (S.told site.new) at.now) ≡ false) }
-    ensures room { S.spare site.old ≤ S.spare site.new + 1 }
+    ensures devices { MayWrite 1 S.spare S.writes S.faults S.never_fails_but site.old site.new }
     ensures cause { HasCause (S.faults site.old) (S.faults site.new) result }
+    ensures counted { OnErr result (Rises (S.writes site.old) (S.writes site.new)) }
+    ensures works { (but : UnitNo → Bool) → S.never_fails_but site.old but → IsOk result }
 {
     let next = GATES + 2 + before as u16;
     if any_open(block, next as usize, GATES_END as usize) {
@@ -101,11 +108,11 @@ fn put_record<S: Site>(
 ) -> Result<(), Failed>
     requires ends { S.tells → EndsAfter before block.now (block_of (S.told site.old) at.now) }
     requires next { S.tells → is_open (before + 2) (block_of (S.told site.old) at.now) ≡ false }
-    requires whole { length block.now ≡ 16384 }
+    requires whole { length block.now ≡ BLOCK_BYTES }
     requires few { before ≤ 96 }
     requires place { place ≡ place_after before 256 block.now }
     requires some { 1 ≤ length bytes.now }
-    requires inside { place + length bytes.now ≤ 16384 }
+    requires inside { place + length bytes.now ≤ BLOCK_BYTES }
     requires room { 1 ≤ S.spare site.old }
     ensures moments { S.tells → WritesBlock at.now (EndsAfter before block.now)
         (S.told site.old) (S.told site.new) }
@@ -113,9 +120,12 @@ fn put_record<S: Site>(
         OnOk result (EndsAfter before block.now (block_of (S.told site.new) at.now)) }
     ensures next { S.tells →
         OnOk result (is_open (before + 2) (block_of (S.told site.new) at.now) ≡ false) }
-    ensures holds { S.tells → OnOk result (Holds place bytes.now (block_of (S.told site.new) at.now)) }
-    ensures room { S.spare site.old ≤ S.spare site.new + 1 }
+    ensures holds { S.tells →
+        OnOk result (Holds place bytes.now (block_of (S.told site.new) at.now)) }
+    ensures devices { MayWrite 1 S.spare S.writes S.faults S.never_fails_but site.old site.new }
     ensures cause { HasCause (S.faults site.old) (S.faults site.new) result }
+    ensures counted { OnErr result (Rises (S.writes site.old) (S.writes site.new)) }
+    ensures works { (but : UnitNo → Bool) → S.never_fails_but site.old but → IsOk result }
 {
     site.write(at.unit, at.block, place, bytes)?;
     Ok(())
@@ -133,7 +143,7 @@ fn open_gate<S: Site>(
     requires next { S.tells → is_open (before + 2) (block_of (S.told site.old) at.now) ≡ false }
     requires holds { S.tells →
         Holds (place_after before 256 block.now) bytes.now (block_of (S.told site.old) at.now) }
-    requires whole { length block.now ≡ 16384 }
+    requires whole { length block.now ≡ BLOCK_BYTES }
     requires few { before ≤ 96 }
     requires there { before ≤ length (reading block.now).records }
     requires record { IsRecord bytes.now }
@@ -146,8 +156,10 @@ fn open_gate<S: Site>(
         (S.told site.old) (S.told site.new) }
     ensures done { S.tells → OnOk result (reading (block_of (S.told site.new) at.now)
         ≡ reading_of (formatted before (record_at 0 bytes.now) (reading block.now).records)) }
-    ensures room { S.spare site.old ≤ S.spare site.new + 1 }
+    ensures devices { MayWrite 1 S.spare S.writes S.faults S.never_fails_but site.old site.new }
     ensures cause { HasCause (S.faults site.old) (S.faults site.new) result }
+    ensures counted { OnErr result (Rises (S.writes site.old) (S.writes site.new)) }
+    ensures works { (but : UnitNo → Bool) → S.never_fails_but site.old but → IsOk result }
 {
     site.write(at.unit, at.block, GATES + 1 + before as u16, &[OPEN])?;
     Ok(())
@@ -155,7 +167,7 @@ fn open_gate<S: Site>(
 
 /// The place of the record behind `before` others.
 pub fn record_place(block: &[u8], before: u8) -> u16
-    requires whole { length block.now ≡ 16384 }
+    requires whole { length block.now ≡ BLOCK_BYTES }
     requires there { before ≤ length (reading block.now).records }
     ensures { result ≡ place_after before 256 block.now }
 {
@@ -179,7 +191,7 @@ pub fn format_record<S: Site>(
     number: u8,
     count_key_data: &[u8],
 ) -> Result<(), Failed>
-    requires whole { length block.now ≡ 16384 }
+    requires whole { length block.now ≡ BLOCK_BYTES }
     requires told { S.tells → block_of (S.told site.old) at.now ≡ block.now }
     requires first { 1 ≤ number }
     requires there { number ≤ length (reading block.now).records + 1 }
@@ -196,13 +208,15 @@ pub fn format_record<S: Site>(
     ensures track { OnOk result
         (IsTrack (formatted (number - 1) (record_at 0 count_key_data.now) (reading block.now).records)) }
 
-    ensures room { S.spare site.old ≤ S.spare site.new + 4 }
+    ensures devices { MayWrite 4 S.spare S.writes S.faults S.never_fails_but site.old site.new }
     ensures cause { HasCause (S.faults site.old) (S.faults site.new) result }
+    ensures counted { OnErr result (Rises (S.writes site.old) (S.writes site.new)) }
+    ensures works { (but : UnitNo → Bool) → S.never_fails_but site.old but → IsOk result }
 {
     let before = number - 1;
     let place = record_place(block, before);
     prove!(before <= 96);
-    prove!(place as usize + count_key_data.len() <= 16384);
+    prove!(place as usize + count_key_data.len() <= BLOCK_BYTES);
     close_gate(site, at, block, before)?;
     close_later(site, at, block, before)?;
     put_record(site, at, block, before, place, count_key_data)?;

@@ -9,14 +9,11 @@ pub const GATES: u16 = 128;
 /// Behind the last gate.
 pub const GATES_END: u16 = 227;
 
-/// What an open gate holds. With any other value it is closed.
-pub const OPEN: u8 = 0xC1;
-
 /// The place of R1.
 pub const FIRST_PLACE: usize = 256;
 
 /// The costs of the records of a track are at most this together.
-pub const COST_LIMIT: u32 = 13_165;
+pub const TRACK_COST: u32 = 13_165;
 
 /// What a record with a key and data of these lengths takes of its track.
 pub fn cost_of_lengths(key_bytes: u8, data_bytes: u16) -> u32

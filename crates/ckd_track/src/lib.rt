@@ -19,7 +19,7 @@ mod update;
 
 pub use format::format_record;
 pub use in_place::{check_track, cost_of_front, find_record, is_blank, record_count};
-pub use layout::{COST_LIMIT, cost_at, cost_of_lengths, record_length};
+pub use layout::{TRACK_COST, cost_at, cost_of_lengths, record_length};
 pub use mss_base::BlockPlace;
 pub use read::{ReadTrackFault, read_front, read_track};
 pub use record::{Record, Records, Track};

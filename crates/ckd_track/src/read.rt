@@ -5,7 +5,7 @@ ghost use Rattle.ckd_track.specs.ReadTrackFault.{IsFault};
 ghost use Rattle.ckd_track.specs.declared.read.ReadTrackFault.TheVariants.{Bad, Memory};
 
 use crate::{BadRecord, Records, Track, TrackCause, stored_records};
-use mss_base::NoMemory;
+use mss_base::{BLOCK_BYTES, NoMemory};
 use std::alloc::Global;
 
 /// Why no track could be read.
@@ -38,7 +38,7 @@ impl From<BadRecord> for ReadTrackFault {
 
 /// The track of a block of 16,384 bytes, or the first record that is no part of one.
 pub fn read_track(alloc: Global, block: &[u8]) -> Result<Track, ReadTrackFault>
-    requires { length block.now ≡ 16384 }
+    requires { length block.now ≡ BLOCK_BYTES }
     ensures track { IfOk result (λ t. reading block.now ≡ reading_of t) }
     ensures bad { IfErr result (λ e. IsFault e (reading block.now)) }
 {
@@ -53,7 +53,7 @@ pub fn read_track(alloc: Global, block: &[u8]) -> Result<Track, ReadTrackFault>
 
 /// The records of a block of 16,384 bytes before the first that is no part of a track.
 pub fn read_front(alloc: Global, block: &[u8]) -> Result<Track, NoMemory>
-    requires { length block.now ≡ 16384 }
+    requires { length block.now ≡ BLOCK_BYTES }
     ensures { IfOk result (λ t. t ≡ (reading block.now).records) }
 {
     let mut records = Records::new(alloc);

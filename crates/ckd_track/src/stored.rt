@@ -5,11 +5,11 @@ ghost use Rattle.ckd_track.specs.Data.{IsTrack, cost_of};
 ghost use Rattle.ckd_track.specs.Track.{reading, reading_of, before, stopped_at, record_length, record_at};
 
 use crate::layout::{
-    COST_LIMIT, FIRST_PLACE, GATES, OPEN, cost_at, cost_of_lengths, data_length, key_length,
+    FIRST_PLACE, GATES, TRACK_COST, cost_at, cost_of_lengths, data_length, key_length,
     record_length,
 };
 use crate::{BadRecord, Record, TrackCause};
-use mss_base::{Bytes, NoMemory};
+use mss_base::{BLOCK_BYTES, Bytes, NoMemory, OPEN};
 use std::alloc::Global;
 use std::marker::Model;
 
@@ -80,7 +80,7 @@ impl<'a> Model for StoredRecords<'a> {
 /// The records of the track of a block of 16,384 bytes, from R1 on.
 #[tactic(auto, unfolding(crate::specs::Track::reading))]
 pub fn stored_records(block: &[u8]) -> StoredRecords<'_>
-    requires { length block.now ≡ 16384 }
+    requires { length block.now ≡ BLOCK_BYTES }
     ensures all { result ≡ reading block.now }
     ensures track { IsTrack (reading block.now).records }
 {
@@ -135,7 +135,7 @@ impl<'a> StoredRecords<'a> {
             return Err(BadRecord { number, cause });
         }
         let spent = self.spent + cost_at(block, place);
-        if spent > COST_LIMIT {
+        if spent > TRACK_COST {
             let cause = TrackCause::Overfull;
             return Err(BadRecord { number, cause });
         }

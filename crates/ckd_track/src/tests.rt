@@ -110,7 +110,7 @@ fn format(site: &mut MemorySite, at: &BlockPlace, number: u8, data: &[u8; 3]) ->
     if number == 0 || number > record_count(&block) + 1 {
         return Err("the number of the record".into());
     }
-    if cost_of_front(&block, number - 1) + cost_at(&record, 0) > COST_LIMIT {
+    if cost_of_front(&block, number - 1) + cost_at(&record, 0) > TRACK_COST {
         return Err("the cost of the record".into());
     }
     format_record(site, at, &block, number, &record)?;

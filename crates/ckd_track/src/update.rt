@@ -1,17 +1,19 @@
 // Updating a record: one write, such that a stop at any moment changes that record's bytes alone.
-ghost use Rattle.std.specs.Prelude.{◌≡◌, ◌≤◌, ◌<◌, ◌+◌, ◌-◌, length, OnOk};
-ghost use Rattle.mss_base.specs.Counts.{HasCause};
+ghost use Rattle.std.specs.Prelude.{◌≡◌, ◌≤◌, ◌<◌, ◌+◌, ◌-◌, [], length, Bool, IsOk, OnOk, OnErr};
+ghost use Rattle.mss_base.specs.Counts.{HasCause, Rises};
+ghost use Rattle.mss_base.specs.Sites.{MayWrite};
+ghost use Rattle.mss_base.specs.declared.place.UnitNo.{UnitNo};
 ghost use Rattle.ckd_track.specs.Track.{reading, place_after};
 ghost use Rattle.ckd_track.specs.Formatting.{block_of, WritesBlock};
 ghost use Rattle.ckd_track.specs.Updating.{IsUpdating, updated_length, record_behind, updated, bytes_place};
 
 use crate::format::record_place;
 use crate::layout::key_length;
-use mss_base::{BlockPlace, Failed, Site};
+use mss_base::{BLOCK_BYTES, BlockPlace, Failed, Site};
 
 /// The place of the data, or of the key and data, of the record behind `before` others.
 fn bytes_place(block: &[u8], before: u8, key_too: bool) -> u16
-    requires whole { length block.now ≡ 16384 }
+    requires whole { length block.now ≡ BLOCK_BYTES }
     requires there { before < length (reading block.now).records }
     ensures { result ≡ bytes_place key_too (place_after before 256 block.now) block.now }
 {
@@ -36,7 +38,7 @@ pub fn update_record<S: Site>(
     key_too: bool,
     bytes: &[u8],
 ) -> Result<(), Failed>
-    requires whole { length block.now ≡ 16384 }
+    requires whole { length block.now ≡ BLOCK_BYTES }
     requires told { S.tells → block_of (S.told site.old) at.now ≡ block.now }
     requires first { 1 ≤ number }
     requires there { number ≤ length (reading block.now).records }
@@ -52,8 +54,11 @@ pub fn update_record<S: Site>(
           records = updated key_too (number - 1) bytes.now (reading block.now).records;
         }) }
 
-    ensures room { S.spare site.old ≤ S.spare site.new + 1 }
+    ensures untouched { bytes.now ≡ [] → site.new ≡ site.old }
+    ensures devices { MayWrite 1 S.spare S.writes S.faults S.never_fails_but site.old site.new }
     ensures cause { HasCause (S.faults site.old) (S.faults site.new) result }
+    ensures counted { OnErr result (Rises (S.writes site.old) (S.writes site.new)) }
+    ensures works { (but : UnitNo → Bool) → S.never_fails_but site.old but → IsOk result }
 {
     let offset = bytes_place(block, number - 1, key_too);
     if bytes.is_empty() {

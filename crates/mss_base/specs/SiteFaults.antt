@@ -1,5 +1,5 @@
 -- Which calls of a site in memory fail.
-use Rattle.std.specs.Prelude.{ℕ, Bool, false, ◌==◌, Option, Some, None}
+use Rattle.std.specs.Prelude.{◌≡◌, ℕ, Bool, true, false, ◌==◌, Option, Some, None}
 use Rattle.mss_base.specs.Content.{same_unit}
 use Rattle.mss_base.specs.declared.place.UnitNo.{UnitNo}
 use Rattle.mss_base.specs.declared.memory_site.SiteFault.{SiteFault}
@@ -10,3 +10,8 @@ abbrev pub strikes : ℕ → Option UnitNo → SiteFault → Bool
 strikes call read_of (Call n) = n == call
 strikes call (Some unit) (ReadsOf of) = same_unit unit of
 strikes call None (ReadsOf of) = false
+
+-- it strikes nothing but reads of units for which the test holds
+abbrev pub IsReadOf : (UnitNo → Bool) → SiteFault → Type 0
+IsReadOf but (Call n) = ⊥
+IsReadOf but (ReadsOf unit) = but unit ≡ true

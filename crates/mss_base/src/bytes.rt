@@ -1,5 +1,5 @@
 // Lists that say how much room they have.
-ghost use Rattle.std.specs.Prelude.{◌≡◌, ℕ, ◌+◌, ◌-◌, ◌≤◌, ◌<◌, ◌++◌, [], ◌∷◌, OnOk, OnErr, IfOk, length, length as length_of, take, replicate, slice_set};
+ghost use Rattle.std.specs.Prelude.{◌≡◌, ℕ, ◌+◌, ◌-◌, ◌≤◌, ◌<◌, ◌++◌, [], ◌∷◌, OnOk, OnErr, IfOk, IsOk, length, length as length_of, take, replicate, slice_set};
 
 use std::alloc::{AllocError, AllocFailed, Global};
 use std::marker::Model;
@@ -94,19 +94,26 @@ impl<T: Drop> Listed<T> {
     }
 }
 
-impl Listed<u8> {
-    /// A copy of these bytes.
-    pub fn of(alloc: Global, bytes: &[u8]) -> Result<Self, NoMemory>
-        ensures { IfOk result (λ copy. copy.items ≡ bytes.now) }
+impl<T: Copy> Listed<T> {
+    /// A copy of these items. Of none it takes no memory, so it is Ok.
+    pub fn of(alloc: Global, items: &[T]) -> Result<Self, NoMemory>
+        ensures items { IfOk result (λ copy. copy.items ≡ items.now) }
+        ensures none { items.now ≡ [] → IsOk result }
     {
+        if items.is_empty() {
+            return Ok(Self::new(alloc));
+        }
         Ok(Listed {
-            items: Vec::from_slice(alloc, bytes)?,
+            items: Vec::from_slice(alloc, items)?,
         })
     }
+}
 
+impl Listed<u8> {
     /// A copy of these bytes, cut or padded with zeros to a length.
     pub fn padded(alloc: Global, length: usize, bytes: &[u8]) -> Result<Self, NoMemory>
-        ensures { IfOk result (λ copy. copy.items ≡ take length bytes.now ++ replicate (length - length_of bytes.now) 0) }
+        ensures { IfOk result (λ copy. copy.items
+            ≡ take length bytes.now ++ replicate (length - length_of bytes.now) 0) }
     {
         let mut items = Vec::from_slice(alloc, bytes)?;
         items.resize(length, 0)?;

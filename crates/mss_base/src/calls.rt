@@ -1,6 +1,6 @@
 // The calls of a device in memory, some of which fail.
 ghost use Rattle.std.specs.Prelude.{◌≡◌, ◌≤◌, ◌↔◌, IsTrue, IfOk};
-ghost use Rattle.mss_base.specs.Calls.{after_call, after_fault, FailsNext};
+ghost use Rattle.mss_base.specs.Calls.{after_call, after_fault, no_calls, FailsNext};
 
 use crate::NoMemory;
 use std::alloc::Global;
@@ -25,7 +25,7 @@ impl Model for Calls {
 impl Calls {
     /// No calls yet. `failing` are those to fail, counted from 1.
     pub fn new(alloc: Global, failing: &[u64]) -> Result<Self, NoMemory>
-        ensures { IfOk result (λ calls. calls ≡ record { made = 0; faults = 0; failing = failing.now }) }
+        ensures { IfOk result (λ calls. calls ≡ no_calls failing.now) }
     {
         Ok(Calls {
             made: 0,

@@ -1,6 +1,6 @@
 // A sink in memory.
 ghost use Rattle.std.specs.Prelude.{◌≡◌, [], ◌++◌, is_err, IsErr, IfOk, OnOk, OnErr};
-ghost use Rattle.mss_base.specs.Calls.{FailsNext, after_call};
+ghost use Rattle.mss_base.specs.Calls.{FailsNext, after_call, no_calls};
 ghost use Rattle.mss_base.specs.Counts.{HasCause};
 
 use crate::calls::Calls;
@@ -27,7 +27,7 @@ impl MemorySink {
     /// An empty sink. `failing` are the calls that will fail, counted from 1.
     pub fn new(alloc: Global, failing: &[u64]) -> Result<Self, NoMemory>
         ensures told { IfOk result (λ sink. sink.told ≡ []) }
-        ensures calls { IfOk result (λ sink. sink.calls ≡ record { made = 0; faults = 0; failing = failing.now }) }
+        ensures calls { IfOk result (λ sink. sink.calls ≡ no_calls failing.now) }
     {
         Ok(MemorySink {
             bytes: Vec::new(alloc),

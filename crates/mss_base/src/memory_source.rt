@@ -1,6 +1,6 @@
 // A source in memory.
 ghost use Rattle.std.specs.Prelude.{◌≡◌, ◌≤◌, ◌↔◌, ◌++◌, [], length, take, min, is_err, IsErr, IfOk, OnErr};
-ghost use Rattle.mss_base.specs.Calls.{FailsNext, after_call};
+ghost use Rattle.mss_base.specs.Calls.{FailsNext, after_call, no_calls};
 ghost use Rattle.mss_base.specs.Counts.{HasCause};
 
 use crate::calls::Calls;
@@ -31,7 +31,7 @@ impl MemorySource {
     /// A source of these bytes. `failing` are the calls that will fail, counted from 1.
     pub fn of(alloc: Global, bytes: &[u8], failing: &[u64]) -> Result<Self, NoMemory>
         ensures left { IfOk result (λ source. source.left ≡ bytes.now) }
-        ensures calls { IfOk result (λ source. source.calls ≡ record { made = 0; faults = 0; failing = failing.now }) }
+        ensures calls { IfOk result (λ source. source.calls ≡ no_calls failing.now) }
     {
         Ok(MemorySource {
             bytes: Vec::from_slice(alloc, bytes)?,

@@ -1,6 +1,6 @@
 // A site that doesn't tell.
-ghost use Rattle.std.specs.Prelude.{◌≡◌, ℕ, ◌↔◌, length, replicate, is_err, IsErr, IfOk, OnOk};
-ghost use Rattle.mss_base.specs.Calls.{FailsNext, after_call};
+ghost use Rattle.std.specs.Prelude.{◌≡◌, ℕ, ◌≤◌, ◌↔◌, length, replicate, is_err, IsErr, IfOk, OnOk};
+ghost use Rattle.mss_base.specs.Calls.{FailsNext, after_call, no_calls};
 ghost use Rattle.mss_base.specs.Counts.{HasCause, next_count};
 
 use crate::calls::Calls;
@@ -32,7 +32,7 @@ impl SilentSite {
         ensures { IfOk result (λ site. site ≡ record {
           filler = filler;
           writes = 0;
-          calls = record { made = 0; faults = 0; failing = failing.now };
+          calls = no_calls failing.now;
         }) }
     {
         Ok(SilentSite {
@@ -56,7 +56,7 @@ impl Site for SilentSite {
 
     ghost faults = { λ s. s.calls.faults };
 
-    ghost never_fails = { λ s. s.calls.failing ≡ [] };
+    ghost never_fails_but = { λ s _. s.calls.failing ≡ [] };
 
     ghost whole = { λ _ _ _ none. absurd none };
 
@@ -69,7 +69,8 @@ impl Site for SilentSite {
     fn read(&mut self, _unit: UnitNo, _block: u32, into: &mut [u8]) -> Result<(), Failed>
         ensures filled { OnOk result (into.new ≡ replicate (length into.old) self.old.filler) }
         ensures fails { IsErr result ↔ FailsNext self.old.calls }
-        ensures after { self.new ≡ record self.old { calls = after_call (is_err result) self.old.calls } }
+        ensures after { self.new
+            ≡ record self.old { calls = after_call (is_err result) self.old.calls } }
         ensures cause { HasCause self.old.calls.faults self.new.calls.faults result }
     {
         if self.calls.next_fails() {
@@ -87,7 +88,11 @@ impl Site for SilentSite {
         _bytes: &[u8],
     ) -> Result<(), Failed>
         ensures fails { IsErr result ↔ FailsNext self.old.calls }
-        ensures after { self.new ≡ record self.old { writes = next_count self.old.writes; calls = after_call (is_err result) self.old.calls } }
+        ensures after { self.new ≡ record self.old {
+          writes = next_count self.old.writes;
+          calls = after_call (is_err result) self.old.calls;
+        } }
+        ensures kept { self.old.writes ≤ self.new.writes }
         ensures cause { HasCause self.old.calls.faults self.new.calls.faults result }
     {
         self.writes = self.writes.saturating_add(1);

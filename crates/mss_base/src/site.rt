@@ -1,9 +1,11 @@
 // The devices: blocks of 16,384 bytes.
-ghost use Rattle.std.specs.Prelude.{◌≡◌, ℕ, ◌+◌, ◌≤◌, ◌++◌, [], ◌∷◌, List, length, IsOk, OnOk};
-ghost use Rattle.mss_base.specs.Content.{SiteLog, content, Adds};
+ghost use Rattle.std.specs.Prelude.{◌≡◌, ℕ, ◌+◌, ◌≤◌, ◌++◌, [], ◌∷◌, List, length, Bool, false, IsOk, OnOk};
+ghost use Rattle.mss_base.specs.Content.{SiteLog, content, AddsBytes};
 ghost use Rattle.mss_base.specs.Counts.{Rises, HasCause};
+ghost use Rattle.mss_base.specs.Sites.{StaysSound};
 ghost use Rattle.mss_base.specs.declared.place.UnitNo.{UnitNo};
 
+use crate::block::BLOCK_BYTES;
 use crate::{NoMemory, UnitNo};
 
 /// A call of a device failed, and its count of faults rose.
@@ -27,8 +29,9 @@ pub trait Site {
     /// How many reads and writes failed.
     ghost faults: { Self → ℕ };
 
-    /// That no read or write fails from here on. A site that can't know it has no such value.
-    ghost never_fails: { Self → Type 0 } = { λ _. ⊥ };
+    /// That from here on no call fails but reads of those units for which a test holds. A site that can't know it has no
+    /// such value.
+    ghost never_fails_but: { Self → (UnitNo → Bool) → Type 0 } = { λ _ _. ⊥ };
 
     /// Makes room for so many writes. After want of memory all but the room is as it was.
     fn reserve(&mut self, count: u32) -> Result<(), NoMemory>
@@ -37,31 +40,36 @@ pub trait Site {
         ensures told { tells → told self.new ≡ told self.old }
         ensures writes { writes self.new ≡ writes self.old }
         ensures faults { faults self.new ≡ faults self.old }
-        ensures never_fails { never_fails self.old → never_fails self.new };
+        ensures sound { StaysSound never_fails_but self.old self.new };
 
     /// Reads a block. After a failure the buffer may hold anything.
     fn read(&mut self, unit: UnitNo, block: u32, into: &mut [u8]) -> Result<(), Failed>
-        requires { length into.old ≡ 16384 }
+        requires { length into.old ≡ BLOCK_BYTES }
         ensures block { tells → OnOk result (into.new ≡ content (told self.old) unit block) }
         ensures told { tells → told self.new ≡ told self.old }
         ensures spare { spare self.new ≡ spare self.old }
         ensures writes { writes self.new ≡ writes self.old }
         ensures cause { HasCause (faults self.old) (faults self.new) result }
-        ensures never_fails { never_fails self.old → IsOk result × never_fails self.new };
+        ensures works { (but : UnitNo → Bool)
+            → never_fails_but self.old but → but unit ≡ false → IsOk result }
+        ensures sound { StaysSound never_fails_but self.old self.new };
 
     /// Writes into a block, which lasts. After a failure the range may hold anything, and the rest of the block is as it was.
     fn write(&mut self, unit: UnitNo, block: u32, offset: u16, bytes: &[u8]) -> Result<(), Failed>
         requires room { 1 ≤ spare self.old }
         requires some { 1 ≤ length bytes.now }
-        requires inside { offset + length bytes.now ≤ 16384 }
-        ensures ok { tells → OnOk result (Adds (record { unit = unit; block = block; offset = offset; bytes = bytes.now }) (told self.old) (told self.new)) }
+        requires inside { offset + length bytes.now ≤ BLOCK_BYTES }
+        ensures ok { tells → OnOk result
+            (AddsBytes unit block offset bytes.now (told self.old) (told self.new)) }
         // Whatever the outcome, the log got one write: of these bytes, or of others in their range.
         ensures logged { tells → (left : List ℕ) × (length left ≡ length bytes.now)
-            × Adds (record { unit = unit; block = block; offset = offset; bytes = left }) (told self.old) (told self.new) }
+            × AddsBytes unit block offset left (told self.old) (told self.new) }
         ensures spare { spare self.old ≤ spare self.new + 1 }
         ensures writes { Rises (writes self.old) (writes self.new) }
+        ensures kept { writes self.old ≤ writes self.new }
         ensures cause { HasCause (faults self.old) (faults self.new) result }
-        ensures never_fails { never_fails self.old → IsOk result × never_fails self.new };
+        ensures works { (but : UnitNo → Bool) → never_fails_but self.old but → IsOk result }
+        ensures sound { StaysSound never_fails_but self.old self.new };
 
     /// How many writes were made. The count stands at its last value rather than go back to 0.
     fn writes(&self) -> u64
@@ -72,7 +80,8 @@ pub trait Site {
         ensures { result ≡ faults self.now };
 
     /// A block has 16,384 bytes.
-    ghost whole: { (s : Self) (unit : UnitNo) (block : ℕ) → tells → length (content (told s) unit block) ≡ 16384 };
+    ghost whole: { (s : Self) (unit : UnitNo) (block : ℕ)
+        → tells → length (content (told s) unit block) ≡ 16384 };
 
     /// The count of writes is the length of the log.
     ghost counted: { (s : Self) → tells → writes s ≡ length (told s).log };

@@ -21,8 +21,10 @@ pub trait Source {
     /// 0, for a buffer that isn't empty, means the end. A call that failed has moved none, but the buffer may hold anything.
     fn take(&mut self, into: &mut [u8]) -> Result<usize, Failed>
         ensures within { IfOk result (λ n. n ≤ length into.old) }
-        ensures moved { tells → IfOk result (λ n. left self.old ≡ take n into.new ++ left self.new) }
-        ensures end { tells → IfOk result (λ n. n ≡ 0 → 1 ≤ length into.old → left self.old ≡ []) }
+        ensures moved { tells → IfOk result
+            (λ n. left self.old ≡ take n into.new ++ left self.new) }
+        ensures end { tells → IfOk result
+            (λ n. n ≡ 0 → 1 ≤ length into.old → left self.old ≡ []) }
         ensures kept { tells → OnErr result (left self.new ≡ left self.old) }
         ensures cause { HasCause (faults self.old) (faults self.new) result };
 

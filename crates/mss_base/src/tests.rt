@@ -1,7 +1,7 @@
 use crate::{
-    BlockPlace, Bytes, CartridgeNo, Cylinder, Failed, FrameNo, Head, ImageFault, MemorySink,
-    MemorySite, MemorySource, Serial, SilentSite, Sink, Site, SiteFault, Source, UnitNo,
-    cartridge_block, frame_block,
+    BLOCK_BYTES, BlockPlace, Bytes, CartridgeNo, Cylinder, Failed, FrameNo, Head, ImageFault,
+    Listed, MemorySink, MemorySite, MemorySource, Serial, SilentSite, Sink, Site, SiteFault,
+    Source, UnitNo, cartridge_block, clear_block, frame_block,
 };
 use std::test::Fail;
 
@@ -108,6 +108,13 @@ fn a_list_takes_bytes_into_its_room(rt: HostRuntime) -> Result<(), Fail> {
         Bytes::padded(rt.alloc(), 4, b"ab")?.as_slice(),
         b"ab\0\0".as_slice()
     );
+    assert_eq!(rt;
+        Listed::of(rt.alloc(), &[300, 7])?.as_slice(),
+        [300, 7].as_slice()
+    );
+    let mut block = [1; BLOCK_BYTES];
+    clear_block(&mut block);
+    assert_eq!(rt; (block[0], block[BLOCK_BYTES - 1]), (0, 0));
     Ok(())
 }
 

@@ -9,8 +9,8 @@ pub returns-then-end-block-clause-bad : goal.returns-then-end-block-clause-bad
 returns-then-end-block-clause-bad c =
     (sym c.self.view_is ∙ runs_past _ _ _ _ (omega arith) c.if-block-number.false (omega (arith, c.record_length.ensures)), refl)
 
-pub returns-then-spent-gt-COST_LIMIT-clause-bad : goal.returns-then-spent-gt-COST_LIMIT-clause-bad
-returns-then-spent-gt-COST_LIMIT-clause-bad c =
+pub returns-then-spent-gt-TRACK_COST-clause-bad : goal.returns-then-spent-gt-TRACK_COST-clause-bad
+returns-then-spent-gt-TRACK_COST-clause-bad c =
     (sym c.self.view_is ∙ overfull _ _ _ _ (omega arith) c.if-block-number.false (omega (arith, c.record_length.ensures)) (omega (arith, c.cost_at.ensures)), refl)
 
 pub returns-clause-next : goal.returns-clause-next

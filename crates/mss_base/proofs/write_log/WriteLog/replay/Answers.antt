@@ -4,7 +4,7 @@ use Rattle.std.proofs.lemmas.List.{length-take-le}
 use Rattle.mss_base.specs.Content.{Write, after}
 use Rattle.mss_base.specs.Memory.{held}
 use Rattle.mss_base.specs.Logged.{LogValue, total_length, writes_of}
-use Rattle.mss_base.proofs.LoggedLemmas.{length-writes_of, total_length-take, writes_of-take, inside-take}
+use Rattle.mss_base.proofs.LoggedLemmas.{length-writes_of, total_length-take, writes_of-take}
 use Rattle.mss_base.proofs.write_log.WriteLog.replay.Goals as goal
 
 pub slice_bounds-write_all-end : goal.slice_bounds-write_all-end
