@@ -12,7 +12,8 @@ use Rattle.channel_commands.specs.declared.command.Command.{Command}
 use Rattle.channel_commands.specs.declared.command.Command.TheVariants as ask
 use Rattle.channel_commands.specs.declared.command.WriteKind.{WriteKind}
 use Rattle.channel_commands.specs.declared.command.WriteKind.TheVariants as write
-use Rattle.ckd_track.specs.Data.{RecordData, blank_record, cost_of, cost_of_lengths, cost, TRACK_COST, IsTrack, HasCount, Volumes}
+use Rattle.ckd_track.specs.Data.{RecordData, blank_record, cost_of, cost_of_lengths, cost, IsTrack, HasCount, Volumes}
+use Rattle.ckd_track.specs.declared.layout.TheConstants.{TRACK_COST}
 use Rattle.ckd_plain.specs.declared.host.HostState.{HostState}
 use Rattle.ckd_plain.specs.declared.host.Prior.{Prior}
 use Rattle.ckd_plain.specs.declared.host.Prior.TheVariants as prior

@@ -10,7 +10,7 @@ use Rattle.ckd_plain.specs.declared.unit_check.UnitCheck.TheVariants as check
 use Rattle.ckd_plain.specs.Data.{State}
 use Rattle.ckd_plain.specs.Index.{Tracks}
 use Rattle.ckd_plain.specs.Effects.{Outcome}
-use Rattle.ckd_plain.specs.Plain.{Replied, opened, answered, performed, judged, run, plain, mount_reply, demount_reply}
+use Rattle.ckd_plain.specs.Plain.{Replied, opened, answered, performed, judged, run, plain, responded}
 use Rattle.ckd_plain.specs.History.{EntryData, IsAnswered, IsNextEntry, IsAlone, IsDataCommand, IsWriteCommand, keeps_fault, excepted, left_by, next}
 
 -- ---- the plain machine gives no exception
@@ -21,7 +21,7 @@ IsPlain no_space = false
 IsPlain stopped = false
 IsPlain _ = true
 
-chosen : (b : Bool) (x y : Replied) → IsPlain x.0 ≡ true → IsPlain y.0 ≡ true → IsPlain (cond b x y).0 ≡ true
+chosen : (b : Bool) (x y : ReplyData × HostState) → IsPlain x.0 ≡ true → IsPlain y.0 ≡ true → IsPlain (cond b x y).0 ≡ true
 chosen true x y p q = p
 chosen false x y p q = q
 
@@ -35,9 +35,9 @@ judged_plain tracks host argument chained (Ok c) = answered_plain c chained _
 judged_plain tracks host argument chained (Err check) = refl
 
 plain_is_plain : (s : State) (h : ℕ) (c : CallData) → IsPlain (plain s h c).0 ≡ true
-unfolding plain mount_reply demount_reply run
+unfolding plain responded run
 plain_is_plain s h (mount volume bind) =
-    chosen (s.host h).chain_open _ _ refl (chosen (is_some (s.host h).mounted) _ _ refl (chosen (not (is_some (s.volumes.serial volume))) _ _ refl refl))
+    chosen (s.host h).chain_open _ _ refl (chosen (is_some (s.host h).mounted) _ _ refl (chosen (is_some (s.volumes.serial volume)) _ _ refl refl))
 plain_is_plain s h demount = chosen (s.host h).chain_open _ _ refl (chosen (is_some (s.host h).mounted) _ _ refl refl)
 plain_is_plain s h (command code argument chained) = judged_plain _ (opened (s.host h)) argument chained _
 plain_is_plain s h (break cause.Program) = refl

@@ -14,3 +14,6 @@ pub mod CostFacts
 pub mod SenseFacts
 pub mod ReadBackFacts
 pub mod WrittenFacts
+pub mod ResponseFacts
+pub mod ChainFacts
+pub mod WriteFacts

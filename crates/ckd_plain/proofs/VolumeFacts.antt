@@ -12,7 +12,7 @@ use Rattle.ckd_plain.specs.declared.unit_check.UnitCheck.{UnitCheck}
 use Rattle.ckd_plain.specs.Data.{State}
 use Rattle.ckd_plain.specs.Checks.{admitted}
 use Rattle.ckd_plain.specs.Index.{Tracks}
-use Rattle.ckd_plain.specs.Plain.{Replied, opened, judged, run, plain, mount_reply, demount_reply, tracks_under, written_there, written_mounted, written_to}
+use Rattle.ckd_plain.specs.Plain.{Replied, opened, judged, run, plain, tracks_under, written_there, written_mounted, written_to}
 use Rattle.ckd_plain.specs.History.{IsWriteCommand}
 use Rattle.ckd_plain.specs.Laws.{IsUnderHead}
 use Rattle.ckd_plain.proofs.CommandFacts.{only_writes}
@@ -22,18 +22,13 @@ use Rattle.ckd_plain.proofs.CommandFacts.{only_writes}
 abbrev pub Leaves : Volumes → Replied → Type 0
 Leaves volumes x = x.1.volumes ≡ volumes
 
-chosen : (volumes : Volumes) (b : Bool) (x y : Replied) → Leaves volumes x → Leaves volumes y → Leaves volumes (cond b x y)
-chosen volumes true x y p q = p
-chosen volumes false x y p q = q
-
 pub mount_leaves : (s : State) (h volume : ℕ) (bind : Bool) → Leaves s.volumes (plain s h (mount volume bind))
-unfolding plain mount_reply
-mount_leaves s h volume bind =
-    chosen s.volumes (s.host h).chain_open _ _ refl (chosen s.volumes (is_some (s.host h).mounted) _ _ refl (chosen s.volumes (not (is_some (s.volumes.serial volume))) _ _ refl refl))
+unfolding plain
+mount_leaves s h volume bind = refl
 
 pub demount_leaves : (s : State) (h : ℕ) → Leaves s.volumes (plain s h demount)
-unfolding plain demount_reply
-demount_leaves s h = chosen s.volumes (s.host h).chain_open _ _ refl (chosen s.volumes (is_some (s.host h).mounted) _ _ refl refl)
+unfolding plain
+demount_leaves s h = refl
 
 -- ---- the volumes with what a command wrote
 

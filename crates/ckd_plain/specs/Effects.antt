@@ -1,5 +1,5 @@
 -- What each command does, once it has passed the checks.
-use Rattle.std.specs.Prelude.{ℕ, ◌+◌, ◌-◌, ◌==◌, Bool, true, false, not, nat_lt, min, List, [], ◌∷◌, ◌++◌, length, take, drop, slice_set, slice_index, Option, Some, None, Result, Ok, Err, if◌then◌else◌}
+use Rattle.std.specs.Prelude.{ℕ, ◌+◌, ◌-◌, ◌==◌, Bool, true, false, ◌||◌, not, nat_lt, min, List, [], ◌∷◌, ◌++◌, length, take, drop, slice_set, slice_index, Option, Some, None, Result, Ok, Err, if◌then◌else◌}
 use Rattle.std.specs.Ordering.{nat_cmp}
 use Rattle.std.specs.Cmp.Lexicographic.{slice_cmp}
 use Rattle.std.specs.declared.cmp.Ordering.{Ordering}
@@ -16,7 +16,8 @@ use Rattle.channel_commands.specs.declared.command.ReadWhat.{ReadWhat}
 use Rattle.channel_commands.specs.declared.command.ReadWhat.TheVariants as what
 use Rattle.channel_commands.specs.declared.command.WriteKind.{WriteKind}
 use Rattle.channel_commands.specs.declared.command.WriteKind.TheVariants as write
-use Rattle.ckd_track.specs.Data.{RecordData, cost, TRACK_COST}
+use Rattle.ckd_track.specs.Data.{RecordData, cost}
+use Rattle.ckd_track.specs.declared.layout.TheConstants.{TRACK_COST}
 use Rattle.ckd_plain.specs.declared.host.HostState.{HostState}
 use Rattle.ckd_plain.specs.declared.host.Position.{Position}
 use Rattle.ckd_plain.specs.declared.host.Position.TheVariants as position
@@ -49,6 +50,10 @@ MET = 0x4C
 -- the same with unit exception
 abbrev pub END_OF_FILE : ℕ
 END_OF_FILE = 0x0D
+
+-- the statuses that a command ends with where it ends without unit check
+unfoldable pub is_ending : ℕ → Bool
+is_ending status = (status == DONE) || (status == MET) || (status == END_OF_FILE)
 
 -- an effect that writes nothing
 abbrev pub effect_with : ℕ → List ℕ → HostState → Effect

@@ -3,13 +3,12 @@ use Rattle.std.specs.Prelude.{◌≡◌, ◌↔◌, ℕ, ◌+◌, ◌==◌, Bool
 use Rattle.channel_commands.specs.declared.command.Command.{Command}
 use Rattle.channel_commands.specs.Codes.{is_write}
 use Rattle.channel_commands.specs.Data.{CallData, command as ask, ReplyData, equipment_check, no_space, stopped}
-use Rattle.ckd_plain.specs.declared.host.Prior.TheVariants as prior
 use Rattle.ckd_plain.specs.declared.unit_check.UnitCheck.{UnitCheck}
 use Rattle.ckd_plain.specs.declared.unit_check.UnitCheck.TheVariants as check
 use Rattle.ckd_plain.specs.Data.{State}
 use Rattle.ckd_plain.specs.Checks.{admitted}
 use Rattle.ckd_plain.specs.Effects.{is_data}
-use Rattle.ckd_plain.specs.Plain.{opened, plain, sense_of, with_host}
+use Rattle.ckd_plain.specs.Plain.{opened, plain, checked, with_host}
 
 -- an entry of a history: a host's call, which of its calls it is, from 1, the reply, and the fault behind the reply
 pub record EntryData : Type 0 where
@@ -34,9 +33,9 @@ IsWriteCommand = Admits is_write
 
 -- ---- one entry
 
--- a reply that plain volumes don't give: the chain ends, and the sense says why
+-- the state after a reply that plain volumes don't give
 abbrev pub excepted : UnitCheck → State → ℕ → State
-excepted why s h = with_host s h (record (s.host h) { chain_open = false; prior = prior.Nothing; sense = sense_of why })
+excepted why s h = with_host s h (checked why (s.host h))
 
 abbrev pub left_by : ReplyData → State → ℕ → CallData → State
 left_by equipment_check s h call = excepted check.EquipmentCheck s h

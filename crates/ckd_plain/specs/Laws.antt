@@ -2,7 +2,8 @@
 use Rattle.std.specs.Prelude.{◌≡◌, ◌≢◌, ℕ, ◌<◌, ◌≤◌, Bool, true, false, List, [], Option, Some, None, Result, Ok, Err, All, IsSome, take, ◌∷◌, ◌++◌, length, map, replicate}
 use Rattle.channel_commands.specs.declared.command.Command.{Command}
 use Rattle.channel_commands.specs.Data.{CallData, command as ask, ReplyData, done}
-use Rattle.ckd_track.specs.Data.{RecordData, cost, TRACK_COST, IsTrack, Volumes}
+use Rattle.ckd_track.specs.Data.{RecordData, cost, IsTrack, Volumes}
+use Rattle.ckd_track.specs.declared.layout.TheConstants.{TRACK_COST}
 use Rattle.ckd_plain.specs.declared.host.HostState.{HostState}
 use Rattle.ckd_plain.specs.declared.host.Position.TheVariants as position
 use Rattle.ckd_plain.specs.declared.unit_check.UnitCheck.{UnitCheck}
@@ -37,6 +38,11 @@ HasTracks volumes = (v c head : ℕ) → IsTrack (volumes.track v c head)
 abbrev pub HasBytes : CallData → Type 0
 HasBytes (ask code argument chained) = All (λ b. b < 256) argument
 HasBytes _ = Unit {0}
+
+-- a reply with a status and no bytes
+abbrev pub HasNoBytes : ReplyData → Type 0
+HasNoBytes (done status bytes) = bytes ≡ []
+HasNoBytes _ = ⊥
 
 -- ---- sense
 

@@ -1,12 +1,12 @@
 -- The plain machine: each call's reply, and the state after it.
-use Rattle.std.specs.Prelude.{ℕ, ◌==◌, Bool, true, false, ◌&&◌, not, List, [], ◌∷◌, replicate, Option, Some, None, Result, Ok, Err, is_some, if◌then◌else◌}
+use Rattle.std.specs.Prelude.{◌≡◌, ℕ, ◌==◌, Bool, true, false, ◌&&◌, not, List, [], ◌∷◌, replicate, Option, Some, None, Result, Ok, Err, is_some, if◌then◌else◌}
 use Rattle.channel_commands.specs.declared.call.BreakCause.{BreakCause}
 use Rattle.channel_commands.specs.declared.call.BreakCause.TheVariants as cause
 use Rattle.channel_commands.specs.declared.command.Command.{Command}
 use Rattle.channel_commands.specs.declared.command.Command.TheVariants as command
 use Rattle.channel_commands.specs.declared.command.SearchField.TheVariants as field
 use Rattle.channel_commands.specs.declared.command.ReadWhat.TheVariants as what
-use Rattle.channel_commands.specs.Data.{CallData, mount, demount, command as ask, break, ReplyData, done, mounted, demounted, already_mounted, not_mounted, no_volume, in_chain, program_check, chain_limit}
+use Rattle.channel_commands.specs.Data.{CallData, mount, demount, command as ask, break, ReplyData, done, mounted, demounted, already_mounted, not_mounted, no_volume, in_chain, program_check, chain_limit, has_trouble}
 use Rattle.ckd_track.specs.Data.{RecordData, Volumes}
 use Rattle.ckd_plain.specs.declared.host.HostState.{HostState}
 use Rattle.ckd_plain.specs.declared.host.Position.TheVariants as position
@@ -17,7 +17,7 @@ use Rattle.ckd_plain.specs.declared.unit_check.UnitCheck.TheVariants as check
 use Rattle.ckd_plain.specs.Data.{State}
 use Rattle.ckd_plain.specs.Checks.{admitted}
 use Rattle.ckd_plain.specs.Index.{Tracks}
-use Rattle.ckd_plain.specs.Effects.{Effect, Outcome, effect, END_OF_FILE}
+use Rattle.ckd_plain.specs.Effects.{Effect, Outcome, effect, is_data, END_OF_FILE}
 
 -- a command's answer: the reply, the host then, and the host's track where it is written
 pub record Answer : Type 0 where
@@ -70,6 +70,10 @@ keeps_passes _ = false
 abbrev pub refused : Refusal → Answer
 refused r = record { reply = done UNIT_CHECK []; host = record r.host { chain_open = false; sense = sense_of r.check }; written = None }
 
+-- a command that a check refuses does nothing, but it was one command
+abbrev pub refused_by : UnitCheck → HostState → Answer
+refused_by check host = refused (record { check = check; host = record host { prior = prior.Nothing } })
+
 -- the chain goes on where the call is chained and the status has no unit exception
 abbrev pub finished : Command → Bool → Effect → Answer
 finished command chained e = record {
@@ -82,13 +86,28 @@ abbrev pub answered : Command → Bool → Outcome → Answer
 answered command chained (Ok e) = finished command chained e
 answered command chained (Err r) = refused r
 
+-- the reply of a command that was carried out, with unit check or without
+abbrev pub IsDone : ReplyData → Type 0
+IsDone (done status bytes) = Unit {0}
+IsDone _ = ⊥
+
+-- the reply of a command that ended with no unit check and no unit exception
+abbrev pub IsSmooth : ReplyData → Type 0
+IsSmooth (done status bytes) = has_trouble status ≡ false
+IsSmooth _ = ⊥
+
+-- a chain is open behind a command only where the call was chained, and ended with no unit check and no unit exception
+pub record KeepsChain (chained : Bool) (reply : ReplyData) (host : HostState) : Type 0 where
+  pub asked : host.chain_open ≡ true → chained ≡ true
+  pub smooth : host.chain_open ≡ true → IsSmooth reply
+
 -- a command that the checks admitted, of a host whose chain is open, on the tracks of its cylinder
 unfoldable pub performed : Tracks → HostState → Command → List ℕ → Bool → Answer
 performed tracks host command argument chained = answered command chained (effect tracks (cleared command host) host.prior command argument)
 
 abbrev pub judged : Tracks → HostState → List ℕ → Bool → Result Command UnitCheck → Answer
 judged tracks host argument chained (Ok command) = performed tracks host command argument chained
-judged tracks host argument chained (Err check) = refused (record { check = check; host = record host { prior = prior.Nothing } })
+judged tracks host argument chained (Err check) = refused_by check host
 
 -- a command on the tracks of the host's cylinder
 unfoldable pub run : Tracks → HostState → ℕ → List ℕ → Bool → Answer
@@ -131,30 +150,51 @@ commanded s h a = (a.reply, with_host (record s { volumes = written_to s.volumes
 abbrev pub with_volume : HostState → ℕ → Bool → HostState
 with_volume host volume bind = record host { mounted = Some (volume, bind); cylinder = 0; head = 0; sense = no_sense }
 
--- the first reason against a mount stands
-unfoldable pub mount_reply : State → ℕ → ℕ → Bool → Replied
-mount_reply s h volume bind =
-    if (s.host h).chain_open then (in_chain, s)
-    else if is_some (s.host h).mounted then (already_mounted, s)
-    else if not (is_some (s.volumes.serial volume)) then (no_volume, s)
-    else (mounted, with_host s h (with_volume (s.host h) volume bind))
-
-unfoldable pub demount_reply : State → ℕ → Replied
-demount_reply s h =
-    if (s.host h).chain_open then (in_chain, s)
-    else if is_some (s.host h).mounted then (demounted, with_host s h (record (s.host h) { mounted = None }))
-    else (not_mounted, s)
+-- ---- calls that need no track
 
 abbrev pub break_reply : BreakCause → ReplyData
 break_reply cause.Program = program_check
 break_reply cause.Limit = chain_limit
 
+-- whether the volume that a call asks for is there
+abbrev pub there_for : (ℕ → Option (List ℕ)) → CallData → Bool
+there_for serials (mount volume bind) = is_some (serials volume)
+there_for serials _ = false
+
+-- the call looks at no track: it is no command, or one that the checks refuse, or no search, read or write
+abbrev pub NeedsNoTrack : HostState → CallData → Type 0
+NeedsNoTrack host (ask code argument chained) = (c : Command) → admitted (opened host) code argument ≡ Ok c → is_data c ≡ false
+NeedsNoTrack host _ = Unit {0}
+
+-- The reply to a call, and its host then, where no track has records; there says whether the volume that the call asks for is there.
+-- The first reason against a mount stands.
+unfoldable pub responded : HostState → Bool → CallData → ReplyData × HostState
+responded host there (mount volume bind) =
+    if host.chain_open then (in_chain, host)
+    else if is_some host.mounted then (already_mounted, host)
+    else if there then (mounted, with_volume host volume bind)
+    else (no_volume, host)
+responded host there demount =
+    if host.chain_open then (in_chain, host)
+    else if is_some host.mounted then (demounted, record host { mounted = None })
+    else (not_mounted, host)
+responded host there (break cause) = (break_reply cause, record host { chain_open = false })
+responded host there (ask code argument chained) = let a = run (λ head. []) host code argument chained in (a.reply, a.host)
+
+-- the state with a host's response
+abbrev pub with_response : State → ℕ → ReplyData × HostState → Replied
+with_response s h r = (r.0, with_host s h r.1)
+
+-- the host after a reply that plain volumes don't give: its chain ends, and its sense says why
+abbrev pub checked : UnitCheck → HostState → HostState
+checked why host = record host { chain_open = false; prior = prior.Nothing; sense = sense_of why }
+
+-- ---- every call
+
 -- the plain machine
 unfoldable pub plain : State → ℕ → CallData → Replied
-plain s h (mount volume bind) = mount_reply s h volume bind
-plain s h demount = demount_reply s h
 plain s h (ask code argument chained) = commanded s h (run (tracks_under s.volumes (s.host h)) (s.host h) code argument chained)
-plain s h (break cause) = (break_reply cause, with_host s h (record (s.host h) { chain_open = false }))
+plain s h call = with_response s h (responded (s.host h) (there_for s.volumes.serial call) call)
 
 -- ---- a session's start
 

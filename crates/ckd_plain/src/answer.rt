@@ -1,7 +1,8 @@
 // The steps round every command: what opens it, and what makes its reply.
-ghost use Rattle.std.specs.Prelude.{◌≡◌};
+ghost use Rattle.std.specs.Prelude.{◌≡◌, true};
 ghost use Rattle.channel_commands.specs.Views.{reply_of};
-ghost use Rattle.ckd_plain.specs.Plain.{sense_of, opened, keeps_sense, cleared, keeps_passes, refused, finished};
+ghost use Rattle.ckd_plain.specs.Effects.{is_ending};
+ghost use Rattle.ckd_plain.specs.Plain.{sense_of, opened, keeps_sense, cleared, keeps_passes, refused, refused_by, finished, KeepsChain};
 ghost use Rattle.ckd_plain.specs.Views.{effect_of};
 
 use crate::done::{DoneCommand, END_OF_FILE, UNIT_CHECK};
@@ -94,9 +95,22 @@ pub fn refused(alloc: Global, host: &mut HostState, refusal: &Refusal) -> Reply
     }
 }
 
-/// The reply of a command that ended without unit check; the host's chain goes on where it is chained and met no end
-/// of file.
-pub fn finished(host: &mut HostState, command: Command, chained: bool, done: DoneCommand) -> Reply
+/// The reply of a command that the checks refuse, for a host whose chain is open; the chain ends.
+pub fn refused_by(alloc: Global, check: UnitCheck, host: &mut HostState) -> Reply
+    ensures reply_ { reply_of result ≡ (refused_by check host.old).reply }
+    ensures host_ { host.new ≡ (refused_by check host.old).host }
+{
+    let refusal = Refusal {
+        check,
+        host: HostState {
+            prior: Prior::Nothing,
+            ..*host
+        },
+    };
+    refused(alloc, host, &refusal)
+}
+
+fn finish(host: &mut HostState, command: Command, chained: bool, done: DoneCommand) -> Reply
     ensures reply_ { reply_of result ≡ (finished command chained (effect_of done)).reply }
     ensures host_ { host.new ≡ (finished command chained (effect_of done)).host }
 {
@@ -115,4 +129,14 @@ pub fn finished(host: &mut HostState, command: Command, chained: bool, done: Don
         ..there
     };
     Reply::Done { status, bytes }
+}
+
+/// The reply of a command that ended without unit check; the host's chain goes on where it is chained and met no end
+/// of file.
+pub fn finished(host: &mut HostState, command: Command, chained: bool, done: DoneCommand) -> Reply
+    ensures reply_ { reply_of result ≡ (finished command chained (effect_of done)).reply }
+    ensures host_ { host.new ≡ (finished command chained (effect_of done)).host }
+    ensures chain { is_ending done.status ≡ true → KeepsChain chained (reply_of result) host.new }
+{
+    finish(host, command, chained, done)
 }

@@ -21,5 +21,11 @@ impl Model for Entry {
 
     ghost Value = { EntryData };
 
-    ghost view = { λ e. record { host = e.host; number = e.number; call = call_of e.call; reply = reply_of e.reply; fault = e.fault } };
+    ghost view = { λ e. record {
+      host = e.host;
+      number = e.number;
+      call = call_of e.call;
+      reply = reply_of e.reply;
+      fault = e.fault;
+    } };
 }

@@ -1,8 +1,8 @@
 // A record that a command found.
-ghost use Rattle.std.specs.Prelude.{◌≡◌};
+ghost use Rattle.std.specs.Prelude.{◌≡◌, true};
 ghost use Rattle.ckd_track.specs.Data.{HasCount};
 ghost use Rattle.ckd_plain.specs.Data.{two_bytes, count_of, record_zero};
-ghost use Rattle.ckd_plain.specs.Effects.{status_of};
+ghost use Rattle.ckd_plain.specs.Effects.{is_ending, status_of};
 ghost use Rattle.ckd_plain.specs.Views.{item_of};
 
 use crate::done::{DONE, END_OF_FILE};
@@ -73,8 +73,10 @@ impl<'a> FoundRecord<'a> {
     }
 
     /// The status of a command that reads or updates it: end of file where it has no data.
+    #[tactic(auto, unfolding(crate::specs::Effects::is_ending))]
     pub fn status(&self) -> u8
-        ensures { result ≡ status_of (item_of self.now) }
+        ensures value { result ≡ status_of (item_of self.now) }
+        ensures ends { is_ending result ≡ true }
     {
         if self.body.is_empty() {
             END_OF_FILE

@@ -87,7 +87,8 @@ fn record_at<'a>(track: &'a Track, host: &HostState, number: usize) -> Option<Fo
 /// The same, on the tracks of a cylinder.
 fn record_under<'a>(tracks: &'a [Track], host: &HostState, number: usize) -> Option<FoundRecord<'a>>
     requires { length tracks.now ≡ 19 }
-    ensures item { IsRecordAt number host.now result (record_at (cylinder_of tracks.now host.now.head) host.now number) }
+    ensures item { IsRecordAt number host.now result
+        (record_at (cylinder_of tracks.now host.now.head) host.now number) }
     ensures small { IfSome result (λ _. number ≤ 97) }
     ensures counted { IfSome result (λ found. HasCount (item_of found)) }
 {
@@ -103,7 +104,8 @@ pub fn next_record<'a>(
     multi: bool,
 ) -> Result<FoundRecord<'a>, Refusal>
     requires cylinder { length tracks.now ≡ 19 }
-    ensures found { Gives found_of result (next_record (cylinder_of tracks.now) from.now first multi) }
+    ensures found { Gives found_of result
+        (next_record (cylinder_of tracks.now) from.now first multi) }
     ensures counted { IfOk result (λ found. HasCount (item_of found)) }
 {
     let mut host = *from;
@@ -131,7 +133,8 @@ pub fn same_record<'a>(
     ensures counted { IfOk result (λ found. HasCount (item_of found)) }
     ensures small { IfOk result (λ _. number ≤ 97) }
     ensures itself { IfOk result (λ found. (found.number ≡ number) × (found.host ≡ host.now)) }
-    ensures stored { 0 < number → IfOk result (λ found. IsStoredAt track.now number (item_of found)) }
+    ensures stored { 0 < number → IfOk result
+        (λ found. IsStoredAt track.now number (item_of found)) }
 {
     let Some(found) = record_at(track, host, usize::from(number)) else {
         return Err(Refusal {
@@ -150,7 +153,8 @@ pub fn this_or_next<'a>(
     multi: bool,
 ) -> Result<FoundRecord<'a>, Refusal>
     requires cylinder { length tracks.now ≡ 19 }
-    ensures found { Gives found_of result (this_or_next at_hand (cylinder_of tracks.now) host.now multi) }
+    ensures found { Gives found_of result
+        (this_or_next at_hand (cylinder_of tracks.now) host.now multi) }
     ensures counted { IfOk result (λ found. HasCount (item_of found)) }
 {
     match at_hand {

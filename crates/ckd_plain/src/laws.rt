@@ -1,6 +1,6 @@
 //! Laws of histories and of commands, for the layers that keep a history or run commands elsewhere, and what follows
 //! from the definition of the plain machine, for its reader. A function calls a law to have it in its proof.
-ghost use Rattle.std.specs.Prelude.{◌≡◌, ◌≢◌, ◌+◌, ◌≤◌, ℕ, Bool, false, List, [], ◌∷◌, ◌++◌, IsSome, if◌then◌else◌};
+ghost use Rattle.std.specs.Prelude.{◌≡◌, ◌≢◌, ◌+◌, ◌≤◌, ℕ, Bool, true, false, List, [], ◌∷◌, ◌++◌, IsSome, if◌then◌else◌};
 ghost use Rattle.channel_commands.specs.Data.{CallData, command, done, equipment_check, no_space, stopped};
 ghost use Rattle.ckd_track.specs.Data.{RecordData};
 ghost use Rattle.ckd_plain.specs.Data.{State};
@@ -9,11 +9,11 @@ ghost use Rattle.channel_commands.specs.Codes.{is_write};
 ghost use Rattle.channel_commands.specs.declared.command.Command.{Command};
 ghost use Rattle.ckd_plain.specs.declared.host.HostState.{HostState};
 ghost use Rattle.ckd_plain.specs.declared.unit_check.UnitCheck.{UnitCheck};
-ghost use Rattle.ckd_plain.specs.Checks.{admitted};
+ghost use Rattle.ckd_plain.specs.Checks.{admitted, Passes};
 ghost use Rattle.ckd_plain.specs.Effects.{DONE, new_record, is_data};
 ghost use Rattle.ckd_plain.specs.Index.{Tracks, next_within, next_record};
-ghost use Rattle.ckd_plain.specs.Laws.{IsSameFor, IsUnderHead, IsWithinCost, HasTracks, HasBytes, unit_check_of, IsChecked, IsAtIndex, IsFirst, IsReadBack, HasVolume, met_by, IsPutBehind, IsNewId};
-ghost use Rattle.ckd_plain.specs.Plain.{UNIT_CHECK, sense_of, no_sense, keeps_sense, opened, performed, run, plain};
+ghost use Rattle.ckd_plain.specs.Laws.{IsSameFor, IsUnderHead, IsWithinCost, HasTracks, HasBytes, unit_check_of, IsChecked, IsAtIndex, IsFirst, IsReadBack, HasVolume, met_by, IsPutBehind, IsNewId, HasNoBytes};
+ghost use Rattle.ckd_plain.specs.Plain.{UNIT_CHECK, sense_of, no_sense, keeps_sense, opened, performed, run, plain, NeedsNoTrack, responded, there_for, with_response};
 
 use crate::unit_check::UnitCheck;
 
@@ -30,7 +30,8 @@ pub fn after_goes_on()
 
 /// No entry is a stopped one, where none is in either part.
 pub fn no_stop_goes_on()
-    ensures { (xs : List EntryData) (e : EntryData) → HasNoStop xs → (IsStopped e.reply → ⊥) → HasNoStop (xs ++ e ∷ []) }
+    ensures { (xs : List EntryData) (e : EntryData) → HasNoStop xs → (IsStopped e.reply → ⊥)
+        → HasNoStop (xs ++ e ∷ []) }
 {}
 
 /// A front of a legal history is legal.
@@ -40,47 +41,77 @@ pub fn legal_front()
 
 /// An entry with the plain reply, its number and no fault may come next, and leaves the plain state.
 pub fn plain_entry_is_next()
-    ensures { (s : State) (before : ℕ) (e : EntryData) → e.reply ≡ (plain s e.host e.call).0 → e.number ≡ before + 1 → e.fault ≡ None
-        → IsAlone s e.host e.call → IsNextEntry s before e × (next s e ≡ (plain s e.host e.call).1) }
+    ensures { (s : State) (before : ℕ) (e : EntryData) → e.reply ≡ (plain s e.host e.call).0
+        → e.number ≡ before + 1 → e.fault ≡ None
+        → IsAlone s e.host e.call
+        → IsNextEntry s before e × (next s e ≡ (plain s e.host e.call).1) }
 {}
 
 /// An equipment check with its fault may come next in place of a data command's reply. It leaves the volumes, ends the
 /// chain, and sets the sense.
 pub fn equipment_entry_is_next()
-    ensures { (s : State) (before : ℕ) (e : EntryData) → e.reply ≡ equipment_check → e.number ≡ before + 1 → IsSome e.fault
+    ensures { (s : State) (before : ℕ) (e : EntryData) → e.reply ≡ equipment_check
+        → e.number ≡ before + 1 → IsSome e.fault
         → IsDataCommand s e.host e.call → IsAlone s e.host e.call
         → IsNextEntry s before e × (next s e ≡ excepted UnitCheck.EquipmentCheck s e.host) }
 {}
 
 /// The same of no-space, which has no fault.
 pub fn no_space_entry_is_next()
-    ensures { (s : State) (before : ℕ) (e : EntryData) → e.reply ≡ no_space → e.number ≡ before + 1 → e.fault ≡ None
+    ensures { (s : State) (before : ℕ) (e : EntryData) → e.reply ≡ no_space → e.number ≡ before + 1
+        → e.fault ≡ None
         → IsDataCommand s e.host e.call → IsAlone s e.host e.call
         → IsNextEntry s before e × (next s e ≡ excepted UnitCheck.NoSpace s e.host) }
 {}
 
 /// A stopped write with its fault may come next, and leaves the state.
 pub fn stopped_entry_is_next()
-    ensures { (s : State) (before : ℕ) (e : EntryData) → e.reply ≡ stopped → e.number ≡ before + 1 → IsSome e.fault
-        → IsWriteCommand s e.host e.call → IsAlone s e.host e.call → IsNextEntry s before e × (next s e ≡ s) }
+    ensures { (s : State) (before : ℕ) (e : EntryData) → e.reply ≡ stopped → e.number ≡ before + 1
+        → IsSome e.fault
+        → IsWriteCommand s e.host e.call → IsAlone s e.host e.call
+        → IsNextEntry s before e × (next s e ≡ s) }
 {}
 
 /// The definition looks at twenty tracks for the next record; more looks find the same.
 pub fn twenty_looks_suffice()
-    ensures { (more : ℕ) (tracks : Tracks) (host : HostState) (first : ℕ) (multi : Bool) → host.head ≤ 18
+    ensures { (more : ℕ) (tracks : Tracks) (host : HostState) (first : ℕ) (multi : Bool)
+        → host.head ≤ 18
         → next_within (20 + more) tracks host first multi ≡ next_record tracks host first multi }
 {}
 
 /// An admitted command that is no write writes nothing.
 pub fn only_writes_write()
-    ensures { (tracks : Tracks) (host : HostState) (c : Command) (argument : List ℕ) (chained : Bool) → is_write c ≡ false
+    ensures { (tracks : Tracks) (host : HostState) (c : Command) (argument : List ℕ)
+        (chained : Bool) → is_write c ≡ false
         → (performed tracks host c argument chained).written ≡ None }
 {}
 
 /// An admitted command that is no search, read or write answers the same on all tracks.
 pub fn control_sees_no_track()
-    ensures { (a b : Tracks) (host : HostState) (c : Command) (argument : List ℕ) (chained : Bool) → is_data c ≡ false
+    ensures { (a b : Tracks) (host : HostState) (c : Command) (argument : List ℕ) (chained : Bool)
+        → is_data c ≡ false
         → performed a host c argument chained ≡ performed b host c argument chained }
+{}
+
+/// A call that needs no track is answered by its host and by which volumes there are, and leaves the volumes.
+pub fn call_without_track()
+    ensures { (s : State) (h : ℕ) (call : CallData) → NeedsNoTrack (s.host h) call
+        → plain s h call ≡ with_response s h
+        (responded (s.host h) (there_for s.volumes.serial call) call) }
+{}
+
+/// The reply to a write has no bytes.
+pub fn write_gives_no_bytes()
+    ensures { (tracks : Tracks) (host : HostState) (c : Command) (argument : List ℕ)
+        (chained : Bool) → is_write c ≡ true
+        → HasNoBytes (performed tracks host c argument chained).reply }
+{}
+
+/// A write that passes its checks is in an open chain, so opening one changes nothing.
+pub fn writes_are_in_chain()
+    ensures { (host : HostState) (c : Command) (argument : List ℕ) → Passes (opened host) c argument
+        → is_write c ≡ true
+        → opened host ≡ host }
 {}
 
 /// A command leaves its host's volume mounted.
@@ -93,39 +124,52 @@ pub fn volume_stays_mounted()
 /// the same of both after it. It leaves the other hosts.
 pub fn host_sees_itself_alone()
     ensures same { (s t : State) (h : ℕ) (call : CallData) → IsSameFor h s t
-        → ((plain s h call).0 ≡ (plain t h call).0) × IsSameFor h (plain s h call).1 (plain t h call).1 }
-    ensures others { (s : State) (h other : ℕ) (call : CallData) → other ≢ h → (plain s h call).1.host other ≡ s.host other }
+        → ((plain s h call).0 ≡ (plain t h call).0)
+        × IsSameFor h (plain s h call).1 (plain t h call).1 }
+    ensures others { (s : State) (h other : ℕ) (call : CallData) → other ≢ h
+        → (plain s h call).1.host other ≡ s.host other }
 {}
 
 /// Only a write command changes a track, and no other track than the one under its host's head. No call changes which
 /// volumes there are.
 pub fn only_the_track_under_a_write_changes()
-    ensures no_write { (s : State) (h : ℕ) (call : CallData) → (IsWriteCommand s h call → ⊥) → (plain s h call).1.volumes ≡ s.volumes }
-    ensures elsewhere { (s : State) (h : ℕ) (call : CallData) (v c head : ℕ) → (IsUnderHead (s.host h) v c head → ⊥)
+    ensures no_write { (s : State) (h : ℕ) (call : CallData) → (IsWriteCommand s h call → ⊥)
+        → (plain s h call).1.volumes ≡ s.volumes }
+    ensures elsewhere { (s : State) (h : ℕ) (call : CallData) (v c head : ℕ)
+        → (IsUnderHead (s.host h) v c head → ⊥)
         → (plain s h call).1.volumes.track v c head ≡ s.volumes.track v c head }
-    ensures serials { (s : State) (h : ℕ) (call : CallData) → (plain s h call).1.volumes.serial ≡ s.volumes.serial }
+    ensures serials { (s : State) (h : ℕ) (call : CallData)
+        → (plain s h call).1.volumes.serial ≡ s.volumes.serial }
 {}
 
 /// No track ever costs more than 13,165, and where arguments are bytes, tracks stay tracks.
 pub fn tracks_stay_within_their_cost()
-    ensures cost_ { (s : State) (h : ℕ) (call : CallData) → IsWithinCost s.volumes → IsWithinCost (plain s h call).1.volumes }
-    ensures tracks { (s : State) (h : ℕ) (call : CallData) → HasBytes call → HasTracks s.volumes → HasTracks (plain s h call).1.volumes }
+    ensures cost_ { (s : State) (h : ℕ) (call : CallData) → IsWithinCost s.volumes
+        → IsWithinCost (plain s h call).1.volumes }
+    ensures tracks { (s : State) (h : ℕ) (call : CallData) → HasBytes call → HasTracks s.volumes
+        → HasTracks (plain s h call).1.volumes }
 {}
 
 /// A command that ends with unit check is answered so, with no data; its host's chain has ended, and the sense says
 /// why. No other command is answered so.
 pub fn unit_check_sets_the_sense()
-    ensures checked { (s : State) (h code : ℕ) (argument : List ℕ) (chained : Bool) (check : UnitCheck)
-        → unit_check_of s h code argument ≡ Some check → IsChecked check h (plain s h (command code argument chained)) }
-    ensures unchecked { (s : State) (h code : ℕ) (argument : List ℕ) (chained : Bool) (bytes : List ℕ)
-        → unit_check_of s h code argument ≡ None → (plain s h (command code argument chained)).0 ≢ done UNIT_CHECK bytes }
+    ensures checked { (s : State) (h code : ℕ) (argument : List ℕ) (chained : Bool)
+        (check : UnitCheck)
+        → unit_check_of s h code argument ≡ Some check
+        → IsChecked check h (plain s h (command code argument chained)) }
+    ensures unchecked { (s : State) (h code : ℕ) (argument : List ℕ) (chained : Bool)
+        (bytes : List ℕ)
+        → unit_check_of s h code argument ≡ None
+        → (plain s h (command code argument chained)).0 ≢ done UNIT_CHECK bytes }
 {}
 
 /// The sense that a host asks for after a unit check tells it, and stays.
 pub fn sense_tells_the_unit_check()
-    ensures { (s : State) (h code : ℕ) (argument : List ℕ) (chained : Bool) (check : UnitCheck) (argument' : List ℕ) (chained' : Bool)
+    ensures { (s : State) (h code : ℕ) (argument : List ℕ) (chained : Bool) (check : UnitCheck)
+        (argument' : List ℕ) (chained' : Bool)
         → unit_check_of s h code argument ≡ Some check
-        → let sensed = plain (plain s h (command code argument chained)).1 h (command 0x04 argument' chained') in
+        → let checked = (plain s h (command code argument chained)).1 in
+        let sensed = plain checked h (command 0x04 argument' chained') in
         (sensed.0 ≡ done DONE (sense_of check)) × ((sensed.1.host h).sense ≡ sense_of check) }
 {}
 
@@ -133,13 +177,15 @@ pub fn sense_tells_the_unit_check()
 pub fn next_command_clears_the_sense()
     ensures { (s : State) (h code : ℕ) (argument : List ℕ) (chained : Bool) (c : Command)
         → admitted (opened (s.host h)) code argument ≡ Ok c → unit_check_of s h code argument ≡ None
-        → ((plain s h (command code argument chained)).1.host h).sense ≡ (if keeps_sense c then (s.host h).sense else no_sense) }
+        → ((plain s h (command code argument chained)).1.host h).sense
+        ≡ (if keeps_sense c then (s.host h).sense else no_sense) }
 {}
 
 /// A record is found and read by its ID: where no record before it on the track has its ID, a chain that searches for
 /// the ID from the index on meets the record, and the read data behind it gives the record's data.
 pub fn record_is_found_and_read()
-    ensures { (s : State) (h k : ℕ) (r : RecordData) → IsAtIndex s h → IsFirst s h k r → IsReadBack s h k r }
+    ensures { (s : State) (h k : ℕ) (r : RecordData) → IsAtIndex s h → IsFirst s h k r
+        → IsReadBack s h k r }
 {}
 
 /// A write count key data that is done puts its record behind the one that its search met, or that was written before
@@ -147,13 +193,16 @@ pub fn record_is_found_and_read()
 pub fn write_puts_its_record()
     ensures { (s : State) (h : ℕ) (argument : List ℕ) (chained : Bool) → HasVolume s h
         → (plain s h (command 0x1D argument chained)).0 ≡ done DONE []
-        → IsPutBehind h (met_by s h) (new_record argument) s (plain s h (command 0x1D argument chained)).1 }
+        → IsPutBehind h (met_by s h) (new_record argument) s
+        (plain s h (command 0x1D argument chained)).1 }
 {}
 
 /// A record that was written is read back: where no record up to there has its ID, the next chain finds it by its ID
 /// and reads the data that were written, cut or padded to the length that its count gives.
 pub fn written_record_is_read_back()
     ensures { (s : State) (h : ℕ) (argument : List ℕ) → HasVolume s h
-        → (plain s h (command 0x1D argument false)).0 ≡ done DONE [] → IsNewId s h (met_by s h) (new_record argument).id
-        → IsReadBack (plain s h (command 0x1D argument false)).1 h (met_by s h + 1) (new_record argument) }
+        → (plain s h (command 0x1D argument false)).0 ≡ done DONE []
+        → IsNewId s h (met_by s h) (new_record argument).id
+        → IsReadBack (plain s h (command 0x1D argument false)).1 h (met_by s h + 1)
+        (new_record argument) }
 {}

@@ -4,10 +4,15 @@
 //! stand beside it by subject: the checks, where a command finds its record, what each command does. The layers above
 //! rely on that definition, on legal histories (`specs/History.antt`, which grow by the laws of `laws`), and on what a
 //! stop may leave of a write (`specs/Near.antt`). An engine on other tracks builds its answers of the same `steps`.
+//!
+//! Of the proofs the layers above may cite: `Entries` and `Histories`, on which entries may come next and what a history
+//! leaves; `CommandFacts`, `WriteFacts` and `SenseFacts`, on what a command never does, what a write needs and what sense
+//! tells; `ResponseFacts`, on calls that need no track.
 #![tactic(auto)]
 
 mod answer;
 mod checks;
+mod control;
 mod done;
 mod entry;
 mod found;
@@ -15,6 +20,7 @@ mod host;
 mod index;
 pub mod laws;
 mod read;
+mod response;
 mod run;
 mod search;
 mod state;

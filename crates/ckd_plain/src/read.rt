@@ -1,7 +1,7 @@
 // Reads.
-ghost use Rattle.std.specs.Prelude.{◌≡◌, ◌≢◌, ◌++◌, length, IfOk};
+ghost use Rattle.std.specs.Prelude.{◌≡◌, ◌≢◌, ◌++◌, length, IfOk, true};
 ghost use Rattle.ckd_track.specs.Data.{HasCount};
-ghost use Rattle.ckd_plain.specs.Effects.{at_hand, record_given, record_zero_read, home_read, read};
+ghost use Rattle.ckd_plain.specs.Effects.{is_ending, at_hand, record_given, record_zero_read, home_read, read};
 ghost use Rattle.ckd_plain.specs.Views.{cylinder_of, item_of, found_of, effect_of, GivesUnless};
 
 use crate::done::{DONE, DoneCommand};
@@ -25,9 +25,11 @@ fn joined(alloc: Global, first: &[u8], second: &[u8]) -> Result<Bytes, NoMemory>
 
 impl FoundRecord<'_> {
     /// What a read of this kind gives at this record.
+    #[tactic(auto, unfolding(crate::specs::Effects::is_ending))]
     pub fn given(&self, alloc: Global, what: ReadWhat) -> Result<DoneCommand, NoMemory>
         requires counted { HasCount (item_of self.now) }
-        ensures { IfOk result (λ done. effect_of done ≡ record_given what (found_of self.now)) }
+        ensures value { IfOk result (λ done. effect_of done ≡ record_given what (found_of self.now)) }
+        ensures ends { IfOk result (λ done. is_ending done.status ≡ true) }
     {
         let (bytes, position, status) = match what {
             ReadWhat::Data => (
@@ -63,8 +65,10 @@ impl FoundRecord<'_> {
 }
 
 /// Read R0, of a host that stands at the home address.
+#[tactic(auto, unfolding(crate::specs::Effects::is_ending))]
 pub fn record_zero_read(alloc: Global, there: &HostState) -> Result<DoneCommand, NoMemory>
-    ensures { IfOk result (λ done. effect_of done ≡ record_zero_read there.now) }
+    ensures value { IfOk result (λ done. effect_of done ≡ record_zero_read there.now) }
+    ensures ends { IfOk result (λ done. is_ending done.status ≡ true) }
 {
     let [c, cc] = two_bytes(there.cylinder.get());
     let [h, hh] = two_bytes(u16::from(there.head.get()));
@@ -80,8 +84,10 @@ pub fn record_zero_read(alloc: Global, there: &HostState) -> Result<DoneCommand,
 }
 
 /// Read home address, of a host that stands at it.
+#[tactic(auto, unfolding(crate::specs::Effects::is_ending))]
 pub fn home_read(alloc: Global, there: &HostState) -> Result<DoneCommand, NoMemory>
-    ensures { IfOk result (λ done. effect_of done ≡ home_read there.now) }
+    ensures value { IfOk result (λ done. effect_of done ≡ home_read there.now) }
+    ensures ends { IfOk result (λ done. is_ending done.status ≡ true) }
 {
     let [c, cc] = two_bytes(there.cylinder.get());
     let [h, hh] = two_bytes(u16::from(there.head.get()));

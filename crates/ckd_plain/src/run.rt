@@ -1,89 +1,24 @@
 // A command on the tracks of a cylinder.
-ghost use Rattle.std.specs.Prelude.{◌≡◌, ◌≤◌, length, false, IsTrue, IfOk, OnErr};
+ghost use Rattle.std.specs.Prelude.{◌≡◌, ◌≤◌, length, IsTrue, IfOk, OnErr};
 ghost use Rattle.channel_commands.specs.Codes.{least};
 ghost use Rattle.ckd_plain.specs.Checks.{is_address, is_prior_permitted, Passes};
-ghost use Rattle.ckd_plain.specs.Effects.{is_data, effect, seek_done, write_};
-ghost use Rattle.ckd_plain.specs.Index.{Tracks};
-ghost use Rattle.ckd_plain.specs.declared.host.Prior.{Prior};
+ghost use Rattle.ckd_plain.specs.Effects.{effect, write_};
 ghost use Rattle.ckd_plain.specs.Plain.{performed, run};
-ghost use Rattle.ckd_plain.specs.Views.{cylinder_of, effect_of, GivesEffect, Answers};
+ghost use Rattle.ckd_plain.specs.Views.{cylinder_of, GivesEffect, Answers};
 
-use crate::answer::{cleared, finished, opened, refused};
-use crate::checks::{admitted, number_at};
-use crate::done::{DONE, DoneCommand};
-use crate::host::{HostState, Position, Prior};
+use crate::answer::{cleared, finished, opened, refused, refused_by};
+use crate::checks::admitted;
+use crate::control::control;
+use crate::done::DoneCommand;
+use crate::host::{HostState, Prior};
 use crate::read::read;
 use crate::search::search;
 use crate::trouble::Trouble;
-use crate::unit_check::Refusal;
 use crate::write::write;
-use channel_commands::{Command, Reply, SeekKind, WriteKind};
+use channel_commands::{Command, Reply, WriteKind};
 use ckd_track::Track;
-use mss_base::{Bytes, Cylinder, Head, NoMemory};
+use mss_base::NoMemory;
 use std::alloc::Global;
-
-/// The host at the start of the track that a seek names.
-pub fn seek_done(kind: SeekKind, host: &HostState, argument: &[u8]) -> HostState
-    requires long { 6 ≤ length argument.now }
-    requires address { IsTrue (is_address (Command.Seek kind) argument.now) }
-    ensures { result ≡ seek_done kind host.now argument.now }
-{
-    let Some(head) = Head::of(number_at(argument, 4) as u8) else {
-        unreachable!()
-    };
-    if kind == SeekKind::Head {
-        return HostState {
-            head,
-            position: Position::Start,
-            ..*host
-        };
-    }
-    let Some(cylinder) = Cylinder::of(number_at(argument, 2)) else {
-        unreachable!()
-    };
-    HostState {
-        cylinder,
-        head,
-        position: Position::Start,
-        ..*host
-    }
-}
-
-/// A control command or a sense: one that needs no track.
-#[tactic(auto, unfolding(crate::specs::Effects::effect))]
-pub fn control(
-    alloc: Global,
-    host: &HostState,
-    command: Command,
-    argument: &[u8],
-) -> Result<DoneCommand, NoMemory>
-    requires long { least command ≤ length argument.now }
-    requires address { IsTrue (is_address command argument.now) }
-    requires no_track { is_data command ≡ false }
-    ensures { IfOk result (λ done. (tracks : Tracks) (left : Prior) → effect tracks host.now left command argument.now ≡ Ok (effect_of done)) }
-{
-    let there = match command {
-        Command::Sense => {
-            return Ok(DoneCommand {
-                status: DONE,
-                bytes: Bytes::of(alloc, &host.sense)?,
-                host: *host,
-            });
-        }
-        Command::SetMask => HostState {
-            mask: argument[0],
-            ..*host
-        },
-        Command::Seek(kind) => seek_done(kind, host, argument),
-        Command::Recalibrate => host.recalibrated(),
-        _ => *host,
-    };
-    Ok(DoneCommand {
-        status: DONE,
-        bytes: Bytes::new(alloc),
-        host: there,
-    })
-}
 
 /// A write on the host's track among those of its cylinder.
 fn write_under(
@@ -97,7 +32,8 @@ fn write_under(
     requires cylinder { length tracks.old ≡ 19 }
     requires long { least (Command.Write kind) ≤ length argument.now }
     requires permitted { IsTrue (is_prior_permitted left (Command.Write kind)) }
-    ensures { GivesEffect host.now tracks.old tracks.new result (write_ (cylinder_of tracks.old host.now.head) host.now left kind argument.now) }
+    ensures { GivesEffect host.now tracks.old tracks.new result
+        (write_ (cylinder_of tracks.old host.now.head) host.now left kind argument.now) }
 {
     let track = &mut tracks[usize::from(host.head.get())];
     match write(alloc, track, host, left, kind, argument) {
@@ -120,7 +56,8 @@ fn outcome(
     requires long { least command ≤ length argument.now }
     requires address { IsTrue (is_address command argument.now) }
     requires permitted { IsTrue (is_prior_permitted left command) }
-    ensures { GivesEffect host.now tracks.old tracks.new result (effect (cylinder_of tracks.old) host.now left command argument.now) }
+    ensures { GivesEffect host.now tracks.old tracks.new result
+        (effect (cylinder_of tracks.old) host.now left command argument.now) }
 {
     match command {
         Command::Search { field, test, multi } => {
@@ -144,7 +81,9 @@ fn performed(
 ) -> Result<Reply, NoMemory>
     requires cylinder { length tracks.old ≡ 19 }
     requires passes { Passes host.old command argument.now }
-    ensures answer { IfOk result (Answers (performed (cylinder_of tracks.old) host.old command argument.now chained) host.old tracks.old tracks.new host.new) }
+    ensures answer { IfOk result (Answers
+        (performed (cylinder_of tracks.old) host.old command argument.now chained)
+        host.old tracks.old tracks.new host.new) }
     ensures host_stays { OnErr result (host.new ≡ host.old) }
     ensures tracks_stay { OnErr result (tracks.new ≡ tracks.old) }
 {
@@ -169,23 +108,16 @@ pub fn run_command(
     chained: bool,
 ) -> Result<Reply, NoMemory>
     requires cylinder { length tracks.old ≡ 19 }
-    ensures answer { IfOk result (Answers (run (cylinder_of tracks.old) host.old code argument.now chained) host.old tracks.old tracks.new host.new) }
+    ensures answer { IfOk result (Answers
+        (run (cylinder_of tracks.old) host.old code argument.now chained)
+        host.old tracks.old tracks.new host.new) }
     ensures host_stays { OnErr result (host.new ≡ host.old) }
     ensures tracks_stay { OnErr result (tracks.new ≡ tracks.old) }
 {
     let mut now = opened(host);
     let reply = match admitted(&now, code, argument) {
         Ok(command) => performed(alloc, tracks, &mut now, command, argument, chained)?,
-        Err(check) => {
-            let refusal = Refusal {
-                check,
-                host: HostState {
-                    prior: Prior::Nothing,
-                    ..now
-                },
-            };
-            refused(alloc, &mut now, &refusal)
-        }
+        Err(check) => refused_by(alloc, check, &mut now),
     };
     *host = now;
     Ok(reply)

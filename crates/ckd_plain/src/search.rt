@@ -1,6 +1,6 @@
 // Searches.
-ghost use Rattle.std.specs.Prelude.{◌≡◌, ◌≤◌, length};
-ghost use Rattle.ckd_plain.specs.Effects.{is_met, is_key_met, search_status, prior_left, home_searched, id_searched, key_searched, key_at_hand, search};
+ghost use Rattle.std.specs.Prelude.{◌≡◌, ◌≤◌, length, true};
+ghost use Rattle.ckd_plain.specs.Effects.{is_ending, is_met, is_key_met, search_status, prior_left, home_searched, id_searched, key_searched, key_at_hand, search};
 ghost use Rattle.channel_commands.specs.Codes.{least};
 ghost use Rattle.ckd_plain.specs.Views.{cylinder_of, found_of, Gives, effect_of};
 
@@ -33,8 +33,10 @@ fn is_key_met(test: SearchTest, key: &[u8], argument: &[u8]) -> bool
     !key.is_empty() && is_met(test, (&key[..compared]).cmp(&&argument[..compared]))
 }
 
+#[tactic(auto, unfolding(crate::specs::Effects::is_ending))]
 fn search_status(met: bool) -> u8
-    ensures { result ≡ search_status met }
+    ensures value { result ≡ search_status met }
+    ensures ends { is_ending result ≡ true }
 {
     if met { MET } else { DONE }
 }
@@ -52,7 +54,8 @@ fn prior_left(test: SearchTest, met: bool, left: Prior) -> Prior
 /// Search home address equal, of a host that stands at the home address.
 pub fn home_searched(alloc: Global, there: &HostState, argument: &[u8]) -> DoneCommand
     requires { 4 ≤ length argument.now }
-    ensures { effect_of result ≡ home_searched argument.now there.now }
+    ensures value { effect_of result ≡ home_searched argument.now there.now }
+    ensures ends { is_ending result.status ≡ true }
 {
     let [c, cc] = two_bytes(there.cylinder.get());
     let [h, hh] = two_bytes(u16::from(there.head.get()));
@@ -72,7 +75,8 @@ impl FoundRecord<'_> {
     /// Search ID at this record.
     pub fn id_searched(&self, alloc: Global, test: SearchTest, argument: &[u8]) -> DoneCommand
         requires { 5 ≤ length argument.now }
-        ensures { effect_of result ≡ id_searched test argument.now (found_of self.now) }
+        ensures value { effect_of result ≡ id_searched test argument.now (found_of self.now) }
+        ensures ends { is_ending result.status ≡ true }
     {
         let met = is_met(test, self.id.as_slice().cmp(&&argument[..5]));
         DoneCommand {
@@ -88,7 +92,8 @@ impl FoundRecord<'_> {
 
     /// Search key at this record.
     pub fn key_searched(&self, alloc: Global, test: SearchTest, argument: &[u8]) -> DoneCommand
-        ensures { effect_of result ≡ key_searched test argument.now (found_of self.now) }
+        ensures value { effect_of result ≡ key_searched test argument.now (found_of self.now) }
+        ensures ends { is_ending result.status ≡ true }
     {
         let met = is_key_met(test, self.key, argument);
         DoneCommand {
@@ -114,7 +119,8 @@ fn search_id(
 ) -> Result<DoneCommand, Refusal>
     requires cylinder { length tracks.now ≡ 19 }
     requires long { 5 ≤ length argument.now }
-    ensures { Gives effect_of result (search (cylinder_of tracks.now) host.now SearchField.Id test multi argument.now) }
+    ensures { Gives effect_of result
+        (search (cylinder_of tracks.now) host.now SearchField.Id test multi argument.now) }
 {
     match &next_record(tracks, host, 0, multi) {
         Ok(found) => Ok(found.id_searched(alloc, test, argument)),
@@ -142,7 +148,8 @@ fn search_key(
     argument: &[u8],
 ) -> Result<DoneCommand, Refusal>
     requires cylinder { length tracks.now ≡ 19 }
-    ensures { Gives effect_of result (search (cylinder_of tracks.now) host.now SearchField.Key test multi argument.now) }
+    ensures { Gives effect_of result
+        (search (cylinder_of tracks.now) host.now SearchField.Key test multi argument.now) }
 {
     match &this_or_next(tracks, host, key_at_hand(host.position), multi) {
         Ok(found) => Ok(found.key_searched(alloc, test, argument)),
@@ -163,7 +170,8 @@ pub fn search(
 ) -> Result<DoneCommand, Refusal>
     requires cylinder { length tracks.now ≡ 19 }
     requires long { least (Command.Search field test multi) ≤ length argument.now }
-    ensures { Gives effect_of result (search (cylinder_of tracks.now) host.now field test multi argument.now) }
+    ensures { Gives effect_of result
+        (search (cylinder_of tracks.now) host.now field test multi argument.now) }
 {
     match field {
         SearchField::Home => Ok(home_searched(alloc, &to_home(*host, multi)?, argument)),

@@ -1,13 +1,14 @@
 // The state of the plain machine, and its step.
-ghost use Rattle.std.specs.Prelude.{◌≡◌, ◌≢◌, ◌<◌, [], length, replicate, slice_set, is_some, AllPairs, IfOk, OnErr, IsNone, IfSome, ◌↔◌, None, Some};
-ghost use Rattle.channel_commands.specs.Data.{command, break};
+ghost use Rattle.std.specs.Prelude.{◌≡◌, ◌≢◌, ◌<◌, [], length, replicate, slice_set, is_some, AllPairs, IfOk, OnErr, IsNone, IfSome, ◌↔◌, None, Some, false};
+ghost use Rattle.channel_commands.specs.Data.{command, is_command};
 ghost use Rattle.channel_commands.specs.Views.{call_of, reply_of};
-ghost use Rattle.ckd_plain.specs.Plain.{plain, mount_reply, demount_reply, with_host, start_of, blank_volumes, fresh_host};
+ghost use Rattle.ckd_plain.specs.Plain.{plain, there_for, with_host, start_of, blank_volumes, fresh_host};
 ghost use Rattle.ckd_plain.specs.StateData.{state_of};
 
 use crate::host::HostState;
+use crate::response::respond;
 use crate::volume::{PlainVolume, run_under};
-use channel_commands::{BreakCause, Call, Reply};
+use channel_commands::{Call, Reply};
 use ckd_track::Track;
 use mss_base::{Cylinder, Head, HostNo, NoMemory, Serial, VolumeNo};
 use std::alloc::Global;
@@ -34,7 +35,8 @@ impl Model for PlainState {
 impl PlainState {
     /// A state without volumes.
     fn empty(alloc: Global) -> Result<PlainState, NoMemory>
-        ensures { IfOk result (λ s. s ≡ record { hosts = replicate 9 fresh_host; volumes = replicate 32 None }) }
+        ensures { IfOk result (λ s. s ≡ record
+            { hosts = replicate 9 fresh_host; volumes = replicate 32 None }) }
     {
         let mut volumes = Vec::new(alloc);
         for _ in 0..32usize {
@@ -47,7 +49,8 @@ impl PlainState {
     }
 
     fn put(&mut self, number: VolumeNo, volume: PlainVolume)
-        ensures value { self.new ≡ record self.old { volumes = slice_set self.old.volumes number (Some volume) } }
+        ensures value { self.new ≡ record self.old
+            { volumes = slice_set self.old.volumes number (Some volume) } }
         ensures place { number < length self.old.volumes }
     {
         self.volumes[usize::from(number.get())] = Some(volume);
@@ -67,8 +70,10 @@ impl PlainState {
 
     /// The track, where the volume is there and the track has records.
     pub fn track(&self, volume: VolumeNo, cylinder: Cylinder, head: Head) -> Option<&Track>
-        ensures absent { IsNone result ↔ ((state_of self.now).volumes.track volume cylinder head ≡ []) }
-        ensures track { IfSome result (λ t. t.now ≡ (state_of self.now).volumes.track volume cylinder head) }
+        ensures absent { IsNone result
+            ↔ ((state_of self.now).volumes.track volume cylinder head ≡ []) }
+        ensures track { IfSome result (λ t.
+            t.now ≡ (state_of self.now).volumes.track volume cylinder head) }
     {
         let volume = self.volumes[usize::from(volume.get())].as_ref()?;
         let track = volume.track(cylinder, head);
@@ -97,43 +102,27 @@ impl PlainState {
         self.volumes[usize::from(volume.get())].is_some()
     }
 
-    #[tactic(auto, unfolding(crate::specs::Plain::mount_reply))]
-    fn mount(&mut self, host: HostNo, volume: VolumeNo, bind: bool) -> Reply
-        ensures { (reply_of result, state_of self.new) ≡ mount_reply (state_of self.old) host volume bind }
+    /// Whether the volume that a call asks for is there.
+    fn is_there(&self, call: &Call) -> bool
+        ensures { result ≡ there_for (state_of self.now).volumes.serial (call_of call.now) }
     {
-        let now = *self.host(host);
-        if now.chain_open {
-            return Reply::InChain;
+        match call {
+            Call::Mount { volume, .. } => self.has_volume(*volume),
+            _ => false,
         }
-        if now.mounted.is_some() {
-            return Reply::AlreadyMounted;
-        }
-        if !self.has_volume(volume) {
-            return Reply::NoVolume;
-        }
-        self.set_host(host, now.with_volume(volume, bind));
-        Reply::Mounted
     }
 
-    #[tactic(auto, unfolding(crate::specs::Plain::demount_reply))]
-    fn demount(&mut self, host: HostNo) -> Reply
-        ensures { (reply_of result, state_of self.new) ≡ demount_reply (state_of self.old) host }
+    /// A call that is no command.
+    #[tactic(auto, using(crate::proofs::ResponseFacts::no_command_responds))]
+    fn respond(&mut self, host: HostNo, call: &Call) -> Reply
+        requires { is_command (call_of call.now) ≡ false }
+        ensures { (reply_of result, state_of self.new)
+            ≡ plain (state_of self.old) host (call_of call.now) }
     {
-        let now = *self.host(host);
-        if now.chain_open {
-            return Reply::InChain;
-        }
-        if now.mounted.is_none() {
-            return Reply::NotMounted;
-        }
-        self.set_host(
-            host,
-            HostState {
-                mounted: None,
-                ..now
-            },
-        );
-        Reply::Demounted
+        let there = self.is_there(call);
+        let (reply, now) = respond(self.host(host), there, call);
+        self.set_host(host, now);
+        reply
     }
 
     fn command(
@@ -144,7 +133,8 @@ impl PlainState {
         argument: &[u8],
         chained: bool,
     ) -> Result<Reply, NoMemory>
-        ensures answer { IfOk result (λ reply. (reply_of reply, state_of self.new) ≡ plain (state_of self.old) host (command code argument.now chained)) }
+        ensures answer { IfOk result (λ reply. (reply_of reply, state_of self.new)
+            ≡ plain (state_of self.old) host (command code argument.now chained)) }
         ensures unchanged { OnErr result (self.new ≡ self.old) }
     {
         let mut now = *self.host(host);
@@ -152,47 +142,27 @@ impl PlainState {
         self.set_host(host, now);
         Ok(reply)
     }
-
-    #[tactic(auto, unfolding(crate::specs::Plain::plain))]
-    fn end_chain(&mut self, host: HostNo, cause: BreakCause) -> Reply
-        ensures { (reply_of result, state_of self.new) ≡ plain (state_of self.old) host (break cause) }
-    {
-        let now = *self.host(host);
-        self.set_host(
-            host,
-            HostState {
-                chain_open: false,
-                ..now
-            },
-        );
-        match cause {
-            BreakCause::Program => Reply::ProgramCheck,
-            BreakCause::Limit => Reply::ChainLimit,
-        }
-    }
 }
 
 /// A host's call: the reply of the plain machine, and its state then.
 ///
 /// After want of memory the state is as it was.
-#[tactic(auto, unfolding(crate::specs::Plain::plain))]
 pub fn plain_step(
     alloc: Global,
     state: &mut PlainState,
     host: HostNo,
     call: &Call,
 ) -> Result<Reply, NoMemory>
-    ensures answer { IfOk result (λ reply. (reply_of reply, state_of state.new) ≡ plain (state_of state.old) host (call_of call.now)) }
+    ensures answer { IfOk result (λ reply. (reply_of reply, state_of state.new)
+        ≡ plain (state_of state.old) host (call_of call.now)) }
     ensures unchanged { OnErr result (state.new ≡ state.old) }
 {
     match call {
-        Call::Mount { volume, bind } => Ok(state.mount(host, *volume, *bind)),
-        Call::Demount => Ok(state.demount(host)),
         Call::Command {
             code,
             argument,
             chained,
         } => state.command(alloc, host, *code, argument.as_slice(), *chained),
-        Call::Break { cause } => Ok(state.end_chain(host, *cause)),
+        _ => Ok(state.respond(host, call)),
     }
 }

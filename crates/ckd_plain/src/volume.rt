@@ -58,7 +58,9 @@ impl CylinderTracks {
         argument: &[u8],
         chained: bool,
     ) -> Result<Reply, NoMemory>
-        ensures answer { IfOk result (Answers (run (cylinder_of self.old) host.old code argument.now chained) host.old self.old self.new host.new) }
+        ensures answer { IfOk result (Answers
+            (run (cylinder_of self.old) host.old code argument.now chained)
+            host.old self.old self.new host.new) }
         ensures host_stays { OnErr result (host.new ≡ host.old) }
         ensures tracks_stay { OnErr result (self.new ≡ self.old) }
         ensures head { host.old.head < length self.old }
@@ -82,7 +84,8 @@ impl Model for PlainVolume {
 
     ghost view = { λ v. record { serial = v.serial; cylinders = v.cylinders.items } };
 
-    ghost invariant = { λ v. HasCylinders (record { serial = v.serial; cylinders = v.cylinders.items }) };
+    ghost invariant = { λ v. HasCylinders (record
+        { serial = v.serial; cylinders = v.cylinders.items }) };
 }
 
 impl PlainVolume {
@@ -99,7 +102,8 @@ impl PlainVolume {
     }
 
     pub fn track(&self, cylinder: Cylinder, head: Head) -> &Track
-        ensures { result.now ≡ slice_index_or (slice_index_or self.now.cylinders cylinder []) head [] }
+        ensures { result.now
+            ≡ slice_index_or (slice_index_or self.now.cylinders cylinder []) head [] }
     {
         self.cylinders[usize::from(cylinder.get())].track(head)
     }
@@ -114,13 +118,17 @@ impl PlainVolume {
         chained: bool,
     ) -> Result<Reply, NoMemory>
         ensures serial { self.new.serial ≡ self.old.serial }
-        ensures cylinders { self.new.cylinders ≡ slice_set self.old.cylinders host.old.cylinder (slice_index_or self.new.cylinders host.old.cylinder []) }
-        ensures answer { IfOk result (Answers (run (cylinder_of (slice_index_or self.old.cylinders host.old.cylinder [])) host.old code argument.now chained)
-            host.old (slice_index_or self.old.cylinders host.old.cylinder []) (slice_index_or self.new.cylinders host.old.cylinder []) host.new) }
+        ensures cylinders { let c = host.old.cylinder in
+            self.new.cylinders ≡ slice_set self.old.cylinders c (slice_index_or self.new.cylinders c []) }
+        ensures answer { let old = slice_index_or self.old.cylinders host.old.cylinder [] in
+            let new = slice_index_or self.new.cylinders host.old.cylinder [] in
+            IfOk result (Answers (run (cylinder_of old) host.old code argument.now chained)
+            host.old old new host.new) }
         ensures host_stays { OnErr result (host.new ≡ host.old) }
         ensures tracks_stay { OnErr result (self.new ≡ self.old) }
         ensures place { host.old.cylinder < length self.old.cylinders }
-        ensures head { host.old.head < length (slice_index_or self.old.cylinders host.old.cylinder []) }
+        ensures head { host.old.head
+            < length (slice_index_or self.old.cylinders host.old.cylinder []) }
     {
         let place = usize::from(host.cylinder.get());
         let cylinder = &mut self.cylinders[place];
@@ -136,7 +144,8 @@ fn run_blank(
     argument: &[u8],
     chained: bool,
 ) -> Result<Reply, NoMemory>
-    ensures answer { IfOk result (Responds (run (λ head. []) host.old code argument.now chained) host.new) }
+    ensures answer { IfOk result (Responds
+        (run (λ head. []) host.old code argument.now chained) host.new) }
     ensures host_stays { OnErr result (host.new ≡ host.old) }
 {
     let mut blank = CylinderTracks::blank(alloc)?;
@@ -153,7 +162,9 @@ pub fn run_under(
     chained: bool,
 ) -> Result<Reply, NoMemory>
     requires { length volumes.old ≡ 32 }
-    ensures answer { IfOk result (AnswersOn (run (tracks_under (volumes_of volumes.old) host.old) host.old code argument.now chained) host.old volumes.old volumes.new host.new) }
+    ensures answer { IfOk result (AnswersOn
+        (run (tracks_under (volumes_of volumes.old) host.old) host.old code argument.now chained)
+        host.old volumes.old volumes.new host.new) }
     ensures host_stays { OnErr result (host.new ≡ host.old) }
     ensures volumes_stay { OnErr result (volumes.new ≡ volumes.old) }
 {

@@ -13,31 +13,24 @@ use crate::index::same_record;
 use crate::trouble::Trouble;
 use crate::unit_check::{Refusal, UnitCheck};
 use channel_commands::{Command, WriteKind};
-use ckd_track::{Record, Track};
+use ckd_track::{Record, TRACK_COST, Track, cost_of_lengths};
 use mss_base::{Bytes, NoMemory};
 use std::alloc::Global;
 
-/// What the records of a track cost together at most.
-const TRACK_COST: usize = 13165;
-
-fn cost_of(stored: &Record) -> usize
+fn cost_of(stored: &Record) -> u32
     requires { HasCount stored.now }
     ensures { result ≡ cost_of stored.now }
 {
     let key = stored.key.as_slice();
     let body = stored.body.as_slice();
-    if key.is_empty() {
-        135 + body.len()
-    } else {
-        191 + key.len() + body.len()
-    }
+    cost_of_lengths(key.len() as u8, body.len() as u16)
 }
 
 /// What the first `count` records cost.
-fn cost_of_first(track: &Track, count: usize) -> usize
+fn cost_of_first(track: &Track, count: usize) -> u32
     requires { count ≤ length track.now }
     ensures value { result ≡ cost (take count track.now) }
-    ensures within { result ≤ 13165 }
+    ensures within { result ≤ TRACK_COST }
 {
     let records = &track.records.as_slice()[..count];
     let mut cost = 0;
@@ -50,9 +43,13 @@ fn cost_of_first(track: &Track, count: usize) -> usize
 /// Gives the record at a place another key and other data of the same lengths.
 fn set_key_body(track: &mut Track, place: usize, key: Bytes, body: Bytes)
     requires there { place < length track.old }
-    requires same_key { length key.items ≡ length (slice_index_or track.old place blank_record).key }
-    requires same_body { length body.items ≡ length (slice_index_or track.old place blank_record).body }
-    ensures { track.new ≡ slice_set track.old place (record (slice_index_or track.old place blank_record) { key = key.items; body = body.items }) }
+    requires same_key { length key.items ≡ length
+        (slice_index_or track.old place blank_record).key }
+    requires same_body { length body.items ≡ length
+        (slice_index_or track.old place blank_record).body }
+    ensures { track.new ≡ slice_set track.old place
+        (record (slice_index_or track.old place blank_record)
+        { key = key.items; body = body.items }) }
 {
     let old = &track.records.as_slice()[place];
     let id = old.id;
@@ -63,7 +60,7 @@ fn set_key_body(track: &mut Track, place: usize, key: Bytes, body: Bytes)
 fn format(track: &mut Track, count: usize, new: Record) -> Result<(), NoMemory>
     requires there { count ≤ length track.old }
     requires counted { HasCount new }
-    requires fits { cost (take count track.old ++ new ∷ []) ≤ 13165 }
+    requires fits { cost (take count track.old ++ new ∷ []) ≤ TRACK_COST }
     ensures ok { OnOk result (track.new ≡ take count track.old ++ new ∷ []) }
     ensures err { OnErr result (track.new ≡ track.old) }
 {
@@ -98,7 +95,9 @@ fn new_record(alloc: Global, argument: &[u8]) -> Result<Record, NoMemory>
 
 /// A write that left the host behind record `number`.
 pub fn written(alloc: Global, host: &HostState, status: u8, number: u8, prior: Prior) -> DoneCommand
-    ensures { effect_of result ≡ effect_with status [] (record host.now { position = Position.Done number; prior = prior }) }
+    ensures { effect_of result
+        ≡ effect_with status []
+        (record host.now { position = Position.Done number; prior = prior }) }
 {
     DoneCommand {
         status,
@@ -120,7 +119,8 @@ fn write_data(
     argument: &[u8],
 ) -> Result<DoneCommand, Trouble>
     requires { 0 < prior_number left }
-    ensures { GivesWritten track.old track.new result (write_ track.old host.now left WriteKind.Data argument.now) }
+    ensures { GivesWritten track.old track.new result
+        (write_ track.old host.now left WriteKind.Data argument.now) }
 {
     let number = left.number();
     let (status, key, length) = match &same_record(track, host, number) {
@@ -145,7 +145,8 @@ fn write_key_data(
     argument: &[u8],
 ) -> Result<DoneCommand, Trouble>
     requires { 0 < prior_number left }
-    ensures { GivesWritten track.old track.new result (write_ track.old host.now left WriteKind.KeyData argument.now) }
+    ensures { GivesWritten track.old track.new result
+        (write_ track.old host.now left WriteKind.KeyData argument.now) }
 {
     let number = left.number();
     let (status, key_length, body_length) = match &same_record(track, host, number) {
@@ -169,7 +170,8 @@ fn write_count_key_data(
     argument: &[u8],
 ) -> Result<DoneCommand, Trouble>
     requires { 8 ≤ length argument.now }
-    ensures { GivesWritten track.old track.new result (write_ track.old host.now left WriteKind.CountKeyData argument.now) }
+    ensures { GivesWritten track.old track.new result
+        (write_ track.old host.now left WriteKind.CountKeyData argument.now) }
 {
     let number = left.number();
     if let Err(refusal) = &same_record(track, host, number) {
@@ -199,7 +201,8 @@ pub fn write(
 ) -> Result<DoneCommand, Trouble>
     requires long { least (Command.Write kind) ≤ length argument.now }
     requires permitted { IsTrue (is_prior_permitted left (Command.Write kind)) }
-    ensures { GivesWritten track.old track.new result (write_ track.old host.now left kind argument.now) }
+    ensures { GivesWritten track.old track.new result
+        (write_ track.old host.now left kind argument.now) }
 {
     match kind {
         WriteKind::Data => write_data(alloc, track, host, left, argument),

@@ -1,0 +1,116 @@
+// Replies that need no track.
+ghost use Rattle.std.specs.Prelude.{◌≡◌, Bool, [], false, IfOk, OnErr};
+ghost use Rattle.channel_commands.specs.Data.{mount, demount, command, is_command};
+ghost use Rattle.channel_commands.specs.Views.{call_of, reply_of};
+ghost use Rattle.ckd_plain.specs.Plain.{NeedsNoTrack, responded, break_reply, checked};
+
+use crate::answer::{opened, refused_by, sense_of};
+use crate::checks::admitted;
+use crate::control::run_control;
+use crate::host::{HostState, Prior};
+use crate::unit_check::UnitCheck;
+use channel_commands::{BreakCause, Call, Reply};
+use mss_base::{NoMemory, VolumeNo};
+use std::alloc::Global;
+
+/// The host after a reply that plain volumes don't give: its chain is over, and its sense says why.
+pub fn checked(check: UnitCheck, host: &HostState) -> HostState
+    ensures { result ≡ checked check host.now }
+{
+    HostState {
+        chain_open: false,
+        prior: Prior::Nothing,
+        sense: sense_of(check),
+        ..*host
+    }
+}
+
+#[tactic(auto, unfolding(crate::specs::Plain::responded))]
+fn mount(host: &HostState, there: bool, volume: VolumeNo, bind: bool) -> (Reply, HostState)
+    ensures { (reply_of result.0, result.1) ≡ responded host.now there (mount volume bind) }
+{
+    if host.chain_open {
+        return (Reply::InChain, *host);
+    }
+    if host.mounted.is_some() {
+        return (Reply::AlreadyMounted, *host);
+    }
+    if !there {
+        return (Reply::NoVolume, *host);
+    }
+    (Reply::Mounted, host.with_volume(volume, bind))
+}
+
+#[tactic(auto, unfolding(crate::specs::Plain::responded))]
+fn demount(host: &HostState) -> (Reply, HostState)
+    ensures { (reply_of result.0, result.1) ≡ responded host.now false demount }
+{
+    if host.chain_open {
+        return (Reply::InChain, *host);
+    }
+    if host.mounted.is_none() {
+        return (Reply::NotMounted, *host);
+    }
+    let demounted = HostState {
+        mounted: None,
+        ..*host
+    };
+    (Reply::Demounted, demounted)
+}
+
+fn break_reply(cause: BreakCause) -> Reply
+    ensures { reply_of result ≡ break_reply cause }
+{
+    match cause {
+        BreakCause::Program => Reply::ProgramCheck,
+        BreakCause::Limit => Reply::ChainLimit,
+    }
+}
+
+/// The reply to a call that is no command, and the host then; `there` says whether the volume that the call asks for
+/// is there.
+#[tactic(auto, unfolding(crate::specs::Plain::responded))]
+pub fn respond(host: &HostState, there: bool, call: &Call) -> (Reply, HostState)
+    requires { is_command (call_of call.now) ≡ false }
+    ensures { (reply_of result.0, result.1) ≡ responded host.now there (call_of call.now) }
+{
+    match call {
+        Call::Mount { volume, bind } => mount(host, there, *volume, *bind),
+        Call::Demount => demount(host),
+        Call::Break { cause } => {
+            let ended = HostState {
+                chain_open: false,
+                ..*host
+            };
+            (break_reply(*cause), ended)
+        }
+        Call::Command { .. } => unreachable!(),
+    }
+}
+
+/// The reply to a command that needs no track, and the host then.
+///
+/// After want of memory the host is as it was.
+pub fn respond_command(
+    alloc: Global,
+    code: u8,
+    argument: &[u8],
+    chained: bool,
+    host: &mut HostState,
+) -> Result<Reply, NoMemory>
+    requires { NeedsNoTrack host.old (command code argument.now chained) }
+    ensures answer { IfOk result (λ reply. (there : Bool)
+        → (reply_of reply, host.new)
+        ≡ responded host.old there (command code argument.now chained)) }
+    ensures host_stays { OnErr result (host.new ≡ host.old) }
+{
+    let mut now = opened(host);
+    match admitted(&now, code, argument) {
+        Ok(command) => run_control(alloc, command, argument, chained, host),
+        Err(check) => {
+            let reply = refused_by(alloc, check, &mut now);
+            *host = now;
+            Ok(reply)
+        }
+    }
+}
