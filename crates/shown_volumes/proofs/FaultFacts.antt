@@ -9,8 +9,9 @@ use Rattle.table_pair.specs.Pair.{RowReading, known, damaged, unknown, row_of}
 use Rattle.shown_volumes.specs.declared.refused.Refused.TheVariants.{SerialDiffers}
 use Rattle.shown_volumes.specs.Shown.{RowsOf, told_row, rows_in, rows_of}
 use Rattle.shown_volumes.specs.Sound.{IsSpelled, cartridge_of, frame_in, AreSound, IsSound, HasSerialsAsked}
-use Rattle.shown_volumes.specs.Faults.{first_below, where_so, serial_fault, read_fault, row_fault, halves_fault, pages_fault, tracks_fault, first_fault_of, first_fault}
-use Rattle.shown_volumes.proofs.WalkFacts.{or_none, both_none, none_below, all_none, none_where}
+use Rattle.mss_base.specs.Firsts.{first_below, where_so}
+use Rattle.shown_volumes.specs.Faults.{serial_fault, read_fault, row_fault, halves_fault, pages_fault, tracks_fault, first_fault_of, first_fault}
+use Rattle.mss_base.proofs.FirstFacts.{or_none, both_none, none_below, all_none, none_where}
 use Rattle.shown_volumes.proofs.HalfLemmas.{cartridges_once, halves_good}
 use Rattle.shown_volumes.proofs.PageLemmas.{frames_below, frames_once, pages_good}
 use Rattle.shown_volumes.proofs.TrackLemmas.{tracks_sound, tracks_good}

@@ -6,8 +6,10 @@ use Rattle.shown_volumes.specs.declared.refused.Half.{Half}
 use Rattle.shown_volumes.specs.declared.refused.Refused.TheVariants.{CartridgeTwice}
 use Rattle.shown_volumes.specs.Shown.{RowsOf}
 use Rattle.shown_volumes.specs.Sound.{cartridge_of, HasCartridgesOnce}
-use Rattle.shown_volumes.specs.Faults.{first_below, where_so, is_number, half, half_with, earlier_half, half_fault, halves_fault}
-use Rattle.shown_volumes.proofs.WalkFacts.{or_none, both_none, none_below, all_none, none_where, where_none, chained_none, chain_none, map_none, number_is, is_that_number}
+use Rattle.mss_base.specs.Firsts.{first_below, where_so}
+use Rattle.shown_volumes.specs.Faults.{is_number, half, half_with, earlier_half, half_fault, halves_fault}
+use Rattle.mss_base.proofs.FirstFacts.{or_none, both_none, none_below, all_none, none_where, where_none, chained_none, chain_none, map_none}
+use Rattle.shown_volumes.proofs.WalkFacts.{number_is, is_that_number}
 
 abbrev named : Bool → ℕ → Bool → Option Half
 named b volume second = where_so b (half volume second)

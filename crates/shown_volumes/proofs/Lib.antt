@@ -12,3 +12,4 @@ pub mod StateLemmas
 pub mod AllowedFacts
 pub mod BlankFacts
 pub mod MomentFacts
+pub mod TableFacts

@@ -7,8 +7,10 @@ use Rattle.shown_volumes.specs.declared.refused.Refused.{Refused}
 use Rattle.shown_volumes.specs.declared.refused.Refused.TheVariants.{FrameGone, FrameTwice}
 use Rattle.shown_volumes.specs.Shown.{RowsOf}
 use Rattle.shown_volumes.specs.Sound.{frame_in, HasFramesBelow, HasFramesOnce}
-use Rattle.shown_volumes.specs.Faults.{first_below, where_so, is_number, page_with, earlier_page, frame_fault, page_fault, pages_fault}
-use Rattle.shown_volumes.proofs.WalkFacts.{or_none, both_none, none_below, all_none, none_where, where_none, chained_none, chain_none, map_none, number_is, is_that_number}
+use Rattle.mss_base.specs.Firsts.{first_below, where_so}
+use Rattle.shown_volumes.specs.Faults.{is_number, page_with, earlier_page, frame_fault, page_fault, pages_fault}
+use Rattle.mss_base.proofs.FirstFacts.{or_none, both_none, none_below, all_none, none_where, where_none, chained_none, chain_none, map_none}
+use Rattle.shown_volumes.proofs.WalkFacts.{number_is, is_that_number}
 
 abbrev gone : ℕ → ℕ → Option Refused
 gone frames f = where_so (not (nat_lt f frames)) (FrameGone f)

@@ -13,8 +13,9 @@ use Rattle.shown_volumes.specs.declared.refused.Refused.{Refused}
 use Rattle.shown_volumes.specs.declared.refused.Refused.TheVariants.{TornTrack, StagedDiffers}
 use Rattle.shown_volumes.specs.Shown.{RowsOf, block_at, on_cartridge, in_page, source}
 use Rattle.shown_volumes.specs.Sound.{IsTrackAt, IsBlankAt, IsSameAt, IsStagedAs, IsSoundTrack}
-use Rattle.shown_volumes.specs.Faults.{where_so, is_same_list, is_torn, is_blank, differs, row_track_fault, track_fault, cylinder_fault, tracks_fault}
-use Rattle.shown_volumes.proofs.WalkFacts.{or_none, both_none, none_below, all_none, none_where, where_none, chained_none, chain_none, none_is}
+use Rattle.mss_base.specs.Firsts.{where_so}
+use Rattle.shown_volumes.specs.Faults.{is_same_list, is_torn, is_blank, differs, row_track_fault, track_fault, cylinder_fault, tracks_fault}
+use Rattle.mss_base.proofs.FirstFacts.{or_none, both_none, none_below, all_none, none_where, where_none, chained_none, chain_none, none_is}
 
 blank_is : (r : Reading) → is_blank r ≡ true → r ≡ reading_of []
 blank_is r is =

@@ -1,6 +1,7 @@
 -- Which blocks the shown volumes stand on, and which changes of rows show the same.
 use Rattle.std.specs.Prelude.{◌≡◌, ◌≢◌, ◌⊎◌, ◌≤◌, ℕ, ◌+◌, ◌<◌, ◌==◌, false, List, [], Some, None, if◌then◌else◌}
 use Rattle.std.specs.Option.{ForSome}
+use Rattle.mss_base.specs.declared.numbers.TheConstants.{CYLINDERS, HEADS}
 use Rattle.mss_base.specs.Content.{Content}
 use Rattle.mss_base.specs.declared.place.BlockPlace.{BlockPlace}
 use Rattle.ckd_track.specs.Data.{Volumes}
@@ -13,8 +14,8 @@ use Rattle.shown_volumes.specs.Sound.{frame_in, IsStagedAs, IsSameAt, AreSound, 
 
 -- a block that a track of a row's volume stands on: the shown one, or the one in the frame where the cylinder is staged
 pub record StandsOn (r : RowValue) (cylinder head : ℕ) (place : BlockPlace) : Type 0 where
-  pub cylinder_in : cylinder < 404
-  pub head_in : head < 19
+  pub cylinder_in : cylinder < CYLINDERS
+  pub head_in : head < HEADS
   pub there : (source r cylinder head ≡ Some place) ⊎ ((2 ≤ state_of r cylinder) × (in_page r cylinder head ≡ Some place))
 
 -- a block that is no table's, and that no track of a shown volume stands on
@@ -38,9 +39,9 @@ abbrev pub IsReady : ℕ → Change → RowValue → Content → Type 0
 IsReady frames (Create serial first second) r c = Unit {0}
 IsReady frames (Assign page frame) r c = (frame < frames) × ((volume other : ℕ) → other < 51 → frame_in (rows_of c) volume other ≢ Some frame)
 IsReady frames (Free page) r c = Unit {0}
-IsReady frames (Staged cylinder) r c = (head : ℕ) → head < 19 → IsStagedAs c (state_of r cylinder + 2) (in_page r cylinder head) (on_cartridge r cylinder head)
+IsReady frames (Staged cylinder) r c = (head : ℕ) → head < HEADS → IsStagedAs c (state_of r cylinder + 2) (in_page r cylinder head) (on_cartridge r cylinder head)
 IsReady frames (Changed cylinder) r c = Unit {0}
-IsReady frames (Destaged cylinder) r c = (head : ℕ) → head < 19 → ForSome (in_page r cylinder head) (IsSameAt c (on_cartridge r cylinder head))
+IsReady frames (Destaged cylinder) r c = (head : ℕ) → head < HEADS → ForSome (in_page r cylinder head) (IsSameAt c (on_cartridge r cylinder head))
 
 -- a volume without a row, and two cartridges that no row names
 pub record IsFresh (volume first second : ℕ) (c : Content) : Type 0 where

@@ -1,9 +1,11 @@
 -- The first fault of a content, in the order of four walks: over the rows and their serials, over the halves of volumes,
 -- over the pages, over the tracks.
-use Rattle.std.specs.Prelude.{ℕ, zero, suc, ◌==◌, nat_lt, nat_eq, Bool, true, false, not, ◌&&◌, if◌then◌else◌, List, length, Option, Some, None, is_some}
+use Rattle.std.specs.Prelude.{ℕ, ◌==◌, nat_lt, nat_eq, Bool, true, false, not, ◌&&◌, if◌then◌else◌, List, length, Option, Some, None, is_some}
 use Rattle.std.specs.Option.{option_map, option_and_then}
 use Rattle.std.specs.Cmp.Lexicographic.{pointwise}
+use Rattle.mss_base.specs.declared.numbers.TheConstants.{CYLINDERS, HEADS}
 use Rattle.mss_base.specs.Content.{Content}
+use Rattle.mss_base.specs.Firsts.{◌or◌, first_below, where_so}
 use Rattle.mss_base.specs.declared.place.BlockPlace.{BlockPlace}
 use Rattle.ckd_track.specs.Track.{Reading, reading}
 use Rattle.volume_table.specs.Row.{RowValue, state_of}
@@ -13,22 +15,6 @@ use Rattle.shown_volumes.specs.Sound.{cartridge_of, frame_in}
 use Rattle.shown_volumes.specs.declared.refused.Half.{Half}
 use Rattle.shown_volumes.specs.declared.refused.Refused.{Refused}
 use Rattle.shown_volumes.specs.declared.refused.Refused.TheVariants.{RowDamaged, SerialDiffers, CartridgeTwice, FrameGone, FrameTwice, TornTrack, StagedDiffers}
-
-infixr 4 ◌or◌
--- the first of two that is there
-abbrev pub ◌or◌ : {A : Type 0} → Option A → Option A → Option A
-(Some x) or later = Some x
-None or later = later
-
--- the first that is there for a number below n
-unfoldable pub first_below : {A : Type 0} → ℕ → (ℕ → Option A) → Option A
-first_below zero f = None
-first_below (suc n) f = first_below n f or f n
-
--- a value, where a test holds
-abbrev pub where_so : {A : Type 0} → Bool → A → Option A
-where_so true x = Some x
-where_so false x = None
 
 abbrev pub is_same_list : List ℕ → List ℕ → Bool
 is_same_list = pointwise nat_eq
@@ -119,10 +105,10 @@ abbrev pub track_fault : RowsOf → Content → ℕ → ℕ → ℕ → Option R
 track_fault rows c volume cylinder head = option_and_then (row_track_fault c volume cylinder head) (rows volume)
 
 abbrev pub cylinder_fault : RowsOf → Content → ℕ → ℕ → Option Refused
-cylinder_fault rows c volume cylinder = first_below 19 (track_fault rows c volume cylinder)
+cylinder_fault rows c volume cylinder = first_below HEADS (track_fault rows c volume cylinder)
 
 abbrev pub tracks_fault : RowsOf → Content → ℕ → Option Refused
-tracks_fault rows c volume = first_below 404 (cylinder_fault rows c volume)
+tracks_fault rows c volume = first_below CYLINDERS (cylinder_fault rows c volume)
 
 -- ---- the four walks, one after the other
 

@@ -1,14 +1,16 @@
 -- The volumes that a content shows.
-use Rattle.std.specs.Prelude.{ℕ, ◌/◌, ◌==◌, nat_lt, Bool, ◌&&◌, ◌||◌, if◌then◌else◌, List, [], Option, Some, None}
+use Rattle.std.specs.Prelude.{◌≡◌, ℕ, ◌/◌, ◌==◌, nat_lt, Bool, true, ◌&&◌, ◌||◌, if◌then◌else◌, List, [], Option, Some, None}
 use Rattle.std.specs.Option.{option_map, option_and_then}
+use Rattle.mss_base.specs.declared.numbers.TheConstants.{CYLINDERS, HEADS}
 use Rattle.mss_base.specs.Content.{Content}
 use Rattle.mss_base.specs.Places.{cartridge_block, frame_block}
 use Rattle.mss_base.specs.declared.place.BlockPlace.{BlockPlace}
+use Rattle.mss_base.specs.declared.place.UnitNo.{UnitNo}
 use Rattle.mss_base.specs.declared.place.UnitNo.TheVariants.{Cartridge}
 use Rattle.ckd_track.specs.Data.{RecordData, Volumes}
 use Rattle.ckd_track.specs.Track.{reading}
 use Rattle.volume_table.specs.Row.{RowValue, frame_of, state_of}
-use Rattle.table_pair.specs.Pair.{RowReading, known, row_of}
+use Rattle.table_pair.specs.Pair.{RowReading, known, row_of, is_table}
 
 -- the rows of volumes, by number
 abbrev pub RowsOf : Type 0
@@ -27,6 +29,10 @@ rows_in readings volume = if nat_lt volume 32 then told_row (readings volume) el
 abbrev pub rows_of : Content → RowsOf
 rows_of c = rows_in (row_of c)
 
+-- the blocks of the table are the same
+abbrev pub SameTables : Content → Content → Type 0
+SameTables c d = (unit : UnitNo) (block : ℕ) → is_table unit ≡ true → d unit block ≡ c unit block
+
 abbrev pub block_at : Content → BlockPlace → List ℕ
 block_at c place = c place.unit place.block
 
@@ -44,7 +50,7 @@ source_by state framed cartridge = if state == 4 then framed else (if (state == 
 
 -- a volume has 404 cylinders of 19 tracks
 abbrev pub is_on_volume : ℕ → ℕ → Bool
-is_on_volume cylinder head = nat_lt cylinder 404 && nat_lt head 19
+is_on_volume cylinder head = nat_lt cylinder CYLINDERS && nat_lt head HEADS
 
 -- where the shown track of a row lies, if it isn't blank anyway
 abbrev pub source : RowValue → ℕ → ℕ → Option BlockPlace

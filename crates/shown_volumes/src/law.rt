@@ -7,63 +7,87 @@ ghost use Rattle.ckd_track.specs.Track.{reading, reading_of};
 ghost use Rattle.volume_table.specs.Row.{RowValue, IsRow, frame_of, state_of, blank_row};
 ghost use Rattle.volume_table.specs.Changes.{IsAllowed, effect};
 ghost use Rattle.volume_table.specs.declared.changes.Change.{Change};
-ghost use Rattle.table_pair.specs.Pair.{known, row_of, ChangesRow, OldOrNew, NoneOrNew};
+ghost use Rattle.table_pair.specs.Pair.{known, row_of, HoldsRow, ChangesRow, OldOrNew, NoneOrNew};
 ghost use Rattle.table_pair.specs.Repairs.{KeepsRow};
-ghost use Rattle.shown_volumes.specs.Shown.{rows_of, shown, block_at, on_cartridge};
+ghost use Rattle.shown_volumes.specs.Shown.{rows_of, SameTables, shown, block_at, on_cartridge};
 ghost use Rattle.shown_volumes.specs.Sound.{IsSound, SoundAs, HasSerialsAsked};
 ghost use Rattle.shown_volumes.specs.Faults.{first_fault};
 ghost use Rattle.shown_volumes.specs.Changing.{IsOutside, IsReady, IsFresh, MayChange, WithOrWithout, with_blank};
 
+use mss_base::{CYLINDERS, HEADS};
+
 /// A content has a first fault exactly where it isn't sound, or a row has another serial than is asked.
 pub fn first_fault_is_of_unsound_content()
     ensures { (frames : ℕ) (asked : ℕ → Option (List ℕ)) (c : Content)
-        → (first_fault frames asked c ≡ None) ↔ (IsSound frames c × HasSerialsAsked asked (rows_of c)) }
+        → (first_fault frames asked c ≡ None)
+        ↔ (IsSound frames c × HasSerialsAsked asked (rows_of c)) }
+{}
+
+/// Where the blocks of the table are the same, so are the rows, and a row that both copies hold is held.
+pub fn same_tables_hold_the_same_rows()
+    ensures rows { (c d : Content) → SameTables c d → rows_of d ≡ rows_of c }
+    ensures held { (r : RowValue) (volume : ℕ) (c d : Content) → SameTables c d
+        → HoldsRow r volume c → HoldsRow r volume d }
 {}
 
 /// A write into a block outside leaves the content sound, and shows the same.
 pub fn writes_outside_change_nothing()
-    ensures { (frames : ℕ) (c : Content) (w : Write) → IsOutside c (record { unit = w.unit; block = w.block }) → IsSound frames c
+    ensures { (frames : ℕ) (c : Content) (w : Write)
+        → IsOutside c (record { unit = w.unit; block = w.block }) → IsSound frames c
         → SoundAs frames (shown c) (written c w) }
 {}
 
 /// The cartridge's blocks of a changed cylinder are outside what is shown.
 pub fn changed_cylinders_leave_their_cartridge()
-    ensures { (frames volume cylinder head : ℕ) (r : RowValue) (c : Content) → IsSound frames c → rows_of c volume ≡ Some r
-        → state_of r cylinder ≡ 4 → cylinder < 404 → head < 19 → IsOutside c (on_cartridge r cylinder head) }
+    ensures { (frames volume cylinder head : ℕ) (r : RowValue) (c : Content) → IsSound frames c
+        → rows_of c volume ≡ Some r
+        → state_of r cylinder ≡ 4 → cylinder < CYLINDERS → head < HEADS
+        → IsOutside c (on_cartridge r cylinder head) }
 {}
 
 /// The frame's blocks of a cylinder that isn't staged are outside what is shown.
 pub fn unstaged_cylinders_leave_their_frame()
-    ensures { (frames volume cylinder head frame : ℕ) (r : RowValue) (c : Content) → IsSound frames c → rows_of c volume ≡ Some r
-        → frame_of r (cylinder / 8) ≡ Some frame → state_of r cylinder < 2 → cylinder < 404 → head < 19
+    ensures { (frames volume cylinder head frame : ℕ) (r : RowValue) (c : Content)
+        → IsSound frames c → rows_of c volume ≡ Some r
+        → frame_of r (cylinder / 8) ≡ Some frame → state_of r cylinder < 2 → cylinder < CYLINDERS
+        → head < HEADS
         → IsOutside c (frame_block frame cylinder head) }
 {}
 
 /// The frame's blocks of a staged cylinder read as the tracks that are shown.
 pub fn staged_cylinders_stand_in_their_frame()
-    ensures { (frames volume cylinder head frame : ℕ) (r : RowValue) (c : Content) → IsSound frames c → rows_of c volume ≡ Some r
-        → frame_of r (cylinder / 8) ≡ Some frame → 2 ≤ state_of r cylinder → state_of r cylinder ≤ 4 → cylinder < 404 → head < 19
-        → reading (block_at c (frame_block frame cylinder head)) ≡ reading_of ((shown c).track volume cylinder head) }
+    ensures { (frames volume cylinder head frame : ℕ) (r : RowValue) (c : Content)
+        → IsSound frames c → rows_of c volume ≡ Some r
+        → frame_of r (cylinder / 8) ≡ Some frame → 2 ≤ state_of r cylinder
+        → state_of r cylinder ≤ 4 → cylinder < CYLINDERS → head < HEADS
+        → reading (block_at c (frame_block frame cylinder head))
+        ≡ reading_of ((shown c).track volume cylinder head) }
 {}
 
 /// Where the frame's block of a changed cylinder becomes another track, this track is shown there, and else the same.
 pub fn tracks_written_into_a_frame_are_shown()
-    ensures { (frames volume cylinder head frame : ℕ) (r : RowValue) (c d : Content) → IsSound frames c → rows_of c volume ≡ Some r
-        → frame_of r (cylinder / 8) ≡ Some frame → state_of r cylinder ≡ 4 → cylinder < 404 → head < 19
+    ensures { (frames volume cylinder head frame : ℕ) (r : RowValue) (c d : Content)
+        → IsSound frames c → rows_of c volume ≡ Some r
+        → frame_of r (cylinder / 8) ≡ Some frame → state_of r cylinder ≡ 4 → cylinder < CYLINDERS
+        → head < HEADS
         → let place = frame_block frame cylinder head in
         ChangesBlock place.unit place.block (λ block. (reading block).bad ≡ None) c d
-        → SoundAs frames (with_track (shown c) volume cylinder head (reading (block_at d place)).records) d }
+        → SoundAs frames (with_track (shown c) volume cylinder head
+        (reading (block_at d place)).records) d }
 {}
 
 /// With the row that an allowed change makes, where the blocks are ready for it, the content shows the same and is sound.
 pub fn allowed_changes_show_the_same()
-    ensures { (frames volume : ℕ) (change : Change) (r : RowValue) (c : Content) → IsSound frames c → rows_of c volume ≡ Some r
-        → IsRow r → IsAllowed change r → IsReady frames change r c → MayChange frames volume (effect change r) c }
+    ensures { (frames volume : ℕ) (change : Change) (r : RowValue) (c : Content)
+        → IsSound frames c → rows_of c volume ≡ Some r
+        → IsRow r → IsAllowed change r → IsReady frames change r c
+        → MayChange frames volume (effect change r) c }
 {}
 
 /// At each moment of a change of a row that may change so, the content is sound and shows the same.
 pub fn changes_of_rows_show_the_same()
-    ensures { (frames volume : ℕ) (row : RowValue) (s t : SiteLog) → MayChange frames volume row (content s)
+    ensures { (frames volume : ℕ) (row : RowValue) (s t : SiteLog)
+        → MayChange frames volume row (content s)
         → Writes (ChangesRow volume (OldOrNew volume row (content s)) (content s)) s t
         → Writes (SoundAs frames (shown (content s))) s t }
 {}
@@ -80,8 +104,10 @@ pub fn repairs_show_the_same()
 pub fn creations_show_a_blank_volume()
     ensures moments { (frames volume first second : ℕ) (serial : List ℕ) (s t : SiteLog)
         → IsSound frames (content s) → IsFresh volume first second (content s)
-        → Writes (ChangesRow volume (NoneOrNew volume (blank_row serial first second)) (content s)) s t
-        → Writes (λ d. IsSound frames d × WithOrWithout volume serial (shown (content s)) (shown d)) s t }
+        → Writes (ChangesRow volume (NoneOrNew volume (blank_row serial first second))
+        (content s)) s t
+        → Writes (λ d. IsSound frames d
+        × WithOrWithout volume serial (shown (content s)) (shown d)) s t }
     ensures created { (frames volume first second : ℕ) (serial : List ℕ) (c d : Content)
         → IsSound frames c → IsFresh volume first second c
         → ChangesRow volume (NoneOrNew volume (blank_row serial first second)) c d

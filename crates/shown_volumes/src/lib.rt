@@ -4,6 +4,10 @@
 //! `specs/Faults.antt` which fault of a content is the first, `specs/Changing.antt` which blocks the shown volumes
 //! stand on and when a row may change. The layers above rely on these definitions and on `law`: what a write, or a
 //! change of a row, leaves of the shown volumes. `Refused` names each fault.
+//!
+//! Proofs above may cite these files of proofs/: `TableFacts` (which rows a content has), `PlaceFacts` (where blocks
+//! lie), `ShownFacts` (which blocks are shown), `OutsideFacts` and `FrameFacts` (what writes outside and into frames
+//! leave), `AllowedFacts` (what an allowed change needs), `MomentFacts` (what holds at each moment).
 #![tactic(auto)]
 
 pub mod law;

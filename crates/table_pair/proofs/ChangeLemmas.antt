@@ -2,13 +2,14 @@
 use Rattle.std.proofs.Common.{◌≡◌, ◌⊎◌, inl, inr, true, false, List, ℕ, Some, Ok, refl, sym, ◌∙◌, ap, subst}
 use Rattle.mss_base.specs.Content.{SiteLog, content, Writes}
 use Rattle.volume_table.specs.Row.{RowValue}
-use Rattle.volume_table.specs.Grammar.{decode}
+use Rattle.volume_table.specs.Grammar.{decode, spelling}
 use Rattle.table_pair.specs.declared.copy.TableCopy.TheVariants as copy
 use Rattle.table_pair.specs.Places.{place_of}
 use Rattle.table_pair.specs.Copies.{CopyView, filled, IsRewriting, WritesCopy}
-use Rattle.table_pair.specs.Pair.{known, row_of_copies, IsOpenWith, HoldsRow, StaysCopy, ChangesRow, OldOrNew}
+use Rattle.table_pair.specs.Pair.{known, row_of_copies, IsOpenWith, HoldsRow, AreSpelled, StaysCopy, ChangesRow, OldOrNew}
+use Rattle.table_pair.specs.Repairs.{NeedsNoRepair}
 use Rattle.table_pair.proofs.PairFacts.{row_by_a, row_by_b}
-use Rattle.table_pair.proofs.PairLemmas.{copy_a, copy_b, ChangesPair, InPair, kept_a, kept_b, from_a, from_b, pair_then, pair_row}
+use Rattle.table_pair.proofs.PairLemmas.{copy_a, copy_b, ChangesPair, InPair, kept_a, kept_b, from_a, from_b, pair_then, pair_row, equal_settled, both_filled}
 use Rattle.table_pair.proofs.StayLemmas.{stays, stays_filled, stays_rewriting}
 
 pub open_filled : (row : RowValue) (bytes : List ℕ) (c : CopyView) → decode bytes ≡ Ok row → IsOpenWith row (filled bytes c)
@@ -62,6 +63,12 @@ module _ (volume : ℕ) (old_row row : RowValue) (bytes : List ℕ) (spelled : d
     pub both_moments : Writes (ChangesRow volume (OldOrNew volume row (content s)) (content s)) s u
     both_moments = pair_row volume Row (OldOrNew volume row (content s)) s u (λ c is. is)
         (pair_then volume (InPair a b Row) s t u (first_pair t first) (from_b volume (IsRewriting bytes (copy_b volume t)) (InPair a b Row) t u within_b second))
+
+    pub both_settled : copy_b volume u ≡ filled bytes (copy_b volume t) → NeedsNoRepair volume (content u)
+    both_settled done_b = equal_settled volume u bytes a (copy_b volume t) (kept_a volume (IsRewriting bytes (copy_b volume t)) t u second ∙ done) done_b
+
+    pub both_spelled : bytes ≡ spelling row → copy_b volume u ≡ filled bytes (copy_b volume t) → AreSpelled row volume (content u)
+    both_spelled is done_b = both_filled row volume u bytes a (copy_b volume t) is (kept_a volume (IsRewriting bytes (copy_b volume t)) t u second ∙ done) done_b
 
     pub both_hold : copy_b volume u ≡ filled bytes (copy_b volume t) → HoldsRow row volume (content u)
     both_hold done_b = record {

@@ -1,14 +1,15 @@
 -- The moments of a creation.
-use Rattle.std.proofs.Common.{◌≡◌, ◌⊎◌, inl, inr, true, false, List, ℕ, Some, None, Ok, sym, ◌∙◌, ap, subst}
+use Rattle.std.proofs.Common.{◌≡◌, ◌⊎◌, inl, inr, true, false, List, get_or, ℕ, Some, None, Ok, sym, ◌∙◌, ap, subst}
 use Rattle.mss_base.specs.Content.{SiteLog, content, Writes}
 use Rattle.volume_table.specs.Row.{RowValue}
-use Rattle.volume_table.specs.Grammar.{decode}
+use Rattle.volume_table.specs.Grammar.{decode, spelling}
 use Rattle.table_pair.specs.declared.copy.TableCopy.TheVariants as copy
 use Rattle.table_pair.specs.Places.{place_of}
-use Rattle.table_pair.specs.Copies.{CopyView, marked, filled, IsRewriting, WritesCopy}
-use Rattle.table_pair.specs.Pair.{known, row_of_copies, HoldsRow, AreClosed, AreMade, StaysCopy, ChangesRow, NoneOrNew}
+use Rattle.table_pair.specs.Copies.{CopyView, byte_on, marked, filled, IsRewriting, WritesCopy}
+use Rattle.table_pair.specs.Pair.{known, row_of_copies, HoldsRow, AreSpelled, AreClosed, AreMade, AreMarked, StaysCopy, ChangesRow, NoneOrNew}
+use Rattle.table_pair.specs.Repairs.{NeedsNoRepair}
 use Rattle.table_pair.proofs.PairFacts.{row_by_a, row_by_none}
-use Rattle.table_pair.proofs.PairLemmas.{copy_a, copy_b, ChangesPair, InPair, kept_a, kept_b, from_a, from_b, pair_then, pair_row}
+use Rattle.table_pair.proofs.PairLemmas.{copy_a, copy_b, ChangesPair, InPair, kept_a, kept_b, from_a, from_b, pair_then, pair_row, block_a_kept, block_b_kept, equal_settled, both_filled}
 use Rattle.table_pair.proofs.StayLemmas.{stays, stays_as, stays_marked, stays_filled, stays_rewriting, stays_since, rewriting_made}
 use Rattle.table_pair.proofs.ChangeLemmas.{open_filled, open_as}
 
@@ -135,5 +136,30 @@ module _ (volume : ℕ) (row : RowValue) (bytes : List ℕ) (spelled : decode by
             b = open_as row (copy_b volume s4) (filled bytes (marked b)) b4 (open_filled row bytes (marked b) spelled);
           }
 
+          pub both_settled : NeedsNoRepair volume (content s4)
+          both_settled = equal_settled volume s4 bytes (marked a) (marked b) a4 b4
+
+          pub both_spelled : bytes ≡ spelling row → AreSpelled row volume (content s4)
+          both_spelled is = both_filled row volume s4 bytes (marked a) (marked b) is a4 b4
+
           pub both_made : AreMade volume (content s4)
           both_made = record { a = ap (λ (c : CopyView). c.is_made) a4; b = ap (λ (c : CopyView). c.is_made) b4 }
+
+-- what becomes of the two marks, from one write to the next
+module _ (volume : ℕ) (P1 P2 P3 P4 : CopyView → Type 0) (s s1 s2 s3 s4 : SiteLog)
+    (w1 : WritesCopy (place_of copy.A volume) P1 s s1) (w2 : WritesCopy (place_of copy.B volume) P2 s1 s2)
+    (w3 : WritesCopy (place_of copy.A volume) P3 s2 s3) (w4 : WritesCopy (place_of copy.B volume) P4 s3 s4) where
+  abbrev A : SiteLog → ℕ
+  A t = byte_on t (place_of copy.A volume) 511
+
+  abbrev B : SiteLog → ℕ
+  B t = byte_on t (place_of copy.B volume) 511
+
+  abbrev mark_in : List ℕ → ℕ
+  mark_in block = get_or block 511 0
+
+  pub both_marked : (A s ≡ 0 → A s1 ≡ 77) → (B s1 ≡ 0 → B s2 ≡ 77) → A s3 ≡ A s2 → B s4 ≡ B s3 → AreMarked volume (content s) (content s4)
+  both_marked first second third fourth = record {
+    a = λ none. ap mark_in (block_a_kept volume P4 s3 s4 w4) ∙ third ∙ ap mark_in (block_a_kept volume P2 s1 s2 w2) ∙ first none;
+    b = λ none. fourth ∙ ap mark_in (block_b_kept volume P3 s2 s3 w3) ∙ second (ap mark_in (block_b_kept volume P1 s s1 w1) ∙ none);
+  }

@@ -23,7 +23,7 @@ small_body block small i = elim (cases_lt i 510) [
       omega (arith, is)
 ]
 
-one_body : (row : RowValue) (block : List ℕ) → length block ≡ 16384 → ((i : ℕ) → get_or block i 0 < 256) → IsOpenWith row (copy_at block) → (copy_at block).spelled ≡ spelling row
+pub one_body : (row : RowValue) (block : List ℕ) → length block ≡ 16384 → ((i : ℕ) → get_or block i 0 < 256) → IsOpenWith row (copy_at block) → (copy_at block).spelled ≡ spelling row
 one_body row block whole small is =
     spelled_of block ∙ spelled_once (body block) row (simp (length-take, length-drop) (omega arith)) (small_body block small) (ap decode (sym (spelled_of block)) ∙ is.row_is)
 

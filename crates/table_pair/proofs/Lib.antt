@@ -1,3 +1,4 @@
+pub mod SiteLemmas
 pub mod CopyLemmas
 pub mod WriteLemmas
 pub mod PairFacts

@@ -1,13 +1,16 @@
 -- Writes of a copy, seen as writes of a row.
-use Rattle.std.proofs.Common.{◌≡◌, ℕ, false, ◌&&◌, ◌==◌, refl, sym, ◌∙◌, ap, subst}
+use Rattle.std.proofs.Common.{◌≡◌, inr, ℕ, List, false, ◌&&◌, ◌==◌, refl, sym, ◌∙◌, ap, subst}
 use Rattle.mss_base.specs.declared.place.UnitNo.{UnitNo}
 use Rattle.mss_base.specs.declared.place.UnitNo.TheVariants.{TableA, TableB, Staging, Cartridge}
 use Rattle.mss_base.specs.Content.{Content, SiteLog, content, same_unit, Writes, ChangesBlock}
 use Rattle.mss_base.proofs.Moments.{then, weaker, ended_with, started}
+use Rattle.volume_table.specs.Row.{RowValue}
+use Rattle.volume_table.specs.Grammar.{spelling}
 use Rattle.table_pair.specs.declared.copy.TableCopy.TheVariants as copy
 use Rattle.table_pair.specs.Places.{place_of}
-use Rattle.table_pair.specs.Copies.{CopyView, copy_at, WritesCopy}
-use Rattle.table_pair.specs.Pair.{is_table, StaysCopy, ChangesRow}
+use Rattle.table_pair.specs.Copies.{CopyView, copy_at, filled, WritesCopy}
+use Rattle.table_pair.specs.Pair.{is_table, AreSpelled, StaysCopy, ChangesRow}
+use Rattle.table_pair.specs.Repairs.{NeedsNoRepair}
 
 -- a block of one copy is a block of the row
 outside_a : (volume : ℕ) (unit : UnitNo) (block : ℕ) → (is_table unit && (volume == block)) ≡ false → (same_unit TableA unit && (volume == block)) ≡ false
@@ -47,6 +50,13 @@ module _ (volume : ℕ) where
   pub kept_a : (P : CopyView → Type 0) (s t : SiteLog) → WritesCopy (place_of copy.B volume) P s t → copy_a volume t ≡ copy_a volume s
   kept_a P s t w = ap copy_at ((ended_with (ChangesBlock TableB volume (λ block. P (copy_at block)) (content s)) s t w).others TableA volume refl)
 
+  -- so does its block
+  pub block_b_kept : (P : CopyView → Type 0) (s t : SiteLog) → WritesCopy (place_of copy.A volume) P s t → content t TableB volume ≡ content s TableB volume
+  block_b_kept P s t w = (ended_with (ChangesBlock TableA volume (λ block. P (copy_at block)) (content s)) s t w).others TableB volume refl
+
+  pub block_a_kept : (P : CopyView → Type 0) (s t : SiteLog) → WritesCopy (place_of copy.B volume) P s t → content t TableA volume ≡ content s TableA volume
+  block_a_kept P s t w = (ended_with (ChangesBlock TableB volume (λ block. P (copy_at block)) (content s)) s t w).others TableA volume refl
+
   pub from_a : (P : CopyView → Type 0) (R : CopyView → CopyView → Type 0) (s t : SiteLog) → ((x : CopyView) → P x → R x (copy_b volume s)) → WritesCopy (place_of copy.A volume) P s t
       → Writes (ChangesPair volume R (content s)) s t
   from_a P R s t give w = weaker (ChangesBlock TableA volume (λ block. P (copy_at block)) (content s)) (ChangesPair volume R (content s)) (λ c has. record {
@@ -82,3 +92,18 @@ module _ (volume : ℕ) where
   pub row_unwritten : (R : Content → Type 0) (s t : SiteLog) → t ≡ s → R (content s) → Writes (ChangesRow volume R (content s)) s t
   row_unwritten R s t same holds = subst (λ (u : SiteLog). Writes (ChangesRow volume R (content s)) s u) (sym same)
       (started (ChangesRow volume R (content s)) s (record { others = λ unit block other. refl; a = record { behind = refl; made = λ is. is }; b = record { behind = refl; made = λ is. is }; here = holds }))
+
+-- two copies that are open with one body need no repair
+pub equal_settled : (volume : ℕ) (t : SiteLog) (bytes : List ℕ) (a b : CopyView) → copy_a volume t ≡ filled bytes a → copy_b volume t ≡ filled bytes b → NeedsNoRepair volume (content t)
+equal_settled volume t bytes a b is_a is_b = inr (record {
+  open_a = ap (λ (c : CopyView). c.is_open) is_a;
+  open_b = ap (λ (c : CopyView). c.is_open) is_b;
+  same = ap (λ (c : CopyView). c.spelled) is_b ∙ sym (ap (λ (c : CopyView). c.spelled) is_a);
+})
+
+-- and are spelled as a row that is spelled so
+pub both_filled : (row : RowValue) (volume : ℕ) (t : SiteLog) (bytes : List ℕ) (a b : CopyView) → bytes ≡ spelling row → copy_a volume t ≡ filled bytes a → copy_b volume t ≡ filled bytes b → AreSpelled row volume (content t)
+both_filled row volume t bytes a b is is_a is_b = record {
+  a = ap (λ (c : CopyView). c.spelled) is_a ∙ is;
+  b = ap (λ (c : CopyView). c.spelled) is_b ∙ is;
+}

@@ -1,19 +1,24 @@
 -- The moments of a repair.
-use Rattle.std.proofs.Common.{◌≡◌, inl, inr, true, false, ℕ, Some, Result, Ok, Err, ◌≤◌, refl, sym, ◌∙◌, ap, subst, arith}
-use Rattle.mss_base.specs.Content.{Content, SiteLog, content, Writes}
+use Rattle.std.proofs.Common.{◌≡◌, inl, inr, true, false, ℕ, Some, Result, Ok, Err, refl, sym, ◌∙◌, ap, subst}
+use Rattle.std.specs.Prelude.{IsOk}
+use Rattle.mss_base.specs.Content.{SiteLog, content, Writes}
 use Rattle.volume_table.specs.Row.{RowValue}
 use Rattle.volume_table.specs.Grammar.{decode}
 use Rattle.table_pair.specs.declared.copy.TableCopy.TheVariants as copy
 use Rattle.table_pair.specs.Places.{place_of}
 use Rattle.table_pair.specs.Copies.{CopyView, filled, IsRewriting, WritesCopy}
-use Rattle.table_pair.specs.Pair.{known, row_of, row_of_copies, IsOpenWith, HoldsRow, ChangesRow}
-use Rattle.table_pair.specs.Repairs.{AreEqual, NeedNoRepair, KeepsRow, HoldsToldRow, KeepsRepairFault}
+use Rattle.table_pair.specs.Pair.{known, row_of_copies, IsOpenWith, HoldsRow, ChangesRow}
+use Rattle.table_pair.specs.Repairs.{AreEqual, NeedNoRepair, NeedsNoRepair, KeepsRow, HoldsToldRow, KeepsRepairFault}
 use Rattle.table_pair.specs.declared.copy.RepairFault.{RepairFault}
-use Rattle.table_pair.specs.declared.copy.RepairFault.TheVariants.{Failed, Memory}
+use Rattle.table_pair.specs.declared.copy.RepairFault.TheVariants.{Memory}
 use Rattle.table_pair.proofs.PairFacts.{row_by_a, row_by_b, one_row, spells_row}
-use Rattle.table_pair.proofs.PairLemmas.{copy_a, copy_b, InPair, kept_a, kept_b, from_a, from_b, pair_row, row_unwritten}
+use Rattle.table_pair.proofs.PairLemmas.{copy_a, copy_b, InPair, kept_a, kept_b, from_a, from_b, pair_row, row_unwritten, equal_settled}
 use Rattle.table_pair.proofs.StayLemmas.{stays, stays_rewriting}
 use Rattle.table_pair.proofs.ChangeLemmas.{open_filled, open_as}
+
+-- an open copy is filled with what it spells
+opened_as : (c : CopyView) → c.is_open ≡ true → c ≡ filled c.spelled c
+opened_as c is = λ i. record c { is_open = is i }
 
 module _ (volume : ℕ) (s t : SiteLog) where
   abbrev a : CopyView
@@ -28,6 +33,9 @@ module _ (volume : ℕ) (s t : SiteLog) where
   -- nothing is written
   pub unwritten : t ≡ s → Writes (ChangesRow volume (KeepsRow volume (content s)) (content s)) s t
   unwritten same = row_unwritten volume (KeepsRow volume (content s)) s t same refl
+
+  pub none_settled : NeedNoRepair a b → t ≡ s → NeedsNoRepair volume (content t)
+  none_settled none same = subst (λ (u : SiteLog). NeedsNoRepair volume (content u)) (sym same) none
 
   pub equal_hold : NeedNoRepair a b → t ≡ s → HoldsToldRow volume (content s) (content t)
   equal_hold none same row told = elim none [
@@ -51,6 +59,10 @@ module _ (volume : ℕ) (s t : SiteLog) where
           a = open_as row (copy_a volume t) a (kept_a volume (IsRewriting a.spelled b) s t w) open_a;
           b = open_as row (copy_b volume t) (filled a.spelled b) done (open_filled row a.spelled b open_a.row_is);
         })
+
+    pub b_settled : copy_b volume t ≡ filled a.spelled b → NeedsNoRepair volume (content t)
+    b_settled done =
+        equal_settled volume t a.spelled a b (kept_a volume (IsRewriting a.spelled b) s t w ∙ opened_as a open_a.open_gate) done
 
     pub b_needed : (AreEqual a b → ⊥) → NeedNoRepair a b → t ≡ s
     b_needed unequal none = elim none [ inl gone ↦ absurd (gone row (row_by_a row a b open_a)) | inr equal ↦ absurd (unequal equal) ]
@@ -81,6 +93,10 @@ module _ (volume : ℕ) (s t : SiteLog) where
           b = open_as row (copy_b volume t) b (kept_b volume (IsRewriting b.spelled a) s t w) open_b;
         })
 
+    pub a_settled : copy_a volume t ≡ filled b.spelled a → NeedsNoRepair volume (content t)
+    a_settled done =
+        equal_settled volume t b.spelled a b done (kept_b volume (IsRewriting b.spelled a) s t w ∙ opened_as b open_b.open_gate)
+
     pub a_needed : NeedNoRepair a b → t ≡ s
     a_needed none = elim none [ inl gone ↦ absurd (gone row told_row) | inr equal ↦ absurd (let e : false ≡ true = sym closed_a ∙ equal.open_a in cc) ]
 
@@ -88,7 +104,13 @@ module _ (volume : ℕ) (s t : SiteLog) where
 pub since : (volume : ℕ) (s r t : SiteLog) → r ≡ s → Writes (ChangesRow volume (KeepsRow volume (content r)) (content r)) r t → Writes (ChangesRow volume (KeepsRow volume (content s)) (content s)) s t
 since volume s r t same w = subst (λ (q : SiteLog). Writes (ChangesRow volume (KeepsRow volume (content q)) (content q)) q t) same w
 
-pub kept_since : {T : Type 0} (before mid now : ℕ) (r : Result T RepairFault) → before ≤ mid → KeepsRepairFault mid now r → KeepsRepairFault before now r
-kept_since before mid now (Ok value) le kept = tt
-kept_since before mid now (Err (Failed fault)) le kept = (omega (arith, kept.0), kept.1)
-kept_since before mid now (Err Memory) le kept = tt
+-- the count before a call that left it
+pub kept_since : {T : Type 0} (before mid now : ℕ) (r : Result T RepairFault) → mid ≡ before → KeepsRepairFault mid now r → KeepsRepairFault before now r
+kept_since before mid now r same kept = subst (λ (n : ℕ). KeepsRepairFault n now r) same kept
+
+-- want of memory comes where no call failed
+pub memory_count : {T : Type 0} (before now : ℕ) (r : Result T RepairFault) → r ≡ Err Memory → KeepsRepairFault before now r → now ≡ before
+memory_count before now r is kept = subst (KeepsRepairFault before now) is kept
+
+pub never_err : (T : Type 0) {E : Type 0} (e : E) (P : Type 0) → IsOk {T = T} (Err e) → P
+never_err T e P ok = absurd (let k : false ≡ true = ok in cc)

@@ -1,10 +1,11 @@
 -- The writes of one copy, one after another.
-use Rattle.std.proofs.Common.{◌≡◌, ◌⊎◌, inl, inr, ℕ, ◌+◌, ◌≤◌, Bool, true, false, not, ◌==◌, List, [], ◌∷◌, length, get_or, refl, sym, ◌∙◌, ap, subst, arith, length-append}
+use Rattle.std.proofs.Common.{◌≡◌, ◌⊎◌, inl, inr, ℕ, ◌+◌, ◌≤◌, ◌<◌, Bool, true, false, not, ◌==◌, List, [], ◌∷◌, length, get_or, refl, sym, ◌∙◌, ap, subst, arith, length-append}
 use Rattle.std.proofs.lemmas.Bool.{cases_Bool}
 use Rattle.mss_base.specs.declared.place.BlockPlace.{BlockPlace}
 use Rattle.mss_base.specs.Content.{Content, Write, Writes, SiteLog, content, splice, Adds}
+use Rattle.mss_base.proofs.ContentLemmas.{get_or-splice_in, get_or-splice_above}
 use Rattle.mss_base.proofs.Moments.{block_write, block_written, block_then, block_weaker, block_started}
-use Rattle.table_pair.specs.Copies.{CopyView, copy_at, copy_on, shut, marked, filled, IsFilling, IsRewriting, WritesCopy}
+use Rattle.table_pair.specs.Copies.{CopyView, copy_at, byte_on, copy_on, shut, marked, filled, IsFilling, IsRewriting, WritesCopy}
 use Rattle.table_pair.proofs.CopyLemmas.{gate_written, body_written, mark_written, same_gate, same_mark}
 
 -- a write into the block of a copy
@@ -14,6 +15,12 @@ put_at at offset bytes = record { unit = at.unit; block = at.block; offset = off
 -- the block of a copy is whole
 abbrev pub IsWhole : SiteLog → BlockPlace → Type 0
 IsWhole s at = length (content s at.unit at.block) ≡ 16384
+
+-- a byte that was written
+pub byte_put : (at : BlockPlace) (place byte : ℕ) (s t : SiteLog) → place < length (content s at.unit at.block) → Adds (put_at at place (byte ∷ [])) s t → byte_on t at place ≡ byte
+byte_put at place byte s t lt adds =
+    ap (λ (b : List ℕ). get_or b place 0) (block_written at.unit at.block place (byte ∷ []) s t adds)
+    ∙ get_or-splice_in place (byte ∷ []) (content s at.unit at.block) place 0 (omega arith) (omega arith) (omega arith)
 
 -- no write at all
 pub nothing_written : (at : BlockPlace) (P : CopyView → Type 0) (s t : SiteLog) → t ≡ s → P (copy_on s at) → WritesCopy at P s t
@@ -37,8 +44,9 @@ module _ (at : BlockPlace) (s t : SiteLog) (whole : IsWhole s at) where
         | inr gone ↦ inr (is ∙ (λ i. record (copy_on s at) { is_open = gone i }))
       ])
 
-  pub closed : Adds (put_at at 0 (0 ∷ [])) s t → copy_on t at ≡ shut (copy_on s at)
-  closed adds = ap copy_at (block_written at.unit at.block 0 (0 ∷ []) s t adds) ∙ gate_written (0 ∷ []) (content s at.unit at.block) whole refl
+  pub closed : (byte : ℕ) → (byte == 193) ≡ false → Adds (put_at at 0 (byte ∷ [])) s t → copy_on t at ≡ shut (copy_on s at)
+  closed byte other adds =
+      ap copy_at (block_written at.unit at.block 0 (byte ∷ []) s t adds) ∙ gate_written (byte ∷ []) (content s at.unit at.block) whole refl ∙ (λ i. record (copy_on s at) { is_open = other i })
 
   -- the made mark is set
   pub marking : (left : List ℕ) → length left ≡ 1 → (copy_on s at).is_made ≡ false → Adds (put_at at 511 left) s t → WritesCopy at (λ c. (c ≡ copy_on s at) ⊎ (c ≡ marked (copy_on s at))) s t
@@ -79,6 +87,11 @@ module _ (at : BlockPlace) (bytes : List ℕ) (long : length bytes ≡ 510) (s t
     pub gate_opened : Adds (put_at at 0 (193 ∷ [])) t u → copy_on u at ≡ filled bytes (copy_on s at)
     gate_opened adds =
         ap copy_at (block_written at.unit at.block 0 (193 ∷ []) t u adds) ∙ gate_written (193 ∷ []) (content t at.unit at.block) whole_t refl ∙ ap (λ (c : CopyView). record c { is_open = true }) body_is
+
+    pub mark_stays : Adds (put_at at 0 (193 ∷ [])) t u → byte_on u at 511 ≡ byte_on s at 511
+    mark_stays adds =
+        ap (λ (b : List ℕ). get_or b 511 0) (block_written at.unit at.block 0 (193 ∷ []) t u adds) ∙ get_or-splice_above 0 (193 ∷ []) (content t at.unit at.block) 511 (omega arith)
+        ∙ ap (λ (b : List ℕ). get_or b 511 0) (block_written at.unit at.block 1 bytes s t first) ∙ get_or-splice_above 1 bytes (content s at.unit at.block) 511 (omega arith)
 
 -- closed first, then filled
 module _ (at : BlockPlace) (bytes : List ℕ) (s t : SiteLog) (old : WritesCopy at (λ c. (c ≡ copy_on s at) ⊎ (c ≡ shut (copy_on s at))) s t) where

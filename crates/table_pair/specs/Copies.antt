@@ -2,7 +2,10 @@
 use Rattle.std.specs.Prelude.{◌≡◌, ◌⊎◌, ℕ, Bool, true, false, not, ◌==◌, List, drop, slice_index}
 use Rattle.mss_base.specs.Content.{SiteLog, content, Writes, ChangesBlock}
 use Rattle.mss_base.specs.declared.place.BlockPlace.{BlockPlace}
+use Rattle.mss_base.specs.declared.block.TheConstants.{OPEN}
+use Rattle.volume_table.specs.declared.layout.TheConstants.{ROW_BYTES}
 use Rattle.volume_table.specs.Grammar.{body}
+use Rattle.table_pair.specs.declared.write.TheConstants.{GATE, MADE}
 
 -- what counts of a copy's block: its gate, the body that spells the row, its made mark, the bytes behind the row
 pub record CopyView : Type 0 where
@@ -11,13 +14,13 @@ pub record CopyView : Type 0 where
   pub is_made : Bool
   pub behind : List ℕ
 
--- C1 alone is an open gate; the made mark is 00 until the volume is created
+-- an open gate alone is C1; the made mark is 00 until the volume is created
 unfoldable pub copy_at : List ℕ → CopyView
 copy_at block = record {
-  is_open = slice_index block 0 == 193;
+  is_open = slice_index block GATE == OPEN;
   spelled = body block;
-  is_made = not (slice_index block 511 == 0);
-  behind = drop 512 block;
+  is_made = not (slice_index block MADE == 0);
+  behind = drop ROW_BYTES block;
 }
 
 -- a copy after its gate was closed, after it was marked, and open with a body
@@ -40,7 +43,10 @@ pub record IsFilling (bytes : List ℕ) (old now : CopyView) : Type 0 where
 abbrev pub IsRewriting : List ℕ → CopyView → CopyView → Type 0
 IsRewriting bytes old now = (now ≡ old) ⊎ IsFilling bytes old now
 
--- the copy in a block of a site
+-- the byte at a place of a block of a site, and the copy in the block
+abbrev pub byte_on : SiteLog → BlockPlace → ℕ → ℕ
+byte_on s at place = slice_index (content s at.unit at.block) place
+
 abbrev pub copy_on : SiteLog → BlockPlace → CopyView
 copy_on s at = copy_at (content s at.unit at.block)
 

@@ -1,13 +1,14 @@
 -- The row of a volume, which stands in two copies.
-use Rattle.std.specs.Prelude.{◌≡◌, ◌⊎◌, ℕ, Bool, true, false, ◌&&◌, ◌==◌, if◌then◌else◌, Option, Some, None, Result, Ok, Err}
+use Rattle.std.specs.Prelude.{◌≡◌, ◌⊎◌, ℕ, Bool, true, false, ◌&&◌, ◌==◌, if◌then◌else◌, slice_index, Option, Some, None, Result, Ok, Err}
 use Rattle.mss_base.specs.Content.{Content}
 use Rattle.mss_base.specs.declared.place.UnitNo.{UnitNo}
 use Rattle.mss_base.specs.declared.place.UnitNo.TheVariants.{TableA, TableB}
 use Rattle.volume_table.specs.Row.{RowValue}
-use Rattle.volume_table.specs.Grammar.{decode}
+use Rattle.volume_table.specs.Grammar.{decode, spelling}
 use Rattle.volume_table.specs.declared.fault.RowFault.{RowFault}
 use Rattle.table_pair.specs.declared.copy.TableCopy.{TableCopy}
 use Rattle.table_pair.specs.declared.copy.TableCopy.TheVariants as copy
+use Rattle.table_pair.specs.declared.write.TheConstants.{MADE, MADE_MARK}
 use Rattle.table_pair.specs.Copies.{CopyView, copy_at}
 
 -- what a read of a copy tells: nothing; that it is closed, and whether its volume was ever created; its row, or no row
@@ -59,6 +60,11 @@ pub record HoldsRow (row : RowValue) (volume : ℕ) (c : Content) : Type 0 where
   pub a : IsOpenWith row (copy_at (c TableA volume))
   pub b : IsOpenWith row (copy_at (c TableB volume))
 
+-- both copies are spelled as this row
+pub record AreSpelled (row : RowValue) (volume : ℕ) (c : Content) : Type 0 where
+  pub a : (copy_at (c TableA volume)).spelled ≡ spelling row
+  pub b : (copy_at (c TableB volume)).spelled ≡ spelling row
+
 -- both copies are closed
 pub record AreClosed (volume : ℕ) (c : Content) : Type 0 where
   pub a : (copy_at (c TableA volume)).is_open ≡ false
@@ -68,6 +74,11 @@ pub record AreClosed (volume : ℕ) (c : Content) : Type 0 where
 pub record AreMade (volume : ℕ) (c : Content) : Type 0 where
   pub a : (copy_at (c TableA volume)).is_made ≡ true
   pub b : (copy_at (c TableB volume)).is_made ≡ true
+
+-- where a copy had no made mark, it has the byte that stands for one
+pub record AreMarked (volume : ℕ) (old new : Content) : Type 0 where
+  pub a : slice_index (old TableA volume) MADE ≡ 0 → slice_index (new TableA volume) MADE ≡ MADE_MARK
+  pub b : slice_index (old TableB volume) MADE ≡ 0 → slice_index (new TableB volume) MADE ≡ MADE_MARK
 
 abbrev pub is_table : UnitNo → Bool
 is_table TableA = true

@@ -1,5 +1,5 @@
 -- When copies need no repair, which one is to be rewritten, and what a failed repair keeps.
-use Rattle.std.specs.Prelude.{◌≡◌, ◌≢◌, ◌⊎◌, ℕ, true, false, Option, Some, None, Result, Err}
+use Rattle.std.specs.Prelude.{◌≡◌, ◌≢◌, ◌⊎◌, ◌≤◌, ℕ, true, false, Option, Some, None, Result, Ok, Err}
 use Rattle.mss_base.specs.Content.{Content}
 use Rattle.mss_base.specs.declared.place.UnitNo.TheVariants.{TableA, TableB}
 use Rattle.volume_table.specs.Row.{RowValue}
@@ -7,9 +7,10 @@ use Rattle.table_pair.specs.declared.copy.TableCopy.{TableCopy}
 use Rattle.table_pair.specs.declared.copy.TableCopy.TheVariants as copy
 use Rattle.table_pair.specs.Copies.{CopyView, copy_at}
 use Rattle.table_pair.specs.Pair.{row_of, row_of_copies, known, IsOpenWith, HoldsRow}
-use Rattle.table_pair.specs.Reads.{IsKept}
+use Rattle.mss_base.specs.Counts.{IsFaultSince}
+use Rattle.mss_base.specs.Content.{SiteLog}
 use Rattle.table_pair.specs.declared.copy.RepairFault.{RepairFault}
-use Rattle.table_pair.specs.declared.copy.RepairFault.TheVariants.{Failed}
+use Rattle.table_pair.specs.declared.copy.RepairFault.TheVariants.{Failed, Memory}
 
 -- both copies are open with the same body
 pub record AreEqual (a b : CopyView) : Type 0 where
@@ -38,7 +39,20 @@ KeepsRow volume old new = row_of new volume ≡ row_of old volume
 abbrev pub HoldsToldRow : ℕ → Content → Content → Type 0
 HoldsToldRow volume old new = (row : RowValue) → row_of old volume ≡ known (Some row) false → HoldsRow row volume new
 
--- a failure keeps the count of a fault that rose in the call
+-- a failed call is told with the count of faults behind it, which rose in the call. Elsewhere no call failed
 abbrev pub KeepsRepairFault : {T : Type 0} → ℕ → ℕ → Result T RepairFault → Type 0
-KeepsRepairFault before now (Err (Failed fault)) = IsKept before now fault
-KeepsRepairFault before now _ = Unit {0}
+KeepsRepairFault before now (Ok value) = now ≡ before
+KeepsRepairFault before now (Err (Failed fault)) = IsFaultSince before now fault
+KeepsRepairFault before now (Err Memory) = now ≡ before
+
+-- no call failed
+abbrev pub FailsNever : {T : Type 0} → Result T RepairFault → Type 0
+FailsNever (Err (Failed fault)) = ⊥
+FailsNever _ = Unit {0}
+
+-- a site that was neither read nor written. It may have got room.
+pub record LeavesSite {S : Type 0} (tells : Type 0) (told : S → SiteLog) (spare writes faults : S → ℕ) (old new : S) : Type 0 where
+  pub log : tells → told new ≡ told old
+  pub room : spare old ≤ spare new
+  pub unwritten : writes new ≡ writes old
+  pub unfailed : faults new ≡ faults old

@@ -1,13 +1,18 @@
 // Creating a row.
-ghost use Rattle.std.specs.Prelude.{◌≡◌, ◌≤◌, ℕ, ◌+◌, length, OnOk};
+ghost use Rattle.std.specs.Prelude.{◌≡◌, ◌≤◌, ℕ, Bool, false, IsOk, OnOk};
 ghost use Rattle.mss_base.specs.Content.{content, Writes};
 ghost use Rattle.mss_base.specs.Counts.{HasCause};
-ghost use Rattle.table_pair.specs.Pair.{ChangesRow, NoneOrNew, HoldsRow, AreClosed, AreMade};
+ghost use Rattle.mss_base.specs.Sites.{MayWrite};
+ghost use Rattle.mss_base.specs.declared.place.UnitNo.{UnitNo};
+ghost use Rattle.mss_base.specs.declared.place.UnitNo.TheVariants.{TableA, TableB};
+ghost use Rattle.table_pair.specs.Pair.{ChangesRow, NoneOrNew, HoldsRow, AreSpelled, AreClosed, AreMade, AreMarked};
+ghost use Rattle.table_pair.specs.Repairs.{NeedsNoRepair};
 
+use crate::change::CHANGE_WRITES;
 use crate::copy::{TableCopy, place_of};
 use crate::write::{fill_copy, mark_copy};
 use mss_base::{Failed, Site, VolumeNo};
-use volume_table::{VolumeRow, encode_row};
+use volume_table::{BODY, BODY_END, ROW_BYTES, VolumeRow, encode_row};
 
 /// Gives a volume its row. Both copies are closed before, and open with the row and marked as made after.
 ///
@@ -15,22 +20,31 @@ use volume_table::{VolumeRow, encode_row};
 /// one. Where it fails, the site's count of faults has risen.
 pub fn create_row<S: Site>(site: &mut S, volume: VolumeNo, row: &VolumeRow) -> Result<(), Failed>
     requires none { S.tells → AreClosed volume (content (S.told site.old)) }
-    requires room { 6 ≤ S.spare site.old }
+    requires room { CHANGE_WRITES ≤ S.spare site.old }
 
     ensures moments { S.tells → Writes
         (ChangesRow volume (NoneOrNew volume row.now) (content (S.told site.old)))
         (S.told site.old) (S.told site.new) }
     ensures done { S.tells → OnOk result (HoldsRow row.now volume (content (S.told site.new))) }
+    ensures spelled { S.tells →
+        OnOk result (AreSpelled row.now volume (content (S.told site.new))) }
+    ensures settled { S.tells → OnOk result (NeedsNoRepair volume (content (S.told site.new))) }
     ensures made { S.tells → OnOk result (AreMade volume (content (S.told site.new))) }
+    ensures marks { S.tells → OnOk result
+        (AreMarked volume (content (S.told site.old)) (content (S.told site.new))) }
 
-    ensures room { S.spare site.old ≤ S.spare site.new + 6 }
+    ensures devices { MayWrite CHANGE_WRITES S.spare S.writes S.faults S.never_fails_but
+        site.old site.new }
     ensures cause { HasCause (S.faults site.old) (S.faults site.new) result }
+    ensures works { (but : UnitNo → Bool) → S.never_fails_but site.old but
+        → but TableA ≡ false → but TableB ≡ false → IsOk result }
 {
-    let mut bytes = [0; 512];
+    let mut bytes = [0; ROW_BYTES];
     encode_row(row, &mut bytes);
+    let body = &bytes[BODY..BODY_END];
     mark_copy(site, &place_of(TableCopy::A, volume))?;
     mark_copy(site, &place_of(TableCopy::B, volume))?;
-    fill_copy(site, &place_of(TableCopy::A, volume), &bytes[1..511])?;
-    fill_copy(site, &place_of(TableCopy::B, volume), &bytes[1..511])?;
+    fill_copy(site, &place_of(TableCopy::A, volume), body)?;
+    fill_copy(site, &place_of(TableCopy::B, volume), body)?;
     Ok(())
 }

@@ -1,27 +1,30 @@
 // Reading a row, where reads may fail.
-ghost use Rattle.std.specs.Prelude.{◌≡◌, ◌≤◌, ℕ, length, IfOk, IfSome, is_some};
+ghost use Rattle.std.specs.Prelude.{◌≡◌, ◌≢◌, ◌≤◌, ℕ, length, IfOk, is_some};
 ghost use Rattle.mss_base.specs.Content.{content};
-ghost use Rattle.table_pair.specs.Pair.{reading, taken, read_of};
+ghost use Rattle.mss_base.specs.Sites.{OnlyReads};
+ghost use Rattle.mss_base.specs.declared.place.UnitNo.TheVariants.{TableA, TableB};
+ghost use Rattle.table_pair.specs.Pair.{reading, taken, read_of, unread};
+ghost use Rattle.table_pair.specs.declared.copy.TableCopy.TheVariants.{A};
 ghost use Rattle.table_pair.specs.Copies.{copy_at};
-ghost use Rattle.table_pair.specs.Reads.{seen, is_opened, IsReadOf, IsKept, KeepsFault, Tells, KeepsCount, ReadsRow};
+ghost use Rattle.table_pair.specs.Reads.{seen, is_opened, IsReadable, IsReadOf, MissingKeeps, CopyKeeps, KeepBoth, KeepsCount, Tells, MissesNone, ReadsBoth, ReadsRow};
 
 use crate::copy::{CopyState, RowRead, RowTrouble, TableCopy, place_of};
-use crate::write::{MADE, OPEN};
-use mss_base::{BlockPlace, Failed, NoMemory, Site, VolumeNo};
+use crate::write::{GATE, MADE};
+use mss_base::{BLOCK_BYTES, BlockPlace, Failed, NoMemory, OPEN, Site, VolumeNo};
 use std::alloc::Global;
-use volume_table::{DecodeFault, RowFault, VolumeRow, decode_row};
+use volume_table::{DecodeFault, ROW_BYTES, RowFault, VolumeRow, decode_row};
 
 /// What a block that was read says of its copy.
 fn copy_state(alloc: Global, block: &[u8]) -> Result<CopyState, NoMemory>
-    requires { length block.now ≡ 16384 }
+    requires { length block.now ≡ BLOCK_BYTES }
     ensures { IfOk result (λ c. seen c ≡ read_of (copy_at block.now)) }
 {
-    if block[0] != OPEN {
+    if block[GATE as usize] != OPEN {
         return Ok(CopyState::Closed {
             made: block[MADE as usize] != 0,
         });
     }
-    match decode_row(alloc, &block[0..512]) {
+    match decode_row(alloc, &block[0..ROW_BYTES]) {
         Ok(row) => Ok(CopyState::Open(Ok(row))),
         Err(DecodeFault::Bad(fault)) => Ok(CopyState::Open(Err(fault))),
         Err(DecodeFault::Memory) => Err(NoMemory),
@@ -30,19 +33,19 @@ fn copy_state(alloc: Global, block: &[u8]) -> Result<CopyState, NoMemory>
 
 /// Reads one copy.
 fn read_copy<S: Site>(
-    site: &mut S,
     alloc: Global,
+    site: &mut S,
     at: &BlockPlace,
     block: &mut [u8],
 ) -> Result<CopyState, NoMemory>
-    requires { length block.old ≡ 16384 }
+    requires { length block.old ≡ BLOCK_BYTES }
     ensures copy { S.tells → IfOk result (λ c. IsReadOf (S.faults site.old) (S.faults site.new)
         (content (S.told site.old) at.now.unit at.now.block) (seen c)) }
-    ensures kept { IfOk result (λ c. KeepsFault (S.faults site.old) (S.faults site.new) c) }
-    ensures told { S.tells → S.told site.new ≡ S.told site.old }
-    ensures spare { S.spare site.new ≡ S.spare site.old }
-    ensures writes { S.writes site.new ≡ S.writes site.old }
-    ensures later { S.faults site.old ≤ S.faults site.new }
+    ensures kept { CopyKeeps (S.faults site.old) (S.faults site.new) result }
+    ensures works { IsReadable S.never_fails_but site.old at.now.unit
+        → IfOk result (λ c. seen c ≢ unread) }
+    ensures devices { OnlyReads S.tells S.told S.spare S.writes S.faults S.never_fails_but
+        site.old site.new }
 {
     match site.read(at.unit, at.block, block) {
         Ok(()) => copy_state(alloc, block),
@@ -58,13 +61,16 @@ fn is_open(copy: &CopyState) -> bool
     matches!(copy, CopyState::Open(_))
 }
 
+/// The row of the copy that counts. Where that is copy A, no copy is missing.
 fn taken(
     copy: TableCopy,
     row: Result<VolumeRow, RowFault>,
     unread: Option<u64>,
 ) -> Result<RowRead, RowTrouble>
+    requires { copy ≡ A → unread ≡ None }
     ensures told { Tells result (taken copy (is_some unread) row) }
-    ensures kept { (before now : ℕ) → IfSome unread (IsKept before now) → KeepsCount before now result }
+    ensures kept { (before now : ℕ) → MissingKeeps before now unread → KeepsCount before now result }
+    ensures there { unread ≡ None → MissesNone result }
 {
     match row {
         Ok(row) => Ok(RowRead {
@@ -78,8 +84,8 @@ fn taken(
 /// The reading table.
 fn by_table(a: CopyState, b: CopyState) -> Result<RowRead, RowTrouble>
     ensures told { Tells result (reading (seen a) (seen b)) }
-    ensures kept { (before now : ℕ) → KeepsFault before now a → KeepsFault before now b
-        → KeepsCount before now result }
+    ensures kept { (before now : ℕ) → KeepBoth before now a b → KeepsCount before now result }
+    ensures there { seen a ≢ unread → seen b ≢ unread → MissesNone result }
 {
     match (a, b) {
         (CopyState::Open(row), _) => taken(TableCopy::A, row, None),
@@ -110,23 +116,24 @@ fn by_table(a: CopyState, b: CopyState) -> Result<RowRead, RowTrouble>
 ///
 /// Nothing is written. The row is what the reading table tells of the two copies, each of which was read or failed.
 pub fn read_row<S: Site>(
-    site: &mut S,
     alloc: Global,
+    site: &mut S,
     volume: VolumeNo,
 ) -> Result<RowRead, RowTrouble>
-    ensures row { S.tells →
-        ReadsRow (S.faults site.old) (S.faults site.new) volume (content (S.told site.old)) result }
+    ensures row { S.tells → ReadsRow (IsReadable S.never_fails_but site.old)
+        (S.faults site.old) (S.faults site.new) volume (content (S.told site.old)) result }
     ensures kept { KeepsCount (S.faults site.old) (S.faults site.new) result }
-    ensures told { S.tells → S.told site.new ≡ S.told site.old }
-    ensures spare { S.spare site.new ≡ S.spare site.old }
-    ensures writes { S.writes site.new ≡ S.writes site.old }
-    ensures later { S.faults site.old ≤ S.faults site.new }
+    ensures works { IsReadable S.never_fails_but site.old TableA
+        → IsReadable S.never_fails_but site.old TableB
+        → ReadsBoth (S.faults site.old) (S.faults site.new) result }
+    ensures devices { OnlyReads S.tells S.told S.spare S.writes S.faults S.never_fails_but
+        site.old site.new }
 {
-    let mut block = vec![in alloc; 0u8; 16384]?;
-    let a = read_copy(site, alloc, &place_of(TableCopy::A, volume), &mut block)?;
+    let mut block = vec![in alloc; 0u8; BLOCK_BYTES]?;
+    let a = read_copy(alloc, site, &place_of(TableCopy::A, volume), &mut block)?;
     if is_open(&a) {
         return by_table(a, CopyState::Closed { made: false });
     }
-    let b = read_copy(site, alloc, &place_of(TableCopy::B, volume), &mut block)?;
+    let b = read_copy(alloc, site, &place_of(TableCopy::B, volume), &mut block)?;
     by_table(a, b)
 }

@@ -1,49 +1,52 @@
 // Making two copies equal.
-ghost use Rattle.std.specs.Prelude.{◌≡◌, ◌≢◌, ◌≤◌, ℕ, ◌+◌, Ok, Err, Some, None, true, false, length, OnOk, IsTrue, ◌↔◌, MatchResult};
+ghost use Rattle.std.specs.Prelude.{◌≡◌, ◌≢◌, ◌≤◌, ℕ, Bool, length, IsOk, OnOk, IsTrue, ◌↔◌};
 ghost use Rattle.mss_base.specs.Content.{content, Writes};
 ghost use Rattle.mss_base.specs.Counts.{HasCause};
+ghost use Rattle.mss_base.specs.Sites.{OnlyReads, MayWrite};
+ghost use Rattle.mss_base.specs.declared.place.UnitNo.{UnitNo};
 ghost use Rattle.mss_base.specs.declared.place.UnitNo.TheVariants.{TableA, TableB};
 ghost use Rattle.volume_table.specs.Row.{RowValue};
 ghost use Rattle.volume_table.specs.Grammar.{decode};
 ghost use Rattle.table_pair.specs.Copies.{copy_at};
-ghost use Rattle.table_pair.specs.Pair.{ChangesRow, HoldsRow, row_of, known};
-ghost use Rattle.table_pair.specs.Repairs.{NeedsNoRepair, IsStale, KeepsRow, HoldsToldRow, KeepsRepairFault};
+ghost use Rattle.table_pair.specs.Pair.{ChangesRow};
+ghost use Rattle.table_pair.specs.Reads.{IsReadable};
+ghost use Rattle.table_pair.specs.Repairs.{NeedsNoRepair, IsStale, KeepsRow, HoldsToldRow, KeepsRepairFault, LeavesSite, FailsNever};
 ghost use Rattle.table_pair.specs.declared.copy.RepairFault.TheVariants.{Memory};
 
 use crate::copy::{RepairFault, TableCopy, place_of};
-use crate::write::{OPEN, rewrite_copy};
-use mss_base::{BlockPlace, Failed, Site, VolumeNo};
+use crate::write::{GATE, rewrite_copy};
+use mss_base::{BLOCK_BYTES, BlockPlace, Failed, OPEN, Site, VolumeNo};
 use std::alloc::Global;
-use volume_table::check_row;
+use volume_table::{BODY, BODY_END, ROW_BYTES, check_row};
 
 fn is_open(block: &[u8]) -> bool
-    requires { length block.now ≡ 16384 }
+    requires { length block.now ≡ BLOCK_BYTES }
     ensures { result ≡ (copy_at block.now).is_open }
 {
-    block[0] == OPEN
+    block[GATE as usize] == OPEN
 }
 
 /// Whether an open copy spells a row.
 fn has_row(block: &[u8]) -> bool
-    requires { length block.now ≡ 16384 }
+    requires { length block.now ≡ BLOCK_BYTES }
     ensures { IsTrue result ↔ ((row : RowValue) × (decode (copy_at block.now).spelled ≡ Ok row)) }
 {
-    check_row(&block[0..512]).is_ok()
+    check_row(&block[0..ROW_BYTES]).is_ok()
 }
 
 fn same_body(a: &[u8], b: &[u8]) -> bool
-    requires a { length a.now ≡ 16384 }
-    requires b { length b.now ≡ 16384 }
+    requires a { length a.now ≡ BLOCK_BYTES }
+    requires b { length b.now ≡ BLOCK_BYTES }
     ensures { IsTrue result ↔ ((copy_at b.now).spelled ≡ (copy_at a.now).spelled) }
 {
-    b[1..511] == a[1..511]
+    b[BODY..BODY_END] == a[BODY..BODY_END]
 }
 
 /// The copy that has to be rewritten, if any. Copy A is followed where it is open, else an open copy B; a copy that
 /// spells no row isn't followed.
 fn stale_copy(a: &[u8], b: &[u8]) -> Option<TableCopy>
-    requires a { length a.now ≡ 16384 }
-    requires b { length b.now ≡ 16384 }
+    requires a { length a.now ≡ BLOCK_BYTES }
+    requires b { length b.now ≡ BLOCK_BYTES }
     ensures { IsStale result (copy_at a.now) (copy_at b.now) }
 {
     if is_open(a) {
@@ -63,8 +66,8 @@ fn stale_copy(a: &[u8], b: &[u8]) -> Option<TableCopy>
 
 /// Makes the copies, which were read as `a` and `b`, equal.
 fn follow<S: Site>(site: &mut S, volume: VolumeNo, a: &[u8], b: &[u8]) -> Result<(), Failed>
-    requires a { length a.now ≡ 16384 }
-    requires b { length b.now ≡ 16384 }
+    requires a { length a.now ≡ BLOCK_BYTES }
+    requires b { length b.now ≡ BLOCK_BYTES }
     requires told_a { S.tells → content (S.told site.old) TableA volume ≡ a.now }
     requires told_b { S.tells → content (S.told site.old) TableB volume ≡ b.now }
     requires room { 3 ≤ S.spare site.old }
@@ -73,22 +76,29 @@ fn follow<S: Site>(site: &mut S, volume: VolumeNo, a: &[u8], b: &[u8]) -> Result
         (S.told site.old) (S.told site.new) }
     ensures done { S.tells → OnOk result
         (HoldsToldRow volume (content (S.told site.old)) (content (S.told site.new))) }
+    ensures settled { S.tells → OnOk result (NeedsNoRepair volume (content (S.told site.new))) }
     ensures untouched { S.tells → NeedsNoRepair volume (content (S.told site.old))
         → S.told site.new ≡ S.told site.old }
-    ensures room { S.spare site.old ≤ S.spare site.new + 3 }
+    ensures devices { MayWrite 3 S.spare S.writes S.faults S.never_fails_but site.old site.new }
     ensures cause { HasCause (S.faults site.old) (S.faults site.new) result }
+    ensures works { (but : UnitNo → Bool) → S.never_fails_but site.old but → IsOk result }
 {
     match stale_copy(a, b) {
         None => Ok(()),
         Some(TableCopy::A) => {
-            rewrite_copy(site, &place_of(TableCopy::A, volume), false, &b[1..511])
+            rewrite_copy(
+                site,
+                &place_of(TableCopy::A, volume),
+                false,
+                &b[BODY..BODY_END],
+            )
         }
         Some(TableCopy::B) => {
             rewrite_copy(
                 site,
                 &place_of(TableCopy::B, volume),
                 is_open(b),
-                &a[1..511],
+                &a[BODY..BODY_END],
             )
         }
     }
@@ -96,13 +106,12 @@ fn follow<S: Site>(site: &mut S, volume: VolumeNo, a: &[u8], b: &[u8]) -> Result
 
 /// Reads a block, or tells the count of faults after the read.
 fn read_block<S: Site>(site: &mut S, at: &BlockPlace, block: &mut [u8]) -> Result<(), RepairFault>
-    requires { length block.old ≡ 16384 }
+    requires { length block.old ≡ BLOCK_BYTES }
     ensures block { S.tells → OnOk result (block.new ≡ content (S.told site.old) at.now.unit at.now.block) }
-    ensures told { S.tells → S.told site.new ≡ S.told site.old }
-    ensures spare { S.spare site.new ≡ S.spare site.old }
-    ensures writes { S.writes site.new ≡ S.writes site.old }
+    ensures devices { OnlyReads S.tells S.told S.spare S.writes S.faults S.never_fails_but
+        site.old site.new }
     ensures kept { KeepsRepairFault (S.faults site.old) (S.faults site.new) result }
-    ensures later { S.faults site.old ≤ S.faults site.new }
+    ensures works { IsReadable S.never_fails_but site.old at.now.unit → IsOk result }
 {
     match site.read(at.unit, at.block, block) {
         Ok(()) => Ok(()),
@@ -115,24 +124,27 @@ fn read_block<S: Site>(site: &mut S, at: &BlockPlace, block: &mut [u8]) -> Resul
 /// Makes the two copies of a volume's row equal, where one of them tells a row: the row that `read_row` tells stands in
 /// both after that. Elsewhere, and where they are equal, nothing is written.
 ///
-/// It makes at most three writes, for which it takes the room itself. The row is the same at every moment.
-pub fn repair<S: Site>(site: &mut S, alloc: Global, volume: VolumeNo) -> Result<(), RepairFault>
+/// It makes at most three writes, for which it takes the room itself. The row is the same at every moment. After want
+/// of memory the devices are as they were.
+pub fn repair<S: Site>(alloc: Global, site: &mut S, volume: VolumeNo) -> Result<(), RepairFault>
     ensures moments { S.tells → Writes
         (ChangesRow volume (KeepsRow volume (content (S.told site.old))) (content (S.told site.old)))
         (S.told site.old) (S.told site.new) }
     ensures done { S.tells → OnOk result
         (HoldsToldRow volume (content (S.told site.old)) (content (S.told site.new))) }
+    ensures settled { S.tells → OnOk result (NeedsNoRepair volume (content (S.told site.new))) }
     ensures untouched { S.tells → NeedsNoRepair volume (content (S.told site.old))
         → S.told site.new ≡ S.told site.old }
-    ensures memory { result ≡ Err Memory → S.writes site.new ≡ S.writes site.old }
-    ensures memory_told { S.tells → result ≡ Err Memory → S.told site.new ≡ S.told site.old }
-    ensures room { S.spare site.old ≤ S.spare site.new + 3 }
+    ensures memory { result ≡ Err Memory
+        → LeavesSite S.tells S.told S.spare S.writes S.faults site.old site.new }
+    ensures devices { MayWrite 3 S.spare S.writes S.faults S.never_fails_but site.old site.new }
     ensures kept { KeepsRepairFault (S.faults site.old) (S.faults site.new) result }
-    ensures later { S.faults site.old ≤ S.faults site.new }
+    ensures works { IsReadable S.never_fails_but site.old TableA
+        → IsReadable S.never_fails_but site.old TableB → FailsNever result }
 {
     site.reserve(3)?;
-    let mut a = vec![in alloc; 0u8; 16384]?;
-    let mut b = vec![in alloc; 0u8; 16384]?;
+    let mut a = vec![in alloc; 0u8; BLOCK_BYTES]?;
+    let mut b = vec![in alloc; 0u8; BLOCK_BYTES]?;
     read_block(site, &place_of(TableCopy::A, volume), &mut a)?;
     read_block(site, &place_of(TableCopy::B, volume), &mut b)?;
     match follow(site, volume, &a, &b) {

@@ -53,8 +53,8 @@ fn first_of(row: &Option<VolumeRow>) -> Option<u16> {
     }
 }
 
-fn told_by(site: &mut MemorySite, alloc: Global, volume: VolumeNo) -> Result<Told, RowTrouble> {
-    match read_row(site, alloc, volume) {
+fn told_by(alloc: Global, site: &mut MemorySite, volume: VolumeNo) -> Result<Told, RowTrouble> {
+    match read_row(alloc, site, volume) {
         Ok(read) => Ok(Told {
             first: first_of(&read.row),
             unread: read.unread,
@@ -65,8 +65,8 @@ fn told_by(site: &mut MemorySite, alloc: Global, volume: VolumeNo) -> Result<Tol
 
 // A closed copy holds a whole row behind a gate that is nearly C1.
 fn put_copy(
-    site: &mut MemorySite,
     alloc: Global,
+    site: &mut MemorySite,
     volume: VolumeNo,
     copy: TableCopy,
     kept: Kept,
@@ -102,8 +102,8 @@ fn assert_done(outcome: Result<(), Failed>) -> Result<(), Fail> {
 
 fn put_copies(alloc: Global, volume: VolumeNo, a: Kept, b: Kept) -> Result<MemorySite, Fail> {
     let mut site = MemorySite::new(alloc)?;
-    put_copy(&mut site, alloc, volume, TableCopy::A, a)?;
-    put_copy(&mut site, alloc, volume, TableCopy::B, b)?;
+    put_copy(alloc, &mut site, volume, TableCopy::A, a)?;
+    put_copy(alloc, &mut site, volume, TableCopy::B, b)?;
     match (a, b) {
         (Kept::Unread, Kept::Unread) => site.fail(&[SiteFault::Call(1), SiteFault::Call(2)])?,
         (Kept::Unread, _) => site.fail(&[SiteFault::ReadsOf(UnitNo::TableA)])?,
@@ -170,7 +170,7 @@ fn tells_each_row_of_the_reading_table(rt: HostRuntime) -> Result<(), Fail> {
     for a in ALL {
         for b in ALL {
             let mut site = put_copies(rt.alloc(), volume, a, b)?;
-            let told = told_by(&mut site, rt.alloc(), volume);
+            let told = told_by(rt.alloc(), &mut site, volume);
             assert_eq!(rt; told, to_be_told(a, b), "{a:?} {b:?}");
         }
     }
@@ -211,8 +211,8 @@ fn repairs_the_copy_that_differs(rt: HostRuntime) -> Result<(), Fail> {
     for a in [Kept::Row, Kept::Damaged, Kept::NeverMade, Kept::Closed] {
         for b in [Kept::Row, Kept::Damaged, Kept::NeverMade, Kept::Closed] {
             let mut site = put_copies(rt.alloc(), volume, a, b)?;
-            assert_eq!(rt; repair(&mut site, rt.alloc(), volume), Ok(()));
-            let told = told_by(&mut site, rt.alloc(), volume);
+            assert_eq!(rt; repair(rt.alloc(), &mut site, volume), Ok(()));
+            let told = told_by(rt.alloc(), &mut site, volume);
             assert_eq!(rt; told, to_be_told(a, b), "{a:?} {b:?}");
             if let Ok(Told { first: Some(_), .. }) = told {
                 assert_equal_copies(&rt, &mut site, volume)?;
@@ -267,7 +267,7 @@ fn creates_a_row_or_none(rt: HostRuntime) -> Result<(), Fail> {
     ] {
         let mut site = blank_site(rt.alloc(), failing)?;
         assert_eq!(rt; create_row(&mut site, volume, &row), Err(Failed));
-        let told = told_by(&mut site, rt.alloc(), volume);
+        let told = told_by(rt.alloc(), &mut site, volume);
         let unread = None;
         assert_eq!(rt; told, Ok(Told { first, unread }), "call {failing}");
     }
@@ -285,7 +285,7 @@ fn changes_a_row_or_leaves_it(rt: HostRuntime) -> Result<(), Fail> {
     for (failing, first) in [(1, 1), (2, 1), (3, 2), (4, 2), (5, 2), (6, 2)] {
         let mut site = held_site(rt.alloc(), volume, failing)?;
         assert_eq!(rt; change_row(&mut site, volume, &row), Err(Failed));
-        let told = told_by(&mut site, rt.alloc(), volume);
+        let told = told_by(rt.alloc(), &mut site, volume);
         assert_eq!(rt; told, row_of(first, None), "call {failing}");
     }
     let mut site = held_site(rt.alloc(), volume, 7)?;
@@ -300,9 +300,9 @@ fn a_failed_repair_keeps_the_row(rt: HostRuntime) -> Result<(), Fail> {
     for failing in 1..=4 {
         let mut site = put_copies(rt.alloc(), volume, Kept::Row, Kept::Closed)?;
         site.fail(&[SiteFault::Call(failing)])?;
-        let outcome = repair(&mut site, rt.alloc(), volume);
+        let outcome = repair(rt.alloc(), &mut site, volume);
         assert_eq!(rt; outcome, Err(RepairFault::Failed { fault: 1 }));
-        assert_eq!(rt; told_by(&mut site, rt.alloc(), volume), row_of(1, None));
+        assert_eq!(rt; told_by(rt.alloc(), &mut site, volume), row_of(1, None));
     }
     Ok(())
 }
@@ -326,7 +326,7 @@ fn assert_left(
         let Ok(mut image) = site.image(moment, tear) else {
             return Err("image".into());
         };
-        let told = told_by(&mut image, alloc, volume);
+        let told = told_by(alloc, &mut image, volume);
         let unread = None;
         assert_eq!(rt; told, Ok(Told { first, unread }), "{moment} {tear:?}");
     }

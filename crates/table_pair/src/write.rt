@@ -1,22 +1,24 @@
 // The writes of one copy.
-ghost use Rattle.std.specs.Prelude.{◌≡◌, ◌⊎◌, ◌≤◌, ◌<◌, ◌+◌, ℕ, true, false, length, OnOk};
+ghost use Rattle.std.specs.Prelude.{◌≡◌, ◌⊎◌, ◌≤◌, ◌<◌, ◌+◌, ℕ, Bool, true, false, length, IsOk, IsTrue, OnOk};
 ghost use Rattle.mss_base.specs.Counts.{HasCause};
-ghost use Rattle.table_pair.specs.Copies.{copy_on, shut, marked, filled, IsFilling, IsRewriting, WritesCopy};
+ghost use Rattle.mss_base.specs.Sites.{MayWrite};
+ghost use Rattle.mss_base.specs.declared.place.UnitNo.{UnitNo};
+ghost use Rattle.table_pair.specs.Copies.{byte_on, copy_on, shut, marked, filled, IsFilling, IsRewriting, WritesCopy};
 
-use mss_base::{BlockPlace, Failed, Site};
+use mss_base::{BLOCK_BYTES, BlockPlace, Failed, OPEN, Site};
+use volume_table::{BODY, BODY_BYTES, BODY_END};
 
-/// Where a copy's gate stands, and its body, and its made mark.
+/// Where a copy's gate stands.
 pub const GATE: u16 = 0;
 
-pub const BODY: u16 = 1;
+/// Where its made mark stands, behind the body.
+pub const MADE: u16 = BODY_END as u16;
 
-pub const MADE: u16 = 511;
+/// What a gate is closed with.
+const CLOSED: u8 = 0x00;
 
-/// What an open gate holds.
-pub const OPEN: u8 = 0xC1;
-
-/// What a made mark is written as.
-const MADE_MARK: u8 = 0x4D;
+/// What a made mark is written as. Any byte but 00 counts as one.
+pub const MADE_MARK: u8 = 0x4D;
 
 /// Closes a copy's gate, where it is open.
 fn close_copy<S: Site>(site: &mut S, at: &BlockPlace, is_open: bool) -> Result<(), Failed>
@@ -27,29 +29,36 @@ fn close_copy<S: Site>(site: &mut S, at: &BlockPlace, is_open: bool) -> Result<(
         (S.told site.old) (S.told site.new) }
     ensures done { S.tells →
         OnOk result (copy_on (S.told site.new) at.now ≡ shut (copy_on (S.told site.old) at.now)) }
-    ensures room { S.spare site.old ≤ S.spare site.new + 1 }
+    ensures gate { S.tells → IsTrue is_open
+        → OnOk result (byte_on (S.told site.new) at.now GATE ≡ CLOSED) }
+    ensures devices { MayWrite 1 S.spare S.writes S.faults S.never_fails_but site.old site.new }
     ensures cause { HasCause (S.faults site.old) (S.faults site.new) result }
+    ensures works { (but : UnitNo → Bool) → S.never_fails_but site.old but → IsOk result }
 {
     if is_open {
-        site.write(at.unit, at.block, GATE, &[0])?;
+        site.write(at.unit, at.block, GATE, &[CLOSED])?;
     }
     Ok(())
 }
 
 /// Writes a body behind a closed gate, and opens the gate.
 pub fn fill_copy<S: Site>(site: &mut S, at: &BlockPlace, body: &[u8]) -> Result<(), Failed>
-    requires long { length body.now ≡ 510 }
+    requires long { length body.now ≡ BODY_BYTES }
     requires closed { S.tells → (copy_on (S.told site.old) at.now).is_open ≡ false }
     requires room { 2 ≤ S.spare site.old }
-    ensures moments { S.tells → WritesCopy at.now (IsFilling body.now (copy_on (S.told site.old) at.now))
-        (S.told site.old) (S.told site.new) }
-    ensures done { S.tells →
-        OnOk result (copy_on (S.told site.new) at.now ≡ filled body.now (copy_on (S.told site.old) at.now)) }
-    ensures grown { S.tells → OnOk result (length (S.told site.old).log < length (S.told site.new).log) }
-    ensures room { S.spare site.old ≤ S.spare site.new + 2 }
+    ensures moments { S.tells → WritesCopy at.now
+        (IsFilling body.now (copy_on (S.told site.old) at.now)) (S.told site.old) (S.told site.new) }
+    ensures done { S.tells → OnOk result
+        (copy_on (S.told site.new) at.now ≡ filled body.now (copy_on (S.told site.old) at.now)) }
+    ensures mark { S.tells → OnOk result
+        (byte_on (S.told site.new) at.now MADE ≡ byte_on (S.told site.old) at.now MADE) }
+    ensures grown { S.tells →
+        OnOk result (length (S.told site.old).log < length (S.told site.new).log) }
+    ensures devices { MayWrite 2 S.spare S.writes S.faults S.never_fails_but site.old site.new }
     ensures cause { HasCause (S.faults site.old) (S.faults site.new) result }
+    ensures works { (but : UnitNo → Bool) → S.never_fails_but site.old but → IsOk result }
 {
-    site.write(at.unit, at.block, BODY, body)?;
+    site.write(at.unit, at.block, BODY as u16, body)?;
     site.write(at.unit, at.block, GATE, &[OPEN])?;
     Ok(())
 }
@@ -61,16 +70,18 @@ pub fn rewrite_copy<S: Site>(
     is_open: bool,
     body: &[u8],
 ) -> Result<(), Failed>
-    requires long { length body.now ≡ 510 }
+    requires long { length body.now ≡ BODY_BYTES }
     requires told { S.tells → (copy_on (S.told site.old) at.now).is_open ≡ is_open }
     requires room { 3 ≤ S.spare site.old }
-    ensures moments { S.tells → WritesCopy at.now (IsRewriting body.now (copy_on (S.told site.old) at.now))
-        (S.told site.old) (S.told site.new) }
-    ensures done { S.tells →
-        OnOk result (copy_on (S.told site.new) at.now ≡ filled body.now (copy_on (S.told site.old) at.now)) }
-    ensures grown { S.tells → OnOk result (length (S.told site.old).log < length (S.told site.new).log) }
-    ensures room { S.spare site.old ≤ S.spare site.new + 3 }
+    ensures moments { S.tells → WritesCopy at.now
+        (IsRewriting body.now (copy_on (S.told site.old) at.now)) (S.told site.old) (S.told site.new) }
+    ensures done { S.tells → OnOk result
+        (copy_on (S.told site.new) at.now ≡ filled body.now (copy_on (S.told site.old) at.now)) }
+    ensures grown { S.tells →
+        OnOk result (length (S.told site.old).log < length (S.told site.new).log) }
+    ensures devices { MayWrite 3 S.spare S.writes S.faults S.never_fails_but site.old site.new }
     ensures cause { HasCause (S.faults site.old) (S.faults site.new) result }
+    ensures works { (but : UnitNo → Bool) → S.never_fails_but site.old but → IsOk result }
 {
     close_copy(site, at, is_open)?;
     fill_copy(site, at, body)?;
@@ -85,10 +96,14 @@ pub fn mark_copy<S: Site>(site: &mut S, at: &BlockPlace) -> Result<(), Failed>
         (S.told site.old) (S.told site.new) }
     ensures done { S.tells →
         OnOk result (copy_on (S.told site.new) at.now ≡ marked (copy_on (S.told site.old) at.now)) }
-    ensures room { S.spare site.old ≤ S.spare site.new + 1 }
+    ensures mark { S.tells → byte_on (S.told site.old) at.now MADE ≡ 0
+        → OnOk result (byte_on (S.told site.new) at.now MADE ≡ MADE_MARK) }
+    ensures devices { MayWrite 1 S.spare S.writes S.faults S.never_fails_but site.old site.new }
     ensures cause { HasCause (S.faults site.old) (S.faults site.new) result }
+    ensures works { (but : UnitNo → Bool) → S.never_fails_but site.old but
+        → but at.now.unit ≡ false → IsOk result }
 {
-    let mut block = [0; 16384];
+    let mut block = [0; BLOCK_BYTES];
     site.read(at.unit, at.block, &mut block)?;
     if block[MADE as usize] == 0 {
         site.write(at.unit, at.block, MADE, &[MADE_MARK])?;

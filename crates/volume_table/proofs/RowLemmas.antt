@@ -1,13 +1,15 @@
 -- A row after an allowed change is a row.
-use Rattle.std.proofs.Common.{◌≡◌, ◌≢◌, ℕ, ◌+◌, ◌*◌, ◌/◌, ◌≤◌, ◌<◌, min, inl, inr, true, false, cond, ◌==◌, List, length, get_or, set, replicate, Option, None, sym, ◌∙◌, ap, subst, arith, zero-add}
+use Rattle.std.proofs.Common.{◌≡◌, ◌≢◌, ℕ, ◌+◌, ◌*◌, ◌/◌, ◌≤◌, ◌<◌, min, inl, inr, true, false, cond, ◌==◌, List, length, get_or, set, replicate, Option, Some, None, refl, sym, ◌∙◌, ap, subst, arith, zero-add}
 use Rattle.std.specs.Prelude.{IfSome, IsSome}
-use Rattle.std.proofs.lemmas.List.{ext_get_or, length-set, get_or-set_same, get_or-set_other, get_or_past, get_or-replicate, length-replicate}
+use Rattle.std.proofs.lemmas.List.{ext_get_or, length-set, get_or-set_same, get_or-set_other, get_or_past, get_or-replicate, length-replicate, set_past}
 use Rattle.std.proofs.lemmas.Bool.{cases_Bool, cases_lt, eqb-true, eq-eqb, cond_both, cond-true, cond-false, false≢true}
 use Rattle.mss_base.specs.Serial.{IsSerial}
 use Rattle.volume_table.specs.Row.{RowValue, frame_of, state_of, blank_row, IsRow}
-use Rattle.volume_table.specs.Changes.{unstaged, unstaged_page, with_state, without_frame}
+use Rattle.volume_table.specs.Changes.{IsAllowed, IsInRange, effect, unstaged, unstaged_page, with_frame, with_state, without_frame}
+use Rattle.volume_table.specs.declared.changes.Change.{Change}
+use Rattle.volume_table.specs.declared.changes.Change.TheVariants.{Create, Assign, Free, Staged, Changed, Destaged}
 use Rattle.volume_table.proofs.StateLemmas.{unstaged_small}
-use Rattle.volume_table.proofs.RowFacts.{taken, get_or-map_numbered, length-map_numbered, frame-without_frame, state-without_frame, state-with_state}
+use Rattle.volume_table.proofs.RowFacts.{taken, get_or-map_numbered, length-map_numbered, frame-with_frame, frame-without_frame, state-without_frame, state-with_state}
 
 abbrev SmallFrame : Option ℕ → Type 0
 SmallFrame o = IfSome o (λ f. f < 200)
@@ -77,6 +79,49 @@ module _ (cylinder state : ℕ) (r : RowValue) (row : IsRow r) (inside : cylinde
       | inr other ↦ row.staged c (omega (arith, is c ∙ cond-false _ _ _ other))
     ];
   }
+
+-- a page may get a frame
+module _ (page frame : ℕ) (r : RowValue) (row : IsRow r) (inside : page < 51) (small : frame < 200) where
+  has : (q : ℕ) → frame_of (with_frame page frame r) q ≡ cond (q == page) (Some frame) (frame_of r q)
+  has q = frame-with_frame page frame r q (omega (arith, row.pages))
+
+  pub row-with_frame : IsRow (with_frame page frame r)
+  row-with_frame = record {
+    serial = row.serial;
+    first = row.first;
+    second = row.second;
+    pages = length-set r.pages page (Some frame) ∙ row.pages;
+    frames = λ q. subst SmallFrame (sym (has q)) (cond_both (q == page) (Some frame) (frame_of r q) SmallFrame (λ _. small) (λ _. row.frames q));
+    states = row.states;
+    numbers = row.numbers;
+    staged = λ c high. subst IsSome (sym (has (c / 8))) (cond_both (c / 8 == page) (Some frame) (frame_of r (c / 8)) IsSome (λ _. refl) (λ _. row.staged c high));
+  }
+
+-- a cylinder that is staged gets a higher state
+row-staged : (cylinder : ℕ) (r : RowValue) → IsRow r → IsAllowed (Staged cylinder) r → IsRow (with_state cylinder (state_of r cylinder + 2) r)
+row-staged cylinder r row allowed = elim (cases_lt cylinder 404) [
+  | inl lt ↦ row-with_state cylinder (state_of r cylinder + 2) r row lt (omega (arith, allowed.0)) (λ _. allowed.1)
+  | inr past ↦ subst (λ (states : List ℕ). IsRow (record r { states = states })) (sym (set_past r.states cylinder (state_of r cylinder + 2) (omega (arith, row.states)))) row
+]
+
+-- a cylinder with a state is one of the volume's
+cylinder_inside : (cylinder : ℕ) (r : RowValue) → IsRow r → 1 ≤ state_of r cylinder → cylinder < 404
+cylinder_inside cylinder r row some = elim (cases_lt cylinder 404) [
+  | inl lt ↦ lt
+  | inr past ↦ absurd (let none : state_of r cylinder ≡ 0 = get_or_past r.states cylinder 0 (omega (arith, row.states)) in omega arith)
+]
+
+-- whatever change is allowed
+pub row-changed : (change : Change) (r : RowValue) → IsRow r → IsAllowed change r → IsInRange change → IsRow (effect change r)
+row-changed (Create serial first second) r row allowed range = absurd allowed
+row-changed (Assign page frame) r row allowed range = row-with_frame page frame r row range.0 range.1
+row-changed (Free page) r row allowed range = row-without_frame page r row allowed.1
+row-changed (Staged cylinder) r row allowed range = row-staged cylinder r row allowed
+row-changed (Changed cylinder) r row allowed range =
+    let high : 2 ≤ state_of r cylinder = elim allowed [ inl two ↦ omega arith | inr three ↦ omega arith ] in
+    row-with_state cylinder 4 r row (cylinder_inside cylinder r row (omega arith)) (omega arith) (λ _. row.staged cylinder high)
+row-changed (Destaged cylinder) r row allowed range =
+    row-with_state cylinder 3 r row (cylinder_inside cylinder r row (omega arith)) (omega arith) (λ _. row.staged cylinder (omega arith))
 
 -- a loop over the page's cylinders, whose lists are `old` at first and `now` before this step
 module _ (page n : ℕ) (old now : List ℕ) (state : ℕ) (inside : n < length now) (from : 8 * page ≤ n) (is : state ≡ unstaged (get_or now n 0)) where

@@ -1,6 +1,7 @@
 -- When a row may change, and what it is then.
 use Rattle.std.specs.Prelude.{◌≡◌, ◌≢◌, ◌⊎◌, ℕ, suc, ◌+◌, ◌<◌, ◌/◌, ◌==◌, if◌then◌else◌, List, [], ◌∷◌, slice_set, Some, None, IsSome}
 use Rattle.volume_table.specs.Row.{RowValue, frame_of, state_of, blank_row}
+use Rattle.volume_table.specs.declared.layout.TheConstants.{PAGES}
 use Rattle.volume_table.specs.declared.changes.Change.{Change}
 use Rattle.volume_table.specs.declared.changes.Change.TheVariants.{Create, Assign, Free, Staged, Changed, Destaged}
 
@@ -12,6 +13,11 @@ IsAllowed (Free page) r = IsSome (frame_of r page) × ((cylinder : ℕ) → cyli
 IsAllowed (Staged cylinder) r = (state_of r cylinder < 2) × IsSome (frame_of r (cylinder / 8))
 IsAllowed (Changed cylinder) r = (state_of r cylinder ≡ 2) ⊎ (state_of r cylinder ≡ 3)
 IsAllowed (Destaged cylinder) r = state_of r cylinder ≡ 4
+
+-- a page that gets a frame is one of the 51, its frame one of the 200
+abbrev pub IsInRange : Change → Type 0
+IsInRange (Assign page frame) = (page < PAGES) × (frame < 200)
+IsInRange _ = Unit {0}
 
 abbrev pub with_frame : ℕ → ℕ → RowValue → RowValue
 with_frame page frame r = record r { pages = slice_set r.pages page (Some frame) }

@@ -6,6 +6,7 @@
 use Rattle.std.specs.Prelude.{◌≡◌, ℕ, suc, ◌+◌, ◌*◌, ◌/◌, ◌%◌, ◌==◌, nat_lt, Bool, true, false, ◌&&◌, ◌||◌, if◌then◌else◌, List, [], ◌∷◌, ◌++◌, take, drop, map, replicate, slice_index, Option, Some, None, Result, Ok, Err}
 use Rattle.mss_base.specs.Serial.{is_serial_byte}
 use Rattle.volume_table.specs.Row.{RowValue}
+use Rattle.volume_table.specs.declared.layout.TheConstants.{BODY, BODY_BYTES, VERSION_AT, SERIAL_AT, FIRST_AT, SECOND_AT, PAGES_AT, SPARE_AT, STATES_AT, SPARES_AT, VERSION, PAGES, STATES, SPARES}
 use Rattle.volume_table.specs.declared.fault.RowField.{RowField}
 use Rattle.volume_table.specs.declared.fault.RowField.TheVariants as field
 use Rattle.volume_table.specs.declared.fault.RowFault.{RowFault}
@@ -14,7 +15,7 @@ use Rattle.volume_table.specs.declared.fault.DecodeFault.TheVariants.{Bad, Memor
 
 -- the part of a block that spells the row
 abbrev pub body : List ℕ → List ℕ
-body block = take 510 (drop 1 block)
+body block = take BODY_BYTES (drop BODY block)
 
 -- a number of two bytes, the higher one first
 abbrev pub two : ℕ → List ℕ
@@ -30,30 +31,30 @@ page_of byte = if nat_lt byte 200 then Some byte else None
 
 -- how a row is spelled
 unfoldable pub spelling : RowValue → List ℕ
-spelling r = 1 ∷ r.serial ++ (two r.first ++ (two r.second ++ (map page_byte r.pages ++ (0 ∷ r.states ++ replicate 43 0))))
+spelling r = VERSION ∷ r.serial ++ (two r.first ++ (two r.second ++ (map page_byte r.pages ++ (0 ∷ r.states ++ replicate SPARES 0))))
 
 -- the parts of a body
 abbrev pub serial_part : List ℕ → List ℕ
-serial_part body = take 6 (drop 1 body)
+serial_part body = take 6 (drop SERIAL_AT body)
 
 abbrev pub two_at : ℕ → List ℕ → ℕ
 two_at place body = 256 * slice_index body place + slice_index body (suc place)
 
 abbrev pub pages_part : List ℕ → List ℕ
-pages_part body = take 51 (drop 11 body)
+pages_part body = take PAGES (drop PAGES_AT body)
 
 abbrev pub states_part : List ℕ → List ℕ
-states_part body = take 404 (drop 63 body)
+states_part body = take STATES (drop STATES_AT body)
 
 abbrev pub spares_part : List ℕ → List ℕ
-spares_part body = take 43 (drop 467 body)
+spares_part body = take SPARES (drop SPARES_AT body)
 
 -- the row of a body, if it spells one
 abbrev pub row_at : List ℕ → RowValue
 row_at body = record {
   serial = serial_part body;
-  first = two_at 7 body;
-  second = two_at 9 body;
+  first = two_at FIRST_AT body;
+  second = two_at SECOND_AT body;
   pages = map page_of (pages_part body);
   states = states_part body;
 }
@@ -100,12 +101,12 @@ state_fault pages cylinder b = unless (is_state (nat_lt (slice_index pages (cyli
 -- the first field of a body that no row has so, in order of places
 unfoldable pub first_fault : List ℕ → Option RowFault
 first_fault body =
-    unless (slice_index body 0 == 1) field.Version (slice_index body 0)
+    unless (slice_index body VERSION_AT == VERSION) field.Version (slice_index body VERSION_AT)
     then first_in serial_fault 0 (serial_part body)
-    then cartridge_fault field.First (two_at 7 body)
-    then cartridge_fault field.Second (two_at 9 body)
+    then cartridge_fault field.First (two_at FIRST_AT body)
+    then cartridge_fault field.Second (two_at SECOND_AT body)
     then first_in page_fault 0 (pages_part body)
-    then spare_fault 0 (slice_index body 62)
+    then spare_fault 0 (slice_index body SPARE_AT)
     then first_in (state_fault (pages_part body)) 0 (states_part body)
     then first_in spare_fault 1 (spares_part body)
 

@@ -3,3 +3,4 @@ pub mod Row
 pub mod RowInside
 pub mod Grammar
 pub mod Changes
+pub mod Listed

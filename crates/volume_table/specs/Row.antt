@@ -1,6 +1,8 @@
 -- What a row says of a volume.
 use Rattle.std.specs.Prelude.{◌≡◌, ℕ, ◌<◌, ◌≤◌, ◌/◌, List, length, replicate, slice_index, slice_index_or, Option, None, IfSome, IsSome}
 use Rattle.mss_base.specs.Serial.{IsSerial}
+use Rattle.mss_base.specs.declared.numbers.TheConstants.{CYLINDERS}
+use Rattle.volume_table.specs.declared.layout.TheConstants.{PAGES}
 
 -- the serial, the two cartridges, the frame of each page, the state of each cylinder
 pub record RowValue : Type 0 where
@@ -22,12 +24,12 @@ pub record IsRow (r : RowValue) : Type 0 where
   pub serial : IsSerial r.serial
   pub first : r.first < 2048
   pub second : r.second < 2048
-  pub pages : length r.pages ≡ 51
+  pub pages : length r.pages ≡ PAGES
   pub frames : (page : ℕ) → IfSome (frame_of r page) (λ f. f < 200)
-  pub states : length r.states ≡ 404
+  pub states : length r.states ≡ CYLINDERS
   pub numbers : (cylinder : ℕ) → state_of r cylinder ≤ 4
   pub staged : (cylinder : ℕ) → 2 ≤ state_of r cylinder → IsSome (frame_of r (cylinder / 8))
 
 -- the row of a new volume
 abbrev pub blank_row : List ℕ → ℕ → ℕ → RowValue
-blank_row serial first second = record { serial = serial; first = first; second = second; pages = replicate 51 None; states = replicate 404 0 }
+blank_row serial first second = record { serial = serial; first = first; second = second; pages = replicate PAGES None; states = replicate CYLINDERS 0 }

@@ -4,10 +4,11 @@ ghost use Rattle.volume_table.specs.States.{state_number};
 ghost use Rattle.volume_table.specs.Row.{frame_of, state_of};
 ghost use Rattle.volume_table.specs.Changes.{IsAllowed, effect, unstaged, unstaged_page, with_frame, with_state, without_frame};
 
+use crate::layout::STATES;
 use crate::lists::StateList;
 use crate::row::VolumeRow;
 use crate::state::CylinderState;
-use mss_base::{CartridgeNo, Cylinder, FrameNo, Page, Serial};
+use mss_base::{CYLINDERS, CartridgeNo, Cylinder, FrameNo, Page, Serial};
 
 /// What happens to a row.
 #[derive(Clone, Copy, Debug, PartialEq, Eq)]
@@ -59,7 +60,7 @@ fn is_unchanged(row: &VolumeRow, page: Page) -> bool
 {
     let _ = &row.states;
     let from = 8 * page.get() as u16;
-    for number in from..404.min(from + 8) {
+    for number in from..CYLINDERS.min(from + 8) {
         let cylinder = Cylinder::of(number).unwrap();
         if row.state(cylinder) == CylinderState::Changed {
             return false;
@@ -125,11 +126,12 @@ fn unstaged(state: CylinderState) -> CylinderState
 }
 
 fn unstage(states: &mut StateList, page: Page)
-    requires { length states.old.items ≡ 404 }
-    ensures { map state_number states.new.items ≡ unstaged_page page (map state_number states.old.items) }
+    requires { length states.old.items ≡ STATES }
+    ensures { map state_number states.new.items
+        ≡ unstaged_page page (map state_number states.old.items) }
 {
     let from = 8 * page.get() as usize;
-    for cylinder in from..404.min(from + 8) {
+    for cylinder in from..STATES.min(from + 8) {
         let state = states.as_slice()[cylinder];
         states.set(cylinder, unstaged(state));
     }

@@ -3,12 +3,14 @@ ghost use Rattle.std.specs.Prelude.{◌≡◌, ◌≤◌, ℕ, ◌*◌, ◌+◌,
 ghost use Rattle.volume_table.specs.Grammar.{body, decode, row_at, first_fault, first_in, unless, two_at, cartridge_fault, serial_fault, is_page_byte, page_fault, is_state, state_fault, spare_fault, Finds, Gives};
 
 use crate::fault::{DecodeFault, RowFault, RowField};
+use crate::layout::{
+    BODY, BODY_BYTES, BODY_END, FIRST_AT, PAGES, PAGES_AT, ROW_BYTES, SECOND_AT, SERIAL_AT,
+    SPARE_AT, SPARES, SPARES_AT, STATES, STATES_AT, VERSION, VERSION_AT,
+};
 use crate::lists::{pages_of, states_of};
 use crate::row::VolumeRow;
 use mss_base::{CartridgeNo, NoMemory, Serial, is_serial_byte};
 use std::alloc::Global;
-
-const VERSION: u8 = 1;
 
 fn check(good: bool, field: RowField, value: u16) -> Result<(), RowFault>
     ensures { Finds result (unless good field value) }
@@ -41,7 +43,7 @@ fn is_page_byte(byte: u8) -> bool
 }
 
 fn check_pages(bytes: &[u8]) -> Result<(), RowFault>
-    requires { length bytes.now ≡ 51 }
+    requires { length bytes.now ≡ PAGES }
     ensures { Finds result (first_in page_fault 0 bytes.now) }
 {
     for (page, byte) in bytes.iter().enumerate() {
@@ -61,8 +63,8 @@ fn is_state(has_frame: bool, state: u8) -> bool
 }
 
 fn check_states(pages: &[u8], bytes: &[u8]) -> Result<(), RowFault>
-    requires pages { length pages.now ≡ 51 }
-    requires states { length bytes.now ≡ 404 }
+    requires pages { length pages.now ≡ PAGES }
+    requires states { length bytes.now ≡ STATES }
     ensures { Finds result (first_in (state_fault pages.now) 0 bytes.now) }
 {
     for (cylinder, byte) in bytes.iter().enumerate() {
@@ -73,7 +75,7 @@ fn check_states(pages: &[u8], bytes: &[u8]) -> Result<(), RowFault>
 }
 
 fn check_spares(bytes: &[u8]) -> Result<(), RowFault>
-    requires { length bytes.now ≡ 43 }
+    requires { length bytes.now ≡ SPARES }
     ensures { Finds result (first_in spare_fault 1 bytes.now) }
 {
     for (i, byte) in bytes.iter().enumerate() {
@@ -85,32 +87,37 @@ fn check_spares(bytes: &[u8]) -> Result<(), RowFault>
 /// Looks for the first field of a body that no row has so.
 #[tactic(auto, unfolding(crate::specs::Grammar::first_fault))]
 fn check_body(body: &[u8]) -> Result<(), RowFault>
-    requires { length body.now ≡ 510 }
+    requires { length body.now ≡ BODY_BYTES }
     ensures { Finds result (first_fault body.now) }
 {
-    let first = u16::from_be_bytes([body[7], body[8]]);
-    let second = u16::from_be_bytes([body[9], body[10]]);
-    check(body[0] == VERSION, RowField::Version, body[0] as u16)?;
-    check_serial(&body[1..7])?;
+    let first = u16::from_be_bytes([body[FIRST_AT], body[FIRST_AT + 1]]);
+    let second = u16::from_be_bytes([body[SECOND_AT], body[SECOND_AT + 1]]);
+    let version = body[VERSION_AT];
+    let spare = body[SPARE_AT];
+    check(version == VERSION, RowField::Version, version as u16)?;
+    check_serial(&body[SERIAL_AT..FIRST_AT])?;
     check(first < 2048, RowField::First, first)?;
     check(second < 2048, RowField::Second, second)?;
-    check_pages(&body[11..62])?;
-    check(body[62] == 0, RowField::Spare(0), body[62] as u16)?;
-    check_states(&body[11..62], &body[63..467])?;
-    check_spares(&body[467..510])
+    check_pages(&body[PAGES_AT..SPARE_AT])?;
+    check(spare == 0, RowField::Spare(0), spare as u16)?;
+    check_states(&body[PAGES_AT..SPARE_AT], &body[STATES_AT..SPARES_AT])?;
+    check_spares(&body[SPARES_AT..BODY_BYTES])
 }
 
 /// The row of a body that is in the grammar.
 fn row_of(alloc: Global, body: &[u8]) -> Result<VolumeRow, NoMemory>
-    requires long { length body.now ≡ 510 }
+    requires long { length body.now ≡ BODY_BYTES }
     requires good { first_fault body.now ≡ None }
     ensures { IfOk result (λ row. row ≡ row_at body.now) }
 {
-    let pages = pages_of(alloc, &body[11..62])?;
-    let states = states_of(alloc, &body[63..467])?;
+    let pages = pages_of(alloc, &body[PAGES_AT..SPARE_AT])?;
+    let states = states_of(alloc, &body[STATES_AT..SPARES_AT])?;
     let serial = Serial::of([body[1], body[2], body[3], body[4], body[5], body[6]]).unwrap();
-    let first = CartridgeNo::of(u16::from_be_bytes([body[7], body[8]])).unwrap();
-    let second = CartridgeNo::of(u16::from_be_bytes([body[9], body[10]])).unwrap();
+    let first = CartridgeNo::of(u16::from_be_bytes([body[FIRST_AT], body[FIRST_AT + 1]])).unwrap();
+    let second = CartridgeNo::of(u16::from_be_bytes([
+        body[SECOND_AT],
+        body[SECOND_AT + 1],
+    ])).unwrap();
     Ok(VolumeRow {
         serial,
         first,
@@ -124,20 +131,20 @@ fn row_of(alloc: Global, body: &[u8]) -> Result<VolumeRow, NoMemory>
 ///
 /// The bytes 0 and 511 are not looked at. It takes no memory.
 pub fn check_row(bytes: &[u8]) -> Result<(), RowFault>
-    requires { length bytes.now ≡ 512 }
+    requires { length bytes.now ≡ ROW_BYTES }
     ensures { Finds result (first_fault (body bytes.now)) }
 {
-    check_body(&bytes[1..511])
+    check_body(&bytes[BODY..BODY_END])
 }
 
 /// The row that 512 bytes spell, or the first field, in order of places, that no row has so.
 ///
 /// The bytes 0 and 511 are not looked at. What was refused is known before memory is taken.
 pub fn decode_row(alloc: Global, bytes: &[u8]) -> Result<VolumeRow, DecodeFault>
-    requires { length bytes.now ≡ 512 }
+    requires { length bytes.now ≡ ROW_BYTES }
     ensures { Gives result (decode (body bytes.now)) }
 {
-    let body = &bytes[1..511];
+    let body = &bytes[BODY..BODY_END];
     if let Err(fault) = check_body(body) {
         return Err(DecodeFault::Bad(fault));
     }

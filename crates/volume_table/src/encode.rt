@@ -4,6 +4,10 @@ ghost use Rattle.mss_base.specs.Content.{splice};
 ghost use Rattle.volume_table.specs.States.{state_number};
 ghost use Rattle.volume_table.specs.Grammar.{spelling, page_byte, body, decode};
 
+use crate::layout::{
+    BODY, FIRST_AT, PAGES_AT, ROW_BYTES, SECOND_AT, SERIAL_AT, SPARE_AT, SPARES, SPARES_AT,
+    STATES_AT, VERSION, VERSION_AT,
+};
 use crate::row::VolumeRow;
 use crate::state::CylinderState;
 use mss_base::FrameNo;
@@ -44,23 +48,24 @@ fn put_states(into: &mut [u8], at: usize, states: &[CylinderState])
 }
 
 fn put_row(row: &VolumeRow, into: &mut [u8])
-    requires { length into.old ≡ 512 }
+    requires { length into.old ≡ ROW_BYTES }
     ensures { into.new ≡ splice 1 (spelling row.now) into.old }
 {
-    put(into, 1, &[1]);
-    put(into, 2, row.serial.as_slice());
-    put(into, 8, &row.first.get().to_be_bytes());
-    put(into, 10, &row.second.get().to_be_bytes());
-    put_pages(into, 12, row.pages.as_slice());
-    put(into, 63, &[0]);
-    put_states(into, 64, row.states.as_slice());
-    put(into, 468, &[0; 43]);
+    put(into, BODY + VERSION_AT, &[VERSION]);
+    put(into, BODY + SERIAL_AT, row.serial.as_slice());
+    put(into, BODY + FIRST_AT, &row.first.get().to_be_bytes());
+    put(into, BODY + SECOND_AT, &row.second.get().to_be_bytes());
+    put_pages(into, BODY + PAGES_AT, row.pages.as_slice());
+    put(into, BODY + SPARE_AT, &[0]);
+    put_states(into, BODY + STATES_AT, row.states.as_slice());
+    put(into, BODY + SPARES_AT, &[0; SPARES]);
 }
 
 /// Spells a row into 512 bytes, so that it is read back. The bytes 0 and 511 stay.
 pub fn encode_row(row: &VolumeRow, into: &mut [u8])
-    requires { length into.old ≡ 512 }
+    requires { length into.old ≡ ROW_BYTES }
     ensures bytes { into.new ≡ splice 1 (spelling row.now) into.old }
+    ensures body { body into.new ≡ spelling row.now }
     ensures again { decode (body into.new) ≡ Ok row.now }
 {
     let _ = &row.states;

@@ -2,8 +2,8 @@
 //!
 //! `specs/Row.antt` says what a row is, `specs/Grammar.antt` how its 512 bytes spell it, `specs/Changes.antt` which
 //! changes are allowed and what each does. `decode_row`, `encode_row`, `is_allowed` and `apply` are exactly these
-//! definitions. The layers above rely on them, on `law`, and on the lemmas of `proofs/RowFacts.antt`: what a change
-//! does to each page and each cylinder.
+//! definitions. The layers above rely on them, and on `law`. Proofs above may cite these files of proofs/: `RowFacts`
+//! (what a change does to each page and each cylinder) and `RowLemmas` (what keeps a row one).
 #![tactic(auto)]
 
 mod changes;
@@ -11,6 +11,7 @@ mod decode;
 mod encode;
 mod fault;
 pub mod law;
+mod layout;
 mod lists;
 mod row;
 mod state;
@@ -21,6 +22,7 @@ pub use changes::{Change, apply, is_allowed};
 pub use decode::{check_row, decode_row};
 pub use encode::encode_row;
 pub use fault::{DecodeFault, RowFault, RowField};
+pub use layout::{BODY, BODY_BYTES, BODY_END, ROW_BYTES};
 pub use lists::{PageList, StateList};
 pub use row::VolumeRow;
 pub use state::CylinderState;

@@ -3,6 +3,7 @@ ghost use Rattle.std.specs.Prelude.{◌≡◌, ◌≤◌, ◌+◌, ◌<◌, ℕ,
 ghost use Rattle.volume_table.specs.Grammar.{page_of};
 ghost use Rattle.volume_table.specs.States.{state_number};
 
+use crate::layout::{PAGES, STATES};
 use crate::state::CylinderState;
 use mss_base::{FrameNo, Listed, NoMemory};
 use std::alloc::Global;
@@ -15,16 +16,16 @@ pub type StateList = Listed<CylinderState>;
 
 /// No frame for any of the 51 pages.
 pub fn blank_pages(alloc: Global) -> Result<PageList, NoMemory>
-    ensures { IfOk result (λ pages. pages.items ≡ replicate 51 None) }
+    ensures { IfOk result (λ pages. pages.items ≡ replicate PAGES None) }
 {
-    pages_of(alloc, &[255; 51])
+    pages_of(alloc, &[255; PAGES])
 }
 
 /// All 404 cylinders blank.
 pub fn blank_states(alloc: Global) -> Result<StateList, NoMemory>
-    ensures { IfOk result (λ states. map state_number states.items ≡ replicate 404 0) }
+    ensures { IfOk result (λ states. map state_number states.items ≡ replicate STATES 0) }
 {
-    states_of(alloc, &[0; 404])
+    states_of(alloc, &[0; STATES])
 }
 
 /// The frames that the bytes of pages name.

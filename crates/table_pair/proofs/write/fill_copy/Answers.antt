@@ -1,5 +1,5 @@
-use Rattle.std.proofs.Common.{◌∷◌, [], ◌∙◌, refl, arith}
-use Rattle.table_pair.proofs.WriteLemmas.{writing_body, opening, gate_opened, adds_grow}
+use Rattle.std.proofs.Common.{◌∙◌, arith}
+use Rattle.table_pair.proofs.WriteLemmas.{writing_body, opening, gate_opened, mark_stays, adds_grow}
 use Rattle.table_pair.proofs.write.fill_copy.Goals as goal
 
 pub returns-in_err-write-clause-moments : goal.returns-in_err-write-clause-moments
@@ -18,8 +18,9 @@ returns-in_err-write-2-clause-moments g c = λ tells.
 pub returns-clause-moments : goal.returns-clause-moments
 returns-clause-moments g c = λ tells.
     let at = c.args.at.now in
+    let w = c.write-2.ensures.logged tells in
     opening at c.args.body.now c.requires.long _ _ (g.met.S.Site.whole c.args.site.now at.unit at.block tells) (c.requires.closed tells)
-    _ (g.met.S.Site.whole c.write.new.self at.unit at.block tells) (c.in_ok-write.ensures.ok tells) (193 ∷ []) refl (c.in_ok-write-2.ensures.ok tells)
+    _ (g.met.S.Site.whole c.write.new.self at.unit at.block tells) (c.in_ok-write.ensures.ok tells) w.0 w.1 w.2
 
 pub returns-clause-done : goal.returns-clause-done
 returns-clause-done g c = λ tells.
@@ -32,3 +33,9 @@ returns-clause-grown g c = λ tells.
     let first = adds_grow _ _ _ (c.in_ok-write.ensures.ok tells) in
     let second = adds_grow _ _ _ (c.in_ok-write-2.ensures.ok tells) in
     omega (arith, first, second)
+
+pub returns-clause-mark : goal.returns-clause-mark
+returns-clause-mark g c = λ tells.
+    let at = c.args.at.now in
+    mark_stays at c.args.body.now c.requires.long _ _ (g.met.S.Site.whole c.args.site.now at.unit at.block tells) (c.requires.closed tells)
+    _ (g.met.S.Site.whole c.write.new.self at.unit at.block tells) (c.in_ok-write.ensures.ok tells) (c.in_ok-write-2.ensures.ok tells)

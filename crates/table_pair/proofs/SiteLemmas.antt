@@ -1,0 +1,59 @@
+-- One call after another: what each leaves of a site.
+use Rattle.std.proofs.Common.{◌≡◌, ◌≤◌, ℕ, ◌∙◌, arith}
+use Rattle.mss_base.specs.Content.{SiteLog}
+use Rattle.mss_base.specs.Sites.{FailingReads, StaysSound, OnlyReads, MayWrite}
+use Rattle.mss_base.specs.declared.place.UnitNo.{UnitNo}
+use Rattle.table_pair.specs.Reads.{IsReadable}
+use Rattle.table_pair.specs.Repairs.{LeavesSite}
+
+module _ {S : Type 0} (tells : Type 0) (told : S → SiteLog) (spare writes faults : S → ℕ) (never_fails_but : FailingReads S) where
+  -- what can be read can be read later
+  pub later_readable : (old new : S) (unit : UnitNo) → StaysSound never_fails_but old new → IsReadable never_fails_but old unit → IsReadable never_fails_but new unit
+  later_readable old new unit sound is = (is.0, sound is.0 is.1, is.2)
+
+  pub sound_then : (s r t : S) → StaysSound never_fails_but s r → StaysSound never_fails_but r t → StaysSound never_fails_but s t
+  sound_then s r t first second = λ but never. second but (first but never)
+
+  -- two reads
+  pub read_then : (s r t : S) → OnlyReads tells told spare writes faults never_fails_but s r → OnlyReads tells told spare writes faults never_fails_but r t → OnlyReads tells told spare writes faults never_fails_but s t
+  read_then s r t first second = record {
+    log = λ yes. second.log yes ∙ first.log yes;
+    room = second.room ∙ first.room;
+    unwritten = second.unwritten ∙ first.unwritten;
+    later = omega (arith, first.later, second.later);
+    sound = sound_then s r t first.sound second.sound;
+  }
+
+  -- reads of a site that got room at most
+  pub record GotRoom (s t : S) : Type 0 where
+    pub log : tells → told t ≡ told s
+    pub room : spare s ≤ spare t
+    pub unwritten : writes t ≡ writes s
+    pub later : faults s ≤ faults t
+    pub sound : StaysSound never_fails_but s t
+
+  pub got_room : (s t : S) → (tells → told t ≡ told s) → spare s ≤ spare t → writes t ≡ writes s → faults t ≡ faults s → StaysSound never_fails_but s t → GotRoom s t
+  got_room s t log room unwritten unfailed sound = record { log = log; room = room; unwritten = unwritten; later = omega (arith, unfailed); sound = sound }
+
+  pub room_read : (s r t : S) → GotRoom s r → OnlyReads tells told spare writes faults never_fails_but r t → GotRoom s t
+  room_read s r t first second = record {
+    log = λ yes. second.log yes ∙ first.log yes;
+    room = omega (arith, first.room, second.room);
+    unwritten = second.unwritten ∙ first.unwritten;
+    later = omega (arith, first.later, second.later);
+    sound = sound_then s r t first.sound second.sound;
+  }
+
+  pub room_leaves : (s t : S) → GotRoom s t → faults t ≡ faults s → LeavesSite tells told spare writes faults s t
+  room_leaves s t got same = record { log = got.log; room = got.room; unwritten = got.unwritten; unfailed = same }
+
+  pub room_may : (most : ℕ) (s t : S) → GotRoom s t → MayWrite most spare writes faults never_fails_but s t
+  room_may most s t got = record { room = omega (arith, got.room); written = omega (arith, got.unwritten); later = got.later; sound = got.sound }
+
+  pub room_write : (most : ℕ) (s r t : S) → GotRoom s r → MayWrite most spare writes faults never_fails_but r t → MayWrite most spare writes faults never_fails_but s t
+  room_write most s r t first second = record {
+    room = omega (arith, first.room, second.room);
+    written = omega (arith, first.unwritten, second.written);
+    later = omega (arith, first.later, second.later);
+    sound = sound_then s r t first.sound second.sound;
+  }
