@@ -1,22 +1,32 @@
 -- Devices that were read at most, one read after another.
-use Rattle.std.proofs.Common.{ℕ, ◌≤◌, ◌∙◌, arith}
+use Rattle.std.proofs.Common.{◌≡◌, ℕ, Bool, ◌≤◌, ◌∙◌, Result, arith, subst}
+use Rattle.std.specs.Prelude.{IfErr}
 use Rattle.mss_base.specs.Content.{SiteLog}
+use Rattle.mss_base.specs.Sites.{FailingReads, OnlyReads}
+use Rattle.ckd_plain.specs.declared.done.DoneCommand.{DoneCommand}
 use Rattle.track_engine.specs.declared.place.EngineFault.TheVariants.{ReadFailed, WriteFailed, Memory}
 use Rattle.track_engine.specs.declared.place.NotDone.{NotDone}
 use Rattle.track_engine.specs.declared.place.NotDone.TheVariants.{Refused, Fault}
-use Rattle.track_engine.specs.Faults.{IsReadFault, OnlyReads}
+use Rattle.track_engine.specs.Faults.{IsReadFault, IsUndone}
 
-pub reads_then : {S : Type 0} (tells : Type 0) (told : S → SiteLog) (spare faults : S → ℕ) (a b c : S)
-    → OnlyReads tells told spare faults a b → OnlyReads tells told spare faults b c → OnlyReads tells told spare faults a c
-reads_then tells told spare faults a b c first second = record {
-  log = λ t. second.log t ∙ first.log t;
-  room = second.room ∙ first.room;
-  later = omega (arith, first.later, second.later);
-}
+module _ {S : Type 0} (tells : Type 0) (told : S → SiteLog) (spare writes faults : S → ℕ) (sound : FailingReads S) where
+  pub reads_then : (a b c : S) → OnlyReads tells told spare writes faults sound a b → OnlyReads tells told spare writes faults sound b c → OnlyReads tells told spare writes faults sound a c
+  reads_then a b c first second = record {
+    log = λ t. second.log t ∙ first.log t;
+    room = second.room ∙ first.room;
+    unwritten = second.unwritten ∙ first.unwritten;
+    later = omega (arith, first.later, second.later);
+    sound = λ but holds. second.sound but (first.sound but holds);
+  }
+
+  -- what keeps a search or a read from being done is what may keep any command from it
+  pub undone_by_read : (by_write : Bool) (a b : S) → OnlyReads tells told spare writes faults sound a b → (e : NotDone) → IsReadFault (faults a) (faults b) e
+      → IsUndone tells told spare writes faults sound by_write a b e
+  undone_by_read by_write a b reads (Fault (ReadFailed fault)) is = record { reads = reads; cause = is }
+  undone_by_read by_write a b reads (Fault (WriteFailed fault)) is = absurd is
+  undone_by_read by_write a b reads (Fault Memory) is = record { reads = reads; same = is }
+  undone_by_read by_write a b reads (Refused refusal) is = record { reads = reads; same = is }
 
 -- a fault of the later read is one of both
-pub fault_later : (a b c : ℕ) (e : NotDone) → a ≤ b → IsReadFault b c e → IsReadFault a c e
-fault_later a b c (Fault (ReadFailed fault)) le is = record { count = is.count; rises = omega (arith, is.rises) }
-fault_later a b c (Fault (WriteFailed fault)) le is = is
-fault_later a b c (Fault Memory) le is = tt
-fault_later a b c (Refused refusal) le is = tt
+pub fault_later : (a b c : ℕ) (e : NotDone) → b ≡ a → IsReadFault b c e → IsReadFault a c e
+fault_later a b c e same is = subst (λ (n : ℕ). IsReadFault n c e) same is

@@ -23,7 +23,7 @@ use Rattle.track_engine.specs.declared.place.NotDone.{NotDone}
 use Rattle.track_engine.specs.declared.place.NotDone.TheVariants.{Refused, Fault}
 use Rattle.track_engine.specs.declared.place.EngineFault.{EngineFault}
 use Rattle.track_engine.specs.declared.place.EngineFault.TheVariants.{ReadFailed, WriteFailed, Memory}
-use Rattle.track_engine.specs.Faults.{LeavesSite, IsReadFault, IsFaultOf}
+use Rattle.track_engine.specs.Faults.{LeavesSite}
 use Rattle.track_engine.specs.Found.{GivesBut}
 use Rattle.track_engine.specs.Tracks.{AreTracks}
 use Rattle.track_engine.specs.Writing.{IsStep, WritesBlock, HoldsWritten, CarriesOut, written_of, effect_as, formatted_behind}
@@ -95,17 +95,6 @@ module _ (given : Outcome) (c : Command) (k : ℕ) (track : List RecordData) (un
   }
   read_carried_out (Err (Refused refusal)) gives = record { outcome = gives; moments = moments_of; exact = tt; log = same }
   read_carried_out (Err (Fault fault)) gives = record { outcome = tt; moments = moments_of; exact = tt; log = leaves fault }
-
--- a fault of a read is one of any command
-fault_of_read : (writes : Bool) (before now : ℕ) (e : NotDone) → IsReadFault before now e → IsFaultOf writes before now e
-fault_of_read writes before now (Refused refusal) is = tt
-fault_of_read writes before now (Fault (ReadFailed fault)) is = (is, tt)
-fault_of_read writes before now (Fault (WriteFailed fault)) is = absurd is
-fault_of_read writes before now (Fault Memory) is = (tt, tt)
-
-pub faults_of_read : (writes : Bool) (before now : ℕ) (result : Result DoneCommand NotDone) → IfErr result (IsReadFault before now) → IfErr result (IsFaultOf writes before now)
-faults_of_read writes before now (Ok d) is = tt
-faults_of_read writes before now (Err e) is = fault_of_read writes before now e is
 
 -- ---- the tracks of a cylinder
 

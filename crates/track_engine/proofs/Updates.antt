@@ -1,6 +1,6 @@
 -- What the plain machine makes of a write data or write key data, once its record is found, and what the write leaves step by step.
-use Rattle.std.proofs.Common.{◌≡◌, inr, ℕ, suc, ◌-◌, ◌≤◌, Bool, true, false, List, [], length, Some, None, Result, Ok, Err, refl, sym, ap, ◌∙◌, arith, length-drop}
-use Rattle.std.specs.Prelude.{slice_index_or}
+use Rattle.std.proofs.Common.{◌≡◌, inr, ℕ, suc, ◌-◌, ◌≤◌, Bool, true, false, List, [], ◌++◌, take, length, Some, None, Result, Ok, Err, refl, sym, ap, ◌∙◌, arith, length-drop}
+use Rattle.std.specs.Prelude.{slice_index_or, replicate}
 use Rattle.std.proofs.lemmas.List.{length-take-le}
 use Rattle.std.proofs.lemmas.Option.{slice_get-get_or}
 use Rattle.mss_base.specs.declared.place.UnitNo.{UnitNo}
@@ -86,6 +86,16 @@ module _ (key_too : Bool) (block : List ℕ) (host : HostState) (left : Prior) (
         given_there ∙ ap (λ (r : Result Found Refusal). r >>= λ found. plain_updated track found (with_argument key_too found.item argument)) is
         ∙ ap (λ (found : Found). plain_updated track found (with_argument key_too found.item argument)) found_is
         ∙ ap (λ (r : RecordData). plain_updated track (record { number = at.number; item = old; host = at.host }) r) (with_argument-is key_too old argument ∙ ap (λ (b : List ℕ). with_bytes key_too b old) bytes_is)
+
+    -- a record without bytes to update
+    pub update_of_nothing : (found : FoundRecord) (bytes : List ℕ) (length_there : ℕ) → found_of found ≡ found_at block at → length_there ≡ updated_length key_too (item_of found) → bytes ≡ padded length_there argument
+        → updated_length key_too (record_behind (prior_number left - 1) there) ≡ 0 → bytes ≡ []
+    update_of_nothing found bytes length_there found_there length_is bytes_are none =
+        let item_is : item_of found ≡ old = ap (λ (f : Found). f.item) (found_there ∙ found_is) in
+        let zero_there : length_there ≡ 0 =
+        length_is ∙ ap (updated_length key_too) item_is ∙ (λ i. updated_length key_too (record_behind (number_at_hand i - 1) (here i))) ∙ none in
+        let no_fill : 0 - length argument ≡ 0 = omega arith in
+        bytes_are ∙ ap (λ (n : ℕ). padded n argument) zero_there ∙ ap (λ (n : ℕ). take 0 argument ++ replicate n 0) no_fill
 
 -- ---- what the write leaves
 

@@ -1,25 +1,53 @@
 -- What a command is answered.
-use Rattle.std.specs.Prelude.{◌≡◌, ℕ, Bool, List}
-use Rattle.channel_commands.specs.declared.call.Reply.{Reply}
-use Rattle.channel_commands.specs.Data.{ReplyData, done}
-use Rattle.channel_commands.specs.Views.{reply_of}
-use Rattle.channel_commands.specs.declared.command.Command.{Command}
-use Rattle.ckd_plain.specs.declared.host.HostState.{HostState}
-use Rattle.ckd_plain.specs.Plain.{Answer, opened, performed}
-use Rattle.mss_base.specs.Content.{Content}
+use Rattle.std.specs.Prelude.{◌≡◌, ℕ, ◌+◌, Bool, false, List, Some, Result, IfOk, IfErr, OnOk, OnErr}
+use Rattle.mss_base.specs.Content.{Content, SiteLog, content}
+use Rattle.mss_base.specs.Sites.{FailingReads, OnlyReads, MayWrite}
 use Rattle.mss_base.specs.declared.place.UnitNo.{UnitNo}
-use Rattle.track_engine.specs.Tracks.{tracks_at}
-
--- the reply and the host that are left are those of the answer
-pub record IsAnswer (a : Answer) (reply : Reply) (host : HostState) : Type 0 where
-  pub reply_ : reply_of reply ≡ a.reply
-  pub host_ : host ≡ a.host
-
--- the reply of a command that was carried out, with unit check or without
-abbrev pub IsDone : ReplyData → Type 0
-IsDone (done status bytes) = Unit {0}
-IsDone _ = ⊥
+use Rattle.channel_commands.specs.Codes.{is_write}
+use Rattle.channel_commands.specs.Views.{reply_of}
+use Rattle.channel_commands.specs.declared.call.Reply.{Reply}
+use Rattle.channel_commands.specs.declared.command.Command.{Command}
+use Rattle.ckd_track.specs.Data.{RecordData}
+use Rattle.ckd_track.specs.Track.{reading, reading_of}
+use Rattle.ckd_plain.specs.declared.host.HostState.{HostState}
+use Rattle.ckd_plain.specs.Plain.{Answer, opened, performed, IsDone, KeepsChain}
+use Rattle.ckd_plain.specs.StateData.{Responds}
+use Rattle.track_engine.specs.declared.place.CylinderPlace.{CylinderPlace}
+use Rattle.track_engine.specs.declared.place.EngineFault.{EngineFault}
+use Rattle.track_engine.specs.Faults.{FailsBy, HasUnitCheck, IsNoFailure, IsNoFailedWrite}
+use Rattle.track_engine.specs.Tracks.{tracks_at, AreTracksOn}
+use Rattle.track_engine.specs.Writing.{WritesTrack}
 
 -- the plain machine's answer to a command that passed its checks, on the tracks of a cylinder's blocks
 abbrev pub ran : Content → UnitNo → ℕ → HostState → Command → List ℕ → Bool → Answer
 ran c unit first host command argument chained = performed (tracks_at c unit first) (opened host) command argument chained
+
+abbrev pub ran_on : SiteLog → CylinderPlace → HostState → Command → List ℕ → Bool → Answer
+ran_on s place host command argument chained = ran (content s) place.unit place.first_block host command argument chained
+
+-- What a command on a cylinder's blocks does, by the log of its site: the reply and the host that is left are the plain machine's;
+-- whatever the outcome, only the block of the host's head was written, in steps that a stop may leave, and in the end it is the new track.
+pub record Runs (c : Command) (argument : List ℕ) (chained : Bool) (place : CylinderPlace) (host : HostState) (old new : SiteLog) (result : Result Reply EngineFault) (left : HostState) : Type 0 where
+  pub answer : IfOk result (Responds (ran_on old place host c argument chained) left)
+  pub writes : WritesTrack c (opened host) place.unit place.first_block old new (ran_on old place host c argument chained).written
+  pub exact : OnOk result ((track : List RecordData) → (ran_on old place host c argument chained).written ≡ Some track
+      → reading (content new place.unit (place.first_block + host.head)) ≡ reading_of track)
+  pub still_tracks : AreTracksOn new place
+
+-- what a command leaves of its host, whatever the site tells
+pub record LeavesHost (chained : Bool) (old new : HostState) (result : Result Reply EngineFault) : Type 0 where
+  pub done_ : IfOk result (λ reply. IsDone (reply_of reply))
+  pub chain : IfOk result (λ reply. KeepsChain chained (reply_of reply) new)
+  pub mounted_ : new.mounted ≡ old.mounted
+  pub stays : OnErr result (new ≡ old)
+
+-- What a command leaves of its devices, whatever the site tells. A command that is no write, or ends with unit check, reads at most.
+-- The count of faults rises where a call failed, and the fault says which; where no call may fail, none did.
+pub record LeavesDevices {S : Type 0} (tells : Type 0) (told : S → SiteLog) (spare writes faults : S → ℕ) (never_fails_but : FailingReads S) (c : Command) (unit : UnitNo) (old new : S) (result : Result Reply EngineFault) : Type 0 where
+  pub devices : MayWrite 4 spare writes faults never_fails_but old new
+  pub looks : is_write c ≡ false → OnlyReads tells told spare writes faults never_fails_but old new
+  pub unwritten : IfOk result (λ reply. HasUnitCheck (reply_of reply) → OnlyReads tells told spare writes faults never_fails_but old new)
+  pub same : OnOk result (faults new ≡ faults old)
+  pub cause : IfErr result (FailsBy tells told spare writes faults never_fails_but (is_write c) old new)
+  pub works : (but : UnitNo → Bool) → never_fails_but old but → but unit ≡ false → IfErr result IsNoFailure
+  pub only_reads_fail : (but : UnitNo → Bool) → never_fails_but old but → IfErr result IsNoFailedWrite

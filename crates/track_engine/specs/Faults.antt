@@ -1,56 +1,95 @@
--- What a command that gave no reply says of the devices.
-use Rattle.std.specs.Prelude.{◌≡◌, ◌≤◌, ℕ, ◌+◌, Bool, IsTrue}
+-- What a command that is done, or isn't, leaves of the devices.
+use Rattle.std.specs.Prelude.{◌≡◌, ℕ, Bool, IsTrue, Result, OnOk, IfErr}
 use Rattle.mss_base.specs.Content.{SiteLog}
-use Rattle.mss_base.specs.Counts.{Rises}
+use Rattle.mss_base.specs.Counts.{Rises, IsFaultSince}
+use Rattle.mss_base.specs.Sites.{FailingReads, OnlyReads}
+use Rattle.channel_commands.specs.Data.{ReplyData, done}
+use Rattle.ckd_plain.specs.Plain.{UNIT_CHECK}
 use Rattle.track_engine.specs.declared.place.EngineFault.{EngineFault}
 use Rattle.track_engine.specs.declared.place.EngineFault.TheVariants.{ReadFailed, WriteFailed, Memory}
 use Rattle.track_engine.specs.declared.place.NotDone.{NotDone}
 use Rattle.track_engine.specs.declared.place.NotDone.TheVariants.{Refused, Fault}
 
--- a device failed since the count of faults was this, and the fault is the count now
-pub record IsFaultSince (before now fault : ℕ) : Type 0 where
-  pub count : fault ≡ now
-  pub rises : Rises before now
+-- ---- no device failed
 
--- the fault of a device has its cause
-abbrev pub HasFault : ℕ → ℕ → EngineFault → Type 0
-HasFault before now (ReadFailed fault) = IsFaultSince before now fault
-HasFault before now (WriteFailed fault) = IsFaultSince before now fault
-HasFault before now Memory = Unit {0}
+abbrev pub IsNoFailure : EngineFault → Type 0
+IsNoFailure (ReadFailed fault) = ⊥
+IsNoFailure (WriteFailed fault) = ⊥
+IsNoFailure Memory = Unit {0}
 
--- only a write fails in writing
-abbrev pub IsByWrite : Bool → EngineFault → Type 0
-IsByWrite writes (WriteFailed fault) = IsTrue writes
-IsByWrite writes _ = Unit {0}
+abbrev pub HasNotFailed : NotDone → Type 0
+HasNotFailed (Fault fault) = IsNoFailure fault
+HasNotFailed (Refused refusal) = Unit {0}
+
+abbrev pub IsNoFailedWrite : EngineFault → Type 0
+IsNoFailedWrite (WriteFailed fault) = ⊥
+IsNoFailedWrite _ = Unit {0}
+
+abbrev pub HasNoFailedWrite : NotDone → Type 0
+HasNoFailedWrite (Fault fault) = IsNoFailedWrite fault
+HasNoFailedWrite (Refused refusal) = Unit {0}
+
+-- ---- searches and reads
+
+-- a read failed, and its fault is the count now
+abbrev pub IsFailedRead : ℕ → EngineFault → Type 0
+IsFailedRead now (ReadFailed fault) = fault ≡ now
+IsFailedRead now _ = ⊥
+
+-- what keeps a search or a read from being done: a failed read, whose fault is the count now; a refusal or want of memory leave the count
+abbrev pub IsReadFault : ℕ → ℕ → NotDone → Type 0
+IsReadFault before now (Fault (ReadFailed fault)) = IsFaultSince before now fault
+IsReadFault before now (Fault (WriteFailed fault)) = ⊥
+IsReadFault before now (Fault Memory) = now ≡ before
+IsReadFault before now (Refused refusal) = now ≡ before
+
+-- the count of faults rises where a read failed, and stays else
+pub record HasReadCause {X : Type 0} (before now : ℕ) (result : Result X NotDone) : Type 0 where
+  pub same : OnOk result (now ≡ before)
+  pub failed : IfErr result (IsReadFault before now)
+
+-- ---- writes
+
+-- a site that was read at most, of which no call failed
+pub record Untroubled {S : Type 0} (tells : Type 0) (told : S → SiteLog) (spare writes faults : S → ℕ) (never_fails_but : FailingReads S) (old new : S) : Type 0 where
+  pub reads : OnlyReads tells told spare writes faults never_fails_but old new
+  pub same : faults new ≡ faults old
+
+-- a site that was read at most, and whose last read failed
+pub record HasReadFault {S : Type 0} (tells : Type 0) (told : S → SiteLog) (spare writes faults : S → ℕ) (never_fails_but : FailingReads S) (old new : S) (fault : ℕ) : Type 0 where
+  pub reads : OnlyReads tells told spare writes faults never_fails_but old new
+  pub cause : IsFaultSince (faults old) (faults new) fault
+
+-- a write was made and failed, and the command is one
+pub record HasWriteFault {S : Type 0} (by_write : Bool) (writes faults : S → ℕ) (old new : S) (fault : ℕ) : Type 0 where
+  pub asked : IsTrue by_write
+  pub wrote : Rises (writes old) (writes new)
+  pub cause : IsFaultSince (faults old) (faults new) fault
+
+-- why a command gave no reply, and the site then: only a failed write may have written
+abbrev pub FailsBy : {S : Type 0} → Type 0 → (S → SiteLog) → (S → ℕ) → (S → ℕ) → (S → ℕ) → FailingReads S → Bool → S → S → EngineFault → Type 0
+FailsBy tells told spare writes faults never_fails_but by_write old new (ReadFailed fault) = HasReadFault tells told spare writes faults never_fails_but old new fault
+FailsBy tells told spare writes faults never_fails_but by_write old new (WriteFailed fault) = HasWriteFault by_write writes faults old new fault
+FailsBy tells told spare writes faults never_fails_but by_write old new Memory = Untroubled tells told spare writes faults never_fails_but old new
+
+-- why a command isn't done, and the site then
+abbrev pub IsUndone : {S : Type 0} → Type 0 → (S → SiteLog) → (S → ℕ) → (S → ℕ) → (S → ℕ) → FailingReads S → Bool → S → S → NotDone → Type 0
+IsUndone tells told spare writes faults never_fails_but by_write old new (Refused refusal) = Untroubled tells told spare writes faults never_fails_but old new
+IsUndone tells told spare writes faults never_fails_but by_write old new (Fault fault) = FailsBy tells told spare writes faults never_fails_but by_write old new fault
+
+-- the reply has unit check
+abbrev pub HasUnitCheck : ReplyData → Type 0
+HasUnitCheck (done status bytes) = status ≡ UNIT_CHECK
+HasUnitCheck _ = ⊥
+
+-- ---- logs
 
 -- only a failed write has written
 abbrev pub LeavesSite : SiteLog → SiteLog → EngineFault → Type 0
 LeavesSite old new (WriteFailed fault) = Unit {0}
 LeavesSite old new _ = new ≡ old
 
--- what keeps a search or a read from being done: a refusal, a failed read or want of memory
-abbrev pub IsReadFault : ℕ → ℕ → NotDone → Type 0
-IsReadFault before now (Fault (ReadFailed fault)) = IsFaultSince before now fault
-IsReadFault before now (Fault (WriteFailed fault)) = ⊥
-IsReadFault before now _ = Unit {0}
-
--- devices that were read at most
-pub record OnlyReads {S : Type 0} (tells : Type 0) (told : S → SiteLog) (spare faults : S → ℕ) (old new : S) : Type 0 where
-  pub log : tells → told new ≡ told old
-  pub room : spare new ≡ spare old
-  pub later : faults old ≤ faults new
-
 -- the log of a command that isn't done
 abbrev pub LeavesLog : SiteLog → SiteLog → NotDone → Type 0
 LeavesLog old new (Refused refusal) = new ≡ old
 LeavesLog old new (Fault fault) = LeavesSite old new fault
-
--- what keeps a command from being done: a refusal, or a fault that has its cause, a failed write only if it is one
-abbrev pub IsFaultOf : Bool → ℕ → ℕ → NotDone → Type 0
-IsFaultOf writes before now (Refused refusal) = Unit {0}
-IsFaultOf writes before now (Fault fault) = HasFault before now fault × IsByWrite writes fault
-
--- devices that were read, and written four times at most
-pub record MayWrite {S : Type 0} (spare faults : S → ℕ) (old new : S) : Type 0 where
-  pub room : spare old ≤ spare new + 4
-  pub later : faults old ≤ faults new

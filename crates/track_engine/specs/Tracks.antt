@@ -1,9 +1,10 @@
 -- The tracks of a cylinder, whose blocks stand one behind the other.
 use Rattle.std.specs.Prelude.{◌≡◌, ◌<◌, ℕ, ◌+◌, nat_lt, List, [], None, if◌then◌else◌}
-use Rattle.mss_base.specs.Content.{Content}
+use Rattle.mss_base.specs.Content.{Content, SiteLog, content}
 use Rattle.mss_base.specs.declared.place.UnitNo.{UnitNo}
 use Rattle.ckd_track.specs.Track.{reading}
 use Rattle.ckd_plain.specs.Index.{Tracks}
+use Rattle.track_engine.specs.declared.place.CylinderPlace.{CylinderPlace}
 
 -- the records of a cylinder's blocks by head, where this is the block of head 0; no records beyond head 18
 abbrev pub tracks_at : Content → UnitNo → ℕ → Tracks
@@ -17,3 +18,14 @@ AreTracks c unit first = (head : ℕ) → head < 19 → (reading (c unit (first 
 pub record IsBlockOf (c : Content) (unit : UnitNo) (first head : ℕ) (bytes : List ℕ) : Type 0 where
   pub block : bytes ≡ c unit (first + head)
   pub records : (reading bytes).records ≡ tracks_at c unit first head
+
+-- ---- on the blocks of a cylinder, as a log leaves them
+
+abbrev pub tracks_on : SiteLog → CylinderPlace → Tracks
+tracks_on s place = tracks_at (content s) place.unit place.first_block
+
+abbrev pub AreTracksOn : SiteLog → CylinderPlace → Type 0
+AreTracksOn s place = AreTracks (content s) place.unit place.first_block
+
+abbrev pub IsBlockOn : SiteLog → CylinderPlace → ℕ → List ℕ → Type 0
+IsBlockOn s place head bytes = IsBlockOf (content s) place.unit place.first_block head bytes

@@ -9,7 +9,7 @@ use Rattle.channel_commands.specs.declared.command.WriteKind.TheVariants as writ
 use Rattle.ckd_track.specs.Data.{RecordData}
 use Rattle.ckd_track.specs.Track.{Reading, reading, reading_of, record_at}
 use Rattle.ckd_track.specs.Formatting.{IsRecord}
-use Rattle.ckd_track.specs.Updating.{record_behind, updated}
+use Rattle.ckd_track.specs.Updating.{record_behind, updated, updated_length}
 use Rattle.ckd_plain.specs.declared.done.DoneCommand.{DoneCommand}
 use Rattle.ckd_plain.specs.declared.host.HostState.{HostState}
 use Rattle.ckd_plain.specs.declared.host.Position.TheVariants as position
@@ -83,6 +83,12 @@ formatted_behind track r at = record {
 abbrev pub update_kind : Bool → WriteKind
 update_kind false = write.Data
 update_kind true = write.KeyData
+
+-- an update of a record k without bytes to update
+abbrev pub IsOfNothing : Command → ℕ → List RecordData → Type 0
+IsOfNothing (command.Write write.Data) k track = updated_length false (record_behind (k - 1) track) ≡ 0
+IsOfNothing (command.Write write.KeyData) k track = updated_length true (record_behind (k - 1) track) ≡ 0
+IsOfNothing _ k track = ⊥
 
 -- the record at a place updated with these bytes
 abbrev pub updated_at : Bool → List RecordData → List ℕ → RecordPlace → Effect

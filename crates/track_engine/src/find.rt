@@ -1,20 +1,23 @@
 // Where a command finds its record.
-ghost use Rattle.std.specs.Prelude.{◌≡◌, ◌≤◌, ◌<◌, ◌+◌, ◌^◌, length, Ok, Err, IfOk, OnOk, IfErr, IfSome, MatchResult};
+ghost use Rattle.std.specs.Prelude.{◌≡◌, ◌≤◌, ◌<◌, ◌+◌, ◌^◌, length, Ok, Err, IfOk, IsOk, OnOk, IfErr, IfSome, MatchResult, Bool, false};
 ghost use Rattle.mss_base.specs.Content.{content};
+ghost use Rattle.mss_base.specs.Counts.{HasCause};
+ghost use Rattle.mss_base.specs.Sites.{OnlyReads};
+ghost use Rattle.mss_base.specs.declared.place.UnitNo.{UnitNo};
 ghost use Rattle.ckd_track.specs.Data.{HasCount};
 ghost use Rattle.ckd_track.specs.Track.{reading};
 ghost use Rattle.ckd_plain.specs.Views.{item_of, found_of, IsRecordAt};
 ghost use Rattle.ckd_plain.specs.Index.{record_at, pass_index, next_record, same_record, to_home};
 ghost use Rattle.ckd_plain.specs.Effects.{this_or_next};
-ghost use Rattle.track_engine.specs.Tracks.{tracks_at, IsBlockOf};
-ghost use Rattle.track_engine.specs.Faults.{HasFault, IsReadFault, OnlyReads};
+ghost use Rattle.track_engine.specs.Tracks.{tracks_on, IsBlockOn};
+ghost use Rattle.track_engine.specs.Faults.{HasReadCause, HasNotFailed, IsFailedRead};
 ghost use Rattle.track_engine.specs.Found.{found_at, GivesBut, KeepsVolume};
 
 use crate::place::{CylinderPlace, EngineFault, NotDone};
 use ckd_plain::steps::{FoundRecord, candidate, pass_index, to_home};
 use ckd_plain::{HostState, Refusal, UnitCheck};
 use ckd_track::find_record;
-use mss_base::{Failed, Head, Site};
+use mss_base::{BLOCK_BYTES, Failed, Head, Site};
 
 /// How many tracks a command may look at.
 const LOOKS: u8 = 20;
@@ -33,11 +36,15 @@ pub fn bring_block<S: Site>(
     buffer: &mut [u8],
     head: Head,
 ) -> Result<(), EngineFault>
-    requires buffer { length buffer.old ≡ 16384 }
+    requires buffer { length buffer.old ≡ BLOCK_BYTES }
     requires place { place.now.first_block + 18 < 2 ^ 32 }
-    ensures block { S.tells → OnOk result (IsBlockOf (content (S.told site.old)) place.now.unit place.now.first_block head buffer.new) }
-    ensures reads { OnlyReads S.tells S.told S.spare S.faults site.old site.new }
-    ensures cause { IfErr result (λ fault. IsReadFault (S.faults site.old) (S.faults site.new) (NotDone.Fault fault)) }
+    ensures block { S.tells → OnOk result (IsBlockOn (S.told site.old) place.now head buffer.new) }
+    ensures reads { OnlyReads S.tells S.told S.spare S.writes S.faults S.never_fails_but
+        site.old site.new }
+    ensures cause { HasCause (S.faults site.old) (S.faults site.new) result }
+    ensures fault { IfErr result (IsFailedRead (S.faults site.new)) }
+    ensures works { (but : UnitNo → Bool) → S.never_fails_but site.old but
+        → but place.now.unit ≡ false → IsOk result }
 {
     let at = place.block_of(head);
     match site.read(at.unit, at.block, buffer) {
@@ -50,8 +57,9 @@ pub fn bring_block<S: Site>(
 
 /// Record `number` of the host's track, which is that of the block, where it is there.
 pub fn record_in<'a>(block: &'a [u8], host: &HostState, number: usize) -> Option<FoundRecord<'a>>
-    requires { length block.now ≡ 16384 }
-    ensures item { IsRecordAt number host.now result (record_at (reading block.now).records host.now number) }
+    requires { length block.now ≡ BLOCK_BYTES }
+    ensures item { IsRecordAt number host.now result
+        (record_at (reading block.now).records host.now number) }
     ensures small { IfSome result (λ _. number ≤ 97) }
     ensures counted { IfSome result (λ found. HasCount (item_of found)) }
 {
@@ -74,7 +82,7 @@ pub fn record_in<'a>(block: &'a [u8], host: &HostState, number: usize) -> Option
 
 /// The record at a place, where one is.
 pub fn found_in<'a>(block: &'a [u8], at: &RecordPlace) -> FoundRecord<'a>
-    requires whole { length block.now ≡ 16384 }
+    requires whole { length block.now ≡ BLOCK_BYTES }
     requires there { at.now.number ≤ length (reading block.now).records }
     ensures found { found_of result ≡ found_at block.now at.now }
     ensures counted { HasCount (item_of result) }
@@ -93,14 +101,17 @@ fn pass<S: Site>(
     host: &HostState,
     multi: bool,
 ) -> Result<HostState, NotDone>
-    requires buffer { length buffer.old ≡ 16384 }
+    requires buffer { length buffer.old ≡ BLOCK_BYTES }
     requires place { place.now.first_block + 18 < 2 ^ 32 }
     ensures passed { GivesBut (λ passed. passed) result (pass_index host.now multi) }
-    ensures block { S.tells → IsBlockOf (content (S.told site.old)) place.now.unit place.now.first_block host.now.head buffer.old
-        → IfOk result (λ passed. IsBlockOf (content (S.told site.old)) place.now.unit place.now.first_block passed.head buffer.new) }
+    ensures block { S.tells → IsBlockOn (S.told site.old) place.now host.now.head buffer.old
+        → IfOk result (λ passed. IsBlockOn (S.told site.old) place.now passed.head buffer.new) }
     ensures volume { KeepsVolume (λ passed. passed) host.now.mounted result }
-    ensures reads { OnlyReads S.tells S.told S.spare S.faults site.old site.new }
-    ensures cause { IfErr result (IsReadFault (S.faults site.old) (S.faults site.new)) }
+    ensures reads { OnlyReads S.tells S.told S.spare S.writes S.faults S.never_fails_but
+        site.old site.new }
+    ensures cause { HasReadCause (S.faults site.old) (S.faults site.new) result }
+    ensures works { (but : UnitNo → Bool) → S.never_fails_but site.old but
+        → but place.now.unit ≡ false → IfErr result HasNotFailed }
 {
     let passed = pass_index(*host, multi)?;
     if passed.head == host.head {
@@ -119,13 +130,17 @@ pub fn next_record<S: Site>(
     first: u8,
     multi: bool,
 ) -> Result<RecordPlace, NotDone>
-    requires buffer { length buffer.old ≡ 16384 }
+    requires buffer { length buffer.old ≡ BLOCK_BYTES }
     requires place { place.now.first_block + 18 < 2 ^ 32 }
-    ensures found { S.tells → GivesBut (found_at buffer.new) result (next_record (tracks_at (content (S.told site.old)) place.now.unit place.now.first_block) from.now first multi) }
+    ensures found { S.tells → GivesBut (found_at buffer.new) result
+        (next_record (tracks_on (S.told site.old) place.now) from.now first multi) }
     ensures there { IfOk result (λ at. at.number ≤ length (reading buffer.new).records) }
     ensures volume { KeepsVolume (λ at. at.host) from.now.mounted result }
-    ensures reads { OnlyReads S.tells S.told S.spare S.faults site.old site.new }
-    ensures cause { IfErr result (IsReadFault (S.faults site.old) (S.faults site.new)) }
+    ensures reads { OnlyReads S.tells S.told S.spare S.writes S.faults S.never_fails_but
+        site.old site.new }
+    ensures cause { HasReadCause (S.faults site.old) (S.faults site.new) result }
+    ensures works { (but : UnitNo → Bool) → S.never_fails_but site.old but
+        → but place.now.unit ≡ false → IfErr result HasNotFailed }
 {
     let mut host = *from;
     bring_block(site, place, buffer, host.head)?;
@@ -146,8 +161,9 @@ pub fn next_record<S: Site>(
 /// Record `number` itself, on the host's track, which is that of the block.
 #[tactic(auto, unfolding(ckd_plain::specs::Index::same_record))]
 pub fn same_record(block: &[u8], host: &HostState, number: u8) -> Result<RecordPlace, Refusal>
-    requires { length block.now ≡ 16384 }
-    ensures found { MatchResult result (λ at. same_record (reading block.now).records host.now number ≡ Ok (found_at block.now at))
+    requires { length block.now ≡ BLOCK_BYTES }
+    ensures found { MatchResult result
+        (λ at. same_record (reading block.now).records host.now number ≡ Ok (found_at block.now at))
         (λ refusal. same_record (reading block.now).records host.now number ≡ Err refusal) }
     ensures there { IfOk result (λ at. at.number ≤ length (reading block.now).records) }
     ensures itself { IfOk result (λ at. at ≡ record { number = number; host = host.now }) }
@@ -174,13 +190,17 @@ pub fn this_or_next<S: Site>(
     at_hand: Option<u8>,
     multi: bool,
 ) -> Result<RecordPlace, NotDone>
-    requires buffer { length buffer.old ≡ 16384 }
+    requires buffer { length buffer.old ≡ BLOCK_BYTES }
     requires place { place.now.first_block + 18 < 2 ^ 32 }
-    ensures found { S.tells → GivesBut (found_at buffer.new) result (this_or_next at_hand (tracks_at (content (S.told site.old)) place.now.unit place.now.first_block) host.now multi) }
+    ensures found { S.tells → GivesBut (found_at buffer.new) result
+        (this_or_next at_hand (tracks_on (S.told site.old) place.now) host.now multi) }
     ensures there { IfOk result (λ at. at.number ≤ length (reading buffer.new).records) }
     ensures volume { KeepsVolume (λ at. at.host) host.now.mounted result }
-    ensures reads { OnlyReads S.tells S.told S.spare S.faults site.old site.new }
-    ensures cause { IfErr result (IsReadFault (S.faults site.old) (S.faults site.new)) }
+    ensures reads { OnlyReads S.tells S.told S.spare S.writes S.faults S.never_fails_but
+        site.old site.new }
+    ensures cause { HasReadCause (S.faults site.old) (S.faults site.new) result }
+    ensures works { (but : UnitNo → Bool) → S.never_fails_but site.old but
+        → but place.now.unit ≡ false → IfErr result HasNotFailed }
 {
     let Some(number) = at_hand else {
         return next_record(site, place, buffer, host, 1, multi);
@@ -192,7 +212,8 @@ pub fn this_or_next<S: Site>(
 /// The host at the home address of its track, or of the next. No block is needed for that.
 pub fn at_home(host: &HostState, multi: bool) -> Result<HostState, Refusal>
     ensures home { result ≡ to_home host.now multi }
-    ensures volume { MatchResult result (λ there. there.mounted ≡ host.now.mounted) (λ refusal. refusal.host.mounted ≡ host.now.mounted) }
+    ensures volume { MatchResult result (λ there. there.mounted ≡ host.now.mounted)
+        (λ refusal. refusal.host.mounted ≡ host.now.mounted) }
 {
     to_home(*host, multi)
 }

@@ -5,7 +5,6 @@
 //! machine over `tracks_at` (`specs/Tracks.antt`), and on what a stop within a write may leave (`specs/Writing.antt`).
 #![tactic(auto)]
 
-mod control;
 mod find;
 mod place;
 mod read;
@@ -15,6 +14,5 @@ mod search;
 mod tests;
 mod write;
 
-pub use control::{is_data, run_control};
 pub use place::{CylinderPlace, EngineFault};
 pub use run::run_command;

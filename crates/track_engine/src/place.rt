@@ -57,7 +57,11 @@ impl CylinderPlace {
     /// The block of a head.
     pub fn block_of(&self, head: Head) -> BlockPlace
         requires { self.now.first_block + 18 < 2 ^ 32 }
-        ensures value { result ≡ record { unit = self.now.unit; block = self.now.first_block + head } }
+        ensures value { result ≡ record {
+          unit = self.now.unit;
+          block = self.now.first_block +
+              head;
+        } }
         ensures in_range { head ≤ 18 }
     {
         BlockPlace {

@@ -1,10 +1,12 @@
 // Reads.
-ghost use Rattle.std.specs.Prelude.{◌≡◌, ◌≢◌, ◌<◌, ◌+◌, ◌^◌, length, IfErr};
+ghost use Rattle.std.specs.Prelude.{◌≡◌, ◌≢◌, ◌<◌, ◌+◌, ◌^◌, length, IfOk, IfErr, Bool, true, false};
 ghost use Rattle.mss_base.specs.Content.{content};
-ghost use Rattle.ckd_plain.specs.Effects.{read};
+ghost use Rattle.mss_base.specs.Sites.{OnlyReads};
+ghost use Rattle.mss_base.specs.declared.place.UnitNo.{UnitNo};
+ghost use Rattle.ckd_plain.specs.Effects.{is_ending, read};
 ghost use Rattle.ckd_plain.specs.Views.{effect_of};
-ghost use Rattle.track_engine.specs.Tracks.{tracks_at};
-ghost use Rattle.track_engine.specs.Faults.{IsReadFault, OnlyReads};
+ghost use Rattle.track_engine.specs.Tracks.{tracks_on};
+ghost use Rattle.track_engine.specs.Faults.{HasReadCause, HasNotFailed};
 ghost use Rattle.track_engine.specs.Found.{GivesBut, KeepsVolume};
 
 use crate::find::{at_home, found_in, this_or_next};
@@ -12,7 +14,7 @@ use crate::place::{CylinderPlace, NotDone};
 use channel_commands::ReadWhat;
 use ckd_plain::HostState;
 use ckd_plain::steps::{DoneCommand, at_hand, home_read, record_zero_read};
-use mss_base::Site;
+use mss_base::{BLOCK_BYTES, Site};
 use std::alloc::Global;
 
 /// A read of a record.
@@ -26,14 +28,19 @@ fn read_record<S: Site>(
     what: ReadWhat,
     multi: bool,
 ) -> Result<DoneCommand, NotDone>
-    requires buffer { length buffer.old ≡ 16384 }
+    requires buffer { length buffer.old ≡ BLOCK_BYTES }
     requires place { place.now.first_block + 18 < 2 ^ 32 }
     requires no_home { what ≢ ReadWhat.Home }
     requires no_zero { what ≢ ReadWhat.RecordZero }
-    ensures done { S.tells → GivesBut effect_of result (read (tracks_at (content (S.told site.old)) place.now.unit place.now.first_block) host.now what multi) }
+    ensures done { S.tells → GivesBut effect_of result
+        (read (tracks_on (S.told site.old) place.now) host.now what multi) }
     ensures volume { KeepsVolume (λ done. done.host) host.now.mounted result }
-    ensures reads { OnlyReads S.tells S.told S.spare S.faults site.old site.new }
-    ensures cause { IfErr result (IsReadFault (S.faults site.old) (S.faults site.new)) }
+    ensures ends { IfOk result (λ done. is_ending done.status ≡ true) }
+    ensures reads { OnlyReads S.tells S.told S.spare S.writes S.faults S.never_fails_but
+        site.old site.new }
+    ensures cause { HasReadCause (S.faults site.old) (S.faults site.new) result }
+    ensures works { (but : UnitNo → Bool) → S.never_fails_but site.old but
+        → but place.now.unit ≡ false → IfErr result HasNotFailed }
 {
     let at_hand = at_hand(what, host.position);
     let at = this_or_next(site, place, buffer, host, at_hand, multi)?;
@@ -51,12 +58,17 @@ pub fn read<S: Site>(
     what: ReadWhat,
     multi: bool,
 ) -> Result<DoneCommand, NotDone>
-    requires buffer { length buffer.old ≡ 16384 }
+    requires buffer { length buffer.old ≡ BLOCK_BYTES }
     requires place { place.now.first_block + 18 < 2 ^ 32 }
-    ensures done { S.tells → GivesBut effect_of result (read (tracks_at (content (S.told site.old)) place.now.unit place.now.first_block) host.now what multi) }
+    ensures done { S.tells → GivesBut effect_of result
+        (read (tracks_on (S.told site.old) place.now) host.now what multi) }
     ensures volume { KeepsVolume (λ done. done.host) host.now.mounted result }
-    ensures reads { OnlyReads S.tells S.told S.spare S.faults site.old site.new }
-    ensures cause { IfErr result (IsReadFault (S.faults site.old) (S.faults site.new)) }
+    ensures ends { IfOk result (λ done. is_ending done.status ≡ true) }
+    ensures reads { OnlyReads S.tells S.told S.spare S.writes S.faults S.never_fails_but
+        site.old site.new }
+    ensures cause { HasReadCause (S.faults site.old) (S.faults site.new) result }
+    ensures works { (but : UnitNo → Bool) → S.never_fails_but site.old but
+        → but place.now.unit ≡ false → IfErr result HasNotFailed }
 {
     match what {
         ReadWhat::Home => Ok(home_read(alloc, &at_home(host, multi)?)?),

@@ -1,21 +1,23 @@
 // A search, read or write on the blocks of a cylinder.
-ghost use Rattle.std.specs.Prelude.{◌≡◌, ◌≤◌, ◌<◌, ◌+◌, ◌^◌, ℕ, List, length, true, false, Some, IsTrue, IfOk, IfErr, OnOk, OnErr};
+ghost use Rattle.std.specs.Prelude.{◌≡◌, ◌≤◌, ◌<◌, ◌+◌, ◌^◌, ℕ, List, Bool, length, true, false, Some, IsTrue, IfOk, IfErr, OnOk, OnErr};
 ghost use Rattle.mss_base.specs.Content.{content};
+ghost use Rattle.mss_base.specs.Sites.{OnlyReads, MayWrite};
+ghost use Rattle.mss_base.specs.declared.place.UnitNo.{UnitNo};
 ghost use Rattle.channel_commands.specs.Codes.{least, is_write};
 ghost use Rattle.channel_commands.specs.Views.{reply_of};
 ghost use Rattle.ckd_track.specs.Data.{RecordData};
 ghost use Rattle.ckd_track.specs.Track.{reading, reading_of};
 ghost use Rattle.ckd_plain.specs.declared.host.Prior.{Prior};
 ghost use Rattle.ckd_plain.specs.Checks.{Passes, is_prior_permitted};
-ghost use Rattle.ckd_plain.specs.Effects.{effect, prior_number};
-ghost use Rattle.ckd_plain.specs.Effects.{is_data};
-ghost use Rattle.ckd_plain.specs.Plain.{opened};
+ghost use Rattle.ckd_plain.specs.Effects.{effect, is_data, is_ending, prior_number};
+ghost use Rattle.ckd_plain.specs.Plain.{opened, IsDone, KeepsChain};
+ghost use Rattle.ckd_plain.specs.StateData.{Responds};
 ghost use Rattle.ckd_plain.specs.Views.{effect_of};
-ghost use Rattle.track_engine.specs.Answers.{IsAnswer, IsDone, ran};
-ghost use Rattle.track_engine.specs.Faults.{HasFault, IsByWrite, LeavesSite, IsReadFault, IsFaultOf, OnlyReads, MayWrite};
+ghost use Rattle.track_engine.specs.Answers.{ran_on, Runs, LeavesHost, LeavesDevices};
+ghost use Rattle.track_engine.specs.Faults.{HasReadCause, HasNotFailed, HasNoFailedWrite, IsNoFailure, IsNoFailedWrite, IsUndone, FailsBy, HasUnitCheck};
 ghost use Rattle.track_engine.specs.Found.{GivesBut, KeepsVolume};
-ghost use Rattle.track_engine.specs.Tracks.{tracks_at, AreTracks};
-ghost use Rattle.track_engine.specs.Writing.{WritesTrack, CarriesOut};
+ghost use Rattle.track_engine.specs.Tracks.{tracks_on, AreTracksOn};
+ghost use Rattle.track_engine.specs.Writing.{WritesTrack, CarriesOut, IsOfNothing};
 
 use crate::place::{CylinderPlace, EngineFault, NotDone};
 use crate::read::read;
@@ -24,7 +26,7 @@ use crate::write::{write_count_key_data, write_data};
 use channel_commands::{Command, Reply, SearchField, WriteKind};
 use ckd_plain::steps::{DoneCommand, cleared, finished, opened, refused};
 use ckd_plain::{HostState, Prior};
-use mss_base::Site;
+use mss_base::{BLOCK_BYTES, Site};
 use std::alloc::Global;
 
 /// A search or a read.
@@ -38,16 +40,21 @@ fn look<S: Site>(
     command: Command,
     argument: &[u8],
 ) -> Result<DoneCommand, NotDone>
-    requires buffer { length buffer.old ≡ 16384 }
+    requires buffer { length buffer.old ≡ BLOCK_BYTES }
     requires place { place.now.first_block + 18 < 2 ^ 32 }
     requires long { least command ≤ length argument.now }
     requires data { is_data command ≡ true }
     requires reads { is_write command ≡ false }
     ensures done { S.tells → (left : Prior)
-        → GivesBut effect_of result (effect (tracks_at (content (S.told site.old)) place.now.unit place.now.first_block) host.now left command argument.now) }
+        → GivesBut effect_of result
+        (effect (tracks_on (S.told site.old) place.now) host.now left command argument.now) }
     ensures volume { KeepsVolume (λ done. done.host) host.now.mounted result }
-    ensures reads { OnlyReads S.tells S.told S.spare S.faults site.old site.new }
-    ensures cause { IfErr result (IsReadFault (S.faults site.old) (S.faults site.new)) }
+    ensures ends { IfOk result (λ done. is_ending done.status ≡ true) }
+    ensures reads { OnlyReads S.tells S.told S.spare S.writes S.faults S.never_fails_but
+        site.old site.new }
+    ensures cause { HasReadCause (S.faults site.old) (S.faults site.new) result }
+    ensures works { (but : UnitNo → Bool) → S.never_fails_but site.old but
+        → but place.now.unit ≡ false → IfErr result HasNotFailed }
 {
     match command {
         Command::Search { field, test, multi } => match field {
@@ -72,20 +79,34 @@ fn carry_out<S: Site>(
     command: Command,
     argument: &[u8],
 ) -> Result<DoneCommand, NotDone>
-    requires buffer { length buffer.old ≡ 16384 }
+    requires buffer { length buffer.old ≡ BLOCK_BYTES }
     requires place { place.now.first_block + 18 < 2 ^ 32 }
     requires long { least command ≤ length argument.now }
     requires permitted { IsTrue (is_prior_permitted left command) }
     requires data { is_data command ≡ true }
-    requires tracks { S.tells → AreTracks (content (S.told site.old)) place.now.unit place.now.first_block }
+    requires tracks { S.tells → AreTracksOn (S.told site.old) place.now }
     requires room { 4 ≤ S.spare site.old }
     ensures done { S.tells → CarriesOut
-        (effect (tracks_at (content (S.told site.old)) place.now.unit place.now.first_block) host.now left command argument.now)
-        command (prior_number left) (tracks_at (content (S.told site.old)) place.now.unit place.now.first_block host.now.head)
-        place.now.unit (place.now.first_block + host.now.head) (S.told site.old) (S.told site.new) result }
+        (effect (tracks_on (S.told site.old) place.now) host.now left command argument.now)
+        command (prior_number left) (tracks_on (S.told site.old) place.now host.now.head)
+        place.now.unit (place.now.first_block + host.now.head)
+        (S.told site.old) (S.told site.new) result }
     ensures volume { KeepsVolume (λ done. done.host) host.now.mounted result }
-    ensures devices { MayWrite S.spare S.faults site.old site.new }
-    ensures cause { IfErr result (IsFaultOf (is_write command) (S.faults site.old) (S.faults site.new)) }
+    ensures ends { IfOk result (λ done. is_ending done.status ≡ true) }
+    ensures devices { MayWrite 4 S.spare S.writes S.faults S.never_fails_but site.old site.new }
+    ensures looks { is_write command ≡ false
+        → OnlyReads S.tells S.told S.spare S.writes S.faults S.never_fails_but site.old site.new }
+    ensures untouched { S.tells → IsOfNothing command (prior_number left)
+        (tracks_on (S.told site.old) place.now host.now.head)
+        → OnlyReads S.tells S.told S.spare S.writes S.faults S.never_fails_but site.old site.new }
+    ensures same { OnOk result (S.faults site.new ≡ S.faults site.old) }
+    ensures undone { IfErr result
+        (IsUndone S.tells S.told S.spare S.writes S.faults S.never_fails_but
+        (is_write command) site.old site.new) }
+    ensures works { (but : UnitNo → Bool) → S.never_fails_but site.old but
+        → but place.now.unit ≡ false → IfErr result HasNotFailed }
+    ensures only_reads_fail { (but : UnitNo → Bool) → S.never_fails_but site.old but
+        → IfErr result HasNoFailedWrite }
 {
     match command {
         Command::Write(WriteKind::Data) => {
@@ -101,10 +122,8 @@ fn carry_out<S: Site>(
     }
 }
 
-/// A search, read or write that passed its checks, on the blocks of the host's cylinder.
-///
-/// `buffer` is room for one block. After a fault the host is as it was.
-pub fn run_command<S: Site>(
+/// What `run_command` does, clause by clause.
+fn run<S: Site>(
     alloc: Global,
     site: &mut S,
     place: &CylinderPlace,
@@ -114,34 +133,43 @@ pub fn run_command<S: Site>(
     chained: bool,
     host: &mut HostState,
 ) -> Result<Reply, EngineFault>
-    requires buffer { length buffer.old ≡ 16384 }
+    requires buffer { length buffer.old ≡ BLOCK_BYTES }
     requires place { place.now.first_block + 18 < 2 ^ 32 }
     requires passes { Passes (opened host.old) command.now argument.now }
     requires data { is_data command.now ≡ true }
-    requires tracks { S.tells → AreTracks (content (S.told site.old)) place.now.unit place.now.first_block }
+    requires tracks { S.tells → AreTracksOn (S.told site.old) place.now }
     requires room { 4 ≤ S.spare site.old }
-
-    // The reply and the host are those of the plain machine on these tracks.
-    ensures answer { S.tells → IfOk result (λ reply. IsAnswer
-        (ran (content (S.told site.old)) place.now.unit place.now.first_block host.old command.now argument.now chained) reply host.new) }
+    ensures answer { S.tells → IfOk result (Responds
+        (ran_on (S.told site.old) place.now host.old command.now argument.now chained)
+        host.new) }
     ensures done { IfOk result (λ reply. IsDone (reply_of reply)) }
+    ensures chain { IfOk result (λ reply. KeepsChain chained (reply_of reply) host.new) }
     ensures mounted { host.new.mounted ≡ host.old.mounted }
     ensures host_stays { OnErr result (host.new ≡ host.old) }
-
-    // Whatever the outcome, only the block of the host's old head was written, in steps that a stop may leave; in the
-    // end it is the new track.
-    ensures writes { S.tells → WritesTrack command.now (opened host.old) place.now.unit place.now.first_block (S.told site.old) (S.told site.new)
-        (ran (content (S.told site.old)) place.now.unit place.now.first_block host.old command.now argument.now chained).written }
+    ensures writes { S.tells → WritesTrack command.now (opened host.old) place.now.unit
+        place.now.first_block (S.told site.old) (S.told site.new)
+        (ran_on (S.told site.old) place.now host.old command.now argument.now chained).written }
     ensures exact { S.tells → OnOk result ((track : List RecordData)
-        → (ran (content (S.told site.old)) place.now.unit place.now.first_block host.old command.now argument.now chained).written ≡ Some track
-        → reading (content (S.told site.new) place.now.unit (place.now.first_block + host.old.head)) ≡ reading_of track) }
-    ensures still_tracks { S.tells → AreTracks (content (S.told site.new)) place.now.unit place.now.first_block }
-    ensures no_write { S.tells → IfErr result (LeavesSite (S.told site.old) (S.told site.new)) }
-    ensures room { S.spare site.old ≤ S.spare site.new + 4 }
-
-    ensures cause { IfErr result (HasFault (S.faults site.old) (S.faults site.new)) }
-    ensures by_write { IfErr result (IsByWrite (is_write command.now)) }
-    ensures faults { S.faults site.old ≤ S.faults site.new }
+        → (ran_on (S.told site.old) place.now host.old command.now argument.now chained).written
+        ≡ Some track
+        → reading (content (S.told site.new) place.now.unit (place.now.first_block + host.old.head))
+        ≡ reading_of track) }
+    ensures still_tracks { S.tells → AreTracksOn (S.told site.new) place.now }
+    ensures looks { is_write command.now ≡ false
+        → OnlyReads S.tells S.told S.spare S.writes S.faults S.never_fails_but site.old site.new }
+    ensures unwritten { IfOk result (λ reply. HasUnitCheck (reply_of reply)
+        → OnlyReads S.tells S.told S.spare S.writes S.faults S.never_fails_but site.old site.new) }
+    ensures untouched { S.tells → IsOfNothing command.now (prior_number (opened host.old).prior)
+        (tracks_on (S.told site.old) place.now host.old.head)
+        → OnlyReads S.tells S.told S.spare S.writes S.faults S.never_fails_but site.old site.new }
+    ensures devices { MayWrite 4 S.spare S.writes S.faults S.never_fails_but site.old site.new }
+    ensures same { OnOk result (S.faults site.new ≡ S.faults site.old) }
+    ensures cause { IfErr result (FailsBy S.tells S.told S.spare S.writes S.faults S.never_fails_but
+        (is_write command.now) site.old site.new) }
+    ensures works { (but : UnitNo → Bool) → S.never_fails_but site.old but
+        → but place.now.unit ≡ false → IfErr result IsNoFailure }
+    ensures only_reads_fail { (but : UnitNo → Bool) → S.never_fails_but site.old but
+        → IfErr result IsNoFailedWrite }
 {
     let now = opened(host);
     let ready = cleared(*command, &now);
@@ -152,4 +180,35 @@ pub fn run_command<S: Site>(
         Err(NotDone::Refused(refusal)) => Ok(refused(alloc, host, &refusal)),
         Err(NotDone::Fault(fault)) => Err(fault),
     }
+}
+
+/// A search, read or write that passed its checks, on the blocks of the host's cylinder.
+///
+/// `buffer` is room for one block. After a fault the host is as it was. An update of no bytes reads at most.
+pub fn run_command<S: Site>(
+    alloc: Global,
+    site: &mut S,
+    place: &CylinderPlace,
+    buffer: &mut [u8],
+    command: &Command,
+    argument: &[u8],
+    chained: bool,
+    host: &mut HostState,
+) -> Result<Reply, EngineFault>
+    requires buffer { length buffer.old ≡ BLOCK_BYTES }
+    requires place { place.now.first_block + 18 < 2 ^ 32 }
+    requires passes { Passes (opened host.old) command.now argument.now }
+    requires data { is_data command.now ≡ true }
+    requires tracks { S.tells → AreTracksOn (S.told site.old) place.now }
+    requires room { 4 ≤ S.spare site.old }
+    ensures runs { S.tells → Runs command.now argument.now chained place.now host.old
+        (S.told site.old) (S.told site.new) result host.new }
+    ensures host_ { LeavesHost chained host.old host.new result }
+    ensures site_ { LeavesDevices S.tells S.told S.spare S.writes S.faults S.never_fails_but
+        command.now place.now.unit site.old site.new result }
+    ensures untouched { S.tells → IsOfNothing command.now (prior_number (opened host.old).prior)
+        (tracks_on (S.told site.old) place.now host.old.head)
+        → OnlyReads S.tells S.told S.spare S.writes S.faults S.never_fails_but site.old site.new }
+{
+    run(alloc, site, place, buffer, command, argument, chained, host)
 }

@@ -1,13 +1,15 @@
 // Searches.
-ghost use Rattle.std.specs.Prelude.{◌≡◌, ◌≤◌, ◌<◌, ◌+◌, ◌^◌, length, IfErr, MatchResult};
+ghost use Rattle.std.specs.Prelude.{◌≡◌, ◌≤◌, ◌<◌, ◌+◌, ◌^◌, length, IfOk, IfErr, MatchResult, Bool, true, false};
 ghost use Rattle.mss_base.specs.Content.{content};
+ghost use Rattle.mss_base.specs.Sites.{OnlyReads};
+ghost use Rattle.mss_base.specs.declared.place.UnitNo.{UnitNo};
 ghost use Rattle.channel_commands.specs.declared.command.SearchField.{SearchField};
 ghost use Rattle.channel_commands.specs.declared.command.SearchTest.{SearchTest};
-ghost use Rattle.ckd_plain.specs.Effects.{search};
+ghost use Rattle.ckd_plain.specs.Effects.{is_ending, search};
 ghost use Rattle.ckd_plain.specs.Index.{Tracks};
 ghost use Rattle.ckd_plain.specs.Views.{effect_of, Gives};
-ghost use Rattle.track_engine.specs.Tracks.{tracks_at};
-ghost use Rattle.track_engine.specs.Faults.{IsReadFault, OnlyReads};
+ghost use Rattle.track_engine.specs.Tracks.{tracks_on};
+ghost use Rattle.track_engine.specs.Faults.{HasReadCause, HasNotFailed};
 ghost use Rattle.track_engine.specs.Found.{GivesBut, KeepsVolume};
 
 use crate::find::{at_home, found_in, next_record, this_or_next};
@@ -15,7 +17,7 @@ use crate::place::{CylinderPlace, NotDone};
 use channel_commands::SearchTest;
 use ckd_plain::steps::{DoneCommand, home_searched, key_at_hand};
 use ckd_plain::{HostState, Refusal};
-use mss_base::Site;
+use mss_base::{BLOCK_BYTES, Site};
 use std::alloc::Global;
 
 /// Search home address equal.
@@ -27,8 +29,11 @@ pub fn search_home(
     argument: &[u8],
 ) -> Result<DoneCommand, Refusal>
     requires { 4 ≤ length argument.now }
-    ensures done { (tracks : Tracks) (test : SearchTest) → Gives effect_of result (search tracks host.now SearchField.Home test multi argument.now) }
-    ensures volume { MatchResult result (λ done. done.host.mounted ≡ host.now.mounted) (λ refusal. refusal.host.mounted ≡ host.now.mounted) }
+    ensures done { (tracks : Tracks) (test : SearchTest)
+        → Gives effect_of result (search tracks host.now SearchField.Home test multi argument.now) }
+    ensures ends { IfOk result (λ done. is_ending done.status ≡ true) }
+    ensures volume { MatchResult result (λ done. done.host.mounted ≡ host.now.mounted)
+        (λ refusal. refusal.host.mounted ≡ host.now.mounted) }
 {
     let there = at_home(host, multi)?;
     Ok(home_searched(alloc, &there, argument))
@@ -46,13 +51,19 @@ pub fn search_id<S: Site>(
     multi: bool,
     argument: &[u8],
 ) -> Result<DoneCommand, NotDone>
-    requires buffer { length buffer.old ≡ 16384 }
+    requires buffer { length buffer.old ≡ BLOCK_BYTES }
     requires place { place.now.first_block + 18 < 2 ^ 32 }
     requires long { 5 ≤ length argument.now }
-    ensures done { S.tells → GivesBut effect_of result (search (tracks_at (content (S.told site.old)) place.now.unit place.now.first_block) host.now SearchField.Id test multi argument.now) }
+    ensures done { S.tells → GivesBut effect_of result
+        (search (tracks_on (S.told site.old) place.now) host.now SearchField.Id test multi
+        argument.now) }
     ensures volume { KeepsVolume (λ done. done.host) host.now.mounted result }
-    ensures reads { OnlyReads S.tells S.told S.spare S.faults site.old site.new }
-    ensures cause { IfErr result (IsReadFault (S.faults site.old) (S.faults site.new)) }
+    ensures ends { IfOk result (λ done. is_ending done.status ≡ true) }
+    ensures reads { OnlyReads S.tells S.told S.spare S.writes S.faults S.never_fails_but
+        site.old site.new }
+    ensures cause { HasReadCause (S.faults site.old) (S.faults site.new) result }
+    ensures works { (but : UnitNo → Bool) → S.never_fails_but site.old but
+        → but place.now.unit ≡ false → IfErr result HasNotFailed }
 {
     let at = next_record(site, place, buffer, host, 0, multi)?;
     Ok(found_in(buffer, &at).id_searched(alloc, test, argument))
@@ -70,12 +81,18 @@ pub fn search_key<S: Site>(
     multi: bool,
     argument: &[u8],
 ) -> Result<DoneCommand, NotDone>
-    requires buffer { length buffer.old ≡ 16384 }
+    requires buffer { length buffer.old ≡ BLOCK_BYTES }
     requires place { place.now.first_block + 18 < 2 ^ 32 }
-    ensures done { S.tells → GivesBut effect_of result (search (tracks_at (content (S.told site.old)) place.now.unit place.now.first_block) host.now SearchField.Key test multi argument.now) }
+    ensures done { S.tells → GivesBut effect_of result
+        (search (tracks_on (S.told site.old) place.now) host.now SearchField.Key test multi
+        argument.now) }
     ensures volume { KeepsVolume (λ done. done.host) host.now.mounted result }
-    ensures reads { OnlyReads S.tells S.told S.spare S.faults site.old site.new }
-    ensures cause { IfErr result (IsReadFault (S.faults site.old) (S.faults site.new)) }
+    ensures ends { IfOk result (λ done. is_ending done.status ≡ true) }
+    ensures reads { OnlyReads S.tells S.told S.spare S.writes S.faults S.never_fails_but
+        site.old site.new }
+    ensures cause { HasReadCause (S.faults site.old) (S.faults site.new) result }
+    ensures works { (but : UnitNo → Bool) → S.never_fails_but site.old but
+        → but place.now.unit ≡ false → IfErr result HasNotFailed }
 {
     let at_hand = key_at_hand(host.position);
     let at = this_or_next(site, place, buffer, host, at_hand, multi)?;

@@ -13,9 +13,9 @@ mod twins;
 use crate::tests::by_hand::twins_by_hand;
 use crate::tests::table::{Line, program_of};
 use crate::tests::twins::Twins;
-use crate::{CylinderPlace, EngineFault, is_data, run_command, run_control};
+use crate::{CylinderPlace, EngineFault, run_command};
 use channel_commands::{Command, Reply, SearchField, SearchTest, command_of};
-use ckd_plain::steps::opened;
+use ckd_plain::steps::{is_data, opened, run_control};
 use ckd_plain::{HostState, admitted};
 use mss_base::{MemorySite, Site, SiteFault, UnitNo, VolumeNo};
 use std::alloc::Global;
@@ -83,7 +83,7 @@ fn run(
     let reply = if is_data(command) {
         run_command(alloc, site, place, buffer, &command, argument, true, host)?
     } else {
-        run_control(alloc, &command, argument, true, host)?
+        run_control(alloc, command, argument, true, host)?
     };
     match &reply {
         Reply::Done { status, bytes } => {

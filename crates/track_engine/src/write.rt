@@ -1,15 +1,17 @@
 // Writes.
-ghost use Rattle.std.specs.Prelude.{◌≡◌, ◌≤◌, ◌<◌, ◌+◌, ◌^◌, ◌-◌, Ok, None, length, take, IfOk, OnOk, IfErr, IfSome, true};
+ghost use Rattle.std.specs.Prelude.{◌≡◌, ◌≤◌, ◌<◌, ◌+◌, ◌^◌, ◌-◌, Ok, None, [], length, take, IfOk, OnOk, IfErr, IfSome, Bool, true, false};
 ghost use Rattle.mss_base.specs.Content.{content};
+ghost use Rattle.mss_base.specs.Sites.{OnlyReads, MayWrite};
+ghost use Rattle.mss_base.specs.declared.place.UnitNo.{UnitNo};
 ghost use Rattle.ckd_track.specs.Data.{cost, cost_of, HasCount};
 ghost use Rattle.ckd_track.specs.Track.{reading, record_at};
 ghost use Rattle.ckd_track.specs.Formatting.{IsRecord};
 ghost use Rattle.ckd_track.specs.Updating.{updated_length, record_behind};
 ghost use Rattle.ckd_plain.specs.Data.{padded};
-ghost use Rattle.ckd_plain.specs.Effects.{effect_with, new_record, prior_number, write_};
+ghost use Rattle.ckd_plain.specs.Effects.{effect_with, is_ending, new_record, prior_number, write_};
 ghost use Rattle.ckd_plain.specs.Views.{effect_of, item_of};
-ghost use Rattle.track_engine.specs.Tracks.{tracks_at, AreTracks, IsBlockOf};
-ghost use Rattle.track_engine.specs.Faults.{IsReadFault, IsFaultOf, OnlyReads, MayWrite};
+ghost use Rattle.track_engine.specs.Tracks.{tracks_on, AreTracksOn, IsBlockOn};
+ghost use Rattle.track_engine.specs.Faults.{HasReadCause, HasNotFailed, HasNoFailedWrite, IsUndone};
 ghost use Rattle.track_engine.specs.Found.{found_at, GivesBut, KeepsVolume};
 ghost use Rattle.track_engine.specs.Writing.{CarriesOut, Spells, formatted_behind, update_kind, updated_at};
 
@@ -18,12 +20,9 @@ use crate::place::{CylinderPlace, EngineFault, NotDone};
 use channel_commands::{Command, WriteKind};
 use ckd_plain::steps::{DONE, DoneCommand, FoundRecord, written};
 use ckd_plain::{HostState, Prior, Refusal, UnitCheck};
-use ckd_track::{cost_at, cost_of_front, format_record, record_length, update_record};
-use mss_base::{BlockPlace, Bytes, Failed, NoMemory, Site};
+use ckd_track::{TRACK_COST, cost_at, cost_of_front, format_record, record_length, update_record};
+use mss_base::{BLOCK_BYTES, BlockPlace, Bytes, Failed, NoMemory, Site};
 use std::alloc::Global;
-
-/// What the records of a track cost together at most.
-const TRACK_COST: u32 = 13_165;
 
 /// The first bytes of an argument, where it has so many.
 fn first_bytes(argument: &[u8], length: usize) -> Option<&[u8]>
@@ -61,18 +60,26 @@ fn kept_record<S: Site>(
     left: Prior,
     argument: &[u8],
 ) -> Result<RecordPlace, NotDone>
-    requires buffer { length buffer.old ≡ 16384 }
+    requires buffer { length buffer.old ≡ BLOCK_BYTES }
     requires place { place.now.first_block + 18 < 2 ^ 32 }
     requires long { 8 ≤ length argument.now }
-    ensures format { S.tells → GivesBut (formatted_behind (reading buffer.new).records (new_record argument.now)) result
-        (write_ (tracks_at (content (S.told site.old)) place.now.unit place.now.first_block host.now.head) host.now left WriteKind.CountKeyData argument.now) }
-    ensures fits { IfOk result (λ at. cost (take at.number (reading buffer.new).records) + cost_of (new_record argument.now) ≤ 13165) }
-    ensures itself { IfOk result (λ at. at ≡ record { number = prior_number left; host = host.now }) }
+    ensures format { S.tells → GivesBut
+        (formatted_behind (reading buffer.new).records (new_record argument.now)) result
+        (write_ (tracks_on (S.told site.old) place.now host.now.head)
+        host.now left WriteKind.CountKeyData argument.now) }
+    ensures fits { IfOk result (λ at. cost (take at.number (reading buffer.new).records)
+        + cost_of (new_record argument.now) ≤ TRACK_COST) }
+    ensures itself { IfOk result (λ at.
+        at ≡ record { number = prior_number left; host = host.now }) }
     ensures there { IfOk result (λ at. at.number ≤ length (reading buffer.new).records) }
-    ensures block { S.tells → OnOk result (IsBlockOf (content (S.told site.old)) place.now.unit place.now.first_block host.now.head buffer.new) }
+    ensures block { S.tells → OnOk result
+        (IsBlockOn (S.told site.old) place.now host.now.head buffer.new) }
     ensures volume { KeepsVolume (λ at. at.host) host.now.mounted result }
-    ensures reads { OnlyReads S.tells S.told S.spare S.faults site.old site.new }
-    ensures cause { IfErr result (IsReadFault (S.faults site.old) (S.faults site.new)) }
+    ensures reads { OnlyReads S.tells S.told S.spare S.writes S.faults S.never_fails_but
+        site.old site.new }
+    ensures cause { HasReadCause (S.faults site.old) (S.faults site.new) result }
+    ensures works { (but : UnitNo → Bool) → S.never_fails_but site.old but
+        → but place.now.unit ≡ false → IfErr result HasNotFailed }
 {
     bring_block(site, place, buffer, host.head)?;
     let at = same_record(buffer, host, left.number())?;
@@ -87,7 +94,7 @@ fn kept_record<S: Site>(
 }
 
 /// Formats a record behind the one at a place. `block` is what stands there.
-#[tactic(auto, using(ckd_track::proofs::TrackFacts::reading_length))]
+#[tactic(auto, using(ckd_track::proofs::TrackFacts::reading_length), unfolding(ckd_plain::specs::Effects::is_ending))]
 fn format_behind<S: Site>(
     alloc: Global,
     site: &mut S,
@@ -96,18 +103,28 @@ fn format_behind<S: Site>(
     at: &RecordPlace,
     bytes: &[u8],
 ) -> Result<DoneCommand, NotDone>
-    requires whole { length block.now ≡ 16384 }
+    requires whole { length block.now ≡ BLOCK_BYTES }
     requires told { S.tells → content (S.told site.old) to.now.unit to.now.block ≡ block.now }
     requires good { S.tells → (reading block.now).bad ≡ None }
     requires there { at.now.number ≤ length (reading block.now).records }
     requires record { IsRecord bytes.now }
-    requires fits { cost (take at.now.number (reading block.now).records) + cost_of (record_at 0 bytes.now) ≤ 13165 }
+    requires fits { cost (take at.now.number (reading block.now).records)
+        + cost_of (record_at 0 bytes.now) ≤ TRACK_COST }
     requires room { 4 ≤ S.spare site.old }
-    ensures done { S.tells → CarriesOut (Ok (formatted_behind (reading block.now).records (record_at 0 bytes.now) at.now)) (Command.Write WriteKind.CountKeyData)
-        at.now.number (reading block.now).records to.now.unit to.now.block (S.told site.old) (S.told site.new) result }
+    ensures done { S.tells → CarriesOut (Ok
+        (formatted_behind (reading block.now).records (record_at 0 bytes.now) at.now))
+        (Command.Write WriteKind.CountKeyData)
+        at.now.number (reading block.now).records to.now.unit to.now.block
+        (S.told site.old) (S.told site.new) result }
     ensures volume { KeepsVolume (λ done. done.host) at.now.host.mounted result }
-    ensures devices { MayWrite S.spare S.faults site.old site.new }
-    ensures cause { IfErr result (IsFaultOf true (S.faults site.old) (S.faults site.new)) }
+    ensures ends { IfOk result (λ done. is_ending done.status ≡ true) }
+    ensures devices { MayWrite 4 S.spare S.writes S.faults S.never_fails_but site.old site.new }
+    ensures same { OnOk result (S.faults site.new ≡ S.faults site.old) }
+    ensures undone { IfErr result
+        (IsUndone S.tells S.told S.spare S.writes S.faults S.never_fails_but
+        true site.old site.new) }
+    ensures works { (but : UnitNo → Bool) → S.never_fails_but site.old but
+        → IfErr result HasNotFailed }
 {
     let number = at.number + 1;
     match format_record(site, to, block, number, bytes) {
@@ -128,18 +145,29 @@ pub fn write_count_key_data<S: Site>(
     left: Prior,
     argument: &[u8],
 ) -> Result<DoneCommand, NotDone>
-    requires buffer { length buffer.old ≡ 16384 }
+    requires buffer { length buffer.old ≡ BLOCK_BYTES }
     requires place { place.now.first_block + 18 < 2 ^ 32 }
     requires long { 8 ≤ length argument.now }
-    requires tracks { S.tells → AreTracks (content (S.told site.old)) place.now.unit place.now.first_block }
+    requires tracks { S.tells → AreTracksOn (S.told site.old) place.now }
     requires room { 4 ≤ S.spare site.old }
     ensures done { S.tells → CarriesOut
-        (write_ (tracks_at (content (S.told site.old)) place.now.unit place.now.first_block host.now.head) host.now left WriteKind.CountKeyData argument.now)
-        (Command.Write WriteKind.CountKeyData) (prior_number left) (tracks_at (content (S.told site.old)) place.now.unit place.now.first_block host.now.head)
-        place.now.unit (place.now.first_block + host.now.head) (S.told site.old) (S.told site.new) result }
+        (write_ (tracks_on (S.told site.old) place.now host.now.head)
+        host.now left WriteKind.CountKeyData argument.now)
+        (Command.Write WriteKind.CountKeyData) (prior_number left)
+        (tracks_on (S.told site.old) place.now host.now.head)
+        place.now.unit (place.now.first_block + host.now.head)
+        (S.told site.old) (S.told site.new) result }
     ensures volume { KeepsVolume (λ done. done.host) host.now.mounted result }
-    ensures devices { MayWrite S.spare S.faults site.old site.new }
-    ensures cause { IfErr result (IsFaultOf true (S.faults site.old) (S.faults site.new)) }
+    ensures ends { IfOk result (λ done. is_ending done.status ≡ true) }
+    ensures devices { MayWrite 4 S.spare S.writes S.faults S.never_fails_but site.old site.new }
+    ensures same { OnOk result (S.faults site.new ≡ S.faults site.old) }
+    ensures undone { IfErr result
+        (IsUndone S.tells S.told S.spare S.writes S.faults S.never_fails_but
+        true site.old site.new) }
+    ensures works { (but : UnitNo → Bool) → S.never_fails_but site.old but
+        → but place.now.unit ≡ false → IfErr result HasNotFailed }
+    ensures only_reads_fail { (but : UnitNo → Bool) → S.never_fails_but site.old but
+        → IfErr result HasNoFailedWrite }
 {
     let to = place.block_of(host.head);
     let at = kept_record(site, place, buffer, host, left, argument)?;
@@ -174,18 +202,29 @@ fn update_at<S: Site>(
     key_too: bool,
     bytes: &[u8],
 ) -> Result<DoneCommand, NotDone>
-    requires whole { length block.now ≡ 16384 }
+    requires whole { length block.now ≡ BLOCK_BYTES }
     requires told { S.tells → content (S.told site.old) to.now.unit to.now.block ≡ block.now }
     requires good { S.tells → (reading block.now).bad ≡ None }
     requires first { 1 ≤ at.now.number }
     requires there { at.now.number ≤ length (reading block.now).records }
-    requires long { length bytes.now ≡ updated_length key_too (record_behind (at.now.number - 1) (reading block.now).records) }
+    requires long { length bytes.now ≡ updated_length key_too
+        (record_behind (at.now.number - 1) (reading block.now).records) }
     requires room { 1 ≤ S.spare site.old }
-    ensures done { S.tells → CarriesOut (Ok (updated_at key_too (reading block.now).records bytes.now at.now)) (Command.Write (update_kind key_too))
-        at.now.number (reading block.now).records to.now.unit to.now.block (S.told site.old) (S.told site.new) result }
+    ensures done { S.tells → CarriesOut (Ok
+        (updated_at key_too (reading block.now).records bytes.now at.now))
+        (Command.Write (update_kind key_too))
+        at.now.number (reading block.now).records to.now.unit to.now.block
+        (S.told site.old) (S.told site.new) result }
     ensures volume { KeepsVolume (λ done. done.host) at.now.host.mounted result }
-    ensures devices { MayWrite S.spare S.faults site.old site.new }
-    ensures cause { IfErr result (IsFaultOf true (S.faults site.old) (S.faults site.new)) }
+    ensures ends { IfOk result (λ done. is_ending done.status ≡ true) }
+    ensures untouched { bytes.now ≡ [] → site.new ≡ site.old }
+    ensures devices { MayWrite 1 S.spare S.writes S.faults S.never_fails_but site.old site.new }
+    ensures same { OnOk result (S.faults site.new ≡ S.faults site.old) }
+    ensures undone { IfErr result
+        (IsUndone S.tells S.told S.spare S.writes S.faults S.never_fails_but
+        true site.old site.new) }
+    ensures works { (but : UnitNo → Bool) → S.never_fails_but site.old but
+        → IfErr result HasNotFailed }
 {
     let status = found_in(block, at).status();
     match update_record(site, to, block, at.number, key_too, bytes) {
@@ -207,18 +246,32 @@ pub fn write_data<S: Site>(
     key_too: bool,
     argument: &[u8],
 ) -> Result<DoneCommand, NotDone>
-    requires buffer { length buffer.old ≡ 16384 }
+    requires buffer { length buffer.old ≡ BLOCK_BYTES }
     requires place { place.now.first_block + 18 < 2 ^ 32 }
     requires first { 0 < prior_number left }
-    requires tracks { S.tells → AreTracks (content (S.told site.old)) place.now.unit place.now.first_block }
+    requires tracks { S.tells → AreTracksOn (S.told site.old) place.now }
     requires room { 1 ≤ S.spare site.old }
     ensures done { S.tells → CarriesOut
-        (write_ (tracks_at (content (S.told site.old)) place.now.unit place.now.first_block host.now.head) host.now left (update_kind key_too) argument.now)
-        (Command.Write (update_kind key_too)) (prior_number left) (tracks_at (content (S.told site.old)) place.now.unit place.now.first_block host.now.head)
-        place.now.unit (place.now.first_block + host.now.head) (S.told site.old) (S.told site.new) result }
+        (write_ (tracks_on (S.told site.old) place.now host.now.head)
+        host.now left (update_kind key_too) argument.now)
+        (Command.Write (update_kind key_too)) (prior_number left)
+        (tracks_on (S.told site.old) place.now host.now.head)
+        place.now.unit (place.now.first_block + host.now.head)
+        (S.told site.old) (S.told site.new) result }
     ensures volume { KeepsVolume (λ done. done.host) host.now.mounted result }
-    ensures devices { MayWrite S.spare S.faults site.old site.new }
-    ensures cause { IfErr result (IsFaultOf true (S.faults site.old) (S.faults site.new)) }
+    ensures ends { IfOk result (λ done. is_ending done.status ≡ true) }
+    ensures untouched { S.tells → updated_length key_too (record_behind (prior_number left - 1)
+        (tracks_on (S.told site.old) place.now host.now.head)) ≡ 0
+        → OnlyReads S.tells S.told S.spare S.writes S.faults S.never_fails_but site.old site.new }
+    ensures devices { MayWrite 1 S.spare S.writes S.faults S.never_fails_but site.old site.new }
+    ensures same { OnOk result (S.faults site.new ≡ S.faults site.old) }
+    ensures undone { IfErr result
+        (IsUndone S.tells S.told S.spare S.writes S.faults S.never_fails_but
+        true site.old site.new) }
+    ensures works { (but : UnitNo → Bool) → S.never_fails_but site.old but
+        → but place.now.unit ≡ false → IfErr result HasNotFailed }
+    ensures only_reads_fail { (but : UnitNo → Bool) → S.never_fails_but site.old but
+        → IfErr result HasNoFailedWrite }
 {
     let to = place.block_of(host.head);
     bring_block(site, place, buffer, host.head)?;

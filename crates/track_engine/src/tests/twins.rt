@@ -8,9 +8,9 @@ ghost use Rattle.ckd_plain.specs.Plain.{opened};
 ghost use Rattle.track_engine.specs.Tracks.{AreTracks};
 
 use crate::tests::table::{Line, program_of};
-use crate::{CylinderPlace, EngineFault, is_data, run_command, run_control};
+use crate::{CylinderPlace, EngineFault, run_command};
 use channel_commands::{Call, Command, Reply};
-use ckd_plain::steps::{opened, refused};
+use ckd_plain::steps::{is_data, opened, refused, run_control};
 use ckd_plain::{HostState, PlainState, Prior, Refusal, UnitCheck, admitted, plain_step};
 use ckd_track::{Record, Track, check_track, read_track};
 use mss_base::{
@@ -40,7 +40,8 @@ pub fn check_tracks(
     requires place { place.now.first_block + 18 < 2 ^ 32 }
     ensures told { told_of site.new ≡ told_of site.old }
     ensures room { room_of site.new ≡ room_of site.old }
-    ensures tracks { OnOk result (AreTracks (content (told_of site.old)) place.now.unit place.now.first_block) }
+    ensures tracks { OnOk result (AreTracks (content (told_of site.old)) place.now.unit
+        place.now.first_block) }
 {
     for head in 0..19u32 {
         site.read(place.unit, place.first_block + head, buffer)?;
@@ -109,7 +110,7 @@ pub fn run_on_blocks(
                     alloc, site, buffer, host, &command, argument, chained, faults,
                 )
             } else {
-                Ok(Ok(run_control(alloc, &command, argument, chained, host)?))
+                Ok(Ok(run_control(alloc, command, argument, chained, host)?))
             }
         }
     }

@@ -2,13 +2,10 @@ use Rattle.std.proofs.Common.{rules}
 use Rattle.mss_base.specs.Content.{content}
 use Rattle.track_engine.specs.Tracks.{tracks_at}
 use Rattle.track_engine.proofs.Unwritten.{effect_unwritten}
-use Rattle.track_engine.proofs.Steps.{read_carried_out, faults_of_read}
+use Rattle.track_engine.proofs.Steps.{read_carried_out}
 use Rattle.track_engine.proofs.run.carry_out.Goals as goal
 
 pub returns-in_default-clause-done : goal.returns-in_default-clause-done
 returns-in_default-clause-done g c = λ tells.
     read_carried_out _ c.args.command _ _ _ _ _ _ (effect_unwritten (tracks_at (content (g.S.Site.told c.args.site.now)) c.args.place.now.unit c.args.place.now.first_block) c.args.host.now c.args.left c.args.command c.args.argument.now (search rules))
     (c.look.ensures.reads.log tells) c.look.result (c.look.ensures.done tells c.args.left)
-
-pub returns-in_default-clause-cause : goal.returns-in_default-clause-cause
-returns-in_default-clause-cause g c = faults_of_read _ _ _ c.look.result c.look.ensures.cause
