@@ -11,14 +11,12 @@ use Rattle.ckd_track.specs.Data.{Volumes}
 use Rattle.volume_table.specs.Row.{RowValue}
 use Rattle.table_pair.specs.Pair.{known}
 use Rattle.table_pair.specs.Repairs.{HoldsToldRow}
-use Rattle.shown_volumes.specs.declared.refused.Refused.{Refused}
-use Rattle.shown_volumes.specs.declared.refused.Refused.TheVariants.{Stopped, Memory}
 use Rattle.shown_volumes.specs.Shown.{RowsOf, rows_of, shown}
 use Rattle.shown_volumes.specs.Sound.{IsSound, SoundAs}
 use Rattle.shown_volumes.specs.Faults.{first_fault}
 use Rattle.shown_volumes.proofs.FaultFacts.{sound_from_none}
-use Rattle.mss_restart.specs.Listed.{listed}
-use Rattle.mss_restart.specs.Opening.{RowsAre, AreHeld, missing, with_blanks, ShowsFront, Creates, AreCreated, IsOpened, IsStop, RefusesAs}
+use Rattle.volume_table.specs.Listed.{listed}
+use Rattle.mss_restart.specs.Opening.{RowsAre, AreHeld, missing, with_blanks, ShowsFront, Creates, AreCreated, IsOpened}
 use Rattle.mss_restart.proofs.Creating.{AreRising}
 use Rattle.mss_restart.proofs.KnownRows.{rows_listed}
 use Rattle.mss_restart.proofs.OpenedRows.{creates_kept, creates_asked}
@@ -26,11 +24,6 @@ use Rattle.mss_restart.proofs.OpenedRows.{creates_kept, creates_asked}
 pub on_ok_too : {T E : Type 0} (P Q : Type 0) → (P → Q) → (r : Result T E) → OnOk r P → OnOk r Q
 on_ok_too P Q more (Ok value) holds = more holds
 on_ok_too P Q more (Err e) holds = tt
-
-pub stop_refuses : (before now : ℕ) (config : ConfigData) (old new : SiteLog) (e : Refused) → IsStop before now e → RefusesAs before now config old new e
-stop_refuses before now config old new (Stopped f) stops = tt
-stop_refuses before now config old new Memory stops = tt
-stop_refuses before now config old new _ stops = absurd stops
 
 -- no further volume is shown yet
 pub no_front : (frames : ℕ) (new : List VolumeData) (volumes : Volumes) (s t : SiteLog) → Writes (SoundAs frames volumes) s t → Writes (ShowsFront frames new volumes) s t

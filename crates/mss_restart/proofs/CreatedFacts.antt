@@ -14,9 +14,9 @@ use Rattle.shown_volumes.specs.Shown.{RowsOf, shown}
 use Rattle.shown_volumes.specs.Sound.{IsSound}
 use Rattle.shown_volumes.specs.Changing.{IsFresh, WithOrWithout, with_row}
 use Rattle.shown_volumes.proofs.MomentFacts.{blank_new, creation_moments}
-use Rattle.mss_restart.specs.Listed.{listed}
+use Rattle.volume_table.specs.Listed.{listed}
 use Rattle.mss_restart.specs.Cartridges.{IsLowestFree}
-use Rattle.mss_restart.specs.Opening.{RowsAre, AreHeld, IsNewRow, IsCreated}
+use Rattle.mss_restart.specs.Opening.{RowsAre, AreHeld, IsNewRow, HasNewRow, IsCreated}
 use Rattle.mss_restart.proofs.FreshFacts.{is_fresh, rows_with}
 
 -- a list with another row of one volume
@@ -91,3 +91,7 @@ module _ (before : List (Option RowValue)) (s t : SiteLog) (are : RowsAre before
 pub on_ok : {T E : Type 0} (P : Type 0) (r : Result T E) → is_err r ≡ false → OnOk r P → P
 on_ok P (Ok value) is holds = holds
 on_ok P (Err e) is holds = absurd cc
+
+-- the listed rows have the new one
+abbrev pub listed_new : (before rows : List (Option RowValue)) (volume : ℕ) (serial : List ℕ) (row : RowValue) → length before ≡ 32 → volume < 32 → IsNewRow (listed before) serial row → rows ≡ set before volume (Some row) → HasNewRow volume serial (listed before) (listed rows)
+listed_new before rows volume serial row long low new set_is = record { row = row; is_new = new; now = ap listed set_is ∙ listed_set before volume row (omega (arith, long, low)) }

@@ -18,7 +18,7 @@ use Rattle.shown_volumes.specs.Sound.{IsSound, SoundAs}
 use Rattle.shown_volumes.specs.Changing.{WithOrWithout, with_row, with_blank}
 use Rattle.std.proofs.Math.Seq.{drop-cons}
 use Rattle.mss_restart.proofs.ListedFacts.{listed_at}
-use Rattle.mss_restart.specs.Listed.{listed}
+use Rattle.volume_table.specs.Listed.{listed}
 use Rattle.mss_restart.specs.Opening.{RowsAre, AreHeld, missing, with_blanks, ShowsFront, IsNewRow, Creates, IsCreated, AreCreated}
 
 abbrev pub AreRising : List VolumeData → Type 0
@@ -66,7 +66,7 @@ pub blanks_last : (vs : List VolumeData) (v : VolumeData) (volumes : Volumes) �
 blanks_last [] v volumes = refl
 blanks_last (w ∷ vs) v volumes = blanks_last vs v (with_blank w.0 w.1 volumes)
 
-creates_last : (vs : List VolumeData) (v : VolumeData) (start mid last : RowsOf) (row : RowValue) → Creates vs start mid → IsNewRow mid v.1 row → last ≡ with_row v.0 row mid → Creates (vs ++ v ∷ []) start last
+pub creates_last : (vs : List VolumeData) (v : VolumeData) (start mid last : RowsOf) (row : RowValue) → Creates vs start mid → IsNewRow mid v.1 row → last ≡ with_row v.0 row mid → Creates (vs ++ v ∷ []) start last
 creates_last [] v start mid last row made is_new now = (row, (subst (λ (x : RowsOf). IsNewRow x v.1 row) made is_new, now ∙ ap (with_row v.0 row) made))
 creates_last (w ∷ vs) v start mid last row made is_new now = (made.0, (made.1.0, creates_last vs v (with_row w.0 made.0 start) mid last row made.1.1 is_new now))
 

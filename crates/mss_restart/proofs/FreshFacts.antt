@@ -15,11 +15,13 @@ use Rattle.table_pair.specs.Pair.{known, reading, read_of, taken, row_of, row_of
 use Rattle.table_pair.proofs.PairFacts.{open_read, closed_read, held_row}
 use Rattle.shown_volumes.specs.Shown.{RowsOf, told_row, rows_of}
 use Rattle.shown_volumes.specs.Sound.{cartridge_of}
-use Rattle.shown_volumes.specs.Faults.{first_below, where_so, is_number, half, half_with}
+use Rattle.mss_base.specs.Firsts.{first_below, where_so}
+use Rattle.shown_volumes.specs.Faults.{is_number, half, half_with}
 use Rattle.shown_volumes.specs.Changing.{IsFresh}
-use Rattle.shown_volumes.proofs.WalkFacts.{or_none, none_below, none_where, none_is, is_that_number}
+use Rattle.mss_base.proofs.FirstFacts.{or_none, none_below, none_where, none_is}
+use Rattle.shown_volumes.proofs.WalkFacts.{is_that_number}
 use Rattle.shown_volumes.proofs.FaultFacts.{few_rows, row_in}
-use Rattle.mss_restart.specs.Listed.{listed}
+use Rattle.volume_table.specs.Listed.{listed}
 use Rattle.mss_restart.specs.Cartridges.{is_named, IsLowestFree}
 use Rattle.mss_restart.specs.Opening.{RowsAre}
 
@@ -41,7 +43,7 @@ pub are_closed : (volume : ℕ) (c : Content) → row_of c volume ≡ known None
 are_closed volume c is = let both = none_closed (copy_at (c TableA volume)) (copy_at (c TableB volume)) is in record { a = both.0; b = both.1 }
 
 -- a half's cartridge is named
-named_from : (rows : RowsOf) (v : ℕ) (s : Bool) (n : ℕ) → v < 32 → cartridge_of rows v s ≡ Some n → is_named rows n ≡ true
+pub named_from : (rows : RowsOf) (v : ℕ) (s : Bool) (n : ℕ) → v < 32 → cartridge_of rows v s ≡ Some n → is_named rows n ≡ true
 named_from rows v s n low is = elim (cases_Bool (is_named rows n)) [
   | inl named ↦ named
   | inr not_named ↦

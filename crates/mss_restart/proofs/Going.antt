@@ -1,21 +1,38 @@
 -- How walks that only read go on.
-use Rattle.std.proofs.Common.{◌≡◌, ℕ, ◌+◌, ◌≤◌, ◌<◌, Option, Some, None, Result, Err, sym, ◌∙◌, subst}
+use Rattle.std.proofs.Common.{◌≡◌, ℕ, ◌+◌, ◌<◌, Option, Some, None, Result, Err, refl, sym, ◌∙◌, subst, arith}
+use Rattle.mss_base.specs.Sites.{FailingReads, OnlyReads}
 use Rattle.mss_base.specs.Content.{Content, SiteLog, content}
 use Rattle.shown_volumes.specs.declared.refused.Refused.{Refused}
 use Rattle.shown_volumes.specs.declared.refused.Refused.TheVariants.{RowUnread}
-use Rattle.shown_volumes.specs.Faults.{first_below}
-use Rattle.shown_volumes.proofs.WalkFacts.{none_next, found_first}
-use Rattle.mss_restart.specs.Survey.{FindsFault, Finds}
+use Rattle.mss_base.specs.Firsts.{first_below}
+use Rattle.mss_base.proofs.FirstFacts.{none_next, found_first}
+use Rattle.mss_restart.specs.Survey.{FindsFault, Finds, CountsFaults}
+
+-- reads one after the other
+module _ {S : Type 0} (tells : Type 0) (told : S → SiteLog) (spare writes faults : S → ℕ) (never_fails_but : FailingReads S) where
+  pub nothing_read : (s : S) → OnlyReads tells told spare writes faults never_fails_but s s
+  nothing_read s = record { log = λ _. refl; room = refl; unwritten = refl; later = omega arith; sound = λ but so. so }
+
+  pub read_on : (a b c : S) → OnlyReads tells told spare writes faults never_fails_but a b → OnlyReads tells told spare writes faults never_fails_but b c → OnlyReads tells told spare writes faults never_fails_but a c
+  read_on a b c first second = record {
+    log = λ so. second.log so ∙ first.log so;
+    room = second.room ∙ first.room;
+    unwritten = second.unwritten ∙ first.unwritten;
+    later = omega (arith, first.later, second.later);
+    sound = λ but so. second.sound but (first.sound but so);
+  }
 
 -- what a walk keeps of its site and its two buffers, and what it knows so far
-pub record IsGoing (tells : Type 0) (begun now : SiteLog) (spare_begun spare writes_begun writes faults_begun faults shown staged : ℕ) (Known : Content → Type 0) : Type 0 where
-  pub told : tells → now ≡ begun
-  pub known : tells → Known (content begun)
-  pub room : spare ≡ spare_begun
-  pub written : writes ≡ writes_begun
-  pub later : faults_begun ≤ faults
+pub record IsGoing {S : Type 0} (tells : Type 0) (told : S → SiteLog) (spare writes faults : S → ℕ) (never_fails_but : FailingReads S) (begun now : S) (shown staged : ℕ) (Known : Content → Type 0) : Type 0 where
+  pub known : tells → Known (content (told begun))
+  pub devices : OnlyReads tells told spare writes faults never_fails_but begun now
+  pub count : faults now ≡ faults begun
   pub shown_whole : shown ≡ 16384
   pub staged_whole : staged ≡ 16384
+
+-- a fault is told with the count as it was when the walk began
+pub counts_since : {T : Type 0} (begun before now : ℕ) (result : Result T Refused) → before ≡ begun → CountsFaults before now result → CountsFaults begun now result
+counts_since begun before now result same counts = subst (λ (n : ℕ). CountsFaults n now result) same counts
 
 -- what is found in a part is found in the whole
 pub finds_more : (e : Refused) (part whole : Option Refused) → (part ≡ Some e → whole ≡ Some e) → FindsFault e part → FindsFault e whole

@@ -1,11 +1,10 @@
 -- Rows that all which was read of both copies tells.
-use Rattle.std.proofs.Common.{◌≡◌, inl, inr, ℕ, ◌<◌, true, false, List, length, Option, None, Ok, Err, sym, ◌∙◌, ap, subst, arith}
-use Rattle.std.specs.Prelude.{is_some}
+use Rattle.std.proofs.Common.{◌≡◌, inl, inr, ℕ, ◌+◌, ◌<◌, true, false, List, length, Option, Some, None, Ok, Err, refl, sym, ◌∙◌, ap, subst, arith}
 use Rattle.std.proofs.lemmas.Bool.{cases_Bool, cases_lt, cond-true, cond-false, lt-ltb, le-ltb}
 use Rattle.std.proofs.lemmas.List.{get_or_past}
 use Rattle.ckd_plain.specs.Plain.{serial_in}
 use Rattle.mss_base.specs.Configs.{ConfigData}
-use Rattle.mss_base.specs.Content.{Content}
+use Rattle.mss_base.specs.Content.{Content, SiteLog, content}
 use Rattle.mss_base.specs.declared.place.UnitNo.TheVariants.{TableB}
 use Rattle.volume_table.specs.Row.{RowValue}
 use Rattle.table_pair.specs.Copies.{copy_at}
@@ -13,13 +12,15 @@ use Rattle.table_pair.specs.Pair.{CopyRead, unread, closed, opened, RowReading, 
 use Rattle.shown_volumes.specs.declared.refused.Refused.{Refused}
 use Rattle.shown_volumes.specs.declared.refused.Refused.TheVariants.{RowUnread, Stopped, Memory}
 use Rattle.shown_volumes.specs.Shown.{RowsOf, told_row, rows_in, rows_of}
-use Rattle.shown_volumes.specs.Faults.{first_below, read_fault, row_fault, first_fault}
-use Rattle.shown_volumes.proofs.WalkFacts.{none_below, all_none, or_none}
-use Rattle.mss_restart.specs.Listed.{listed}
+use Rattle.mss_base.specs.Firsts.{first_below}
+use Rattle.shown_volumes.specs.Faults.{read_fault, row_fault, first_fault}
+use Rattle.mss_base.proofs.FirstFacts.{none_below, all_none, or_none}
+use Rattle.volume_table.specs.Listed.{listed}
 use Rattle.mss_restart.specs.Walks.{rest_fault}
-use Rattle.mss_restart.specs.Survey.{IsReading, AreRead, Surveys, IsExact}
-use Rattle.mss_restart.specs.Opening.{RowsAre, OpensExactly}
-use Rattle.mss_restart.proofs.Surveyed.{is_rest, behind, row_walk}
+use Rattle.mss_restart.specs.Survey.{KeepsCause, IsReading, FirstAlone, AreRead, Surveys, IsExact}
+use Rattle.mss_restart.specs.Opening.{RowsAre}
+use Rattle.mss_restart.specs.Answers.{OpensExactly, RefusesAs, KeepsOpening}
+use Rattle.mss_restart.proofs.Surveyed.{is_rest, behind, row_walk, are_known}
 
 no_copy_a : (b : CopyRead) (o : Option RowValue) → known o false ≡ reading unread b → ⊥
 no_copy_a unread o is = cc
@@ -35,36 +36,33 @@ any_copy_b (closed true) d o is = absurd cc
 any_copy_b (closed false) d o is = absurd cc
 any_copy_b (opened row) d o is = sym is
 
-known_row : (before now v : ℕ) (c : Content) (o : Option RowValue) → IsReading before now v c (known o false) → row_of c v ≡ known o false
+pub known_row : (before now v : ℕ) (c : Content) (o : Option RowValue) → IsReading before now v c (known o false) → row_of c v ≡ known o false
 known_row before now v c o is = elim is.a_read [
   | inl failed ↦ absurd (no_copy_a is.b o (is.told ∙ ap (λ (a : CopyRead). reading a is.b) failed.0))
   | inr a_told ↦ elim is.b_read [
     | inl failed ↦
-        ap (λ (a : CopyRead). reading a (read_of (copy_at (c TableB v)))) (sym a_told)
+        ap (λ (a : CopyRead). reading a (read_of (copy_at (c TableB v)))) (sym a_told.0)
         ∙ any_copy_b is.a (read_of (copy_at (c TableB v))) o (is.told ∙ ap (λ (b : CopyRead). reading is.a b) failed.0)
-    | inr b_told ↦ (λ i. reading (sym a_told i) (sym b_told i)) ∙ sym is.told
+    | inr b_told ↦ (λ i. reading (sym a_told.0 i) (sym b_told.0 i)) ∙ sym is.told
   ]
 ]
 
-none_some : is_some (let o : Option ℕ = None in o) ≡ true → ⊥
-none_some is = cc
-
-module _ (before now : ℕ) (asked : ℕ → Option (List ℕ)) (c : Content) (rows : List (Option RowValue)) (read : AreRead before now 32 asked c rows None) where
-  told : (v : ℕ) → v < 32 → read.readings v ≡ known (listed rows v) false
+module _ (before now : ℕ) (asked : ℕ → Option (List ℕ)) (c : Content) (rows : List (Option RowValue)) (read : AreRead before now asked c rows None) where
+  told : (v : ℕ) → v < 32 → read.readings.row v ≡ known (listed rows v) false
   told v low =
       let row = read.known v low in
-      elim (cases_Bool row.missing) [
-        | inl lacks ↦ absurd (none_some (row.kept lacks))
-        | inr both ↦ row.is ∙ ap (known (listed rows v)) both
+      elim (cases_Bool row.0) [
+        | inl lacks ↦ absurd (read.alone v low (listed rows v, row.1 ∙ ap (known (listed rows v)) lacks))
+        | inr both ↦ row.1 ∙ ap (known (listed rows v)) both
       ]
 
   pub rows_told : RowsAre rows c
-  rows_told v low = known_row before now v c (listed rows v) (subst (λ (r : RowReading). IsReading before now v c r) (told v low) (read.each v))
+  rows_told v low = known_row (read.readings.counts v) (read.readings.counts (v + 1)) v c (listed rows v) (subst (λ (r : RowReading). IsReading (read.readings.counts v) (read.readings.counts (v + 1)) v c r) (told v low) (read.readings.each v))
 
   same_walk : first_below 32 (row_fault asked (row_of c)) ≡ None
   same_walk =
       all_none 32 (row_fault asked (row_of c))
-      (λ v low. ap (read_fault v (asked v)) (rows_told v low ∙ sym (told v low)) ∙ none_below 32 (row_fault asked read.readings) read.none v low)
+      (λ v low. ap (read_fault v (asked v)) (rows_told v low ∙ sym (told v low)) ∙ none_below 32 (row_fault asked read.readings.row) read.none v low)
 
 -- a list of all rows is the rows of the content
 pub rows_listed : (rows : List (Option RowValue)) (c : Content) → length rows ≡ 32 → RowsAre rows c → listed rows ≡ rows_of c
@@ -76,15 +74,36 @@ rows_listed rows c long are = λ i v. at v i
       | inr past ↦ get_or_past rows v None (omega (arith, long, past)) ∙ sym (cond-false _ _ _ (le-ltb v 32 past))
     ]
 
-pub faultless : (before now frames : ℕ) (asked : ℕ → Option (List ℕ)) (c : Content) (rows : List (Option RowValue)) → length rows ≡ 32 → AreRead before now 32 asked c rows None → Surveys before now frames asked c (Ok rows)
+pub faultless : (before now frames : ℕ) (asked : ℕ → Option (List ℕ)) (c : Content) (rows : List (Option RowValue)) → length rows ≡ 32 → AreRead before now asked c rows None → Surveys before now frames asked c (Ok rows)
     → first_fault frames asked c ≡ None
 faultless before now frames asked c rows long read surveys =
-    let parts = or_none (row_walk frames asked surveys.readings c) (rest_fault frames (rows_in surveys.readings) c) (sym (is_rest frames asked surveys.readings c) ∙ surveys.tells.1) in
-    let same : rows_in surveys.readings ≡ rows_of c = sym surveys.tells.0 ∙ rows_listed rows c long (rows_told before now asked c rows read) in
+    let parts = or_none (row_walk frames asked surveys.readings.row c) (rest_fault frames (rows_in surveys.readings.row) c) (sym (is_rest frames asked surveys.readings.row c) ∙ surveys.tells.2) in
+    let same : rows_in surveys.readings.row ≡ rows_of c = sym surveys.tells.1 ∙ rows_listed rows c long (rows_told before now asked c rows read) in
     behind frames asked (row_of c) c None (same_walk before now asked c rows read) (ap (λ (x : RowsOf). rest_fault frames x c) (sym same) ∙ parts.1)
 
-pub exact_refusal : (config : ConfigData) (c : Content) (e : Refused) → IsExact config.frames (serial_in config.volumes) c (Err e) → OpensExactly config c (Err e)
-exact_refusal config c (RowUnread v f) is = is
-exact_refusal config c (Stopped f) is = is
-exact_refusal config c Memory is = tt
-exact_refusal config c _ is = is
+pub exact_refusal : (T : Type 0) (config : ConfigData) (c : Content) (e : Refused) → IsExact config.frames (serial_in config.volumes) c (Err e) → OpensExactly {T = T} config c (Err e)
+exact_refusal T config c (RowUnread v f) is = is
+exact_refusal T config c (Stopped f) is = is
+exact_refusal T config c Memory is = tt
+exact_refusal T config c _ is = is
+
+-- what the survey refuses, opening does
+pub survey_refuses : (before now : ℕ) (config : ConfigData) (old new : SiteLog) (e : Refused) → new ≡ old → Surveys before now config.frames (serial_in config.volumes) (content old) (Err e) → RefusesAs before now config old new e
+survey_refuses before now config old new (Stopped f) same surveys = record { mid = surveys.mid; readings = surveys.readings; faultless = surveys.tells; cause = inr surveys.counts }
+survey_refuses before now config old new Memory same surveys = tt
+survey_refuses before now config old new e same surveys = (same, surveys)
+
+pub cause_opens : (T : Type 0) (before now : ℕ) (e : Refused) → KeepsCause before now e → KeepsOpening {T = T} before now (Err e)
+cause_opens T before now (RowUnread v f) kept = kept
+cause_opens T before now (Stopped f) kept = let same : f ≡ now = kept.count in record { rises = omega (arith, same, kept.rises); past = omega (arith, same) }
+cause_opens T before now _ kept = kept
+
+-- a row that one copy alone told stops it
+pub alone_stops : (before now : ℕ) (config : ConfigData) (old new : SiteLog) (rows : List (Option RowValue)) (unread : Option ℕ) (fault : ℕ) → unread ≡ Some fault → new ≡ old → AreRead before now (serial_in config.volumes) (content old) rows unread
+    → RefusesAs before now config old new (Stopped fault)
+alone_stops before now config old new rows one fault is same read = record {
+  mid = now;
+  readings = read.readings;
+  faultless = record { known = are_known rows read.readings.row read.known; none = read.none };
+  cause = inl (subst (FirstAlone 32 read.readings.row read.readings.counts) is read.alone, refl, same);
+}

@@ -9,6 +9,9 @@ pub mod Pigeons
 pub mod FreshFacts
 pub mod CreatedFacts
 pub mod Creating
+pub mod Counting
 pub mod OpenedRows
+pub mod UsableFacts
 pub mod KnownRows
 pub mod Completed
+pub mod Finishing

@@ -5,9 +5,10 @@ use Rattle.mss_base.specs.Content.{Content}
 use Rattle.volume_table.specs.Row.{RowValue}
 use Rattle.shown_volumes.specs.Shown.{RowsOf}
 use Rattle.shown_volumes.specs.declared.refused.Refused.{Refused}
-use Rattle.shown_volumes.specs.Faults.{first_below, row_track_fault, tracks_fault}
-use Rattle.shown_volumes.proofs.WalkFacts.{all_none}
-use Rattle.mss_restart.specs.Listed.{listed}
+use Rattle.mss_base.specs.Firsts.{first_below}
+use Rattle.shown_volumes.specs.Faults.{row_track_fault, tracks_fault}
+use Rattle.mss_base.proofs.FirstFacts.{all_none}
+use Rattle.volume_table.specs.Listed.{listed}
 use Rattle.mss_restart.specs.Walks.{row_tracks_fault}
 
 get_any : {A : Type 0} (xs : List A) (k : ℕ) (d e : A) → k < length xs → get_or xs k d ≡ get_or xs k e

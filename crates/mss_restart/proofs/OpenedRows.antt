@@ -9,7 +9,8 @@ use Rattle.volume_table.specs.Row.{RowValue}
 use Rattle.shown_volumes.specs.Shown.{RowsOf}
 use Rattle.shown_volumes.specs.Sound.{HasSerialsAsked}
 use Rattle.shown_volumes.specs.Changing.{with_row}
-use Rattle.mss_restart.specs.Opening.{missing, Creates, HasRowWith}
+use Rattle.mss_restart.specs.Opening.{missing, Creates}
+use Rattle.mss_restart.specs.Usable.{HasRowWith}
 use Rattle.mss_restart.proofs.Creating.{AreRising, rising_first, missing_past}
 
 some_is : (o : Option RowValue) → is_some o ≡ true → (r : RowValue) × (o ≡ Some r)

@@ -6,7 +6,8 @@ use Rattle.std.proofs.lemmas.Bool.{cases_Bool, eqb-true, eq-eqb, cond-true, cond
 use Rattle.shown_volumes.specs.Shown.{RowsOf}
 use Rattle.shown_volumes.specs.declared.refused.Half.{Half}
 use Rattle.shown_volumes.specs.Sound.{cartridge_of}
-use Rattle.shown_volumes.specs.Faults.{◌or◌, first_below, where_so, is_number, half, half_with}
+use Rattle.mss_base.specs.Firsts.{◌or◌, first_below, where_so}
+use Rattle.shown_volumes.specs.Faults.{is_number, half, half_with}
 use Rattle.shown_volumes.proofs.WalkFacts.{number_is}
 use Rattle.mss_restart.specs.Cartridges.{is_named}
 

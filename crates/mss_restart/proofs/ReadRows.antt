@@ -1,22 +1,24 @@
 -- Reading one row after another.
-use Rattle.std.proofs.Common.{◌≡◌, ℕ, zero, suc, ◌+◌, ◌<◌, ◌≤◌, ◌==◌, inl, inr, true, false, cond, List, [], ◌∷◌, ◌++◌, length, get_or, Option, Some, None, Result, Ok, Err, refl, sym, ◌∙◌, ap, subst, arith, length-append}
-use Rattle.std.specs.Prelude.{is_some, IfSome}
-use Rattle.std.specs.Option.{option_or}
-use Rattle.std.proofs.lemmas.Bool.{cases_Bool, cond-true, cond-false, eqb-true, eq-eqb, false≢true}
+use Rattle.std.proofs.Common.{◌≡◌, ℕ, zero, suc, ◌+◌, ◌<◌, ◌≤◌, ◌==◌, nat_lt, inl, inr, true, false, cond, List, [], ◌∷◌, ◌++◌, length, get_or, Option, Some, None, Result, Ok, Err, refl, sym, ◌∙◌, ap, subst, arith, length-append}
+use Rattle.std.specs.Prelude.{is_some}
+use Rattle.std.specs.Option.{option_or, ForSome}
+use Rattle.std.proofs.lemmas.Bool.{cases_lt, cond-true, cond-false, eq-eqb, ne_eqb, lt-ltb, le-ltb}
+use Rattle.std.proofs.lemmas.List.{get_or_past}
 use Rattle.mss_base.specs.Content.{Content}
-use Rattle.mss_base.specs.declared.place.UnitNo.TheVariants.{TableA, TableB}
 use Rattle.volume_table.specs.Row.{RowValue}
-use Rattle.table_pair.specs.Copies.{copy_at}
-use Rattle.table_pair.specs.Pair.{RowReading, known, read_of, row_of}
+use Rattle.table_pair.specs.Pair.{RowReading, known, unknown, row_of}
+use Rattle.table_pair.specs.Reads.{MissingKeeps}
 use Rattle.table_pair.specs.declared.copy.RowRead.{RowRead}
-use Rattle.table_pair.specs.Reads.{IsKept}
 use Rattle.shown_volumes.specs.declared.refused.Refused.{Refused}
 use Rattle.shown_volumes.specs.declared.refused.Refused.TheVariants.{Memory}
-use Rattle.shown_volumes.specs.Faults.{first_below, read_fault, row_fault}
-use Rattle.shown_volumes.proofs.WalkFacts.{none_yet, none_next}
-use Rattle.mss_restart.specs.Listed.{listed}
-use Rattle.mss_restart.specs.Survey.{IsReading, TellsRow, ReadsVolume, IsKnown, AreRead, EndsAtRow, ReadsRows}
-use Rattle.mss_restart.proofs.RowLemmas.{later_rise, later_reading}
+use Rattle.mss_base.specs.Firsts.{first_below}
+use Rattle.shown_volumes.specs.Faults.{serial_fault, read_fault, row_fault}
+use Rattle.shown_volumes.specs.Sound.{HasSerialsAsked}
+use Rattle.mss_base.proofs.FirstFacts.{none_yet, none_next}
+use Rattle.volume_table.specs.Listed.{listed}
+use Rattle.mss_restart.specs.Survey.{IsReading, Readings, TellsRow, ReadsVolume, AreKnown, IsAlone, FirstAlone, IsKnown, AreRead, EndsAtRow, ReadsRows, KeepsFirst}
+use Rattle.mss_restart.proofs.RowLemmas.{right_reading, since}
+use Rattle.mss_restart.proofs.UsableFacts.{row_asked}
 
 pub first_same : {A : Type 0} (n : ℕ) (f g : ℕ → Option A) → ((i : ℕ) → i < n → f i ≡ g i) → first_below n f ≡ first_below n g
 unfolding first_below
@@ -32,81 +34,159 @@ push_before [] x d k lt = absurd (omega arith)
 push_before (y ∷ xs) x d zero lt = refl
 push_before (y ∷ xs) x d (suc k) lt = push_before xs x d k (omega arith)
 
-kept_first : (a b : Option ℕ) → is_some a ≡ true → is_some (option_or a b) ≡ true
-kept_first None b is = absurd cc
-kept_first (Some x) b is = refl
+pub one_longer : {A : Type 0} (xs : List A) (x : A) → length (xs ++ x ∷ []) ≡ length xs + 1
+one_longer xs x = length-append xs (x ∷ [])
 
-kept_second : (a b : Option ℕ) → is_some b ≡ true → is_some (option_or a b) ≡ true
-kept_second None b is = is
-kept_second (Some x) b is = refl
+-- the first rows were read, and those behind them weren't yet
+pub record SoFar (begun now n : ℕ) (asked : ℕ → Option (List ℕ)) (c : Content) (rows : List (Option RowValue)) (unread : Option ℕ) : Type 0 where
+  pub readings : Readings begun now c
+  pub rest : (v : ℕ) → n ≤ v → readings.row v ≡ row_of c v
+  pub past : (v : ℕ) → n ≤ v → readings.counts v ≡ now
+  pub known : (v : ℕ) → v < n → IsKnown (listed rows v) (readings.row v)
+  pub none : first_below n (row_fault asked readings.row) ≡ None
+  pub alone : FirstAlone n readings.row readings.counts unread
+
+abbrev pub right_readings : (count : ℕ) (c : Content) → Readings count count c
+right_readings count c = record { row = row_of c; counts = λ v. count; first = refl; last = refl; each = λ v. right_reading count v c }
 
 -- before the first row
-pub none_read : (begun : ℕ) (asked : ℕ → Option (List ℕ)) (c : Content) (rows : List (Option RowValue)) (unread : Option ℕ) → AreRead begun begun 0 asked c rows unread
-none_read begun asked c rows unread = record {
-  readings = row_of c;
-  each = λ v. record { a = read_of (copy_at (c TableA v)); b = read_of (copy_at (c TableB v)); a_read = inr refl; b_read = inr refl; told = refl };
+pub none_read : (begun : ℕ) (asked : ℕ → Option (List ℕ)) (c : Content) (rows : List (Option RowValue)) → SoFar begun begun 0 asked c rows None
+none_read begun asked c rows = record {
+  readings = right_readings begun c;
+  rest = λ v le. refl;
+  past = λ v le. refl;
   known = λ v lt. absurd (omega arith);
   none = none_yet (row_fault asked (row_of c));
+  alone = λ v lt. absurd (omega arith);
 }
 
-module _ (begun mid now n : ℕ) (asked : ℕ → Option (List ℕ)) (c : Content) (rows : List (Option RowValue)) (unread : Option ℕ) (so_far : AreRead begun mid n asked c rows unread) (start : begun ≤ mid) (end : mid ≤ now)
-    (result : Result RowRead Refused) (one : ReadsVolume mid now n (asked n) c result) where
-  readings : ℕ → RowReading
-  readings v = cond (v == n) one.read (so_far.readings v)
+pub all_read : (begun now : ℕ) (asked : ℕ → Option (List ℕ)) (c : Content) (rows : List (Option RowValue)) (unread : Option ℕ) → SoFar begun now 32 asked c rows unread → AreRead begun now asked c rows unread
+all_read begun now asked c rows unread so_far = record { readings = so_far.readings; known = so_far.known; none = so_far.none; alone = so_far.alone }
 
-  at_reading : (P : ℕ → RowReading → Type 0) → P n one.read → ((v : ℕ) → (v == n) ≡ false → P v (so_far.readings v)) → (v : ℕ) → P v (readings v)
-  unfolding readings
-  at_reading P here elsewhere v = elim (cases_Bool (v == n)) [
-    | inl same ↦ let e : v ≡ n = eqb-true v n same in subst (P v) (sym (cond-true _ _ _ same)) (subst (λ (x : ℕ). P x one.read) (sym e) here)
-    | inr other ↦ subst (P v) (sym (cond-false _ _ _ other)) (elsewhere v other)
+known_not : (r : RowReading) (o : Option RowValue) → IsKnown o r → r ≡ unknown → ⊥
+known_not r o is un = let e = is.1 in cc
+
+module _ (begun mid now n : ℕ) (asked : ℕ → Option (List ℕ)) (c : Content) (rows : List (Option RowValue)) (unread : Option ℕ) (so_far : SoFar begun mid n asked c rows unread) (few : n < 32)
+    (result : Result RowRead Refused) (one : ReadsVolume mid now n (asked n) c result) where
+  row : ℕ → RowReading
+  row v = cond (v == n) one.read (so_far.readings.row v)
+
+  counts : ℕ → ℕ
+  counts v = cond (nat_lt n v) now (so_far.readings.counts v)
+
+  row_here : row n ≡ one.read
+  unfolding row
+  row_here = cond-true _ _ _ (eq-eqb n n refl)
+
+  row_elsewhere : (v : ℕ) → (v ≡ n → ⊥) → row v ≡ so_far.readings.row v
+  unfolding row
+  row_elsewhere v apart = cond-false _ _ _ (ne_eqb v n apart)
+
+  row_before : (v : ℕ) → v < n → row v ≡ so_far.readings.row v
+  row_before v lt = row_elsewhere v (λ e. omega (arith, e, lt))
+
+  row_past : (v : ℕ) → n < v → row v ≡ row_of c v
+  row_past v lt = row_elsewhere v (λ e. omega (arith, e, lt)) ∙ so_far.rest v (omega (arith, lt))
+
+  counts_past : (v : ℕ) → n < v → counts v ≡ now
+  unfolding counts
+  counts_past v lt = cond-true _ _ _ (lt-ltb n v lt)
+
+  counts_before : (v : ℕ) → v ≤ n → counts v ≡ so_far.readings.counts v
+  unfolding counts
+  counts_before v le = cond-false _ _ _ (le-ltb n v le)
+
+  by_equations : (v x y : ℕ) (r : RowReading) → counts v ≡ x → counts (v + 1) ≡ y → row v ≡ r → IsReading x y v c r → IsReading (counts v) (counts (v + 1)) v c (row v)
+  by_equations v x y r from to is reads =
+      subst (λ (m : ℕ). IsReading m (counts (v + 1)) v c (row v)) (sym from) (subst (λ (m : ℕ). IsReading x m v c (row v)) (sym to) (subst (λ (q : RowReading). IsReading x y v c q) (sym is) reads))
+
+  each_here : IsReading (counts n) (counts (n + 1)) n c (row n)
+  each_here = by_equations n mid now one.read (counts_before n (omega arith) ∙ so_far.past n (omega arith)) (counts_past (n + 1) (omega arith)) row_here one.is
+
+  each : (v : ℕ) → IsReading (counts v) (counts (v + 1)) v c (row v)
+  each v = elim (cases_lt v n) [
+    | inl lt ↦ by_equations v _ _ _ (counts_before v (omega (arith, lt))) (counts_before (v + 1) (omega (arith, lt))) (row_before v lt) (so_far.readings.each v)
+    | inr le ↦ elim (cases_lt n v) [
+      | inl past ↦ by_equations v now now (row_of c v) (counts_past v past) (counts_past (v + 1) (omega (arith, past))) (row_past v past) (right_reading now v c)
+      | inr ge ↦ let e : n ≡ v = omega (arith, le, ge) in subst (λ (x : ℕ). IsReading (counts x) (counts (x + 1)) x c (row x)) e each_here
+    ]
   ]
 
-  here_is : readings n ≡ one.read
-  unfolding readings
-  here_is = cond-true _ _ _ (eq-eqb n n refl)
+  abbrev readings : Readings begun now c
+  readings = record {
+    row = row;
+    counts = counts;
+    first = counts_before 0 (omega arith) ∙ so_far.readings.first;
+    last = counts_past 32 few;
+    each = each;
+  }
 
-  before_is : (v : ℕ) → v < n → readings v ≡ so_far.readings v
-  unfolding readings
-  before_is v lt = cond-false _ _ _ (lower v lt)
-    where
-      lower : (x : ℕ) → x < n → (x == n) ≡ false
-      lower x less = elim (cases_Bool (x == n)) [ inl same ↦ let e = eqb-true x n same in absurd (omega arith) | inr other ↦ other ]
+  none_before : first_below n (row_fault asked row) ≡ None
+  none_before = first_same n (row_fault asked row) (row_fault asked so_far.readings.row) (λ v lt. ap (read_fault v (asked v)) (row_before v lt)) ∙ so_far.none
 
-  each : (v : ℕ) → IsReading begun now v c (readings v)
-  each = at_reading (λ v r. IsReading begun now v c r) (later_reading begun mid now now n c one.read start (omega arith) one.is) (λ v other. later_reading begun begun mid now v c (so_far.readings v) (omega arith) end (so_far.each v))
-
-  none_before : first_below n (row_fault asked readings) ≡ None
-  none_before = first_same n (row_fault asked readings) (row_fault asked so_far.readings) (λ v lt. ap (read_fault v (asked v)) (before_is v lt)) ∙ so_far.none
+  known_before : AreKnown n row
+  known_before v lt un = known_not (so_far.readings.row v) (listed rows v) (so_far.known v lt) (sym (row_before v lt) ∙ un)
 
   -- the walk ends here
-  pub row_ends : (e : Refused) → n < 32 → TellsRow n (asked n) one.read (Err e) → EndsAtRow begun now asked c e
-  row_ends e low tells = record { readings = readings; each = each; volume = n; low = low; none = none_before; tells = subst (λ (r : RowReading). TellsRow n (asked n) r (Err e)) (sym here_is) tells }
+  pub row_ends : (e : Refused) → TellsRow n (asked n) one.read (Err e) → EndsAtRow begun now asked c e
+  row_ends e tells = record {
+    readings = readings;
+    volume = n;
+    low = few;
+    known = known_before;
+    none = none_before;
+    tells = subst (λ (r : RowReading). TellsRow n (asked n) r (Err e)) (sym row_here) tells;
+  }
 
   -- the walk goes on
   module _ (read : RowRead) (tells : TellsRow n (asked n) one.read (Ok read)) (long : length rows ≡ n) where
-    more : List (Option RowValue)
-    more = rows ++ read.row ∷ []
-
     pushed : listed (rows ++ read.row ∷ []) n ≡ read.row
     pushed = ap (λ (k : ℕ). get_or (rows ++ read.row ∷ []) k None) (sym long) ∙ push_here rows read.row None
 
-    known_now : (v : ℕ) → v < n + 1 → IsKnown (listed (rows ++ read.row ∷ []) v) (option_or unread read.unread) (readings v)
-    known_now =
-        at_reading (λ v r. v < n + 1 → IsKnown (listed (rows ++ read.row ∷ []) v) (option_or unread read.unread) r)
-        (λ _. record { missing = is_some read.unread; is = tells.0 ∙ ap (λ (o : Option RowValue). known o (is_some read.unread)) (sym pushed); kept = kept_second unread read.unread })
-        (λ v other lt.
-        let differ : v ≡ n → ⊥ = λ e. false≢true (sym other ∙ eq-eqb v n e) in
-        let less : v < n = omega arith in
-        let was = so_far.known v less in
-        let same : listed (rows ++ read.row ∷ []) v ≡ listed rows v = push_before rows read.row None v (omega (arith, less, long)) in
-        record { missing = was.missing; is = was.is ∙ ap (λ (o : Option RowValue). known o was.missing) (sym same); kept = λ alone. kept_first unread read.unread (was.kept alone) })
+    known_now : (v : ℕ) → v < n + 1 → IsKnown (listed (rows ++ read.row ∷ []) v) (row v)
+    known_now v lt = elim (cases_lt v n) [
+      | inl less ↦
+          let was = so_far.known v less in
+          let same : listed (rows ++ read.row ∷ []) v ≡ listed rows v = push_before rows read.row None v (omega (arith, less, long)) in
+          (was.0, row_before v less ∙ was.1 ∙ ap (λ (o : Option RowValue). known o was.0) (sym same))
+      | inr le ↦
+          let e : n ≡ v = omega (arith, le, lt) in
+          subst (λ (x : ℕ). IsKnown (listed (rows ++ read.row ∷ []) x) (row x)) e (is_some read.unread, row_here ∙ tells.0 ∙ ap (λ (o : Option RowValue). known o (is_some read.unread)) (sym pushed))
+    ]
 
-    pub row_read : AreRead begun now (n + 1) asked c (rows ++ read.row ∷ []) (option_or unread read.unread)
-    row_read = record {
+    alone_same : (v : ℕ) → v < n → IsAlone (row v) → IsAlone (so_far.readings.row v)
+    alone_same v lt is = (is.0, sym (row_before v lt) ∙ is.1)
+
+    alone_on : (u o : Option ℕ) → FirstAlone n so_far.readings.row so_far.readings.counts u → one.read ≡ known read.row (is_some o) → MissingKeeps mid now o → FirstAlone (n + 1) row counts (option_or u o)
+    alone_on None None before here keeps = λ v lt is. elim (cases_lt v n) [
+      | inl less ↦ before v less (alone_same v less is)
+      | inr le ↦ (let e : v ≡ n = omega (arith, le, lt) in let there : known read.row false ≡ known is.0 true = sym here ∙ sym row_here ∙ ap row (sym e) ∙ is.1 in cc)
+    ]
+    alone_on None (Some f) before here keeps = record {
+      volume = n;
+      low = omega arith;
+      alone = (read.row, row_here ∙ here);
+      lowest = λ v lt is. before v lt (alone_same v lt is);
+      count_ = keeps.count ∙ sym (counts_past (n + 1) (omega arith));
+    }
+    alone_on (Some f) o before here keeps =
+        let low : before.volume < n = before.low in
+        record {
+          volume = before.volume;
+          low = omega (arith, low);
+          alone = (before.alone.0, row_before before.volume low ∙ before.alone.1);
+          lowest = λ v lt is. before.lowest v lt (alone_same v (omega (arith, lt, low)) is);
+          count_ = before.count_ ∙ sym (counts_before (before.volume + 1) (omega (arith, low)));
+        }
+
+    pub row_read : MissingKeeps mid now read.unread → SoFar begun now (n + 1) asked c (rows ++ read.row ∷ []) (option_or unread read.unread)
+    row_read keeps = record {
       readings = readings;
-      each = each;
+      rest = λ v le. row_past v (omega (arith, le));
+      past = λ v le. counts_past v (omega (arith, le));
       known = known_now;
-      none = none_next n (row_fault asked readings) none_before (ap (read_fault n (asked n)) here_is ∙ tells.1);
+      none = none_next n (row_fault asked row) none_before (ap (read_fault n (asked n)) row_here ∙ tells.1);
+      alone = alone_on unread read.unread so_far.alone tells.0 keeps;
     }
 
 pub rows_end : (begun now : ℕ) (asked : ℕ → Option (List ℕ)) (c : Content) (e : Refused) → EndsAtRow begun now asked c e → ReadsRows begun now asked c (Err e)
@@ -118,10 +198,26 @@ pub named : (mid now v n : ℕ) (a b : Option (List ℕ)) (c d : Content) (resul
 named mid now v n a b c d result same asked told reads =
     subst (λ (x : ℕ). ReadsVolume mid now x b d result) same (subst (λ (o : Option (List ℕ)). ReadsVolume mid now v o d result) asked (subst (λ (k : Content). ReadsVolume mid now v a k result) told reads))
 
-pub kept_later : (begun mid now : ℕ) (a b : Option ℕ) → begun ≤ mid → mid ≤ now → IfSome a (IsKept begun mid) → IfSome b (IsKept mid now) → IfSome (option_or a b) (IsKept begun now)
-kept_later begun mid now None None start end first second = tt
-kept_later begun mid now None (Some f) start end first second = (later_rise begun mid f f start (omega arith) second.0, second.1)
-kept_later begun mid now (Some f) b start end first second = let le : f ≤ mid = first.1 in (first.0, omega (arith, le, end))
+-- the first count that is kept stays
+pub first_kept : (begun mid now : ℕ) (a b : Option ℕ) → KeepsFirst begun mid a → begun ≤ mid → mid ≤ now → MissingKeeps mid now b → KeepsFirst begun now (option_or a b)
+first_kept begun mid now None None before start end keeps = keeps ∙ before
+first_kept begun mid now None (Some f) before start end keeps = let same : f ≡ now = keeps.count in let rise = since begun mid now f start keeps in record { rises = omega (arith, same, rise.rises); past = omega (arith, same) }
+first_kept begun mid now (Some f) b before start end keeps = record { rises = before.rises; past = omega (arith, before.past, end) }
 
-pub one_longer : {A : Type 0} (xs : List A) (x : A) → length (xs ++ x ∷ []) ≡ length xs + 1
-one_longer xs x = length-append xs (x ∷ [])
+-- one row more, whose serial is no fault
+pub serials_on : (asked : ℕ → Option (List ℕ)) (rows : List (Option RowValue)) (n : ℕ) (o : Option RowValue) → length rows ≡ n → HasSerialsAsked asked (listed rows) → serial_fault n o (asked n) ≡ None → HasSerialsAsked asked (listed (rows ++ o ∷ []))
+serials_on asked rows n o long before none v = elim (cases_lt v n) [
+  | inl less ↦ subst (λ (x : Option RowValue). ForSome x (λ r. ForSome (asked v) (λ s. r.serial ≡ s))) (sym (push_before rows o None v (omega (arith, less, long)))) (before v)
+  | inr le ↦ elim (cases_lt n v) [
+    | inl past ↦ λ r at.
+        (let e : ◌≡◌ {A = Option RowValue} None (Some r) = sym (get_or_past (rows ++ o ∷ []) v None (omega (arith, past, long, one_longer rows o))) ∙ at in absurd cc)
+    | inr ge ↦
+        let e : n ≡ v = omega (arith, le, ge) in
+        let here : listed (rows ++ o ∷ []) n ≡ o = ap (λ (k : ℕ). get_or (rows ++ o ∷ []) k None) (sym long) ∙ push_here rows o None in
+        subst (λ (x : ℕ). ForSome (listed (rows ++ o ∷ []) x) (λ r. ForSome (asked x) (λ s. r.serial ≡ s))) e
+        (subst (λ (x : Option RowValue). ForSome x (λ r. ForSome (asked n) (λ s. r.serial ≡ s))) (sym here) (row_asked n o (asked n) none))
+  ]
+]
+
+pub no_serials : (asked : ℕ → Option (List ℕ)) (rows : List (Option RowValue)) → rows ≡ [] → HasSerialsAsked asked (listed rows)
+no_serials asked rows none v r at = let e : ◌≡◌ {A = Option RowValue} None (Some r) = sym (ap (λ (xs : List (Option RowValue)). listed xs v) none) ∙ at in absurd cc

@@ -1,5 +1,5 @@
 -- One repair after another.
-use Rattle.std.proofs.Common.{◌≡◌, ℕ, ◌+◌, ◌<◌, List, ◌==◌, inl, inr, refl, sym, ◌∙◌, ap, subst, arith}
+use Rattle.std.proofs.Common.{◌≡◌, ℕ, suc, ◌+◌, ◌<◌, Err, List, ◌==◌, inl, inr, refl, sym, ◌∙◌, ap, subst, arith}
 use Rattle.std.proofs.lemmas.Bool.{cases_Bool, cases_lt, eqb-true, eq-eqb, false≢true}
 use Rattle.mss_base.specs.Content.{SiteLog, content, Writes}
 use Rattle.mss_base.specs.declared.place.UnitNo.TheVariants.{TableA, TableB}
@@ -8,6 +8,10 @@ use Rattle.ckd_track.specs.Data.{Volumes}
 use Rattle.table_pair.specs.Copies.{copy_at}
 use Rattle.table_pair.specs.Pair.{row_of, row_of_copies, ChangesRow, HoldsRow, IsOpenWith}
 use Rattle.table_pair.specs.Repairs.{KeepsRow, HoldsToldRow}
+use Rattle.mss_base.specs.Sites.{FailingReads, MayWrite}
+use Rattle.shown_volumes.specs.declared.refused.Refused.{Refused}
+use Rattle.shown_volumes.specs.declared.refused.Refused.TheVariants.{Memory}
+use Rattle.mss_restart.specs.Creations.{IsStop, WritesOn, IsRepair, AreRepaired, RepairsWhole}
 use Rattle.shown_volumes.specs.Shown.{shown}
 use Rattle.shown_volumes.specs.Sound.{IsSound, SoundAs}
 use Rattle.shown_volumes.proofs.MomentFacts.{repair_moments}
@@ -58,3 +62,39 @@ module _ (begun mid now : SiteLog) (volume : ℕ) (so_far : IsRepaired begun mid
           b = subst (λ (b : List ℕ). IsOpenWith row (copy_at b)) (sym (change.others TableB v other)) was.b;
         }
   ]
+
+-- ---- each repair to its end
+
+pub none_repaired : (s : SiteLog) → AreRepaired 0 s s
+unfolding AreRepaired
+none_repaired s = refl
+
+pub one_repaired : (n volume : ℕ) (begun mid now : SiteLog) → AreRepaired n begun mid → volume ≡ n → IsRepair volume mid now → AreRepaired (n + 1) begun now
+unfolding AreRepaired
+one_repaired n volume begun mid now before same one =
+    let e : suc n ≡ n + 1 = omega arith in
+    subst (λ (k : ℕ). AreRepaired k begun now) e (mid, before, subst (λ (v : ℕ). IsRepair v mid now) same one)
+
+-- writes as often as there is room for
+module _ {S : Type 0} (writes faults : S → ℕ) (never_fails_but : FailingReads S) where
+  pub nothing_written : (s : S) → WritesOn writes faults never_fails_but s s
+  nothing_written s = record { written = omega arith; later = omega arith; sound = λ but so. so }
+
+  pub written_on : (a b c : S) → WritesOn writes faults never_fails_but a b → WritesOn writes faults never_fails_but b c → WritesOn writes faults never_fails_but a c
+  written_on a b c first second = record {
+    written = omega (arith, first.written, second.written);
+    later = omega (arith, first.later, second.later);
+    sound = λ but so. second.sound but (first.sound but so);
+  }
+
+  pub may_be_written : (most : ℕ) (spare : S → ℕ) (a b : S) → MayWrite most spare writes faults never_fails_but a b → WritesOn writes faults never_fails_but a b
+  may_be_written most spare a b may = record { written = may.written; later = may.later; sound = may.sound }
+
+-- a stop of a later part of a call, before which none failed
+pub stop_since : (begun before now : ℕ) (e : Refused) → before ≡ begun → IsStop before now e → IsStop begun now e
+stop_since begun before now e same stops = subst (λ (n : ℕ). IsStop n now e) same stops
+
+-- want of memory leaves the repairs that were made
+pub memory_repairs : (count : ℕ) (begun mid now : SiteLog) (e : Refused) → AreRepaired count begun mid → (e ≡ Memory → now ≡ mid) → RepairsWhole {T = Unit {0}} begun now (Err e)
+memory_repairs count begun mid now Memory before same = (count, subst (AreRepaired count begun) (sym (same refl)) before)
+memory_repairs count begun mid now _ before same = tt

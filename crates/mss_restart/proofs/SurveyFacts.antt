@@ -6,26 +6,27 @@ use Rattle.shown_volumes.specs.declared.refused.Refused.{Refused}
 use Rattle.shown_volumes.specs.declared.refused.Refused.TheVariants.{RowDamaged, RowUnread, SerialDiffers, CartridgeTwice, FrameGone, FrameTwice, TornTrack, StagedDiffers, Stopped, Memory}
 use Rattle.shown_volumes.specs.Shown.{RowsOf}
 use Rattle.shown_volumes.specs.Sound.{cartridge_of, frame_in}
-use Rattle.shown_volumes.specs.Faults.{◌or◌, first_below, where_so, half, earlier_half, half_fault, halves_fault, earlier_page, frame_fault, page_fault, pages_fault, tracks_fault}
-use Rattle.shown_volumes.proofs.WalkFacts.{or_first, or_second}
-use Rattle.mss_restart.specs.Survey.{is_of_content, KeepsCause, FindsFault}
+use Rattle.mss_base.specs.Firsts.{◌or◌, first_below, where_so}
+use Rattle.shown_volumes.specs.Faults.{half, earlier_half, half_fault, halves_fault, earlier_page, frame_fault, page_fault, pages_fault, tracks_fault}
+use Rattle.mss_base.proofs.FirstFacts.{or_first, or_second}
+use Rattle.mss_restart.specs.Survey.{is_of_content, CountsCause, IsNoFailure, FindsFault}
 use Rattle.mss_restart.specs.Walks.{rest_fault}
 
 -- faults of the content alone
 abbrev pub OfContent : Option Refused → Type 0
 OfContent o = ForSome o (λ e. is_of_content e ≡ true)
 
-pub content_kept : (before now : ℕ) (e : Refused) → is_of_content e ≡ true → KeepsCause before now e
-content_kept before now (RowUnread v f) is = absurd cc
-content_kept before now (Stopped f) is = absurd cc
-content_kept before now Memory is = absurd cc
-content_kept before now (RowDamaged v copy fault) is = tt
-content_kept before now (SerialDiffers v kept asked) is = tt
-content_kept before now (CartridgeTwice n first second) is = tt
-content_kept before now (FrameGone f) is = tt
-content_kept before now (FrameTwice f first second) is = tt
-content_kept before now (TornTrack v y h) is = tt
-content_kept before now (StagedDiffers v y h) is = tt
+pub content_counts : (before : ℕ) (e : Refused) → is_of_content e ≡ true → CountsCause before before e × IsNoFailure e
+content_counts before (RowUnread v f) is = absurd cc
+content_counts before (Stopped f) is = absurd cc
+content_counts before Memory is = absurd cc
+content_counts before (RowDamaged v copy fault) is = (refl, tt)
+content_counts before (SerialDiffers v kept asked) is = (refl, tt)
+content_counts before (CartridgeTwice n first second) is = (refl, tt)
+content_counts before (FrameGone f) is = (refl, tt)
+content_counts before (FrameTwice f first second) is = (refl, tt)
+content_counts before (TornTrack v y h) is = (refl, tt)
+content_counts before (StagedDiffers v y h) is = (refl, tt)
 
 either : (a b : Option Refused) → OfContent a → OfContent b → OfContent (a or b)
 either None b first second = second

@@ -1,7 +1,8 @@
 -- Cartridges that no row names.
 use Rattle.std.specs.Prelude.{◌≡◌, ◌≢◌, ◌⊎◌, ◌<◌, ℕ, Bool, true, Option, Some, is_some}
 use Rattle.shown_volumes.specs.Shown.{RowsOf}
-use Rattle.shown_volumes.specs.Faults.{first_below, half_with}
+use Rattle.mss_base.specs.Firsts.{first_below}
+use Rattle.shown_volumes.specs.Faults.{half_with}
 
 -- whether a row names a cartridge
 abbrev pub is_named : RowsOf → ℕ → Bool

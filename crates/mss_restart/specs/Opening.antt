@@ -1,22 +1,18 @@
 -- What opening the rows of a site makes of it: the volumes that have no row are created, blank, in order.
-use Rattle.std.specs.Prelude.{◌≡◌, ◌⊎◌, ◌<◌, ℕ, false, if◌then◌else◌, List, [], ◌∷◌, ◌++◌, Option, Some, None, is_some, Result, Ok, Err}
-use Rattle.mss_base.specs.Content.{Content, SiteLog, content}
+use Rattle.std.specs.Prelude.{◌≡◌, ◌<◌, ℕ, false, if◌then◌else◌, List, [], ◌∷◌, ◌++◌, Option, Some, None, is_some, Result, Ok, Err}
+use Rattle.mss_base.specs.Content.{Content}
 use Rattle.mss_base.specs.Configs.{ConfigData, VolumeData}
-use Rattle.mss_base.specs.Listing.{Listing}
 use Rattle.ckd_plain.specs.Plain.{serial_in}
 use Rattle.ckd_track.specs.Data.{Volumes}
 use Rattle.volume_table.specs.Row.{RowValue, blank_row}
 use Rattle.table_pair.specs.Pair.{HoldsRow, known, row_of}
-use Rattle.table_pair.specs.Reads.{IsKept}
-use Rattle.shown_volumes.specs.declared.refused.Refused.{Refused}
-use Rattle.shown_volumes.specs.declared.refused.Refused.TheVariants.{RowUnread, Stopped, Memory}
 use Rattle.shown_volumes.specs.Shown.{RowsOf, rows_of, shown}
 use Rattle.shown_volumes.specs.Sound.{IsSound, SoundAs}
 use Rattle.shown_volumes.specs.Faults.{first_fault}
 use Rattle.shown_volumes.specs.Changing.{with_row, with_blank}
-use Rattle.mss_restart.specs.Listed.{listed}
+use Rattle.volume_table.specs.Listed.{listed}
 use Rattle.mss_restart.specs.Cartridges.{IsLowestFree}
-use Rattle.mss_restart.specs.Survey.{Surveys}
+use Rattle.mss_restart.specs.Usable.{HasRowWith}
 
 -- each row is what both copies of the content tell
 abbrev pub RowsAre : List (Option RowValue) → Content → Type 0
@@ -50,6 +46,12 @@ pub record IsNewRow (rows : RowsOf) (serial : List ℕ) (row : RowValue) : Type 
   pub first : IsLowestFree rows None row.first
   pub second : IsLowestFree rows (Some row.first) row.second
 
+-- a volume has its new row
+pub record HasNewRow (volume : ℕ) (serial : List ℕ) (before rows : RowsOf) : Type 0 where
+  pub row : RowValue
+  pub is_new : IsNewRow before serial row
+  pub now : rows ≡ with_row volume row before
+
 -- the rows after these volumes were created, one after the other
 abbrev pub Creates : List VolumeData → RowsOf → RowsOf → Type 0
 Creates [] rows last = last ≡ rows
@@ -71,12 +73,6 @@ pub record AreCreated (volumes : List VolumeData) (c d : Content) (before rows :
   pub held : AreHeld (listed rows) d
   pub shows : (frames : ℕ) → IsSound frames c → SoundAs frames (with_blanks (missing (listed before) volumes) (shown c)) d
 
--- the volume has a row with this serial
-pub record HasRowWith (rows : RowsOf) (volume : ℕ) (serial : List ℕ) : Type 0 where
-  pub row : RowValue
-  pub there : rows volume ≡ Some row
-  pub same : row.serial ≡ serial
-
 -- an opened site: it was without a fault; it shows its volumes with the further ones of the configuration, blank; the
 -- rows handed back are its rows, in both copies; each configured volume has one, and the rows from before stay
 pub record IsOpened (config : ConfigData) (old new : Content) (rows : List (Option RowValue)) : Type 0 where
@@ -85,41 +81,9 @@ pub record IsOpened (config : ConfigData) (old new : Content) (rows : List (Opti
   pub rows_are : listed rows ≡ rows_of new
   pub held : AreHeld (rows_of new) new
   pub created : Creates (missing (rows_of old) config.volumes) (rows_of old) (rows_of new)
-  pub asked : (volume : ℕ) (serial : List ℕ) → serial_in config.volumes volume ≡ Some serial → HasRowWith (rows_of new) volume serial
+  pub asked : (volume : ℕ) (serial : List ℕ)
+      → serial_in config.volumes volume ≡ Some serial → HasRowWith (rows_of new) volume serial
   pub kept : (volume : ℕ) (row : RowValue) → rows_of old volume ≡ Some row → rows_of new volume ≡ Some row
-
--- nothing was written, or the content had no fault
-abbrev pub WritesIfFaultless : ConfigData → SiteLog → SiteLog → Type 0
-WritesIfFaultless config old new = (new ≡ old) ⊎ (first_fault config.frames (serial_in config.volumes) (content old) ≡ None)
-
--- a refusal but for a failed call or want of memory is the survey's, and nothing was written
-abbrev pub RefusesAs : ℕ → ℕ → ConfigData → SiteLog → SiteLog → Refused → Type 0
-RefusesAs before now config old new (Stopped fault) = Unit {0}
-RefusesAs before now config old new Memory = Unit {0}
-RefusesAs before now config old new e = (new ≡ old) × Surveys before now config.frames (serial_in config.volumes) (content old) (Err e)
-
--- what opening answers
-abbrev pub Opens : ℕ → ℕ → ConfigData → SiteLog → SiteLog → Result (Listing (Option RowValue)) Refused → Type 0
-Opens before now config old new (Ok rows) = IsOpened config (content old) (content new) rows.items
-Opens before now config old new (Err e) = RefusesAs before now config old new e
-
--- without a failed call opening answers rows exactly where the content has no fault, and else its first fault
-abbrev pub OpensExactly : ConfigData → Content → Result (Listing (Option RowValue)) Refused → Type 0
-OpensExactly config c (Ok rows) = first_fault config.frames (serial_in config.volumes) c ≡ None
-OpensExactly config c (Err (RowUnread volume fault)) = ⊥
-OpensExactly config c (Err (Stopped fault)) = ⊥
-OpensExactly config c (Err Memory) = Unit {0}
-OpensExactly config c (Err e) = first_fault config.frames (serial_in config.volumes) c ≡ Some e
-
--- a failed call, whose count of faults is kept, or want of memory
-abbrev pub IsStop : ℕ → ℕ → Refused → Type 0
-IsStop before now (Stopped fault) = IsKept before now fault
-IsStop before now Memory = Unit {0}
-IsStop before now _ = ⊥
-
-abbrev pub StopsAlone : {T : Type 0} → ℕ → ℕ → Result T Refused → Type 0
-StopsAlone before now (Ok value) = Unit {0}
-StopsAlone before now (Err e) = IsStop before now e
 
 -- the site that is handed back, and the answer beside it
 abbrev pub site_of : {S A B : Type 0} → Result (S × A) (S × B) → S

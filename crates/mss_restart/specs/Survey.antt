@@ -1,14 +1,17 @@
 -- What a survey answers.
-use Rattle.std.specs.Prelude.{◌≡◌, ◌<◌, ℕ, Bool, true, false, List, Option, Some, None, Result, Ok, Err, is_some, IfSome}
+use Rattle.std.specs.Prelude.{◌≡◌, ◌≢◌, ◌<◌, ◌≤◌, ◌+◌, ℕ, Bool, true, false, List, Option, Some, None, Result, Ok, Err, is_some}
 use Rattle.mss_base.specs.Content.{Content}
+use Rattle.mss_base.specs.Counts.{IsFaultSince, IsFaultWithin}
+use Rattle.mss_base.specs.Sites.{FailingReads}
 use Rattle.mss_base.specs.declared.place.UnitNo.TheVariants.{TableA, TableB}
 use Rattle.volume_table.specs.Row.{RowValue}
-use Rattle.mss_restart.specs.Listed.{listed}
+use Rattle.volume_table.specs.Listed.{listed}
 use Rattle.mss_restart.specs.declared.rows.RowsRead.{RowsRead}
 use Rattle.table_pair.specs.Pair.{CopyRead, RowReading, known, unknown, reading}
-use Rattle.table_pair.specs.Reads.{IsReadOf, IsKept}
+use Rattle.table_pair.specs.Reads.{IsReadOf, MissingKeeps}
 use Rattle.table_pair.specs.declared.copy.RowRead.{RowRead}
-use Rattle.shown_volumes.specs.Faults.{first_below, read_fault, row_fault, first_fault_of, first_fault}
+use Rattle.mss_base.specs.Firsts.{first_below}
+use Rattle.shown_volumes.specs.Faults.{read_fault, row_fault, first_fault_of, first_fault}
 use Rattle.shown_volumes.specs.Shown.{rows_in, rows_of}
 use Rattle.mss_base.specs.Listing.{Listing}
 use Rattle.shown_volumes.specs.declared.refused.Refused.{Refused}
@@ -31,28 +34,91 @@ abbrev pub Finds : {T : Type 0} → Result T Refused → Option Refused → Type
 Finds (Ok value) found = found ≡ None
 Finds (Err r) found = FindsFault r found
 
--- a failure keeps the count of a fault that rose in the call
+-- ---- calls that fail
+
+-- no call of the site fails
+abbrev pub NeverFails : {S : Type 0} → FailingReads S → S → Type 0
+NeverFails never_fails_but s = never_fails_but s (λ unit. false)
+
+-- a failed call isn't what was answered
+abbrev pub IsNoFailure : Refused → Type 0
+IsNoFailure (RowUnread volume fault) = ⊥
+IsNoFailure (Stopped fault) = ⊥
+IsNoFailure _ = Unit {0}
+
+abbrev pub TellsNoFailure : {T : Type 0} → Result T Refused → Type 0
+TellsNoFailure (Ok value) = Unit {0}
+TellsNoFailure (Err e) = IsNoFailure e
+
+-- a failed call that is answered is the last one, at which the count rose; else none failed
+abbrev pub CountsCause : ℕ → ℕ → Refused → Type 0
+CountsCause before now (RowUnread volume fault) = IsFaultSince before now fault
+CountsCause before now (Stopped fault) = IsFaultSince before now fault
+CountsCause before now _ = now ≡ before
+
+abbrev pub CountsFaults : {T : Type 0} → ℕ → ℕ → Result T Refused → Type 0
+CountsFaults before now (Ok value) = now ≡ before
+CountsFaults before now (Err e) = CountsCause before now e
+
+-- where a read of a table failed that the other copy made good, a fault of the content or want of memory may be answered
 abbrev pub KeepsCause : ℕ → ℕ → Refused → Type 0
-KeepsCause before now (RowUnread volume fault) = IsKept before now fault
-KeepsCause before now (Stopped fault) = IsKept before now fault
-KeepsCause before now _ = Unit {0}
+KeepsCause before now (RowUnread volume fault) = IsFaultSince before now fault
+KeepsCause before now (Stopped fault) = IsFaultSince before now fault
+KeepsCause before now _ = before ≤ now
+
+-- the count of the first row that one copy alone told is kept; where both told each, no read failed
+abbrev pub KeepsFirst : ℕ → ℕ → Option ℕ → Type 0
+KeepsFirst before now None = now ≡ before
+KeepsFirst before now (Some fault) = IsFaultWithin before now fault
+
+-- what reading a row keeps
+abbrev pub KeepsRead : ℕ → ℕ → Result RowRead Refused → Type 0
+KeepsRead before now (Ok read) = MissingKeeps before now read.unread
+KeepsRead before now (Err e) = KeepsCause before now e
+
+-- what reading the rows keeps
+abbrev pub KeepsRows : ℕ → ℕ → Result RowsRead Refused → Type 0
+KeepsRows before now (Ok read) = KeepsFirst before now read.unread
+KeepsRows before now (Err e) = KeepsCause before now e
 
 abbrev pub KeepsFault : {T : Type 0} → ℕ → ℕ → Result T Refused → Type 0
-KeepsFault before now (Ok value) = Unit {0}
+KeepsFault before now (Ok value) = before ≤ now
 KeepsFault before now (Err e) = KeepsCause before now e
 
--- a volume's row as it was read, by the table: each of its copies was read, or its read failed in the call
+-- no copy was missing, and no failed call was answered
+abbrev pub ReadsWhole : Result RowRead Refused → Type 0
+ReadsWhole (Ok read) = read.unread ≡ None
+ReadsWhole (Err e) = IsNoFailure e
+
+abbrev pub ReadsWholeRows : Result RowsRead Refused → Type 0
+ReadsWholeRows (Ok read) = read.unread ≡ None
+ReadsWholeRows (Err e) = IsNoFailure e
+
+-- ---- the rows as they were read
+
+-- a volume's row as it was read, by the table, copy A first: each of its copies was read, or its read failed and the count
+-- of faults rose at it
 pub record IsReading (before now volume : ℕ) (c : Content) (r : RowReading) : Type 0 where
+  pub between : ℕ
   pub a : CopyRead
   pub b : CopyRead
-  pub a_read : IsReadOf before now (c TableA volume) a
-  pub b_read : IsReadOf before now (c TableB volume) b
+  pub a_read : IsReadOf before between (c TableA volume) a
+  pub b_read : IsReadOf between now (c TableB volume) b
   pub told : r ≡ reading a b
+
+-- the rows as they were read, one after the other: so many faults were counted before the row of a volume was read
+pub record Readings (before now : ℕ) (c : Content) : Type 0 where
+  pub row : ℕ → RowReading
+  pub counts : ℕ → ℕ
+  pub first : counts 0 ≡ before
+  pub last : counts 32 ≡ now
+  pub each : (volume : ℕ) → IsReading (counts volume) (counts (volume + 1)) volume c (row volume)
 
 -- what reading a volume's row answers: the row, whose serial is the one that is asked, or a fault, or that nothing is known
 abbrev pub TellsRow : ℕ → Option (List ℕ) → RowReading → Result RowRead Refused → Type 0
 TellsRow volume asked r (Ok read) = (r ≡ known read.row (is_some read.unread)) × (read_fault volume asked r ≡ None)
 TellsRow volume asked r (Err (RowUnread v fault)) = (v ≡ volume) × (r ≡ unknown)
+TellsRow volume asked r (Err (Stopped fault)) = ⊥
 TellsRow volume asked r (Err e) = is_of_content e ≡ true → read_fault volume asked r ≡ Some e
 
 -- a volume's row as it was read, and what was answered
@@ -61,50 +127,92 @@ pub record ReadsVolume (before now volume : ℕ) (asked : Option (List ℕ)) (c 
   pub is : IsReading before now volume c read
   pub tells : TellsRow volume asked read result
 
--- a row that is known though a read failed keeps the count of the fault
-abbrev pub KeepsUnread : ℕ → ℕ → Result RowRead Refused → Type 0
-KeepsUnread before now (Ok read) = IfSome read.unread (IsKept before now)
-KeepsUnread before now (Err e) = Unit {0}
+-- something is known of the first rows
+abbrev pub AreKnown : ℕ → (ℕ → RowReading) → Type 0
+AreKnown count row = (volume : ℕ) → volume < count → row volume ≢ unknown
 
--- a row that was read, and whether one copy alone told it, which is kept then
-pub record IsKnown (row : Option RowValue) (unread : Option ℕ) (r : RowReading) : Type 0 where
-  pub missing : Bool
-  pub is : r ≡ known row missing
-  pub kept : missing ≡ true → is_some unread ≡ true
+-- one copy alone told the row, since a read of the other failed
+abbrev pub IsAlone : RowReading → Type 0
+IsAlone r = (row : Option RowValue) × (r ≡ known row true)
 
--- the first rows as they were read, without a fault among them
-pub record AreRead (before now count : ℕ) (asked : ℕ → Option (List ℕ)) (c : Content) (rows : List (Option RowValue)) (unread : Option ℕ) : Type 0 where
-  pub readings : ℕ → RowReading
-  pub each : (volume : ℕ) → IsReading before now volume c (readings volume)
-  pub known : (volume : ℕ) → volume < count → IsKnown (listed rows volume) unread (readings volume)
-  pub none : first_below count (row_fault asked readings) ≡ None
+-- of the first volume whose row one copy alone told, the count of faults behind its reads
+pub record IsFirstAlone (count : ℕ) (row : ℕ → RowReading) (counts : ℕ → ℕ) (fault : ℕ) : Type 0 where
+  pub volume : ℕ
+  pub low : volume < count
+  pub alone : IsAlone (row volume)
+  pub lowest : (v : ℕ) → v < volume → IsAlone (row v) → ⊥
+  pub count_ : fault ≡ counts (volume + 1)
+
+-- what is kept of the rows that one copy alone told
+abbrev pub FirstAlone : ℕ → (ℕ → RowReading) → (ℕ → ℕ) → Option ℕ → Type 0
+FirstAlone count row counts None = (volume : ℕ) → volume < count → IsAlone (row volume) → ⊥
+FirstAlone count row counts (Some fault) = IsFirstAlone count row counts fault
+
+-- a row that was read, whether or not a copy was missing
+abbrev pub IsKnown : Option RowValue → RowReading → Type 0
+IsKnown row r = (missing : Bool) × (r ≡ known row missing)
+
+-- all rows as they were read, without a fault among them
+pub record AreRead (before now : ℕ) (asked : ℕ → Option (List ℕ)) (c : Content) (rows : List (Option RowValue)) (unread : Option ℕ) : Type 0 where
+  pub readings : Readings before now c
+  pub known : (volume : ℕ) → volume < 32 → IsKnown (listed rows volume) (readings.row volume)
+  pub none : first_below 32 (row_fault asked readings.row) ≡ None
+  pub alone : FirstAlone 32 readings.row readings.counts unread
 
 -- the walk over the rows ended at this one
 pub record EndsAtRow (before now : ℕ) (asked : ℕ → Option (List ℕ)) (c : Content) (e : Refused) : Type 0 where
-  pub readings : ℕ → RowReading
-  pub each : (volume : ℕ) → IsReading before now volume c (readings volume)
+  pub readings : Readings before now c
   pub volume : ℕ
   pub low : volume < 32
-  pub none : first_below volume (row_fault asked readings) ≡ None
-  pub tells : TellsRow volume (asked volume) (readings volume) (Err e)
+  pub known : AreKnown volume readings.row
+  pub none : first_below volume (row_fault asked readings.row) ≡ None
+  pub tells : TellsRow volume (asked volume) (readings.row volume) (Err e)
 
 abbrev pub ReadsRows : ℕ → ℕ → (ℕ → Option (List ℕ)) → Content → Result RowsRead Refused → Type 0
-ReadsRows before now asked c (Ok read) = AreRead before now 32 asked c read.rows.items read.unread
+ReadsRows before now asked c (Ok read) = AreRead before now asked c read.rows.items read.unread
 ReadsRows before now asked c (Err Memory) = Unit {0}
 ReadsRows before now asked c (Err e) = EndsAtRow before now asked c e
 
--- what a survey answers of rows as they were read: the rows, where there is no fault, or the first fault; that a row
--- isn't known comes only of a volume of which what could be read tells nothing
+-- ---- the survey
+
+-- nothing is known of this row alone so far, and no earlier one is at fault
+pub record IsFirstUnread (asked : ℕ → Option (List ℕ)) (row : ℕ → RowReading) (volume : ℕ) : Type 0 where
+  pub low : volume < 32
+  pub unread : row volume ≡ unknown
+  pub known : AreKnown volume row
+  pub none : first_below volume (row_fault asked row) ≡ None
+
+-- each row of which nothing is known stands behind one that is at fault
+abbrev pub AreBehindFaults : (ℕ → Option (List ℕ)) → (ℕ → RowReading) → Type 0
+AreBehindFaults asked row = (volume : ℕ) → volume < 32 → row volume ≡ unknown → first_below volume (row_fault asked row) ≢ None
+
+-- each row is known, and none is at fault
+pub record AreFaultless (asked : ℕ → Option (List ℕ)) (row : ℕ → RowReading) : Type 0 where
+  pub known : AreKnown 32 row
+  pub none : first_below 32 (row_fault asked row) ≡ None
+
+-- what a survey answers of rows as they were read: the rows, where there is no fault, or the first fault
 abbrev pub SurveyTells : ℕ → (ℕ → Option (List ℕ)) → (ℕ → RowReading) → Content → Result (List (Option RowValue)) Refused → Type 0
-SurveyTells frames asked readings c (Ok rows) = (listed rows ≡ rows_in readings) × (first_fault_of frames asked readings c ≡ None)
-SurveyTells frames asked readings c (Err (RowUnread volume fault)) = readings volume ≡ unknown
-SurveyTells frames asked readings c (Err e) = is_of_content e ≡ true → first_fault_of frames asked readings c ≡ Some e
+SurveyTells frames asked row c (Ok rows) =
+    AreFaultless asked row × (listed rows ≡ rows_in row) × (first_fault_of frames asked row c ≡ None)
+SurveyTells frames asked row c (Err (RowUnread volume fault)) = IsFirstUnread asked row volume
+SurveyTells frames asked row c (Err (Stopped fault)) = AreFaultless asked row
+SurveyTells frames asked row c (Err Memory) = Unit {0}
+SurveyTells frames asked row c (Err e) = AreBehindFaults asked row × (first_fault_of frames asked row c ≡ Some e)
+
+-- the count of faults since the rows were read: it rose where a stop is answered, and a row that isn't known was read last
+abbrev pub CountsSince : ℕ → ℕ → Result (List (Option RowValue)) Refused → Type 0
+CountsSince mid now (Ok rows) = now ≡ mid
+CountsSince mid now (Err (Stopped fault)) = IsFaultSince mid now fault
+CountsSince mid now (Err Memory) = mid ≤ now
+CountsSince mid now (Err e) = now ≡ mid
 
 -- the survey of a content, whose rows were read by the table, where reads may have failed
 pub record Surveys (before now frames : ℕ) (asked : ℕ → Option (List ℕ)) (c : Content) (result : Result (List (Option RowValue)) Refused) : Type 0 where
-  pub readings : ℕ → RowReading
-  pub each : (volume : ℕ) → IsReading before now volume c (readings volume)
-  pub tells : SurveyTells frames asked readings c result
+  pub mid : ℕ
+  pub readings : Readings before mid c
+  pub tells : SurveyTells frames asked readings.row c result
+  pub counts : CountsSince mid now result
 
 abbrev pub rows_read : Result RowsRead Refused → Result (List (Option RowValue)) Refused
 rows_read (Ok read) = Ok read.rows.items

@@ -4,7 +4,8 @@ use Rattle.mss_base.specs.Content.{Content}
 use Rattle.volume_table.specs.Row.{RowValue}
 use Rattle.shown_volumes.specs.declared.refused.Refused.{Refused}
 use Rattle.shown_volumes.specs.Shown.{RowsOf}
-use Rattle.shown_volumes.specs.Faults.{◌or◌, first_below, page_with, halves_fault, pages_fault, row_track_fault, tracks_fault}
+use Rattle.mss_base.specs.Firsts.{◌or◌, first_below}
+use Rattle.shown_volumes.specs.Faults.{page_with, halves_fault, pages_fault, row_track_fault, tracks_fault}
 
 -- the first page of a volume that has a frame
 abbrev pub lower_pages : RowsOf → ℕ → ℕ → Option (ℕ × ℕ)

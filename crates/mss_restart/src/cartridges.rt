@@ -1,6 +1,6 @@
 // Cartridges that no row names.
 ghost use Rattle.std.specs.Prelude.{◌≡◌, ◌<◌, length};
-ghost use Rattle.mss_restart.specs.Listed.{listed};
+ghost use Rattle.volume_table.specs.Listed.{listed};
 ghost use Rattle.mss_restart.specs.Cartridges.{is_named, IsLowestFree};
 
 use crate::halves::half_among;

@@ -1,41 +1,79 @@
 // Volumes that have no row get one.
-ghost use Rattle.std.specs.Prelude.{◌≡◌, ◌≤◌, ◌<◌, ℕ, None, OnOk, length, map};
+ghost use Rattle.std.specs.Prelude.{◌≡◌, ◌≤◌, ℕ, None, Err, OnOk, IfOk, [], length, map};
 ghost use Rattle.std.specs.Ordering.{nat_cmp};
 ghost use Rattle.std.specs.List.Sorted.{IsStrictlySortedBy};
 ghost use Rattle.mss_base.specs.Content.{content, Writes};
+ghost use Rattle.table_pair.specs.Repairs.{LeavesSite};
 ghost use Rattle.shown_volumes.specs.Shown.{shown};
 ghost use Rattle.shown_volumes.specs.Sound.{IsSound};
 ghost use Rattle.shown_volumes.specs.Changing.{WithOrWithout};
-ghost use Rattle.mss_restart.specs.Listed.{listed};
-ghost use Rattle.mss_restart.specs.Opening.{AreHeld, AreCreated, IsCreated, RowsAre, ShowsFront, StopsAlone, missing};
+ghost use Rattle.shown_volumes.specs.declared.refused.Refused.TheVariants.{Memory};
+ghost use Rattle.volume_table.specs.Listed.{listed};
+ghost use Rattle.mss_restart.specs.Opening.{
+  AreCreated,
+  AreHeld,
+  Creates,
+  HasNewRow,
+  IsCreated,
+  RowsAre,
+  ShowsFront,
+  missing,
+};
+ghost use Rattle.mss_restart.specs.Creations.{
+  AreCounted,
+  CreatesWhole,
+  IsCreation,
+  StopsAlone,
+  WritesOn,
+};
+ghost use Rattle.mss_restart.specs.Survey.{NeverFails, TellsNoFailure};
 
 use crate::cartridges::lowest_free;
 use crate::rows::Rows;
-use mss_base::{Serial, Site, VolumeNo};
+use mss_base::{Listed, Serial, Site, VolumeNo};
 use shown_volumes::Refused;
 use std::alloc::Global;
 use table_pair::create_row;
 use volume_table::VolumeRow;
 
+/// A volume that was created, and how many writes the site counted behind the last one of its creation.
+#[derive(Clone, Copy, Debug, PartialEq, Eq)]
+pub struct Creation {
+    pub volume: VolumeNo,
+    pub writes: u64,
+}
+
+/// Creations in the order in which they were made.
+pub type Creations = Listed<Creation>;
+
 /// Creates a volume, blank, on the two lowest cartridges that no row names.
 fn create_volume<S: Site>(
-    site: &mut S,
     alloc: Global,
+    site: &mut S,
     rows: &mut Rows,
     volume: VolumeNo,
     serial: Serial,
-) -> Result<(), Refused>
+) -> Result<Creation, Refused>
     requires whole { length rows.old.items ≡ 32 }
     requires none { listed rows.old.items volume ≡ None }
     requires told { S.tells → RowsAre rows.old.items (content (S.told site.old)) }
     ensures moments { S.tells → (frames : ℕ) → IsSound frames (content (S.told site.old)) → Writes
         (λ d. IsSound frames d × WithOrWithout volume serial (shown (content (S.told site.old))) (shown d))
         (S.told site.old) (S.told site.new) }
-    ensures created { S.tells → OnOk result (IsCreated volume serial (content (S.told site.old)) (content (S.told site.new))
-        rows.old.items rows.new.items) }
+    ensures created { S.tells → OnOk result (IsCreated volume serial
+        (content (S.told site.old)) (content (S.told site.new)) rows.old.items rows.new.items) }
+    ensures complete { S.tells → IfOk result (λ made. IsCreation (listed rows.old.items)
+        (listed rows.new.items) (volume, serial) made (S.told site.old) (S.told site.new)) }
+    ensures row { OnOk result
+        (HasNewRow volume serial (listed rows.old.items) (listed rows.new.items)) }
+    ensures counted { IfOk result (λ made.
+        (made.volume ≡ volume) × (made.writes ≡ S.writes site.new)) }
+    ensures memory { result ≡ Err Memory
+        → LeavesSite S.tells S.told S.spare S.writes S.faults site.old site.new }
     ensures whole { length rows.new.items ≡ 32 }
     ensures stops { StopsAlone (S.faults site.old) (S.faults site.new) result }
-    ensures later { S.faults site.old ≤ S.faults site.new }
+    ensures works { NeverFails S.never_fails_but site.old → TellsNoFailure result }
+    ensures devices { WritesOn S.writes S.faults S.never_fails_but site.old site.new }
 {
     let place = usize::from(volume.get());
     let first = lowest_free(rows.as_slice(), None);
@@ -48,34 +86,48 @@ fn create_volume<S: Site>(
         });
     }
     rows.set(place, Some(row));
-    Ok(())
+    Ok(Creation {
+        volume,
+        writes: site.writes(),
+    })
 }
 
-/// Creates each volume of a list that has no row, in order. A sound content stays sound at each moment, and shows its
-/// volumes with a front of the new ones.
+/// Creates each volume of a list that has no row, in order, and says what it created. A sound content stays sound at each
+/// moment, and shows its volumes with a front of the new ones. After want of memory no creation stands half done.
 pub fn create_volumes<S: Site>(
-    site: &mut S,
     alloc: Global,
+    site: &mut S,
     rows: &mut Rows,
+    creations: &mut Creations,
     volumes: &[(VolumeNo, Serial)],
 ) -> Result<(), Refused>
     requires whole { length rows.old.items ≡ 32 }
+    requires none { creations.old.items ≡ [] }
+    requires room { length volumes.now ≤ creations.old.spare }
     requires rising { IsStrictlySortedBy nat_cmp (map (λ v. v.0) volumes.now) }
     requires told { S.tells → RowsAre rows.old.items (content (S.told site.old)) }
     requires held { S.tells → AreHeld (listed rows.old.items) (content (S.told site.old)) }
     ensures moments { S.tells → (frames : ℕ) → IsSound frames (content (S.told site.old)) → Writes
-        (ShowsFront frames (missing (listed rows.old.items) volumes.now) (shown (content (S.told site.old))))
-        (S.told site.old) (S.told site.new) }
-    ensures created { S.tells → OnOk result (AreCreated volumes.now (content (S.told site.old)) (content (S.told site.new))
-        rows.old.items rows.new.items) }
+        (ShowsFront frames (missing (listed rows.old.items) volumes.now)
+        (shown (content (S.told site.old)))) (S.told site.old) (S.told site.new) }
+    ensures created { S.tells → OnOk result (AreCreated volumes.now
+        (content (S.told site.old)) (content (S.told site.new)) rows.old.items rows.new.items) }
+    ensures complete { S.tells → CreatesWhole (missing (listed rows.old.items) volumes.now)
+        creations.new.items (listed rows.old.items) (listed rows.new.items)
+        (S.told site.old) (S.told site.new) result }
+    ensures rows { OnOk result (Creates (missing (listed rows.old.items) volumes.now)
+        (listed rows.old.items) (listed rows.new.items)) }
+    ensures counted { OnOk result (AreCounted (S.writes site.old) (S.writes site.new)
+        (missing (listed rows.old.items) volumes.now) creations.new.items) }
     ensures whole { length rows.new.items ≡ 32 }
     ensures stops { StopsAlone (S.faults site.old) (S.faults site.new) result }
-    ensures later { S.faults site.old ≤ S.faults site.new }
+    ensures works { NeverFails S.never_fails_but site.old → TellsNoFailure result }
+    ensures devices { WritesOn S.writes S.faults S.never_fails_but site.old site.new }
 {
     for entry in volumes {
         let missing = rows.as_slice()[usize::from(entry.0.get())].is_none();
         if missing {
-            create_volume(site, alloc, rows, entry.0, entry.1)?;
+            creations.push(create_volume(alloc, site, rows, entry.0, entry.1)?);
         }
     }
     Ok(())

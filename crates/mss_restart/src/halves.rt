@@ -1,8 +1,9 @@
 // The walk over the halves of volumes: each cartridge stands in one of them.
 ghost use Rattle.std.specs.Prelude.{◌≡◌, ◌≤◌, length};
 ghost use Rattle.shown_volumes.specs.Sound.{cartridge_of};
-ghost use Rattle.shown_volumes.specs.Faults.{half_with, earlier_half, half_fault, halves_fault, first_below};
-ghost use Rattle.mss_restart.specs.Listed.{listed};
+ghost use Rattle.mss_base.specs.Firsts.{first_below};
+ghost use Rattle.shown_volumes.specs.Faults.{half_with, earlier_half, half_fault, halves_fault};
+ghost use Rattle.volume_table.specs.Listed.{listed};
 
 use crate::numbers::volume_at;
 use mss_base::{CartridgeNo, VolumeNo};

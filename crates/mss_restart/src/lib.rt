@@ -25,7 +25,8 @@ mod surveying;
 mod tests;
 mod tracks;
 
-pub use opening::open_rows;
+pub use creations::{Creation, Creations};
+pub use opening::{Opened, open_rows};
 pub use rows::Rows;
 pub use shown_volumes::{Half, Refused};
 pub use surveying::survey;

@@ -1,7 +1,7 @@
 // Numbers that are known to be in range.
 ghost use Rattle.std.specs.Prelude.{◌≡◌, ◌<◌};
 
-use mss_base::{Cylinder, Head, Page, VolumeNo};
+use mss_base::{CYLINDERS, Cylinder, HEADS, Head, Page, VolumeNo};
 
 /// The volume with a number.
 pub fn volume_at(number: u8) -> VolumeNo
@@ -27,7 +27,7 @@ pub fn page_at(number: u8) -> Page
 
 /// The cylinder with a number.
 pub fn cylinder_at(number: u16) -> Cylinder
-    requires { number < 404 }
+    requires { number < CYLINDERS }
     ensures { result ≡ number }
 {
     let Some(cylinder) = Cylinder::of(number) else {
@@ -38,7 +38,7 @@ pub fn cylinder_at(number: u16) -> Cylinder
 
 /// The head with a number.
 pub fn head_at(number: u8) -> Head
-    requires { number < 19 }
+    requires { number < HEADS }
     ensures { result ≡ number }
 {
     let Some(head) = Head::of(number) else {

@@ -85,7 +85,7 @@ fn named(alloc: Global, rows: &Rows) -> Result<Vec<Named>, Fail> {
 
 // The volumes that a site shows, which have to be the old one with a front of the new ones.
 fn front(alloc: Global, config: &Config, site: &mut MemorySite) -> Result<usize, Fail> {
-    match survey(site, alloc, config) {
+    match survey(alloc, site, config) {
         Ok(rows) => {
             let list = named(alloc, &rows)?;
             let shown = list.as_slice();
@@ -105,9 +105,9 @@ fn opened(
     config: &Config,
     site: MemorySite,
 ) -> Result<(MemorySite, Vec<Named>), Fail> {
-    match open_rows(site, alloc, config) {
-        Ok((site, rows)) => {
-            let list = named(alloc, &rows)?;
+    match open_rows(alloc, site, config) {
+        Ok((site, opened)) => {
+            let list = named(alloc, &opened.rows)?;
             Ok((site, list))
         }
         Err(_) => Err(Fail::from("refused")),
@@ -166,7 +166,7 @@ fn shows_a_front_of_the_new_volumes_after_each_stop(rt: HostRuntime) -> Result<(
 fn refusal(alloc: Global, config: &Config, call: u64) -> Result<Option<Refused>, Fail> {
     let mut site = old_site(alloc)?;
     site.fail(&[SiteFault::Call(call)])?;
-    match open_rows(site, alloc, config) {
+    match open_rows(alloc, site, config) {
         Ok((mut site, _)) => {
             site.fail(&[])?;
             front(alloc, config, &mut site)?;

@@ -1,28 +1,36 @@
 // The rows of a site opened: surveyed, repaired, and those of the further volumes created.
-ghost use Rattle.std.specs.Prelude.{◌≡◌, ◌≤◌, ◌<◌, ℕ, None, Ok, OnOk, IfOk, IfErr, length, map};
-ghost use Rattle.mss_base.specs.Configs.{ConfigData};
+ghost use Rattle.std.specs.Prelude.{◌≡◌, ◌≤◌, ◌<◌, ℕ, [], Ok, None, OnOk, IfOk, IfErr, length};
 ghost use Rattle.mss_base.specs.Content.{content, Writes};
+ghost use Rattle.mss_base.specs.Sites.{OnlyReads};
 ghost use Rattle.ckd_plain.specs.Plain.{serial_in};
 ghost use Rattle.shown_volumes.specs.Shown.{shown, rows_of};
 ghost use Rattle.shown_volumes.specs.Sound.{IsSound};
 ghost use Rattle.shown_volumes.specs.Faults.{first_fault};
-ghost use Rattle.mss_restart.specs.Listed.{listed};
+ghost use Rattle.volume_table.specs.Listed.{listed};
+ghost use Rattle.mss_restart.specs.Usable.{AreUsable, AreUsableFor};
 ghost use Rattle.mss_restart.specs.Opening.{
   AreCreated,
-  Opens,
-  OpensExactly,
-  RefusesAs,
+  Creates,
   RowsAre,
   ShowsFront,
-  StopsAlone,
-  WritesIfFaultless,
   answer_of,
   missing,
   site_of,
 };
-ghost use Rattle.mss_restart.specs.Survey.{KeepsFault};
+ghost use Rattle.mss_restart.specs.Creations.{AreCounted, CompletesWhole, StopsAlone, WritesOn};
+ghost use Rattle.mss_restart.specs.Answers.{
+  KeepsOpening,
+  MakesCounted,
+  Opens,
+  OpensExactly,
+  OpensWhole,
+  RefusalLeaves,
+  RefusesAs,
+  WritesIfFaultless,
+};
+ghost use Rattle.mss_restart.specs.Survey.{NeverFails, TellsNoFailure};
 
-use crate::creations::create_volumes;
+use crate::creations::{Creations, create_volumes};
 use crate::repairs::repair_rows;
 use crate::rows::Rows;
 use crate::surveying::survey_rows;
@@ -30,19 +38,33 @@ use mss_base::{Config, Site};
 use shown_volumes::Refused;
 use std::alloc::Global;
 
+/// The rows of an opened site, and the volumes that were created in the opening.
+#[derive(Drop)]
+pub struct Opened {
+    pub rows: Rows,
+    pub creations: Creations,
+}
+
 /// Surveys a site whose rows have to be told by all that was read of both copies.
-fn known_rows<S: Site>(site: &mut S, alloc: Global, config: &Config) -> Result<Rows, Refused>
-    ensures known { S.tells → IfOk result (λ rows. RowsAre rows.items (content (S.told site.old))) }
-    ensures faultless { S.tells → OnOk result (first_fault config.now.frames (serial_in config.now.volumes) (content (S.told site.old)) ≡ None) }
+fn known_rows<S: Site>(alloc: Global, site: &mut S, config: &Config) -> Result<Rows, Refused>
+    ensures known { S.tells →
+        IfOk result (λ rows. RowsAre rows.items (content (S.told site.old))) }
+    ensures faultless { S.tells → OnOk result (first_fault config.now.frames
+        (serial_in config.now.volumes) (content (S.told site.old)) ≡ None) }
+    ensures usable { IfOk result (λ rows. AreUsable config.now.frames (serial_in config.now.volumes)
+        (listed rows.items)) }
     ensures whole { IfOk result (λ rows. length rows.items ≡ 32) }
-    ensures refused { S.tells → IfErr result (RefusesAs (S.faults site.old) (S.faults site.new) config.now (S.told site.old) (S.told site.new)) }
-    ensures exact { S.tells → S.faults site.new ≡ S.faults site.old → S.faults site.old < 18446744073709551615
+    ensures refused { S.tells → IfErr result (RefusesAs (S.faults site.old) (S.faults site.new)
+        config.now (S.told site.old) (S.told site.new)) }
+    ensures exact { S.tells → S.faults site.new ≡ S.faults site.old
+        → S.faults site.old < 18446744073709551615
         → OpensExactly config.now (content (S.told site.old)) result }
-    ensures kept { KeepsFault (S.faults site.old) (S.faults site.new) result }
-    ensures told { S.tells → S.told site.new ≡ S.told site.old }
-    ensures later { S.faults site.old ≤ S.faults site.new }
+    ensures kept { KeepsOpening (S.faults site.old) (S.faults site.new) result }
+    ensures works { NeverFails S.never_fails_but site.old → TellsNoFailure result }
+    ensures devices { OnlyReads S.tells S.told S.spare S.writes S.faults S.never_fails_but
+        site.old site.new }
 {
-    let read = survey_rows(site, alloc, config)?;
+    let read = survey_rows(alloc, site, config)?;
     match read.unread {
         None => Ok(read.rows),
         Some(fault) => Err(Refused::Stopped { fault }),
@@ -51,44 +73,65 @@ fn known_rows<S: Site>(site: &mut S, alloc: Global, config: &Config) -> Result<R
 
 /// Repairs the rows of a site without a fault, and creates the further volumes of the configuration.
 fn complete_rows<S: Site>(
-    site: &mut S,
     alloc: Global,
+    site: &mut S,
     config: &Config,
     rows: &mut Rows,
+    creations: &mut Creations,
 ) -> Result<(), Refused>
     requires whole { length rows.old.items ≡ 32 }
+    requires none { creations.old.items ≡ [] }
+    requires room { length config.now.volumes ≤ creations.old.spare }
     requires told { S.tells → RowsAre rows.old.items (content (S.told site.old)) }
     ensures moments { S.tells → (frames : ℕ) → IsSound frames (content (S.told site.old)) → Writes
-        (ShowsFront frames (missing (listed rows.old.items) config.now.volumes) (shown (content (S.told site.old))))
-        (S.told site.old) (S.told site.new) }
-    ensures created { S.tells → OnOk result (AreCreated config.now.volumes (content (S.told site.old)) (content (S.told site.new))
-        rows.old.items rows.new.items) }
+        (ShowsFront frames (missing (listed rows.old.items) config.now.volumes)
+        (shown (content (S.told site.old)))) (S.told site.old) (S.told site.new) }
+    ensures created { S.tells → OnOk result (AreCreated config.now.volumes
+        (content (S.told site.old)) (content (S.told site.new)) rows.old.items rows.new.items) }
+    ensures complete { S.tells → CompletesWhole (missing (listed rows.old.items) config.now.volumes)
+        creations.new.items (listed rows.old.items) (listed rows.new.items)
+        (S.told site.old) (S.told site.new) result }
+    ensures rows { OnOk result (Creates (missing (listed rows.old.items) config.now.volumes)
+        (listed rows.old.items) (listed rows.new.items)) }
+    ensures counted { OnOk result (AreCounted (S.writes site.old) (S.writes site.new)
+        (missing (listed rows.old.items) config.now.volumes) creations.new.items) }
     ensures whole { length rows.new.items ≡ 32 }
     ensures stops { StopsAlone (S.faults site.old) (S.faults site.new) result }
-    ensures later { S.faults site.old ≤ S.faults site.new }
+    ensures works { NeverFails S.never_fails_but site.old → TellsNoFailure result }
+    ensures devices { WritesOn S.writes S.faults S.never_fails_but site.old site.new }
 {
-    repair_rows(site, alloc)?;
-    create_volumes(site, alloc, rows, config.volumes.as_slice())
+    repair_rows(alloc, site)?;
+    create_volumes(alloc, site, rows, creations, config.volumes.as_slice())
 }
 
 /// Opens the rows of a site that is lent.
-fn open_lent<S: Site>(site: &mut S, alloc: Global, config: &Config) -> Result<Rows, Refused>
-    ensures opens { S.tells → Opens (S.faults site.old) (S.faults site.new) config.now (S.told site.old) (S.told site.new) result }
-    ensures exact { S.tells → S.faults site.new ≡ S.faults site.old → S.faults site.old < 18446744073709551615
+fn open_lent<S: Site>(alloc: Global, site: &mut S, config: &Config) -> Result<Opened, Refused>
+    ensures opens { S.tells → Opens (S.faults site.old) (S.faults site.new) config.now
+        (S.told site.old) (S.told site.new) result }
+    ensures exact { S.tells → S.faults site.new ≡ S.faults site.old
+        → S.faults site.old < 18446744073709551615
         → OpensExactly config.now (content (S.told site.old)) result }
     ensures moments { S.tells → (frames : ℕ) → IsSound frames (content (S.told site.old)) → Writes
-        (ShowsFront frames (missing (rows_of (content (S.told site.old))) config.now.volumes) (shown (content (S.told site.old))))
-        (S.told site.old) (S.told site.new) }
+        (ShowsFront frames (missing (rows_of (content (S.told site.old))) config.now.volumes)
+        (shown (content (S.told site.old)))) (S.told site.old) (S.told site.new) }
+    ensures complete { S.tells → OpensWhole config.now (S.told site.old) (S.told site.new) result }
     ensures untouched { S.tells → WritesIfFaultless config.now (S.told site.old) (S.told site.new) }
-    ensures whole { IfOk result (λ rows. length rows.items ≡ 32) }
-    ensures kept { KeepsFault (S.faults site.old) (S.faults site.new) result }
-    ensures later { S.faults site.old ≤ S.faults site.new }
+    ensures usable { IfOk result (λ opened. AreUsableFor config.now (listed opened.rows.items)) }
+    ensures whole { IfOk result (λ opened. length opened.rows.items ≡ 32) }
+    ensures counted { MakesCounted config.now (S.writes site.old) (S.writes site.new) result }
+    ensures refused { IfErr result (RefusalLeaves (S.writes site.old) (S.writes site.new)
+        (S.faults site.old) (S.faults site.new)) }
+    ensures kept { KeepsOpening (S.faults site.old) (S.faults site.new) result }
+    ensures works { NeverFails S.never_fails_but site.old → TellsNoFailure result }
+    ensures devices { WritesOn S.writes S.faults S.never_fails_but site.old site.new }
 {
     // The numbers of its volumes rise, which a body knows of a configuration that it looks into.
     let _volumes = &config.volumes;
-    let mut rows = known_rows(site, alloc, config)?;
-    complete_rows(site, alloc, config, &mut rows)?;
-    Ok(rows)
+    let mut creations = Creations::new(alloc);
+    creations.reserve(config.volumes.as_slice().len())?;
+    let mut rows = known_rows(alloc, site, config)?;
+    complete_rows(alloc, site, config, &mut rows, &mut creations)?;
+    Ok(Opened { rows, creations })
 }
 
 /// Opens the rows of a site: surveys it, makes the two copies of each row equal, and creates the volumes of the
@@ -97,28 +140,40 @@ fn open_lent<S: Site>(site: &mut S, alloc: Global, config: &Config) -> Result<Ro
 /// It answers over every content and every failing device, and takes the room for its writes itself. A stop at any moment,
 /// also within a call that fails, leaves a sound content sound; it then shows the volumes that it showed before, with a
 /// front of the new ones. A content with a fault is refused by its first fault, and nothing is written. `RowUnread` and
-/// `Stopped` come only where a call of the site failed, and keep its count of faults; `Stopped` also where one copy
-/// alone told a row since a read of the other failed.
+/// `Stopped` come only where a call of the site failed, and keep its count of faults behind that; `Stopped` also where one
+/// copy alone told a row, since a read of the other failed: then it keeps the count of the first such row, and nothing is
+/// written. After want of memory each repair and creation that was begun was written to its end.
 pub fn open_rows<S: Site>(
-    site: S,
     alloc: Global,
+    site: S,
     config: &Config,
-) -> Result<(S, Rows), (S, Refused)>
-    ensures opens { S.tells → Opens (S.faults site) (S.faults (site_of result)) config.now (S.told site) (S.told (site_of result))
-        (answer_of result) }
-    ensures exact { S.tells → S.faults (site_of result) ≡ S.faults site → S.faults site < 18446744073709551615
+) -> Result<(S, Opened), (S, Refused)>
+    ensures opens { S.tells → Opens (S.faults site) (S.faults (site_of result)) config.now
+        (S.told site) (S.told (site_of result)) (answer_of result) }
+    ensures exact { S.tells → S.faults (site_of result) ≡ S.faults site
+        → S.faults site < 18446744073709551615
         → OpensExactly config.now (content (S.told site)) (answer_of result) }
     ensures moments { S.tells → (frames : ℕ) → IsSound frames (content (S.told site)) → Writes
-        (ShowsFront frames (missing (rows_of (content (S.told site))) config.now.volumes) (shown (content (S.told site))))
-        (S.told site) (S.told (site_of result)) }
-    ensures untouched { S.tells → WritesIfFaultless config.now (S.told site) (S.told (site_of result)) }
-    ensures whole { IfOk (answer_of result) (λ rows. length rows.items ≡ 32) }
-    ensures kept { KeepsFault (S.faults site) (S.faults (site_of result)) (answer_of result) }
-    ensures later { S.faults site ≤ S.faults (site_of result) }
+        (ShowsFront frames (missing (rows_of (content (S.told site))) config.now.volumes)
+        (shown (content (S.told site)))) (S.told site) (S.told (site_of result)) }
+    ensures complete { S.tells → OpensWhole config.now (S.told site) (S.told (site_of result))
+        (answer_of result) }
+    ensures untouched { S.tells →
+        WritesIfFaultless config.now (S.told site) (S.told (site_of result)) }
+    ensures usable { IfOk (answer_of result) (λ opened.
+        AreUsableFor config.now (listed opened.rows.items)) }
+    ensures whole { IfOk (answer_of result) (λ opened. length opened.rows.items ≡ 32) }
+    ensures counted { MakesCounted config.now (S.writes site) (S.writes (site_of result))
+        (answer_of result) }
+    ensures refused { IfErr (answer_of result) (RefusalLeaves
+        (S.writes site) (S.writes (site_of result)) (S.faults site) (S.faults (site_of result))) }
+    ensures kept { KeepsOpening (S.faults site) (S.faults (site_of result)) (answer_of result) }
+    ensures works { NeverFails S.never_fails_but site → TellsNoFailure (answer_of result) }
+    ensures devices { WritesOn S.writes S.faults S.never_fails_but site (site_of result) }
 {
     let mut site = site;
-    match open_lent(&mut site, alloc, config) {
-        Ok(rows) => Ok((site, rows)),
+    match open_lent(alloc, &mut site, config) {
+        Ok(opened) => Ok((site, opened)),
         Err(fault) => Err((site, fault)),
     }
 }

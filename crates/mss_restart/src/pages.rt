@@ -1,8 +1,9 @@
 // The walk over the pages: each frame is configured, and stands in one of them.
 ghost use Rattle.std.specs.Prelude.{◌≡◌, ◌≤◌, length};
 ghost use Rattle.shown_volumes.specs.Sound.{frame_in};
-ghost use Rattle.shown_volumes.specs.Faults.{page_with, earlier_page, frame_fault, page_fault, pages_fault, first_below};
-ghost use Rattle.mss_restart.specs.Listed.{listed};
+ghost use Rattle.mss_base.specs.Firsts.{first_below};
+ghost use Rattle.shown_volumes.specs.Faults.{page_with, earlier_page, frame_fault, page_fault, pages_fault};
+ghost use Rattle.volume_table.specs.Listed.{listed};
 ghost use Rattle.mss_restart.specs.Walks.{lower_pages};
 
 use crate::numbers::{page_at, volume_at};

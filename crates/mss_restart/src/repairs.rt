@@ -1,11 +1,14 @@
 // The copies of each row made equal.
-ghost use Rattle.std.specs.Prelude.{◌≡◌, ◌≤◌, ◌<◌, ℕ, Err, OnOk};
+ghost use Rattle.std.specs.Prelude.{◌≡◌, ◌<◌, ℕ, Err, OnOk};
 ghost use Rattle.mss_base.specs.Content.{content, Writes};
 ghost use Rattle.table_pair.specs.Pair.{row_of};
-ghost use Rattle.table_pair.specs.Repairs.{HoldsToldRow, KeepsRepairFault};
+ghost use Rattle.table_pair.specs.Repairs.{FailsNever, HoldsToldRow, KeepsRepairFault};
+ghost use Rattle.table_pair.specs.declared.copy.RepairFault.TheVariants as trouble;
+ghost use Rattle.shown_volumes.specs.declared.refused.Refused.TheVariants.{Memory};
 ghost use Rattle.shown_volumes.specs.Shown.{shown};
 ghost use Rattle.shown_volumes.specs.Sound.{IsSound, SoundAs};
-ghost use Rattle.mss_restart.specs.Opening.{IsStop, StopsAlone};
+ghost use Rattle.mss_restart.specs.Creations.{IsStop, RepairsWhole, StopsAlone, WritesOn};
+ghost use Rattle.mss_restart.specs.Survey.{IsNoFailure, NeverFails, TellsNoFailure};
 
 use crate::numbers::volume_at;
 use mss_base::Site;
@@ -15,7 +18,10 @@ use table_pair::{RepairFault, repair};
 
 /// Why copies weren't made equal.
 fn refused_repair(fault: RepairFault) -> Refused
-    ensures { (before now : ℕ) → KeepsRepairFault {T = Unit {0}} before now (Err fault) → IsStop before now result }
+    ensures kept { (before now : ℕ)
+        → KeepsRepairFault {T = Unit {0}} before now (Err fault) → IsStop before now result }
+    ensures works { FailsNever {T = Unit {0}} (Err fault) → IsNoFailure result }
+    ensures memory { result ≡ Memory → fault ≡ trouble.Memory }
 {
     match fault {
         RepairFault::Failed { fault } => Refused::Stopped { fault },
@@ -23,18 +29,23 @@ fn refused_repair(fault: RepairFault) -> Refused
     }
 }
 
-/// Makes the two copies of each row equal, and open with it. The rows stay, and a sound content shows the same at each moment.
-pub fn repair_rows<S: Site>(site: &mut S, alloc: Global) -> Result<(), Refused>
+/// Makes the two copies of each row equal, and open with it. The rows stay, and a sound content shows the same at each
+/// moment. After want of memory each repair that was begun was written to its end.
+pub fn repair_rows<S: Site>(alloc: Global, site: &mut S) -> Result<(), Refused>
     ensures moments { S.tells → (frames : ℕ) → IsSound frames (content (S.told site.old))
-        → Writes (SoundAs frames (shown (content (S.told site.old)))) (S.told site.old) (S.told site.new) }
-    ensures rows { S.tells → (volume : ℕ) → row_of (content (S.told site.new)) volume ≡ row_of (content (S.told site.old)) volume }
+        → Writes (SoundAs frames (shown (content (S.told site.old))))
+        (S.told site.old) (S.told site.new) }
+    ensures rows { S.tells → (volume : ℕ)
+        → row_of (content (S.told site.new)) volume ≡ row_of (content (S.told site.old)) volume }
     ensures held { S.tells → OnOk result ((volume : ℕ) → volume < 32
         → HoldsToldRow volume (content (S.told site.old)) (content (S.told site.new))) }
+    ensures complete { S.tells → RepairsWhole (S.told site.old) (S.told site.new) result }
     ensures stops { StopsAlone (S.faults site.old) (S.faults site.new) result }
-    ensures later { S.faults site.old ≤ S.faults site.new }
+    ensures works { NeverFails S.never_fails_but site.old → TellsNoFailure result }
+    ensures devices { WritesOn S.writes S.faults S.never_fails_but site.old site.new }
 {
     for number in 0..32 {
-        if let Err(fault) = repair(site, alloc, volume_at(number)) {
+        if let Err(fault) = repair(alloc, site, volume_at(number)) {
             return Err(refused_repair(fault));
         }
     }

@@ -1,12 +1,25 @@
 // The walk over the rows: each is read by the table of two copies, and its serial compared.
-ghost use Rattle.std.specs.Prelude.{◌≡◌, ◌≤◌, ℕ, List, Option, Err, length, IfOk, IfSome};
+ghost use Rattle.std.specs.Prelude.{◌≡◌, ◌≤◌, ℕ, List, Option, None, Err, length, IfOk};
 ghost use Rattle.mss_base.specs.Content.{Content, content};
 ghost use Rattle.ckd_plain.specs.Plain.{serial_in};
+ghost use Rattle.mss_base.specs.Sites.{OnlyReads};
 ghost use Rattle.table_pair.specs.Pair.{RowReading};
-ghost use Rattle.table_pair.specs.Reads.{Tells, KeepsCount};
+ghost use Rattle.table_pair.specs.Reads.{Tells, KeepsCount, MissesNone};
 ghost use Rattle.shown_volumes.specs.Faults.{serial_fault};
-ghost use Rattle.mss_restart.specs.Survey.{KeepsCause, KeepsFault, KeepsUnread, ReadsVolume, TellsRow, ReadsRows};
-ghost use Rattle.table_pair.specs.Reads.{IsKept};
+ghost use Rattle.shown_volumes.specs.Sound.{HasSerialsAsked};
+ghost use Rattle.volume_table.specs.Listed.{listed};
+ghost use Rattle.mss_restart.specs.Survey.{
+  IsNoFailure,
+  KeepsCause,
+  KeepsRead,
+  KeepsRows,
+  NeverFails,
+  ReadsRows,
+  ReadsVolume,
+  ReadsWhole,
+  ReadsWholeRows,
+  TellsRow,
+};
 
 use crate::numbers::volume_at;
 use mss_base::{Listed, Serial, Site, VolumeNo};
@@ -60,8 +73,11 @@ fn serial_fault(volume: VolumeNo, row: &Option<VolumeRow>, asked: Option<Serial>
 
 /// Why a row isn't known.
 fn refused_row(volume: VolumeNo, trouble: RowTrouble) -> Refused
-    ensures told { (asked : Option (List ℕ)) (r : RowReading) → Tells (Err trouble) r → TellsRow volume asked r (Err result) }
-    ensures kept { (before now : ℕ) → KeepsCount before now (Err trouble) → KeepsCause before now result }
+    ensures told { (asked : Option (List ℕ)) (r : RowReading)
+        → Tells (Err trouble) r → TellsRow volume asked r (Err result) }
+    ensures kept { (before now : ℕ) → before ≤ now
+        → KeepsCount before now (Err trouble) → KeepsCause before now result }
+    ensures works { MissesNone (Err trouble) → IsNoFailure result }
 {
     match trouble {
         RowTrouble::Damaged { copy, fault } => Refused::RowDamaged {
@@ -76,20 +92,20 @@ fn refused_row(volume: VolumeNo, trouble: RowTrouble) -> Refused
 
 /// Reads the row of a volume, and compares its serial with the one that is asked.
 fn read_volume<S: Site>(
-    site: &mut S,
     alloc: Global,
+    site: &mut S,
     volume: VolumeNo,
     asked: Option<Serial>,
 ) -> Result<RowRead, Refused>
-    ensures read { S.tells → ReadsVolume (S.faults site.old) (S.faults site.new) volume asked (content (S.told site.old)) result }
-    ensures unread { KeepsUnread (S.faults site.old) (S.faults site.new) result }
-    ensures kept { KeepsFault (S.faults site.old) (S.faults site.new) result }
-    ensures told { S.tells → S.told site.new ≡ S.told site.old }
-    ensures spare { S.spare site.new ≡ S.spare site.old }
-    ensures writes { S.writes site.new ≡ S.writes site.old }
-    ensures later { S.faults site.old ≤ S.faults site.new }
+    ensures read { S.tells → ReadsVolume (S.faults site.old) (S.faults site.new) volume asked
+        (content (S.told site.old)) result }
+    ensures serial { IfOk result (λ read. serial_fault volume read.row asked ≡ None) }
+    ensures counts { KeepsRead (S.faults site.old) (S.faults site.new) result }
+    ensures works { NeverFails S.never_fails_but site.old → ReadsWhole result }
+    ensures devices { OnlyReads S.tells S.told S.spare S.writes S.faults S.never_fails_but
+        site.old site.new }
 {
-    match read_row(site, alloc, volume) {
+    match read_row(alloc, site, volume) {
         Ok(read) => match serial_fault(volume, &read.row, asked) {
             None => Ok(read),
             Some(fault) => Err(fault),
@@ -100,18 +116,19 @@ fn read_volume<S: Site>(
 
 /// Reads the rows of all volumes, and compares their serials with those that are asked.
 pub fn read_rows<S: Site>(
-    site: &mut S,
     alloc: Global,
+    site: &mut S,
     volumes: &[(VolumeNo, Serial)],
 ) -> Result<RowsRead, Refused>
-    ensures read { S.tells → ReadsRows (S.faults site.old) (S.faults site.new) (serial_in volumes.now) (content (S.told site.old)) result }
+    ensures read { S.tells → ReadsRows (S.faults site.old) (S.faults site.new)
+        (serial_in volumes.now) (content (S.told site.old)) result }
+    ensures serials { IfOk result (λ read.
+        HasSerialsAsked (serial_in volumes.now) (listed read.rows.items)) }
     ensures whole { IfOk result (λ read. length read.rows.items ≡ 32) }
-    ensures unread { IfOk result (λ read. IfSome read.unread (IsKept (S.faults site.old) (S.faults site.new))) }
-    ensures kept { KeepsFault (S.faults site.old) (S.faults site.new) result }
-    ensures told { S.tells → S.told site.new ≡ S.told site.old }
-    ensures spare { S.spare site.new ≡ S.spare site.old }
-    ensures writes { S.writes site.new ≡ S.writes site.old }
-    ensures later { S.faults site.old ≤ S.faults site.new }
+    ensures counts { KeepsRows (S.faults site.old) (S.faults site.new) result }
+    ensures works { NeverFails S.never_fails_but site.old → ReadsWholeRows result }
+    ensures devices { OnlyReads S.tells S.told S.spare S.writes S.faults S.never_fails_but
+        site.old site.new }
 {
     let mut rows = Rows::new(alloc);
     rows.reserve(32)?;
@@ -119,7 +136,7 @@ pub fn read_rows<S: Site>(
     for number in 0..32 {
         let volume = volume_at(number);
         let asked = serial_asked(volumes, volume);
-        let read = read_volume(site, alloc, volume, asked)?;
+        let read = read_volume(alloc, site, volume, asked)?;
         unread = unread.or(read.unread);
         rows.push(read.row);
     }

@@ -26,7 +26,7 @@ fn row_by_hand() -> [u8; 512] {
 // How many rows a site has, or its first fault.
 fn surveyed(alloc: Global, site: &mut MemorySite) -> Result<Result<usize, Refused>, Fail> {
     let config = asked_config(alloc)?;
-    match survey(site, alloc, &config) {
+    match survey(alloc, site, &config) {
         Ok(rows) => Ok(Ok(rows.as_slice().iter().filter(|row| row.is_some()).count())),
         Err(fault) => Ok(Err(fault)),
     }

@@ -1,35 +1,52 @@
 // The survey: four walks, one after the other, which end at the first fault.
-ghost use Rattle.std.specs.Prelude.{◌≡◌, ◌≤◌, ◌<◌, length, IfOk, IfSome};
+ghost use Rattle.std.specs.Prelude.{◌≡◌, ◌≤◌, ◌<◌, ℕ, List, Option, length, IfOk, OnOk};
 ghost use Rattle.mss_base.specs.Content.{content};
+ghost use Rattle.mss_base.specs.Sites.{OnlyReads};
 ghost use Rattle.ckd_plain.specs.Plain.{serial_in};
-ghost use Rattle.table_pair.specs.Reads.{IsKept};
-ghost use Rattle.mss_restart.specs.Listed.{listed};
+ghost use Rattle.volume_table.specs.Listed.{listed};
 ghost use Rattle.mss_restart.specs.Walks.{rest_fault};
-ghost use Rattle.mss_restart.specs.Survey.{AreRead, Finds, IsExact, KeepsFault, Surveys, rows_given, rows_read};
+ghost use Rattle.mss_restart.specs.Survey.{
+  AreRead,
+  CountsFaults,
+  Finds,
+  IsExact,
+  KeepsFault,
+  KeepsRows,
+  NeverFails,
+  ReadsWholeRows,
+  Surveys,
+  TellsNoFailure,
+  rows_given,
+  rows_read,
+};
+ghost use Rattle.mss_restart.specs.Usable.{AreUsable};
+ghost use Rattle.shown_volumes.specs.Sound.{HasSerialsAsked};
 
 use crate::halves::halves_fault;
 use crate::pages::pages_fault;
 use crate::rows::{Rows, RowsRead, read_rows};
 use crate::tracks::check_tracks;
-use mss_base::{Config, Site};
+use mss_base::{BLOCK_BYTES, Config, Site};
 use shown_volumes::Refused;
 use std::alloc::Global;
 use volume_table::VolumeRow;
 
 /// Checks the halves, then the pages, then the tracks of rows.
 fn check_rows<S: Site>(
-    site: &mut S,
     alloc: Global,
+    site: &mut S,
     frames: u16,
     rows: &[Option<VolumeRow>],
 ) -> Result<(), Refused>
     requires { length rows.now ≡ 32 }
-    ensures finds { S.tells → Finds result (rest_fault frames (listed rows.now) (content (S.told site.old))) }
-    ensures kept { KeepsFault (S.faults site.old) (S.faults site.new) result }
-    ensures told { S.tells → S.told site.new ≡ S.told site.old }
-    ensures spare { S.spare site.new ≡ S.spare site.old }
-    ensures writes { S.writes site.new ≡ S.writes site.old }
-    ensures later { S.faults site.old ≤ S.faults site.new }
+    ensures finds { S.tells → Finds result
+        (rest_fault frames (listed rows.now) (content (S.told site.old))) }
+    ensures usable { (asked : ℕ → Option (List ℕ)) → HasSerialsAsked asked (listed rows.now)
+        → OnOk result (AreUsable frames asked (listed rows.now)) }
+    ensures counts { CountsFaults (S.faults site.old) (S.faults site.new) result }
+    ensures works { NeverFails S.never_fails_but site.old → TellsNoFailure result }
+    ensures devices { OnlyReads S.tells S.told S.spare S.writes S.faults S.never_fails_but
+        site.old site.new }
 {
     if let Some(fault) = halves_fault(rows) {
         return Err(fault);
@@ -37,51 +54,55 @@ fn check_rows<S: Site>(
     if let Some(fault) = pages_fault(frames, rows) {
         return Err(fault);
     }
-    let mut shown = vec![in alloc; 0u8; 16384]?;
-    let mut staged = vec![in alloc; 0u8; 16384]?;
+    let mut shown = vec![in alloc; 0u8; BLOCK_BYTES]?;
+    let mut staged = vec![in alloc; 0u8; BLOCK_BYTES]?;
     check_tracks(site, rows, &mut shown, &mut staged)
 }
 
 /// Surveys a site, and says whether a row was known from one copy alone.
 pub fn survey_rows<S: Site>(
-    site: &mut S,
     alloc: Global,
+    site: &mut S,
     config: &Config,
 ) -> Result<RowsRead, Refused>
-    ensures found { S.tells → Surveys (S.faults site.old) (S.faults site.new) config.now.frames (serial_in config.now.volumes)
-        (content (S.told site.old)) (rows_read result) }
-    ensures read { S.tells → IfOk result (λ read. AreRead (S.faults site.old) (S.faults site.new) 32 (serial_in config.now.volumes)
-        (content (S.told site.old)) read.rows.items read.unread) }
+    ensures found { S.tells → Surveys (S.faults site.old) (S.faults site.new) config.now.frames
+        (serial_in config.now.volumes) (content (S.told site.old)) (rows_read result) }
+    ensures read { S.tells → IfOk result (λ read. AreRead (S.faults site.old) (S.faults site.new)
+        (serial_in config.now.volumes) (content (S.told site.old)) read.rows.items read.unread) }
+    ensures usable { IfOk result (λ read. AreUsable config.now.frames (serial_in config.now.volumes)
+        (listed read.rows.items)) }
     ensures whole { IfOk result (λ read. length read.rows.items ≡ 32) }
-    ensures unread { IfOk result (λ read. IfSome read.unread (IsKept (S.faults site.old) (S.faults site.new))) }
-    ensures kept { KeepsFault (S.faults site.old) (S.faults site.new) result }
-    ensures told { S.tells → S.told site.new ≡ S.told site.old }
-    ensures spare { S.spare site.new ≡ S.spare site.old }
-    ensures writes { S.writes site.new ≡ S.writes site.old }
-    ensures later { S.faults site.old ≤ S.faults site.new }
+    ensures counts { KeepsRows (S.faults site.old) (S.faults site.new) result }
+    ensures works { NeverFails S.never_fails_but site.old → ReadsWholeRows result }
+    ensures devices { OnlyReads S.tells S.told S.spare S.writes S.faults S.never_fails_but
+        site.old site.new }
 {
-    let read = read_rows(site, alloc, config.volumes.as_slice())?;
-    check_rows(site, alloc, config.frames, read.rows.as_slice())?;
+    let read = read_rows(alloc, site, config.volumes.as_slice())?;
+    check_rows(alloc, site, config.frames, read.rows.as_slice())?;
     Ok(read)
 }
 
 /// Surveys a site: the rows of all volumes, or the first fault in the order of the four walks.
 ///
 /// Nothing is written. Where no read failed, the answer is exactly the content's. `RowUnread` and `Stopped` come only
-/// where a read failed, and keep the site's count of faults after it.
-pub fn survey<S: Site>(site: &mut S, alloc: Global, config: &Config) -> Result<Rows, Refused>
-    ensures found { S.tells → Surveys (S.faults site.old) (S.faults site.new) config.now.frames (serial_in config.now.volumes)
-        (content (S.told site.old)) (rows_given result) }
-    ensures exact { S.tells → S.faults site.new ≡ S.faults site.old → S.faults site.old < 18446744073709551615
-        → IsExact config.now.frames (serial_in config.now.volumes) (content (S.told site.old)) (rows_given result) }
+/// where a read failed, the last one, and keep the site's count of faults behind it. The rows can be used whatever the
+/// devices tell: no cartridge and no frame stands in two of them.
+pub fn survey<S: Site>(alloc: Global, site: &mut S, config: &Config) -> Result<Rows, Refused>
+    ensures found { S.tells → Surveys (S.faults site.old) (S.faults site.new) config.now.frames
+        (serial_in config.now.volumes) (content (S.told site.old)) (rows_given result) }
+    ensures exact { S.tells → S.faults site.new ≡ S.faults site.old
+        → S.faults site.old < 18446744073709551615
+        → IsExact config.now.frames (serial_in config.now.volumes) (content (S.told site.old))
+        (rows_given result) }
+    ensures usable { IfOk result (λ rows. AreUsable config.now.frames (serial_in config.now.volumes)
+        (listed rows.items)) }
     ensures whole { IfOk result (λ rows. length rows.items ≡ 32) }
     ensures kept { KeepsFault (S.faults site.old) (S.faults site.new) result }
-    ensures told { S.tells → S.told site.new ≡ S.told site.old }
-    ensures spare { S.spare site.new ≡ S.spare site.old }
-    ensures writes { S.writes site.new ≡ S.writes site.old }
-    ensures later { S.faults site.old ≤ S.faults site.new }
+    ensures works { NeverFails S.never_fails_but site.old → TellsNoFailure result }
+    ensures devices { OnlyReads S.tells S.told S.spare S.writes S.faults S.never_fails_but
+        site.old site.new }
 {
-    match survey_rows(site, alloc, config) {
+    match survey_rows(alloc, site, config) {
         Ok(read) => Ok(read.rows),
         Err(fault) => Err(fault),
     }

@@ -98,7 +98,7 @@ fn refusal(alloc: Global, pokes: &[Poke], fails: &[SiteFault]) -> Result<Option<
         put(&mut site, poke.unit, poke.block, poke.offset, poke.bytes)?;
     }
     site.fail(fails)?;
-    match survey(&mut site, alloc, &config) {
+    match survey(alloc, &mut site, &config) {
         Ok(rows) => {
             if rows.as_slice().iter().filter(|row| row.is_some()).count() == 2 {
                 Ok(None)

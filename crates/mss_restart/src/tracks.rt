@@ -1,34 +1,37 @@
 // The walk over the tracks: the shown block is a track, and the block in a frame stands for it.
 ghost use Rattle.std.specs.Prelude.{◌≡◌, ◌≤◌, ◌<◌, ◌/◌, not, Option, Some, OnOk, IfErr, length};
 ghost use Rattle.mss_base.specs.Content.{content};
+ghost use Rattle.mss_base.specs.Sites.{OnlyReads};
 ghost use Rattle.ckd_track.specs.Track.{reading};
 ghost use Rattle.volume_table.specs.Row.{frame_of, state_of};
 ghost use Rattle.shown_volumes.specs.Shown.{block_at, on_cartridge};
-ghost use Rattle.shown_volumes.specs.Faults.{where_so, is_torn, is_blank, is_same_list, row_track_fault, track_fault, cylinder_fault, tracks_fault, first_below};
+ghost use Rattle.mss_base.specs.Firsts.{where_so, first_below};
+ghost use Rattle.shown_volumes.specs.Faults.{is_torn, is_blank, is_same_list, row_track_fault, track_fault, cylinder_fault, tracks_fault};
 ghost use Rattle.shown_volumes.specs.declared.refused.Refused.TheVariants.{TornTrack, StagedDiffers};
-ghost use Rattle.mss_restart.specs.Listed.{listed};
+ghost use Rattle.volume_table.specs.Listed.{listed};
 ghost use Rattle.mss_restart.specs.Walks.{row_cylinder_fault, row_tracks_fault};
-ghost use Rattle.mss_restart.specs.Survey.{FindsFault, Finds, KeepsFault};
+ghost use Rattle.mss_restart.specs.Survey.{FindsFault, Finds, CountsFaults, NeverFails, TellsNoFailure};
 ghost use Rattle.shown_volumes.specs.declared.refused.Refused.{Refused};
 
 use crate::numbers::{cylinder_at, head_at, volume_at};
 use ckd_track::{check_track, is_blank};
 use mss_base::{
-    BlockPlace, Cylinder, FrameNo, Head, Site, UnitNo, VolumeNo, cartridge_block, frame_block,
+    BLOCK_BYTES, BlockPlace, CYLINDERS, Cylinder, FrameNo, HEADS, Head, Site, UnitNo, VolumeNo,
+    cartridge_block, frame_block,
 };
 use shown_volumes::Refused;
 use volume_table::{CylinderState, VolumeRow};
 
 /// Reads the block at a place.
 fn read_block<S: Site>(site: &mut S, place: &BlockPlace, into: &mut [u8]) -> Result<(), Refused>
-    requires { length into.old ≡ 16384 }
-    ensures block { S.tells → OnOk result (into.new ≡ block_at (content (S.told site.old)) place.now) }
+    requires { length into.old ≡ BLOCK_BYTES }
+    ensures block { S.tells →
+        OnOk result (into.new ≡ block_at (content (S.told site.old)) place.now) }
     ensures device { IfErr result (λ r. (found : Option Refused) → FindsFault r found) }
-    ensures kept { KeepsFault (S.faults site.old) (S.faults site.new) result }
-    ensures told { S.tells → S.told site.new ≡ S.told site.old }
-    ensures spare { S.spare site.new ≡ S.spare site.old }
-    ensures writes { S.writes site.new ≡ S.writes site.old }
-    ensures later { S.faults site.old ≤ S.faults site.new }
+    ensures counts { CountsFaults (S.faults site.old) (S.faults site.new) result }
+    ensures works { NeverFails S.never_fails_but site.old → TellsNoFailure result }
+    ensures devices { OnlyReads S.tells S.told S.spare S.writes S.faults S.never_fails_but
+        site.old site.new }
 {
     if site.read(place.unit, place.block, into).is_err() {
         return Err(Refused::Stopped {
@@ -47,15 +50,15 @@ fn check_shown<S: Site>(
     head: Head,
     into: &mut [u8],
 ) -> Result<(), Refused>
-    requires { length into.old ≡ 16384 }
+    requires { length into.old ≡ BLOCK_BYTES }
     ensures finds { S.tells → Finds result
         (where_so (is_torn (content (S.told site.old)) (Some place.now)) (TornTrack volume cylinder head)) }
-    ensures block { S.tells → OnOk result (into.new ≡ block_at (content (S.told site.old)) place.now) }
-    ensures kept { KeepsFault (S.faults site.old) (S.faults site.new) result }
-    ensures told { S.tells → S.told site.new ≡ S.told site.old }
-    ensures spare { S.spare site.new ≡ S.spare site.old }
-    ensures writes { S.writes site.new ≡ S.writes site.old }
-    ensures later { S.faults site.old ≤ S.faults site.new }
+    ensures block { S.tells →
+        OnOk result (into.new ≡ block_at (content (S.told site.old)) place.now) }
+    ensures counts { CountsFaults (S.faults site.old) (S.faults site.new) result }
+    ensures works { NeverFails S.never_fails_but site.old → TellsNoFailure result }
+    ensures devices { OnlyReads S.tells S.told S.spare S.writes S.faults S.never_fails_but
+        site.old site.new }
 {
     read_block(site, place, into)?;
     if check_track(into).is_err() {
@@ -77,14 +80,14 @@ fn check_blank<S: Site>(
     head: Head,
     into: &mut [u8],
 ) -> Result<(), Refused>
-    requires { length into.old ≡ 16384 }
+    requires { length into.old ≡ BLOCK_BYTES }
     ensures finds { S.tells → Finds result
-        (where_so (not (is_blank (reading (block_at (content (S.told site.old)) place.now)))) (StagedDiffers volume cylinder head)) }
-    ensures kept { KeepsFault (S.faults site.old) (S.faults site.new) result }
-    ensures told { S.tells → S.told site.new ≡ S.told site.old }
-    ensures spare { S.spare site.new ≡ S.spare site.old }
-    ensures writes { S.writes site.new ≡ S.writes site.old }
-    ensures later { S.faults site.old ≤ S.faults site.new }
+        (where_so (not (is_blank (reading (block_at (content (S.told site.old)) place.now))))
+        (StagedDiffers volume cylinder head)) }
+    ensures counts { CountsFaults (S.faults site.old) (S.faults site.new) result }
+    ensures works { NeverFails S.never_fails_but site.old → TellsNoFailure result }
+    ensures devices { OnlyReads S.tells S.told S.spare S.writes S.faults S.never_fails_but
+        site.old site.new }
 {
     read_block(site, place, into)?;
     if !is_blank(into) {
@@ -107,14 +110,14 @@ fn check_copy<S: Site>(
     shown: &[u8],
     into: &mut [u8],
 ) -> Result<(), Refused>
-    requires { length into.old ≡ 16384 }
+    requires { length into.old ≡ BLOCK_BYTES }
     ensures finds { S.tells → Finds result
-        (where_so (not (is_same_list (block_at (content (S.told site.old)) place.now) shown.now)) (StagedDiffers volume cylinder head)) }
-    ensures kept { KeepsFault (S.faults site.old) (S.faults site.new) result }
-    ensures told { S.tells → S.told site.new ≡ S.told site.old }
-    ensures spare { S.spare site.new ≡ S.spare site.old }
-    ensures writes { S.writes site.new ≡ S.writes site.old }
-    ensures later { S.faults site.old ≤ S.faults site.new }
+        (where_so (not (is_same_list (block_at (content (S.told site.old)) place.now) shown.now))
+        (StagedDiffers volume cylinder head)) }
+    ensures counts { CountsFaults (S.faults site.old) (S.faults site.new) result }
+    ensures works { NeverFails S.never_fails_but site.old → TellsNoFailure result }
+    ensures devices { OnlyReads S.tells S.told S.spare S.writes S.faults S.never_fails_but
+        site.old site.new }
 {
     read_block(site, place, into)?;
     if *into != *shown {
@@ -164,15 +167,14 @@ fn check_track_of<S: Site>(
     shown: &mut [u8],
     staged: &mut [u8],
 ) -> Result<(), Refused>
-    requires shown { length shown.old ≡ 16384 }
-    requires staged { length staged.old ≡ 16384 }
+    requires shown { length shown.old ≡ BLOCK_BYTES }
+    requires staged { length staged.old ≡ BLOCK_BYTES }
     ensures finds { S.tells → Finds result
         (row_track_fault (content (S.told site.old)) volume cylinder head row.now) }
-    ensures kept { KeepsFault (S.faults site.old) (S.faults site.new) result }
-    ensures told { S.tells → S.told site.new ≡ S.told site.old }
-    ensures spare { S.spare site.new ≡ S.spare site.old }
-    ensures writes { S.writes site.new ≡ S.writes site.old }
-    ensures later { S.faults site.old ≤ S.faults site.new }
+    ensures counts { CountsFaults (S.faults site.old) (S.faults site.new) result }
+    ensures works { NeverFails S.never_fails_but site.old → TellsNoFailure result }
+    ensures devices { OnlyReads S.tells S.told S.spare S.writes S.faults S.never_fails_but
+        site.old site.new }
 {
     match row.state(cylinder) {
         CylinderState::Blank => Ok(()),
@@ -206,17 +208,16 @@ fn check_cylinder<S: Site>(
     shown: &mut [u8],
     staged: &mut [u8],
 ) -> Result<(), Refused>
-    requires shown { length shown.old ≡ 16384 }
-    requires staged { length staged.old ≡ 16384 }
+    requires shown { length shown.old ≡ BLOCK_BYTES }
+    requires staged { length staged.old ≡ BLOCK_BYTES }
     ensures finds { S.tells → Finds result
         (row_cylinder_fault (content (S.told site.old)) volume row.now cylinder) }
-    ensures kept { KeepsFault (S.faults site.old) (S.faults site.new) result }
-    ensures told { S.tells → S.told site.new ≡ S.told site.old }
-    ensures spare { S.spare site.new ≡ S.spare site.old }
-    ensures writes { S.writes site.new ≡ S.writes site.old }
-    ensures later { S.faults site.old ≤ S.faults site.new }
+    ensures counts { CountsFaults (S.faults site.old) (S.faults site.new) result }
+    ensures works { NeverFails S.never_fails_but site.old → TellsNoFailure result }
+    ensures devices { OnlyReads S.tells S.told S.spare S.writes S.faults S.never_fails_but
+        site.old site.new }
 {
-    for number in 0..19 {
+    for number in 0..HEADS {
         check_track_of(site, row, volume, cylinder, head_at(number), shown, staged)?;
     }
     Ok(())
@@ -230,16 +231,16 @@ fn check_row<S: Site>(
     shown: &mut [u8],
     staged: &mut [u8],
 ) -> Result<(), Refused>
-    requires shown { length shown.old ≡ 16384 }
-    requires staged { length staged.old ≡ 16384 }
-    ensures finds { S.tells → Finds result (row_tracks_fault (content (S.told site.old)) volume row.now) }
-    ensures kept { KeepsFault (S.faults site.old) (S.faults site.new) result }
-    ensures told { S.tells → S.told site.new ≡ S.told site.old }
-    ensures spare { S.spare site.new ≡ S.spare site.old }
-    ensures writes { S.writes site.new ≡ S.writes site.old }
-    ensures later { S.faults site.old ≤ S.faults site.new }
+    requires shown { length shown.old ≡ BLOCK_BYTES }
+    requires staged { length staged.old ≡ BLOCK_BYTES }
+    ensures finds { S.tells → Finds result
+        (row_tracks_fault (content (S.told site.old)) volume row.now) }
+    ensures counts { CountsFaults (S.faults site.old) (S.faults site.new) result }
+    ensures works { NeverFails S.never_fails_but site.old → TellsNoFailure result }
+    ensures devices { OnlyReads S.tells S.told S.spare S.writes S.faults S.never_fails_but
+        site.old site.new }
 {
-    for number in 0..404 {
+    for number in 0..CYLINDERS {
         check_cylinder(site, row, volume, cylinder_at(number), shown, staged)?;
     }
     Ok(())
@@ -254,14 +255,14 @@ fn check_volume<S: Site>(
     staged: &mut [u8],
 ) -> Result<(), Refused>
     requires rows { length rows.now ≡ 32 }
-    requires shown { length shown.old ≡ 16384 }
-    requires staged { length staged.old ≡ 16384 }
-    ensures finds { S.tells → Finds result (tracks_fault (listed rows.now) (content (S.told site.old)) volume) }
-    ensures kept { KeepsFault (S.faults site.old) (S.faults site.new) result }
-    ensures told { S.tells → S.told site.new ≡ S.told site.old }
-    ensures spare { S.spare site.new ≡ S.spare site.old }
-    ensures writes { S.writes site.new ≡ S.writes site.old }
-    ensures later { S.faults site.old ≤ S.faults site.new }
+    requires shown { length shown.old ≡ BLOCK_BYTES }
+    requires staged { length staged.old ≡ BLOCK_BYTES }
+    ensures finds { S.tells → Finds result
+        (tracks_fault (listed rows.now) (content (S.told site.old)) volume) }
+    ensures counts { CountsFaults (S.faults site.old) (S.faults site.new) result }
+    ensures works { NeverFails S.never_fails_but site.old → TellsNoFailure result }
+    ensures devices { OnlyReads S.tells S.told S.spare S.writes S.faults S.never_fails_but
+        site.old site.new }
 {
     let Some(row) = &rows[volume.get() as usize] else {
         return Ok(());
@@ -279,15 +280,14 @@ pub fn check_tracks<S: Site>(
     staged: &mut [u8],
 ) -> Result<(), Refused>
     requires rows { length rows.now ≡ 32 }
-    requires shown { length shown.old ≡ 16384 }
-    requires staged { length staged.old ≡ 16384 }
+    requires shown { length shown.old ≡ BLOCK_BYTES }
+    requires staged { length staged.old ≡ BLOCK_BYTES }
     ensures finds { S.tells → Finds result
         (first_below 32 (tracks_fault (listed rows.now) (content (S.told site.old)))) }
-    ensures kept { KeepsFault (S.faults site.old) (S.faults site.new) result }
-    ensures told { S.tells → S.told site.new ≡ S.told site.old }
-    ensures spare { S.spare site.new ≡ S.spare site.old }
-    ensures writes { S.writes site.new ≡ S.writes site.old }
-    ensures later { S.faults site.old ≤ S.faults site.new }
+    ensures counts { CountsFaults (S.faults site.old) (S.faults site.new) result }
+    ensures works { NeverFails S.never_fails_but site.old → TellsNoFailure result }
+    ensures devices { OnlyReads S.tells S.told S.spare S.writes S.faults S.never_fails_but
+        site.old site.new }
 {
     for number in 0..32 {
         check_volume(site, rows, volume_at(number), shown, staged)?;

@@ -1,5 +1,5 @@
 use Rattle.std.proofs.Common.{arith}
-use Rattle.mss_restart.specs.Listed.{listed}
+use Rattle.volume_table.specs.Listed.{listed}
 use Rattle.mss_restart.proofs.Pigeons.{one_is_free}
 use Rattle.mss_restart.proofs.cartridges.lowest_free.Goals as goal
 

@@ -1,5 +1,5 @@
 use Rattle.std.proofs.Common.{◌≡◌, ◌⊎◌, ◌<◌, ℕ, true, Some}
-use Rattle.mss_restart.specs.Listed.{listed}
+use Rattle.volume_table.specs.Listed.{listed}
 use Rattle.mss_restart.specs.Cartridges.{is_named}
 use Rattle.mss_restart.proofs.cartridges.lowest_free.Given as goal
 

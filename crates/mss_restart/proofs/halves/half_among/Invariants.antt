@@ -1,6 +1,7 @@
 use Rattle.std.proofs.Common.{◌≡◌, None}
-use Rattle.shown_volumes.specs.Faults.{first_below, half_with}
-use Rattle.mss_restart.specs.Listed.{listed}
+use Rattle.mss_base.specs.Firsts.{first_below}
+use Rattle.shown_volumes.specs.Faults.{half_with}
+use Rattle.volume_table.specs.Listed.{listed}
 use Rattle.mss_restart.proofs.halves.half_among.Given as goal
 
 abbrev pub invariant-loop-number : goal.invariant-loop-number

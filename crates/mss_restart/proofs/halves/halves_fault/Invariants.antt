@@ -1,6 +1,7 @@
 use Rattle.std.proofs.Common.{◌≡◌, None}
-use Rattle.shown_volumes.specs.Faults.{first_below, halves_fault}
-use Rattle.mss_restart.specs.Listed.{listed}
+use Rattle.mss_base.specs.Firsts.{first_below}
+use Rattle.shown_volumes.specs.Faults.{halves_fault}
+use Rattle.volume_table.specs.Listed.{listed}
 use Rattle.mss_restart.proofs.halves.halves_fault.Given as goal
 
 abbrev pub invariant-loop-number : goal.invariant-loop-number

@@ -1,11 +1,16 @@
-use Rattle.std.proofs.Common.{◌≡◌, ◌∙◌, ap, subst, List}
+use Rattle.std.proofs.Common.{◌≡◌, ◌≤◌, ℕ, false, length, Result, Err, ◌∙◌, sym, ap, subst, List}
+use Rattle.std.proofs.lemmas.Result.{err_from_is_err_and}
+use Rattle.shown_volumes.specs.declared.refused.Refused.{Refused}
 use Rattle.mss_base.specs.Configs.{ConfigData, VolumeData}
 use Rattle.mss_base.specs.Content.{content, Writes}
 use Rattle.std.specs.Prelude.{OnOk}
 use Rattle.shown_volumes.specs.Shown.{shown}
 use Rattle.shown_volumes.specs.Sound.{IsSound}
-use Rattle.mss_restart.specs.Listed.{listed}
-use Rattle.mss_restart.specs.Opening.{AreCreated, ShowsFront, missing}
+use Rattle.volume_table.specs.Listed.{listed}
+use Rattle.mss_restart.specs.Opening.{AreCreated, Creates, ShowsFront, missing}
+use Rattle.mss_restart.specs.Creations.{AreCounted, CreatesWhole, CompletesWhole, StopsAlone}
+use Rattle.mss_restart.proofs.Repaired.{written_on}
+use Rattle.mss_restart.proofs.Finishing.{repairs_complete, creates_complete, counted_since}
 use Rattle.mss_restart.proofs.Completed.{on_ok_too, no_front, rows_held, then_created, created_since}
 use Rattle.mss_restart.proofs.opening.complete_rows.Goals as goal
 
@@ -38,3 +43,56 @@ returns-clause-created g c = λ tells.
     on_ok_too (AreCreated c.args.config.now.volumes (content mid) (content now) rows after) (AreCreated c.args.config.now.volumes (content s) (content now) rows after)
     (created_since rows s mid c.requires.whole (c.requires.told tells) (c.repair_rows.ensures.moments tells) c.args.config.now.volumes (content now) after) c.create_volumes.result
     (subst (λ (x : List VolumeData). OnOk c.create_volumes.result (AreCreated x (content mid) (content now) rows after)) same (c.create_volumes.ensures.created tells))
+
+pub create_volumes-requires-clause-room : goal.create_volumes-requires-clause-room
+create_volumes-requires-clause-room g c =
+    let same : c.as_slice.result.now ≡ c.args.config.now.volumes = c.as_slice.ensures ∙ ap (λ (x : ConfigData). x.volumes) c.config.view_is in
+    subst (λ (x : List VolumeData). length x ≤ c.args.creations.now.spare) (sym same) c.requires.room
+
+pub returns-in_err-repair_rows-clause-complete : goal.returns-in_err-repair_rows-clause-complete
+returns-in_err-repair_rows-clause-complete g c = λ tells.
+    let p = err_from_is_err_and c.from_residual.result c.from_residual.ensures.1 in
+    let rows = listed c.args.rows.now.items in
+    let volumes = missing rows c.args.config.now.volumes in
+    let old = g.S.Site.told c.args.site.now in
+    let new = g.S.Site.told c.repair_rows.new.site in
+    subst (λ (r : Result (Unit {0}) Refused). CompletesWhole volumes c.args.creations.now.items rows rows old new r) (sym (p.1 ∙ ap Err p.2))
+    (repairs_complete volumes c.args.creations.now.items rows rows old new c.in_err-repair_rows.field-0.0 (c.in_err-repair_rows.ensures.complete tells))
+
+pub returns-clause-complete : goal.returns-clause-complete
+returns-clause-complete g c = λ tells.
+    let s = g.S.Site.told c.args.site.now in
+    let mid = g.S.Site.told c.repair_rows.new.site in
+    let now = g.S.Site.told c.create_volumes.new.site in
+    let rows = listed c.args.rows.now.items in
+    let last = listed c.create_volumes.new.rows.items in
+    let made = c.create_volumes.new.creations.items in
+    let same : c.as_slice.result.now ≡ c.args.config.now.volumes = c.as_slice.ensures ∙ ap (λ (x : ConfigData). x.volumes) c.config.view_is in
+    creates_complete (missing rows c.args.config.now.volumes) made rows last s mid now c.create_volumes.result (c.in_ok-repair_rows.ensures.complete tells)
+    (subst (λ (x : List VolumeData). CreatesWhole (missing rows x) made rows last mid now c.create_volumes.result) same (c.create_volumes.ensures.complete tells))
+
+pub returns-clause-rows : goal.returns-clause-rows
+returns-clause-rows g c =
+    let same : c.as_slice.result.now ≡ c.args.config.now.volumes = c.as_slice.ensures ∙ ap (λ (x : ConfigData). x.volumes) c.config.view_is in
+    subst (λ (x : List VolumeData). OnOk c.create_volumes.result (Creates (missing (listed c.args.rows.now.items) x) (listed c.args.rows.now.items) (listed c.create_volumes.new.rows.items))) same c.create_volumes.ensures.rows
+
+pub returns-clause-counted : goal.returns-clause-counted
+returns-clause-counted g c =
+    let same : c.as_slice.result.now ≡ c.args.config.now.volumes = c.as_slice.ensures ∙ ap (λ (x : ConfigData). x.volumes) c.config.view_is in
+    let begun = g.S.Site.writes c.args.site.now in
+    let mid = g.S.Site.writes c.repair_rows.new.site in
+    let now = g.S.Site.writes c.create_volumes.new.site in
+    let made = c.create_volumes.new.creations.items in
+    let volumes = missing (listed c.args.rows.now.items) c.args.config.now.volumes in
+    on_ok_too (AreCounted mid now volumes made) (AreCounted begun now volumes made) (counted_since begun mid now volumes made c.repair_rows.ensures.devices.written) c.create_volumes.result
+    (subst (λ (x : List VolumeData). OnOk c.create_volumes.result (AreCounted mid now (missing (listed c.args.rows.now.items) x) made)) same c.create_volumes.ensures.counted)
+
+pub returns-clause-stops : goal.returns-clause-stops
+returns-clause-stops g c = subst (λ (n : ℕ). StopsAlone n (g.S.Site.faults c.create_volumes.new.site) c.create_volumes.result) c.in_ok-repair_rows.ensures.stops c.create_volumes.ensures.stops
+
+pub returns-clause-works : goal.returns-clause-works
+returns-clause-works g c = λ never. c.create_volumes.ensures.works (c.repair_rows.ensures.devices.sound (λ unit. false) never)
+
+pub returns-clause-devices : goal.returns-clause-devices
+returns-clause-devices g c =
+    written_on g.S.Site.writes g.S.Site.faults g.S.Site.never_fails_but c.args.site.now c.repair_rows.new.site c.create_volumes.new.site c.repair_rows.ensures.devices c.create_volumes.ensures.devices

@@ -1,5 +1,16 @@
-use Rattle.std.proofs.Common.{subst}
-use Rattle.mss_base.specs.Configs.{ConfigData}
+use Rattle.std.proofs.Common.{inr, Result, Err, [], refl, sym, ◌∙◌, ap, subst}
+use Rattle.std.proofs.lemmas.Result.{err_from_is_err_and}
+use Rattle.shown_volumes.specs.declared.refused.Refused.{Refused}
+use Rattle.shown_volumes.specs.Shown.{rows_of}
+use Rattle.mss_restart.specs.declared.opening.Opened.{Opened}
+use Rattle.volume_table.specs.Listed.{listed}
+use Rattle.mss_restart.specs.Opening.{missing}
+use Rattle.mss_restart.specs.Answers.{Opens, OpensWhole}
+use Rattle.mss_restart.proofs.KnownRows.{rows_listed}
+use Rattle.mss_restart.proofs.Repaired.{stop_since}
+use Rattle.mss_restart.proofs.UsableFacts.{usable_for}
+use Rattle.mss_restart.proofs.Finishing.{none_complete, stop_refuses, refusal_complete, answer_complete}
+use Rattle.mss_base.specs.Configs.{ConfigData, IsConfig}
 use Rattle.mss_base.specs.Content.{SiteLog, content}
 use Rattle.mss_restart.specs.Opening.{AreCreated}
 use Rattle.mss_restart.proofs.Creating.{AreRising}
@@ -8,12 +19,12 @@ use Rattle.mss_restart.proofs.opening.open_lent.Goals as goal
 
 pub returns-in_err-complete_rows-clause-moments : goal.returns-in_err-complete_rows-clause-moments
 returns-in_err-complete_rows-clause-moments g c = λ tells.
-    moments_at (g.S.Site.told c.args.site.now) (g.S.Site.told c.known_rows.new.site) (g.S.Site.told c.complete_rows.new.site) c.in_ok-rows.rows.items c.args.config.now.volumes (c.known_rows.ensures.told tells)
+    moments_at (g.S.Site.told c.args.site.now) (g.S.Site.told c.known_rows.new.site) (g.S.Site.told c.complete_rows.new.site) c.in_ok-rows.rows.items c.args.config.now.volumes (c.known_rows.ensures.devices.log tells)
     c.in_ok-rows.ensures.whole (c.in_ok-rows.ensures.known tells) (c.complete_rows.ensures.moments tells)
 
 pub returns-clause-moments : goal.returns-clause-moments
 returns-clause-moments g c = λ tells.
-    moments_at (g.S.Site.told c.args.site.now) (g.S.Site.told c.known_rows.new.site) (g.S.Site.told c.complete_rows.new.site) c.in_ok-rows.rows.items c.args.config.now.volumes (c.known_rows.ensures.told tells)
+    moments_at (g.S.Site.told c.args.site.now) (g.S.Site.told c.known_rows.new.site) (g.S.Site.told c.complete_rows.new.site) c.in_ok-rows.rows.items c.args.config.now.volumes (c.known_rows.ensures.devices.log tells)
     c.in_ok-rows.ensures.whole (c.in_ok-rows.ensures.known tells) (c.complete_rows.ensures.moments tells)
 
 pub returns-clause-opens : goal.returns-clause-opens
@@ -24,4 +35,59 @@ returns-clause-opens g c = λ tells.
     let volumes = c.args.config.now.volumes in
     opened c.args.config.now (content (g.S.Site.told c.args.site.now)) now before after (subst (λ (x : ConfigData). AreRising x.volumes) c.config.view_is c.config.invariant.rising) c.in_ok-rows.ensures.whole
     (c.in_ok-rows.ensures.known tells) (c.in_ok-rows.ensures.faultless tells) c.complete_rows.ensures.whole
-    (subst (λ (x : SiteLog). AreCreated volumes (content x) now before after) (c.known_rows.ensures.told tells) (c.in_ok-complete_rows.ensures.created tells))
+    (subst (λ (x : SiteLog). AreCreated volumes (content x) now before after) (c.known_rows.ensures.devices.log tells) (c.in_ok-complete_rows.ensures.created tells))
+
+pub returns-in_err-reserve-clause-complete : goal.returns-in_err-reserve-clause-complete
+returns-in_err-reserve-clause-complete g c = λ tells.
+    let p = err_from_is_err_and c.from_residual.result c.from_residual.ensures.1 in
+    let s = g.S.Site.told c.args.site.now in
+    subst (λ (r : Result Opened Refused). OpensWhole c.args.config.now s s r) (sym p.1)
+    (none_complete (missing (rows_of (content s)) c.args.config.now.volumes) [] (rows_of (content s)) (rows_of (content s)) s s p.0 refl)
+
+pub returns-in_err-rows-clause-complete : goal.returns-in_err-rows-clause-complete
+returns-in_err-rows-clause-complete g c = λ tells.
+    let p = err_from_is_err_and c.from_residual-in_err-rows.result c.from_residual-in_err-rows.ensures.1 in
+    let s = g.S.Site.told c.args.site.now in
+    let new = g.S.Site.told c.known_rows.new.site in
+    subst (λ (r : Result Opened Refused). OpensWhole c.args.config.now s new r) (sym p.1)
+    (none_complete (missing (rows_of (content s)) c.args.config.now.volumes) [] (rows_of (content s)) (rows_of (content new)) s new p.0 (c.known_rows.ensures.devices.log tells))
+
+pub returns-in_err-complete_rows-clause-opens : goal.returns-in_err-complete_rows-clause-opens
+returns-in_err-complete_rows-clause-opens g c = λ tells.
+    let p = err_from_is_err_and c.from_residual-in_err-complete_rows.result c.from_residual-in_err-complete_rows.ensures.1 in
+    let s = g.S.Site.told c.args.site.now in
+    let now = g.S.Site.told c.complete_rows.new.site in
+    let before = g.S.Site.faults c.args.site.now in
+    let after = g.S.Site.faults c.complete_rows.new.site in
+    subst (λ (r : Result Opened Refused). Opens before after c.args.config.now s now r) (sym (p.1 ∙ ap Err p.2))
+    (stop_refuses before after c.args.config.now s now c.in_ok-rows.rows.items c.in_err-complete_rows.field-0.0 (c.in_ok-rows.ensures.known tells) (c.in_ok-rows.ensures.faultless tells)
+    (stop_since before (g.S.Site.faults c.known_rows.new.site) after c.in_err-complete_rows.field-0.0 c.in_ok-rows.ensures.kept c.in_err-complete_rows.ensures.stops))
+
+pub returns-in_err-complete_rows-clause-complete : goal.returns-in_err-complete_rows-clause-complete
+returns-in_err-complete_rows-clause-complete g c = λ tells.
+    let p = err_from_is_err_and c.from_residual-in_err-complete_rows.result c.from_residual-in_err-complete_rows.ensures.1 in
+    let s = g.S.Site.told c.args.site.now in
+    let mid = g.S.Site.told c.known_rows.new.site in
+    let now = g.S.Site.told c.complete_rows.new.site in
+    let rows = c.in_ok-rows.rows.items in
+    subst (λ (r : Result Opened Refused). OpensWhole c.args.config.now s now r) (sym (p.1 ∙ ap Err p.2))
+    (refusal_complete c.args.config.now.volumes c.complete_rows.new.creations.items (listed rows) (listed c.complete_rows.new.rows.items) s mid now c.in_err-complete_rows.field-0.0 (c.known_rows.ensures.devices.log tells)
+    (rows_listed rows (content s) c.in_ok-rows.ensures.whole (c.in_ok-rows.ensures.known tells)) (c.in_err-complete_rows.ensures.complete tells))
+
+pub returns-clause-complete : goal.returns-clause-complete
+returns-clause-complete g c = λ tells.
+    let s = g.S.Site.told c.args.site.now in
+    let mid = g.S.Site.told c.known_rows.new.site in
+    let now = g.S.Site.told c.complete_rows.new.site in
+    let rows = c.in_ok-rows.rows.items in
+    let after = c.complete_rows.new.rows.items in
+    answer_complete c.args.config.now.volumes c.complete_rows.new.creations.items (listed rows) (listed after) s mid now (c.known_rows.ensures.devices.log tells)
+    (rows_listed rows (content s) c.in_ok-rows.ensures.whole (c.in_ok-rows.ensures.known tells)) (rows_listed after (content now) c.complete_rows.ensures.whole (c.in_ok-complete_rows.ensures.created tells).are)
+    (c.in_ok-complete_rows.ensures.complete tells)
+
+pub returns-clause-untouched : goal.returns-clause-untouched
+returns-clause-untouched g c = λ tells. inr (c.in_ok-rows.ensures.faultless tells)
+
+pub returns-clause-usable : goal.returns-clause-usable
+returns-clause-usable g c =
+    usable_for c.args.config.now c.in_ok-rows.rows.items c.complete_rows.new.rows.items (subst IsConfig c.config.view_is c.config.invariant) c.in_ok-rows.ensures.whole c.in_ok-rows.ensures.usable c.in_ok-complete_rows.ensures.rows

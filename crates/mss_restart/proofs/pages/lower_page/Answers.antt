@@ -1,7 +1,7 @@
 use Rattle.std.proofs.Common.{sym, ◌∙◌, ap, arith}
 use Rattle.mss_restart.specs.Walks.{lower_pages}
-use Rattle.shown_volumes.proofs.WalkFacts.{none_yet, none_next, none_is, found_here}
-use Rattle.mss_restart.specs.Listed.{listed}
+use Rattle.mss_base.proofs.FirstFacts.{none_yet, none_next, none_is, found_here}
+use Rattle.volume_table.specs.Listed.{listed}
 use Rattle.mss_restart.proofs.pages.lower_page.Goals as goal
 
 pub loop-number-init : goal.loop-number-init

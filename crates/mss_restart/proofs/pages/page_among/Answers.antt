@@ -1,7 +1,7 @@
 use Rattle.std.proofs.Common.{sym, ◌∙◌, ap, arith}
 use Rattle.shown_volumes.specs.Faults.{page_with}
-use Rattle.shown_volumes.proofs.WalkFacts.{none_yet, none_next, none_is, found_here}
-use Rattle.mss_restart.specs.Listed.{listed}
+use Rattle.mss_base.proofs.FirstFacts.{none_yet, none_next, none_is, found_here}
+use Rattle.volume_table.specs.Listed.{listed}
 use Rattle.mss_restart.proofs.pages.page_among.Goals as goal
 
 pub loop-number-init : goal.loop-number-init

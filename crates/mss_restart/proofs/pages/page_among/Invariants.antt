@@ -1,7 +1,7 @@
 use Rattle.std.proofs.Common.{◌≡◌, None}
-use Rattle.shown_volumes.specs.Faults.{first_below}
+use Rattle.mss_base.specs.Firsts.{first_below}
 use Rattle.shown_volumes.specs.Faults.{page_with}
-use Rattle.mss_restart.specs.Listed.{listed}
+use Rattle.volume_table.specs.Listed.{listed}
 use Rattle.mss_restart.proofs.pages.page_among.Given as goal
 
 abbrev pub invariant-loop-number : goal.invariant-loop-number

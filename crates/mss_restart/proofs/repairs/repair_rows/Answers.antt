@@ -1,10 +1,10 @@
-use Rattle.std.proofs.Common.{arith}
-use Rattle.mss_restart.proofs.RowLemmas.{stop_since}
-use Rattle.mss_restart.proofs.Repaired.{nothing_repaired, repaired_too, held_too}
+use Rattle.std.proofs.Common.{rules, ◌≡◌, ◌∙◌, ℕ, false, Err, refl, ap, subst, arith}
+use Rattle.mss_restart.specs.Creations.{AreRepaired}
+use Rattle.mss_restart.proofs.Repaired.{nothing_repaired, repaired_too, held_too, none_repaired, one_repaired, nothing_written, written_on, may_be_written, stop_since, memory_repairs}
 use Rattle.mss_restart.proofs.repairs.repair_rows.Goals as goal
 
 pub loop-number-init : goal.loop-number-init
-loop-number-init g c = record { repaired = λ tells. nothing_repaired (g.S.Site.told c.args.site.now); held = λ tells v lt. absurd (omega arith); later = omega arith }
+loop-number-init g c = record { repaired = λ tells. nothing_repaired (g.S.Site.told c.args.site.now); held = λ tells v lt. absurd (omega arith); complete = λ tells. none_repaired (g.S.Site.told c.args.site.now); count = refl; devices = nothing_written g.S.Site.writes g.S.Site.faults g.S.Site.never_fails_but c.args.site.now }
 
 pub returns-in-Err-clause-moments : goal.returns-in-Err-clause-moments
 returns-in-Err-clause-moments g c = λ tells.
@@ -16,7 +16,22 @@ returns-in-Err-clause-rows g c = λ tells.
 
 pub returns-in-Err-clause-stops : goal.returns-in-Err-clause-stops
 returns-in-Err-clause-stops g c =
-    stop_since _ (g.S.Site.faults c.loop-number.site) _ c.refused_repair.result c.loop-number.invariant.later (c.refused_repair.ensures (g.S.Site.faults c.loop-number.site) (g.S.Site.faults c.repair.new.site) c.in-Err.ensures.kept)
+    stop_since _ (g.S.Site.faults c.loop-number.site) _ c.refused_repair.result c.loop-number.invariant.count (c.refused_repair.ensures.kept (g.S.Site.faults c.loop-number.site) (g.S.Site.faults c.repair.new.site) c.in-Err.ensures.kept)
+
+pub returns-in-Err-clause-complete : goal.returns-in-Err-clause-complete
+returns-in-Err-clause-complete g c = λ tells.
+    memory_repairs c.loop-number.number (g.S.Site.told c.args.site.now) (g.S.Site.told c.loop-number.site) (g.S.Site.told c.repair.new.site) c.refused_repair.result (c.loop-number.invariant.complete tells)
+    (λ memory. (c.in-Err.ensures.memory (ap Err (c.refused_repair.ensures.memory memory))).log tells)
+
+pub returns-in-Err-clause-works : goal.returns-in-Err-clause-works
+returns-in-Err-clause-works g c = λ never.
+    let here = c.loop-number.invariant.devices.sound (λ unit. false) never in
+    c.refused_repair.ensures.works (c.in-Err.ensures.works (λ unit. false, here, refl) (λ unit. false, here, refl))
+
+pub returns-in-Err-clause-devices : goal.returns-in-Err-clause-devices
+returns-in-Err-clause-devices g c =
+    written_on g.S.Site.writes g.S.Site.faults g.S.Site.never_fails_but c.args.site.now c.loop-number.site c.repair.new.site c.loop-number.invariant.devices
+    (may_be_written g.S.Site.writes g.S.Site.faults g.S.Site.never_fails_but 3 g.S.Site.spare c.loop-number.site c.repair.new.site c.repair.ensures.devices)
 
 pub loop-number-preserved : goal.loop-number-preserved
 loop-number-preserved g c = record {
@@ -25,8 +40,18 @@ loop-number-preserved g c = record {
   held = λ tells.
       held_too (g.S.Site.told c.args.site.now) (g.S.Site.told c.loop-number.site) (g.S.Site.told c.repair.new.site) c.volume_at.result (c.loop-number.invariant.repaired tells) (c.repair.ensures.moments tells)
       c.loop-number.number (c.loop-number.invariant.held tells) c.volume_at.ensures (c.in_default.ensures.done tells);
-  later = omega (arith, c.loop-number.invariant.later, c.repair.ensures.later);
+  complete = λ tells.
+      one_repaired c.loop-number.number c.volume_at.result (g.S.Site.told c.args.site.now) (g.S.Site.told c.loop-number.site) (g.S.Site.told c.repair.new.site) (c.loop-number.invariant.complete tells) c.volume_at.ensures
+      (record { moments = c.repair.ensures.moments tells; held = c.in_default.ensures.done tells });
+  count = c.in_default.ensures.kept ∙ c.loop-number.invariant.count;
+  devices = written_on g.S.Site.writes g.S.Site.faults g.S.Site.never_fails_but c.args.site.now c.loop-number.site c.repair.new.site c.loop-number.invariant.devices
+      (may_be_written g.S.Site.writes g.S.Site.faults g.S.Site.never_fails_but 3 g.S.Site.spare c.loop-number.site c.repair.new.site c.repair.ensures.devices);
 }
 
 pub returns-clause-held : goal.returns-clause-held
 returns-clause-held g c = λ tells v lt. c.loop-number.invariant.held tells v (omega (arith, lt, c.loop-number-test.false))
+
+pub returns-clause-complete : goal.returns-clause-complete
+returns-clause-complete g c = λ tells.
+    let n : c.loop-number.number ≡ 32 = search rules in
+    subst (λ (k : ℕ). AreRepaired k (g.S.Site.told c.args.site.now) (g.S.Site.told c.loop-number.site)) n (c.loop-number.invariant.complete tells)

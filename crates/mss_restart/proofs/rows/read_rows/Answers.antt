@@ -1,26 +1,29 @@
-use Rattle.std.proofs.Common.{refl, sym, ◌∙◌, ap, subst, arith, rules, Ok, Err, List, Option, Result, ℕ, ◌+◌, length, ◌++◌, ◌∷◌, []}
-use Rattle.std.specs.Prelude.{IfSome}
-use Rattle.table_pair.specs.Reads.{IsKept}
+use Rattle.std.proofs.Common.{◌≡◌, refl, sym, ◌∙◌, ap, subst, arith, rules, Ok, Err, List, Option, None, Result, ℕ, ◌+◌, length, ◌++◌, ◌∷◌, []}
+use Rattle.std.specs.Option.{option_or}
 use Rattle.std.proofs.lemmas.Result.{err_from_is_err_and}
 use Rattle.mss_base.specs.Content.{content}
 use Rattle.ckd_plain.specs.Plain.{serial_in}
 use Rattle.volume_table.specs.Row.{RowValue}
+use Rattle.shown_volumes.specs.Faults.{serial_fault}
+use Rattle.shown_volumes.specs.Sound.{HasSerialsAsked}
 use Rattle.shown_volumes.specs.declared.refused.Refused.{Refused}
 use Rattle.mss_restart.specs.declared.rows.RowsRead.{RowsRead}
-use Rattle.mss_restart.specs.Survey.{AreRead, ReadsRows}
-use Rattle.mss_restart.proofs.ReadRows.{none_read, row_read, row_ends, rows_end, named, kept_later, one_longer}
+use Rattle.volume_table.specs.Listed.{listed}
+use Rattle.mss_restart.specs.Survey.{ReadsRows, KeepsFirst, KeepsRows}
+use Rattle.mss_restart.proofs.Going.{nothing_read, read_on}
+use Rattle.mss_restart.proofs.RowLemmas.{cause_since}
+use Rattle.mss_restart.proofs.ReadRows.{SoFar, none_read, all_read, row_read, row_ends, rows_end, named, first_kept, one_longer, serials_on, no_serials}
 use Rattle.mss_restart.proofs.rows.read_rows.Goals as goal
 
 pub loop-number-init : goal.loop-number-init
 loop-number-init g c = let o = c.in_ok-reserve.ensures.ok in let n = c.new-rows.ensures in record {
-  told = λ tells. refl;
-  read = λ tells. none_read (g.S.Site.faults c.args.site.now) (serial_in c.args.volumes.now) (content (g.S.Site.told c.args.site.now)) _ _;
+  read = λ tells. none_read (g.S.Site.faults c.args.site.now) (serial_in c.args.volumes.now) (content (g.S.Site.told c.args.site.now)) _;
+  serials = no_serials (serial_in c.args.volumes.now) _ (search rules);
   long = search rules;
   room = search rules;
-  unread = tt;
-  spare = refl;
-  written = refl;
-  later = omega arith;
+  counts = refl;
+  works = λ never. refl;
+  devices = nothing_read g.S.Site.tells g.S.Site.told g.S.Site.spare g.S.Site.writes g.S.Site.faults g.S.Site.never_fails_but c.args.site.now;
 }
 
 pub returns-in_err-read-clause-read : goal.returns-in_err-read-clause-read
@@ -35,10 +38,19 @@ returns-in_err-read-clause-read g c = λ tells.
     let k = content (g.S.Site.told c.args.site.now) in
     let e = c.in_err-read.field-0.0 in
     let one = named mid now c.volume_at-volume.result n c.serial_asked-asked.result (asked n) (content (g.S.Site.told c.loop-number.site)) k (Err e) c.volume_at-volume.ensures
-    (c.serial_asked-asked.ensures ∙ ap asked c.volume_at-volume.ensures) (ap content (known.told tells)) (c.in_err-read.ensures.read tells) in
+    (c.serial_asked-asked.ensures ∙ ap asked c.volume_at-volume.ensures) (ap content (known.devices.log tells)) (c.in_err-read.ensures.read tells) in
     subst (λ (r : Result RowsRead Refused). ReadsRows begun now asked k r) (sym (p.1 ∙ ap Err p.2))
     (rows_end begun now asked k e
-    (row_ends begun mid now n asked k c.loop-number.rows.items c.loop-number.unread (known.read tells) known.later c.in_err-read.ensures.later (Err e) one e (omega (arith, c.loop-number-test.true)) one.tells))
+    (row_ends begun mid now n asked k c.loop-number.rows.items c.loop-number.unread (known.read tells) (omega (arith, c.loop-number-test.true)) (Err e) one e one.tells))
+
+pub returns-in_err-read-clause-counts : goal.returns-in_err-read-clause-counts
+returns-in_err-read-clause-counts g c =
+    let p = err_from_is_err_and c.from_residual-in_err-read.result c.from_residual-in_err-read.ensures.1 in
+    let begun = g.S.Site.faults c.args.site.now in
+    let now = g.S.Site.faults c.read_volume.new.site in
+    let e = c.in_err-read.field-0.0 in
+    subst (λ (r : Result RowsRead Refused). KeepsRows begun now r) (sym (p.1 ∙ ap Err p.2))
+    (cause_since begun (g.S.Site.faults c.loop-number.site) now e c.loop-number.invariant.devices.later c.in_err-read.ensures.counts)
 
 pub loop-number-preserved : goal.loop-number-preserved
 loop-number-preserved g c =
@@ -50,18 +62,25 @@ loop-number-preserved g c =
     let asked = serial_in c.args.volumes.now in
     let k = content (g.S.Site.told c.args.site.now) in
     let read = c.in_ok-read.read in
+    let asked_is = c.serial_asked-asked.ensures ∙ ap asked c.volume_at-volume.ensures in
+    let none : serial_fault n read.row (asked n) ≡ None = (λ i. serial_fault (sym c.volume_at-volume.ensures i) read.row (sym asked_is i)) ∙ c.in_ok-read.ensures.serial in
     record {
-      told = λ tells. c.in_ok-read.ensures.told tells ∙ known.told tells;
       read = λ tells.
           let one = named mid now c.volume_at-volume.result n c.serial_asked-asked.result (asked n) (content (g.S.Site.told c.loop-number.site)) k (Ok read) c.volume_at-volume.ensures
-          (c.serial_asked-asked.ensures ∙ ap asked c.volume_at-volume.ensures) (ap content (known.told tells)) (c.in_ok-read.ensures.read tells) in
-          subst (λ (rows : List (Option RowValue)). AreRead begun now (n + 1) asked k rows c.or-unread.result) (sym c.push.ensures.items)
-          (subst (λ (u : Option ℕ). AreRead begun now (n + 1) asked k (c.loop-number.rows.items ++ read.row ∷ []) u) (sym c.or-unread.ensures)
-          (row_read begun mid now n asked k c.loop-number.rows.items c.loop-number.unread (known.read tells) known.later c.in_ok-read.ensures.later (Ok read) one read one.tells known.long));
+          asked_is (ap content (known.devices.log tells)) (c.in_ok-read.ensures.read tells) in
+          subst (λ (rows : List (Option RowValue)). SoFar begun now (n + 1) asked k rows c.or-unread.result) (sym c.push.ensures.items)
+          (subst (λ (u : Option ℕ). SoFar begun now (n + 1) asked k (c.loop-number.rows.items ++ read.row ∷ []) u) (sym c.or-unread.ensures)
+          (row_read begun mid now n asked k c.loop-number.rows.items c.loop-number.unread (known.read tells) (omega (arith, c.loop-number-test.true)) (Ok read) one read one.tells known.long c.in_ok-read.ensures.counts));
+      serials = subst (λ (rows : List (Option RowValue)). HasSerialsAsked asked (listed rows)) (sym c.push.ensures.items) (serials_on asked c.loop-number.rows.items n read.row known.long known.serials none);
       long = ap length c.push.ensures.items ∙ one_longer c.loop-number.rows.items read.row ∙ ap (λ (m : ℕ). m + 1) known.long;
       room = omega (arith, known.room, c.push.ensures.spare);
-      unread = subst (λ (u : Option ℕ). IfSome u (IsKept begun now)) (sym c.or-unread.ensures) (kept_later begun mid now c.loop-number.unread read.unread known.later c.in_ok-read.ensures.later known.unread c.in_ok-read.ensures.unread);
-      spare = c.in_ok-read.ensures.spare ∙ known.spare;
-      written = c.in_ok-read.ensures.writes ∙ known.written;
-      later = omega (arith, known.later, c.in_ok-read.ensures.later);
+      counts = subst (λ (u : Option ℕ). KeepsFirst begun now u) (sym c.or-unread.ensures) (first_kept begun mid now c.loop-number.unread read.unread known.counts known.devices.later c.in_ok-read.ensures.devices.later c.in_ok-read.ensures.counts);
+      works = λ never. c.or-unread.ensures ∙ (λ i. option_or (known.works never i) (c.in_ok-read.ensures.works (known.devices.sound _ never) i));
+      devices = read_on g.S.Site.tells g.S.Site.told g.S.Site.spare g.S.Site.writes g.S.Site.faults g.S.Site.never_fails_but c.args.site.now c.loop-number.site c.read_volume.new.site known.devices c.in_ok-read.ensures.devices;
     }
+
+pub returns-clause-read : goal.returns-clause-read
+returns-clause-read g c = λ tells.
+    let n : c.loop-number.number ≡ 32 = search rules in
+    all_read (g.S.Site.faults c.args.site.now) (g.S.Site.faults c.loop-number.site) (serial_in c.args.volumes.now) (content (g.S.Site.told c.args.site.now)) c.loop-number.rows.items c.loop-number.unread
+    (subst (λ (m : ℕ). SoFar (g.S.Site.faults c.args.site.now) (g.S.Site.faults c.loop-number.site) m (serial_in c.args.volumes.now) (content (g.S.Site.told c.args.site.now)) c.loop-number.rows.items c.loop-number.unread) n (c.loop-number.invariant.read tells))

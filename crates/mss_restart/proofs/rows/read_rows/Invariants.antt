@@ -1,19 +1,21 @@
 use Rattle.std.proofs.Common.{◌≡◌, ◌+◌, ◌≤◌, length}
-use Rattle.std.specs.Prelude.{IfSome}
 use Rattle.mss_base.specs.Content.{content}
+use Rattle.mss_base.specs.Sites.{OnlyReads}
 use Rattle.ckd_plain.specs.Plain.{serial_in}
-use Rattle.table_pair.specs.Reads.{IsKept}
-use Rattle.mss_restart.specs.Survey.{AreRead}
+use Rattle.shown_volumes.specs.Sound.{HasSerialsAsked}
+use Rattle.volume_table.specs.Listed.{listed}
+use Rattle.mss_restart.specs.Survey.{KeepsFirst, NeverFails}
+use Rattle.std.proofs.Common.{None}
+use Rattle.mss_restart.proofs.ReadRows.{SoFar}
 use Rattle.mss_restart.proofs.rows.read_rows.Given as goal
 
 abbrev pub invariant-loop-number : goal.invariant-loop-number
 invariant-loop-number g l = record {
-  told : g.S.Site.tells → g.S.Site.told l.site ≡ g.S.Site.told l.initial.site;
-  read : g.S.Site.tells → AreRead (g.S.Site.faults l.initial.site) (g.S.Site.faults l.site) l.number (serial_in l.volumes) (content (g.S.Site.told l.initial.site)) l.rows.items l.unread;
+  read : g.S.Site.tells → SoFar (g.S.Site.faults l.initial.site) (g.S.Site.faults l.site) l.number (serial_in l.volumes) (content (g.S.Site.told l.initial.site)) l.rows.items l.unread;
+  serials : HasSerialsAsked (serial_in l.volumes) (listed l.rows.items);
   long : length l.rows.items ≡ l.number;
   room : 32 ≤ l.rows.spare + l.number;
-  unread : IfSome l.unread (IsKept (g.S.Site.faults l.initial.site) (g.S.Site.faults l.site));
-  spare : g.S.Site.spare l.site ≡ g.S.Site.spare l.initial.site;
-  written : g.S.Site.writes l.site ≡ g.S.Site.writes l.initial.site;
-  later : g.S.Site.faults l.initial.site ≤ g.S.Site.faults l.site;
+  counts : KeepsFirst (g.S.Site.faults l.initial.site) (g.S.Site.faults l.site) l.unread;
+  works : NeverFails g.S.Site.never_fails_but l.initial.site → l.unread ≡ None;
+  devices : OnlyReads g.S.Site.tells g.S.Site.told g.S.Site.spare g.S.Site.writes g.S.Site.faults g.S.Site.never_fails_but l.initial.site l.site;
 }

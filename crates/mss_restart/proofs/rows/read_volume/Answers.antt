@@ -9,7 +9,7 @@ returns-in-Some-clause-read g c = λ tells.
     let reads = c.in-Ok.ensures.row tells in
     record {
       read = reading reads.a reads.b;
-      is = was_read (g.S.Site.faults c.args.site.now) (g.S.Site.faults c.read_row.new.site) c.args.volume (content (g.S.Site.told c.args.site.now)) (Ok c.in-Ok.read) reads;
+      is = was_read _ (g.S.Site.faults c.args.site.now) (g.S.Site.faults c.read_row.new.site) c.args.volume (content (g.S.Site.told c.args.site.now)) (Ok c.in-Ok.read) reads;
       tells = serial_told c.args.volume c.in-Ok.read.row _ c.args.asked (reading reads.a reads.b) c.in-Some.fault reads.told (sym c.serial_fault.ensures ∙ c.in-Some.is);
     }
 
@@ -18,9 +18,9 @@ returns-in-Err-clause-read g c = λ tells.
     let reads = c.in-Err.ensures.row tells in
     record {
       read = reading reads.a reads.b;
-      is = was_read (g.S.Site.faults c.args.site.now) (g.S.Site.faults c.read_row.new.site) c.args.volume (content (g.S.Site.told c.args.site.now)) (Err c.in-Err.trouble) reads;
+      is = was_read _ (g.S.Site.faults c.args.site.now) (g.S.Site.faults c.read_row.new.site) c.args.volume (content (g.S.Site.told c.args.site.now)) (Err c.in-Err.trouble) reads;
       tells = c.refused_row.ensures.told c.args.asked (reading reads.a reads.b) reads.told;
     }
 
-pub returns-in-Err-clause-kept : goal.returns-in-Err-clause-kept
-returns-in-Err-clause-kept g c = c.refused_row.ensures.kept _ _ c.in-Err.ensures.kept
+pub returns-in-Err-clause-counts : goal.returns-in-Err-clause-counts
+returns-in-Err-clause-counts g c = c.refused_row.ensures.kept _ _ c.in-Err.ensures.devices.later c.in-Err.ensures.kept

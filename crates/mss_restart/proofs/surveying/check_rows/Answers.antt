@@ -1,18 +1,32 @@
 use Rattle.std.proofs.Common.{sym, ◌∙◌, subst, Option}
 use Rattle.mss_base.specs.Content.{content}
 use Rattle.shown_volumes.specs.declared.refused.Refused.{Refused}
-use Rattle.mss_restart.specs.Listed.{listed}
+use Rattle.volume_table.specs.Listed.{listed}
 use Rattle.mss_restart.specs.Survey.{Finds}
 use Rattle.mss_restart.specs.Walks.{rest_fault}
-use Rattle.mss_restart.proofs.SurveyFacts.{content_kept, found_content, halves_content, pages_content, halves_rest, pages_rest, rest_is}
+use Rattle.mss_restart.proofs.SurveyFacts.{content_counts, found_content, halves_content, pages_content, halves_rest, pages_rest, rest_is}
+use Rattle.mss_restart.proofs.UsableFacts.{few_listed, walks_usable, on_ok_any}
 use Rattle.mss_restart.proofs.surveying.check_rows.Goals as goal
 
-pub returns-in-Some-clause-kept : goal.returns-in-Some-clause-kept
-returns-in-Some-clause-kept g c = content_kept _ _ c.in-Some.fault (halves_content (listed c.args.rows.now) c.in-Some.fault (sym c.halves_fault.ensures ∙ c.in-Some.is))
+pub returns-in-Some-clause-counts : goal.returns-in-Some-clause-counts
+returns-in-Some-clause-counts g c = (content_counts _ c.in-Some.fault (halves_content (listed c.args.rows.now) c.in-Some.fault (sym c.halves_fault.ensures ∙ c.in-Some.is))).0
 
-pub returns-in-Some-pages_fault-clause-kept : goal.returns-in-Some-pages_fault-clause-kept
-returns-in-Some-pages_fault-clause-kept g c =
-    content_kept _ _ c.in-Some-pages_fault.fault (pages_content c.args.frames (listed c.args.rows.now) c.in-Some-pages_fault.fault (sym c.pages_fault.ensures ∙ c.in-Some-pages_fault.is))
+pub returns-in-Some-clause-works : goal.returns-in-Some-clause-works
+returns-in-Some-clause-works g c = λ never. (content_counts 0 c.in-Some.fault (halves_content (listed c.args.rows.now) c.in-Some.fault (sym c.halves_fault.ensures ∙ c.in-Some.is))).1
+
+pub returns-in-Some-pages_fault-clause-counts : goal.returns-in-Some-pages_fault-clause-counts
+returns-in-Some-pages_fault-clause-counts g c =
+    (content_counts _ c.in-Some-pages_fault.fault (pages_content c.args.frames (listed c.args.rows.now) c.in-Some-pages_fault.fault (sym c.pages_fault.ensures ∙ c.in-Some-pages_fault.is))).0
+
+pub returns-in-Some-pages_fault-clause-works : goal.returns-in-Some-pages_fault-clause-works
+returns-in-Some-pages_fault-clause-works g c = λ never.
+    (content_counts 0 c.in-Some-pages_fault.fault (pages_content c.args.frames (listed c.args.rows.now) c.in-Some-pages_fault.fault (sym c.pages_fault.ensures ∙ c.in-Some-pages_fault.is))).1
+
+pub returns-clause-usable : goal.returns-clause-usable
+returns-clause-usable g c = λ asked serials.
+    let rows = listed c.args.rows.now in
+    let is = walks_usable rows (few_listed c.args.rows.now c.requires) c.args.frames asked serials (sym c.halves_fault.ensures ∙ c.in_default.is) (sym c.pages_fault.ensures ∙ c.in_default-pages_fault.is) in
+    on_ok_any c.check_tracks.result is
 
 pub returns-clause-finds : goal.returns-clause-finds
 returns-clause-finds g c = λ tells.

@@ -7,9 +7,9 @@ use Rattle.mss_restart.proofs.surveying.survey.Goals as goal
 pub returns-in-Ok-clause-exact : goal.returns-in-Ok-clause-exact
 returns-in-Ok-clause-exact g c = λ tells still low.
     exact (g.S.Site.faults c.args.site.now) (g.S.Site.faults c.survey_rows.new.site) c.args.config.now.frames (serial_in c.args.config.now.volumes) (content (g.S.Site.told c.args.site.now)) still low
-    (Ok c.in-Ok.read.rows.items) tt (c.in-Ok.ensures.found tells)
+    (Ok c.in-Ok.read.rows.items) c.in-Ok.ensures.devices.later (c.in-Ok.ensures.found tells)
 
 pub returns-in-Err-clause-exact : goal.returns-in-Err-clause-exact
 returns-in-Err-clause-exact g c = λ tells still low.
     exact (g.S.Site.faults c.args.site.now) (g.S.Site.faults c.survey_rows.new.site) c.args.config.now.frames (serial_in c.args.config.now.volumes) (content (g.S.Site.told c.args.site.now)) still low
-    (Err c.in-Err.fault) c.in-Err.ensures.kept (c.in-Err.ensures.found tells)
+    (Err c.in-Err.fault) c.in-Err.ensures.counts (c.in-Err.ensures.found tells)

@@ -6,10 +6,10 @@ use Rattle.mss_base.specs.Configs.{ConfigData}
 use Rattle.volume_table.specs.Row.{RowValue}
 use Rattle.shown_volumes.specs.declared.refused.Refused.{Refused}
 use Rattle.mss_restart.specs.declared.rows.RowsRead.{RowsRead}
-use Rattle.mss_restart.specs.Listed.{listed}
+use Rattle.volume_table.specs.Listed.{listed}
 use Rattle.mss_restart.specs.Walks.{rest_fault}
 use Rattle.mss_restart.specs.Survey.{FindsFault, Surveys, rows_read}
-use Rattle.mss_restart.proofs.Surveyed.{rows_survey, good_survey, bad_survey, renamed}
+use Rattle.mss_restart.proofs.Surveyed.{rows_survey, good_survey, bad_survey, renamed, read_renamed, later_rows}
 use Rattle.mss_restart.proofs.surveying.survey_rows.Goals as goal
 
 pub returns-in_err-read-clause-found : goal.returns-in_err-read-clause-found
@@ -22,7 +22,7 @@ returns-in_err-read-clause-found g c = λ tells.
     subst (λ (r : Result RowsRead Refused). Surveys before now c.args.config.now.frames (serial_in c.args.config.now.volumes) k (rows_read r)) (sym (p.1 ∙ ap Err p.2))
     (renamed before now c.config.inside.frames c.args.config.now.frames c.as_slice.result.now c.args.config.now.volumes k k (Err e)
     (ap (λ (x : ConfigData). x.frames) c.config.view_is) (c.as_slice.ensures ∙ ap (λ (x : ConfigData). x.volumes) c.config.view_is) refl
-    (rows_survey before now c.config.inside.frames (serial_in c.as_slice.result.now) k e (c.in_err-read.ensures.read tells)))
+    (rows_survey before now c.config.inside.frames (serial_in c.as_slice.result.now) k e c.in_err-read.ensures.devices.later (c.in_err-read.ensures.read tells)))
 
 pub returns-in_err-check_rows-clause-found : goal.returns-in_err-check_rows-clause-found
 returns-in_err-check_rows-clause-found g c = λ tells.
@@ -33,12 +33,12 @@ returns-in_err-check_rows-clause-found g c = λ tells.
     let k = content (g.S.Site.told c.args.site.now) in
     let e = c.in_err-check_rows.field-0.0 in
     let rows = c.in_ok-read.read.rows.items in
-    let found = subst (λ (x : Content). FindsFault e (rest_fault c.config.inside.frames (listed rows) x)) (ap content (c.in_ok-read.ensures.told tells))
+    let found = subst (λ (x : Content). FindsFault e (rest_fault c.config.inside.frames (listed rows) x)) (ap content (c.in_ok-read.ensures.devices.log tells))
     (subst (λ (x : List (Option RowValue)). FindsFault e (rest_fault c.config.inside.frames (listed x) (content (g.S.Site.told c.read_rows.new.site)))) c.as_slice-2.ensures (c.in_err-check_rows.ensures.finds tells)) in
     subst (λ (r : Result RowsRead Refused). Surveys before now c.args.config.now.frames (serial_in c.args.config.now.volumes) k (rows_read r)) (sym (p.1 ∙ ap Err p.2))
     (renamed before now c.config.inside.frames c.args.config.now.frames c.as_slice.result.now c.args.config.now.volumes k k (Err e)
     (ap (λ (x : ConfigData). x.frames) c.config.view_is) (c.as_slice.ensures ∙ ap (λ (x : ConfigData). x.volumes) c.config.view_is) refl
-    (bad_survey before mid now c.config.inside.frames (serial_in c.as_slice.result.now) k rows c.in_ok-read.read.unread (c.in_ok-read.ensures.read tells) c.in_ok-read.ensures.whole c.in_err-check_rows.ensures.later e found))
+    (bad_survey before mid now c.config.inside.frames (serial_in c.as_slice.result.now) k rows c.in_ok-read.read.unread (c.in_ok-read.ensures.read tells) c.in_ok-read.ensures.whole e found c.in_err-check_rows.ensures.counts))
 
 pub returns-clause-found : goal.returns-clause-found
 returns-clause-found g c = λ tells.
@@ -47,8 +47,18 @@ returns-clause-found g c = λ tells.
     let now = g.S.Site.faults c.check_rows.new.site in
     let k = content (g.S.Site.told c.args.site.now) in
     let rows = c.in_ok-read.read.rows.items in
-    let none = subst (λ (x : Content). rest_fault c.config.inside.frames (listed rows) x ≡ None) (ap content (c.in_ok-read.ensures.told tells))
+    let none = subst (λ (x : Content). rest_fault c.config.inside.frames (listed rows) x ≡ None) (ap content (c.in_ok-read.ensures.devices.log tells))
     (subst (λ (x : List (Option RowValue)). rest_fault c.config.inside.frames (listed x) (content (g.S.Site.told c.read_rows.new.site)) ≡ None) c.as_slice-2.ensures (c.in_ok-check_rows.ensures.finds tells)) in
     renamed before now c.config.inside.frames c.args.config.now.frames c.as_slice.result.now c.args.config.now.volumes k k (Ok rows)
     (ap (λ (x : ConfigData). x.frames) c.config.view_is) (c.as_slice.ensures ∙ ap (λ (x : ConfigData). x.volumes) c.config.view_is) refl
-    (good_survey before mid now c.config.inside.frames (serial_in c.as_slice.result.now) k rows c.in_ok-read.read.unread (c.in_ok-read.ensures.read tells) c.in_ok-read.ensures.whole c.in_ok-check_rows.ensures.later none)
+    (good_survey before mid now c.config.inside.frames (serial_in c.as_slice.result.now) k rows c.in_ok-read.read.unread (c.in_ok-read.ensures.read tells) c.in_ok-read.ensures.whole c.in_ok-check_rows.ensures.counts none)
+
+pub returns-clause-read : goal.returns-clause-read
+returns-clause-read g c = λ tells.
+    let before = g.S.Site.faults c.args.site.now in
+    let mid = g.S.Site.faults c.read_rows.new.site in
+    let now = g.S.Site.faults c.check_rows.new.site in
+    let k = content (g.S.Site.told c.args.site.now) in
+    let rows = c.in_ok-read.read.rows.items in
+    read_renamed before now c.as_slice.result.now c.args.config.now.volumes k rows c.in_ok-read.read.unread (c.as_slice.ensures ∙ ap (λ (x : ConfigData). x.volumes) c.config.view_is)
+    (later_rows before mid now c.config.inside.frames (serial_in c.as_slice.result.now) k rows c.in_ok-read.read.unread (c.in_ok-read.ensures.read tells) c.in_ok-read.ensures.whole c.in_ok-check_rows.ensures.counts)

@@ -2,18 +2,16 @@ use Rattle.std.proofs.Common.{refl, ap, Err, ◌∙◌, arith}
 use Rattle.std.proofs.lemmas.Result.{err_from_is_err_and}
 use Rattle.mss_base.specs.Content.{Content, content}
 use Rattle.shown_volumes.specs.Faults.{tracks_fault}
-use Rattle.shown_volumes.proofs.WalkFacts.{none_yet}
-use Rattle.mss_restart.specs.Listed.{listed}
-use Rattle.mss_restart.proofs.Going.{goes_on, ends_at}
+use Rattle.mss_base.proofs.FirstFacts.{none_yet}
+use Rattle.volume_table.specs.Listed.{listed}
+use Rattle.mss_restart.proofs.Going.{nothing_read, read_on, goes_on, ends_at}
 use Rattle.mss_restart.proofs.tracks.check_tracks.Goals as goal
 
 pub loop-number-init : goal.loop-number-init
 loop-number-init g c = record {
-  told = λ tells. refl;
   known = λ tells. none_yet ((λ (k : Content). tracks_fault (listed c.args.rows.now) k) (content (g.S.Site.told c.args.site.now)));
-  room = refl;
-  written = refl;
-  later = omega arith;
+  devices = nothing_read g.S.Site.tells g.S.Site.told g.S.Site.spare g.S.Site.writes g.S.Site.faults g.S.Site.never_fails_but c.args.site.now;
+  count = refl;
   shown_whole = c.requires.shown;
   staged_whole = c.requires.staged;
 }
@@ -22,19 +20,17 @@ pub returns-in_err-check_volume-clause-finds : goal.returns-in_err-check_volume-
 returns-in_err-check_volume-clause-finds g c = λ tells.
     let p = err_from_is_err_and c.from_residual.result c.from_residual.ensures.1 in
     let known = c.loop-number.invariant in
-    ends_at (λ (k : Content). tracks_fault (listed c.args.rows.now) k) (g.S.Site.told c.args.site.now) (g.S.Site.told c.loop-number.site) c.loop-number.number c.volume_at.result (known.told tells) c.volume_at.ensures (known.known tells)
+    ends_at (λ (k : Content). tracks_fault (listed c.args.rows.now) k) (g.S.Site.told c.args.site.now) (g.S.Site.told c.loop-number.site) c.loop-number.number c.volume_at.result (known.devices.log tells) c.volume_at.ensures (known.known tells)
     32 c.in_err-check_volume.field-0.0 c.from_residual.result (p.1 ∙ ap Err p.2) (omega (arith, c.loop-number-test.true)) (c.in_err-check_volume.ensures.finds tells)
 
 pub loop-number-preserved : goal.loop-number-preserved
 loop-number-preserved g c =
     let known = c.loop-number.invariant in
     record {
-      told = λ tells. c.check_volume.ensures.told tells ∙ known.told tells;
-      known = λ tells. goes_on (λ (k : Content). tracks_fault (listed c.args.rows.now) k) (g.S.Site.told c.args.site.now) (g.S.Site.told c.loop-number.site) c.loop-number.number c.volume_at.result (known.told tells) c.volume_at.ensures (known.known tells)
+      known = λ tells. goes_on (λ (k : Content). tracks_fault (listed c.args.rows.now) k) (g.S.Site.told c.args.site.now) (g.S.Site.told c.loop-number.site) c.loop-number.number c.volume_at.result (known.devices.log tells) c.volume_at.ensures (known.known tells)
           (c.in_ok-check_volume.ensures.finds tells);
-      room = c.check_volume.ensures.spare ∙ known.room;
-      written = c.check_volume.ensures.writes ∙ known.written;
-      later = omega (arith, known.later, c.check_volume.ensures.later);
+      devices = read_on g.S.Site.tells g.S.Site.told g.S.Site.spare g.S.Site.writes g.S.Site.faults g.S.Site.never_fails_but c.args.site.now c.loop-number.site c.check_volume.new.site known.devices c.check_volume.ensures.devices;
+      count = c.in_ok-check_volume.ensures.counts ∙ known.count;
       shown_whole = omega (arith, known.shown_whole, c.check_volume.auto.shown);
       staged_whole = omega (arith, known.staged_whole, c.check_volume.auto.staged);
     }

@@ -1,10 +1,11 @@
 use Rattle.std.proofs.Common.{◌≡◌, None, length}
-use Rattle.shown_volumes.specs.Faults.{first_below, tracks_fault}
-use Rattle.mss_restart.specs.Listed.{listed}
+use Rattle.mss_base.specs.Firsts.{first_below}
+use Rattle.shown_volumes.specs.Faults.{tracks_fault}
+use Rattle.volume_table.specs.Listed.{listed}
 use Rattle.mss_restart.proofs.Going.{IsGoing}
 use Rattle.mss_restart.proofs.tracks.check_tracks.Given as goal
 
 abbrev pub invariant-loop-number : goal.invariant-loop-number
 invariant-loop-number g l =
-    IsGoing g.S.Site.tells (g.S.Site.told l.initial.site) (g.S.Site.told l.site) (g.S.Site.spare l.initial.site) (g.S.Site.spare l.site) (g.S.Site.writes l.initial.site) (g.S.Site.writes l.site)
-    (g.S.Site.faults l.initial.site) (g.S.Site.faults l.site) (length l.shown) (length l.staged) (λ c. first_below l.number (tracks_fault (listed l.rows) c) ≡ None)
+    IsGoing g.S.Site.tells g.S.Site.told g.S.Site.spare g.S.Site.writes g.S.Site.faults g.S.Site.never_fails_but l.initial.site l.site
+    (length l.shown) (length l.staged) (λ c. first_below l.number (tracks_fault (listed l.rows) c) ≡ None)

@@ -1,7 +1,7 @@
 use Rattle.std.proofs.Common.{Option, sym, ◌∙◌, subst, arith}
 use Rattle.mss_base.specs.Content.{content}
 use Rattle.shown_volumes.specs.declared.refused.Refused.{Refused}
-use Rattle.mss_restart.specs.Listed.{listed}
+use Rattle.volume_table.specs.Listed.{listed}
 use Rattle.mss_restart.specs.Survey.{Finds}
 use Rattle.mss_restart.proofs.ListedFacts.{listed_at, row_tracks, no_tracks}
 use Rattle.mss_restart.proofs.tracks.check_volume.Goals as goal

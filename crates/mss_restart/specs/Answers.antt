@@ -1,0 +1,77 @@
+-- What opening answers.
+use Rattle.std.specs.Prelude.{◌≡◌, ◌⊎◌, ◌≤◌, ℕ, List, [], Some, None, Result, Ok, Err}
+use Rattle.mss_base.specs.Configs.{ConfigData}
+use Rattle.mss_base.specs.Content.{Content, SiteLog, content}
+use Rattle.mss_base.specs.Counts.{IsFaultSince, IsFaultWithin}
+use Rattle.ckd_plain.specs.Plain.{serial_in}
+use Rattle.shown_volumes.specs.declared.refused.Refused.{Refused}
+use Rattle.shown_volumes.specs.declared.refused.Refused.TheVariants.{RowUnread, Stopped, Memory}
+use Rattle.shown_volumes.specs.Shown.{RowsOf, rows_of}
+use Rattle.shown_volumes.specs.Faults.{first_fault}
+use Rattle.volume_table.specs.Listed.{listed}
+use Rattle.mss_restart.specs.Survey.{Readings, AreFaultless, IsFirstAlone, Surveys}
+use Rattle.mss_restart.specs.Opening.{IsOpened, Creates, missing}
+use Rattle.mss_restart.specs.Creations.{CompletesWhole, AreCounted}
+use Rattle.mss_restart.specs.declared.creations.Creation.{Creation}
+use Rattle.mss_restart.specs.declared.opening.Opened.{Opened}
+
+-- nothing was written, or the content had no fault
+abbrev pub WritesIfFaultless : ConfigData → SiteLog → SiteLog → Type 0
+WritesIfFaultless config old new = (new ≡ old) ⊎ (first_fault config.frames (serial_in config.volumes) (content old) ≡ None)
+
+-- a stop: each row was known and without fault. Of the first that one copy alone told the count is kept, and nothing was
+-- written; else a call failed behind the reads of the rows.
+pub record IsStopped (before now : ℕ) (config : ConfigData) (old new : SiteLog) (fault : ℕ) : Type 0 where
+  pub mid : ℕ
+  pub readings : Readings before mid (content old)
+  pub faultless : AreFaultless (serial_in config.volumes) readings.row
+  pub cause : (IsFirstAlone 32 readings.row readings.counts fault × (now ≡ mid) × (new ≡ old)) ⊎ IsFaultSince mid now fault
+
+-- a refusal but for a failed call or want of memory is the survey's, and nothing was written
+abbrev pub RefusesAs : ℕ → ℕ → ConfigData → SiteLog → SiteLog → Refused → Type 0
+RefusesAs before now config old new (Stopped fault) = IsStopped before now config old new fault
+RefusesAs before now config old new Memory = Unit {0}
+RefusesAs before now config old new e = (new ≡ old) × Surveys before now config.frames (serial_in config.volumes) (content old) (Err e)
+
+-- what opening answers
+abbrev pub Opens : ℕ → ℕ → ConfigData → SiteLog → SiteLog → Result Opened Refused → Type 0
+Opens before now config old new (Ok opened) = IsOpened config (content old) (content new) opened.rows.items
+Opens before now config old new (Err e) = RefusesAs before now config old new e
+
+-- without a failed call opening answers rows exactly where the content has no fault, and else its first fault
+abbrev pub OpensExactly : {T : Type 0} → ConfigData → Content → Result T Refused → Type 0
+OpensExactly config c (Ok rows) = first_fault config.frames (serial_in config.volumes) c ≡ None
+OpensExactly config c (Err (RowUnread volume fault)) = ⊥
+OpensExactly config c (Err (Stopped fault)) = ⊥
+OpensExactly config c (Err Memory) = Unit {0}
+OpensExactly config c (Err e) = first_fault config.frames (serial_in config.volumes) c ≡ Some e
+
+-- the counts that opening keeps: no call failed where rows are answered
+abbrev pub KeepsOpening : {T : Type 0} → ℕ → ℕ → Result T Refused → Type 0
+KeepsOpening before now (Ok value) = now ≡ before
+KeepsOpening before now (Err (RowUnread volume fault)) = IsFaultSince before now fault
+KeepsOpening before now (Err (Stopped fault)) = IsFaultWithin before now fault
+KeepsOpening before now (Err e) = before ≤ now
+
+-- a refusal writes nothing, but for a stop and want of memory, as which no failed write is told
+abbrev pub RefusalLeaves : ℕ → ℕ → ℕ → ℕ → Refused → Type 0
+RefusalLeaves written writes before now (Stopped fault) = Unit {0}
+RefusalLeaves written writes before now Memory = (writes ≡ written) ⊎ (now ≡ before)
+RefusalLeaves written writes before now e = writes ≡ written
+
+-- the creations that are told are those of the volumes that had no row, whichever rows there were before
+pub record CreatesCounted (config : ConfigData) (written writes : ℕ) (rows : RowsOf) (made : List Creation) : Type 0 where
+  pub before : RowsOf
+  pub creates : Creates (missing before config.volumes) before rows
+  pub counted : AreCounted written writes (missing before config.volumes) made
+
+abbrev pub MakesCounted : ConfigData → ℕ → ℕ → Result Opened Refused → Type 0
+MakesCounted config written writes (Ok opened) = CreatesCounted config written writes (listed opened.rows.items) opened.creations.items
+MakesCounted config written writes (Err e) = Unit {0}
+
+-- the repairs and creations that were begun were written to their end where rows are answered or memory ran out
+abbrev pub OpensWhole : ConfigData → SiteLog → SiteLog → Result Opened Refused → Type 0
+OpensWhole config old new (Ok opened) =
+    CompletesWhole {T = Unit {0}} (missing (rows_of (content old)) config.volumes) opened.creations.items (rows_of (content old)) (rows_of (content new)) old new (Ok tt)
+OpensWhole config old new (Err e) =
+    CompletesWhole {T = Unit {0}} (missing (rows_of (content old)) config.volumes) [] (rows_of (content old)) (rows_of (content new)) old new (Err e)

@@ -1,0 +1,90 @@
+-- Repairs and creations, each written to its end.
+use Rattle.std.specs.Prelude.{◌≡◌, ◌≤◌, ℕ, zero, suc, List, [], ◌∷◌, ◌++◌, length, Result, Ok, Err}
+use Rattle.mss_base.specs.Configs.{VolumeData}
+use Rattle.mss_base.specs.Content.{SiteLog, content, Writes}
+use Rattle.mss_base.specs.Counts.{IsFaultSince}
+use Rattle.mss_base.specs.Sites.{FailingReads, StaysSound}
+use Rattle.volume_table.specs.Row.{RowValue}
+use Rattle.table_pair.specs.Pair.{ChangesRow, NoneOrNew, HoldsRow}
+use Rattle.table_pair.specs.Repairs.{KeepsRow, HoldsToldRow}
+use Rattle.shown_volumes.specs.declared.refused.Refused.{Refused}
+use Rattle.shown_volumes.specs.declared.refused.Refused.TheVariants.{Stopped, Memory}
+use Rattle.shown_volumes.specs.Shown.{RowsOf}
+use Rattle.shown_volumes.specs.Changing.{with_row}
+use Rattle.mss_restart.specs.Opening.{IsNewRow}
+use Rattle.mss_restart.specs.declared.creations.Creation.{Creation}
+
+-- a site that was read, and written as often as it made room for
+pub record WritesOn {S : Type 0} (writes faults : S → ℕ) (never_fails_but : FailingReads S) (old new : S) : Type 0 where
+  pub written : writes old ≤ writes new
+  pub later : faults old ≤ faults new
+  pub sound : StaysSound never_fails_but old new
+
+-- a failed call is told with the count now, which rose, and want of memory where none failed
+abbrev pub IsStop : ℕ → ℕ → Refused → Type 0
+IsStop before now (Stopped fault) = IsFaultSince before now fault
+IsStop before now Memory = now ≡ before
+IsStop before now _ = ⊥
+
+abbrev pub StopsAlone : {T : Type 0} → ℕ → ℕ → Result T Refused → Type 0
+StopsAlone before now (Ok value) = now ≡ before
+StopsAlone before now (Err e) = IsStop before now e
+
+-- a volume's row was repaired: it is the same at each moment, and stands in both copies now
+pub record IsRepair (volume : ℕ) (old new : SiteLog) : Type 0 where
+  pub moments : Writes (ChangesRow volume (KeepsRow volume (content old)) (content old)) old new
+  pub held : HoldsToldRow volume (content old) (content new)
+
+-- the rows of the first volumes were repaired, one after the other
+unfoldable pub AreRepaired : ℕ → SiteLog → SiteLog → Type 0
+AreRepaired zero old new = new ≡ old
+AreRepaired (suc count) old new = (mid : SiteLog) × AreRepaired count old mid × IsRepair count mid new
+
+-- a volume was created: it has no row or the new one at each moment, and that stands in both copies now, so many writes on
+pub record IsCreation (rows after : RowsOf) (v : VolumeData) (made : Creation) (old new : SiteLog) : Type 0 where
+  pub row : RowValue
+  pub is_new : IsNewRow rows v.1 row
+  pub now : after ≡ with_row v.0 row rows
+  pub moments : Writes (ChangesRow v.0 (NoneOrNew v.0 row) (content old)) old new
+  pub held : HoldsRow row v.0 (content new)
+  pub count : made.writes ≡ length new.log
+
+-- these volumes were created, one after the other, from these rows to the last ones
+abbrev pub AreCreations : List VolumeData → List Creation → RowsOf → RowsOf → SiteLog → SiteLog → Type 0
+AreCreations [] [] rows last old new = (last ≡ rows) × (new ≡ old)
+AreCreations (v ∷ vs) (made ∷ more) rows last old new =
+    (mid : SiteLog) × ((after : RowsOf) × IsCreation rows after v made old mid × AreCreations vs more after last mid new)
+AreCreations _ _ rows last old new = ⊥
+
+-- a front of these volumes was created
+pub record IsFrontCreated (new : List VolumeData) (rows : RowsOf) (old now : SiteLog) : Type 0 where
+  pub done : List VolumeData
+  pub later : List VolumeData
+  pub order : done ++ later ≡ new
+  pub made : List Creation
+  pub last : RowsOf
+  pub each : AreCreations done made rows last old now
+
+-- each of these volumes has its creation, and their counts of writes don't fall, from the count before to the count now
+abbrev pub AreCounted : ℕ → ℕ → List VolumeData → List Creation → Type 0
+AreCounted before now [] [] = before ≤ now
+AreCounted before now (v ∷ vs) (made ∷ more) = (made.volume ≡ v.0) × (before ≤ made.writes) × AreCounted made.writes now vs more
+AreCounted before now _ _ = ⊥
+
+-- what repairs leave: all of them, or after want of memory some, each to its end
+abbrev pub RepairsWhole : {T : Type 0} → SiteLog → SiteLog → Result T Refused → Type 0
+RepairsWhole old new (Ok value) = AreRepaired 32 old new
+RepairsWhole old new (Err Memory) = (count : ℕ) × AreRepaired count old new
+RepairsWhole old new (Err e) = Unit {0}
+
+-- what creations leave: all of them, or after want of memory a front, each to its end
+abbrev pub CreatesWhole : {T : Type 0} → List VolumeData → List Creation → RowsOf → RowsOf → SiteLog → SiteLog → Result T Refused → Type 0
+CreatesWhole volumes made rows last old new (Ok value) = AreCreations volumes made rows last old new
+CreatesWhole volumes made rows last old new (Err Memory) = IsFrontCreated volumes rows old new
+CreatesWhole volumes made rows last old new (Err e) = Unit {0}
+
+-- what repairs and then creations leave
+abbrev pub CompletesWhole : {T : Type 0} → List VolumeData → List Creation → RowsOf → RowsOf → SiteLog → SiteLog → Result T Refused → Type 0
+CompletesWhole volumes made rows last old new (Ok value) = (mid : SiteLog) × AreRepaired 32 old mid × AreCreations volumes made rows last mid new
+CompletesWhole volumes made rows last old new (Err Memory) = (count : ℕ) × ((mid : SiteLog) × AreRepaired count old mid × IsFrontCreated volumes rows mid new)
+CompletesWhole volumes made rows last old new (Err e) = Unit {0}
