@@ -1,3 +1,6 @@
 pub mod Scripts
+pub mod ScriptEnds
+pub mod ProgramFacts
+pub mod ItemFacts
 mod Rows
 mod Cursors

@@ -2,8 +2,8 @@
 use Rattle.std.proofs.Common.{◌≡◌, ◌⊎◌, ℕ, ◌+◌, ◌≤◌, Bool, true, false, cond, List, [], ◌∷◌, ◌++◌, append_assoc, append-nil, Option, Some, None, refl, sym, ap, subst, ◌∙◌, inl, inr, arith, option_map}
 use Rattle.std.proofs.lemmas.Bool.Decides.{leb_tells}
 use Rattle.std.proofs.lemmas.List.Sums.{sum_by-cons}
-use Rattle.channel_commands.specs.Data.{CallData, ReplyData, CcwData}
-use Rattle.channel_program.specs.Script.{ItemData, mounting, demounting, program, Exchange, Standing, Reached, reached, call_for, word_from, next_call, moved, Runs, at_start, Gives, Follows, FollowsToEnd, commands, is_command, CHAIN_LIMIT}
+use Rattle.channel_commands.specs.Data.{CallData, is_command, ReplyData, CcwData}
+use Rattle.channel_program.specs.Script.{ItemData, mounting, demounting, program, Exchange, Standing, Reached, reached, call_for, word_from, next_call, moved, Runs, at_start, Gives, Follows, FollowsToEnd, commands, CHAIN_LIMIT}
 
 pub Runs-push : (words : List CcwData) (from to : Standing) (xs : List Exchange) (x : Exchange)
     → Runs words from xs to → next_call words to ≡ Some x.0 → Runs words from (xs ++ x ∷ []) (moved words to x.1)

@@ -1,2 +1,4 @@
 pub mod Script
 pub mod Views
+pub mod Calls
+pub mod Items

@@ -1,7 +1,7 @@
 -- Scripts of hosts: which lists of calls and replies follow one.
 use Rattle.std.specs.Prelude.{◌≡◌, ◌⊎◌, ℕ, ◌+◌, ◌==◌, nat_le, Bool, true, false, ◌||◌, not, List, [], ◌∷◌, ◌++◌, length, count_by, slice_get, bit_and, Option, Some, None, option_map, is_some, if◌then◌else◌}
 use Rattle.channel_commands.specs.declared.call.BreakCause.TheVariants as cause
-use Rattle.channel_commands.specs.Data.{CallData, mount, demount, command, break, ReplyData, done, CcwData, device, transfer}
+use Rattle.channel_commands.specs.Data.{CallData, mount, demount, command, break, is_command, ReplyData, done, has_trouble, CcwData, device, transfer}
 
 -- what a host does next: it mounts a volume, demounts it, or runs a channel program
 pub data ItemData : Type 0 where
@@ -36,10 +36,6 @@ reached words w = reached_by words w (slice_get words w)
 
 abbrev pub is_last : List CcwData → ℕ → Bool
 is_last words w = w + 1 == length words
-
--- unit check or unit exception
-abbrev pub has_trouble : ℕ → Bool
-has_trouble status = not (bit_and status 0x03 == 0)
 
 abbrev pub has_modifier : ℕ → Bool
 has_modifier status = bit_and status 0x40 == 0x40
@@ -111,10 +107,6 @@ abbrev pub FollowsToEnd : List ItemData → List Exchange → Type 0
 FollowsToEnd [] xs = xs ≡ []
 FollowsToEnd (item ∷ items) xs =
     (front : List Exchange) × (rest : List Exchange) × (xs ≡ front ++ rest) × Gives item front true × FollowsToEnd items rest
-
-abbrev pub is_command : CallData → Bool
-is_command (command code argument chained) = true
-is_command _ = false
 
 -- how many of the calls are commands
 abbrev pub commands : List Exchange → ℕ

@@ -75,7 +75,8 @@ fn word_after(words: &[Ccw], word: u16, reply: &Reply) -> Option<usize>
 
 /// The word itself, if it is a command.
 fn command_word(words: &[Ccw], word: usize) -> Option<usize>
-    ensures { result ≡ option_map (λ at. at.word) (command_in word (slice_get (map ccw_of words.now) word)) }
+    ensures { let at = command_in word (slice_get (map ccw_of words.now) word) in
+        result ≡ option_map (λ at. at.word) at }
 {
     if let Some(Ccw::Device { .. }) = words.get(word) {
         Some(word)
@@ -97,7 +98,9 @@ fn reached(words: &[Ccw], word: usize) -> Option<usize>
 
 /// Where a program stands: the word to go to, if it isn't finished, and how many commands it ran.
 fn standing(words: &[Ccw], cursor: &Cursor, last: Option<&Reply>) -> (Option<usize>, u32)
-    ensures { standing_of (map ccw_of words.now) cursor.now (option_map (λ reply. reply_of reply.now) last.entry) ≡ record { word = result.0; executed = result.1 } }
+    ensures { let reply = option_map (λ reply. reply_of reply.now) last.entry in
+        standing_of (map ccw_of words.now) cursor.now reply
+        ≡ record { word = result.0; executed = result.1 } }
 {
     match last {
         Some(reply) => (word_after(words, cursor.word, reply), cursor.executed),
@@ -115,9 +118,11 @@ pub fn next(program: &Program, cursor: &mut Cursor, last: Option<&Reply>) -> Nex
     requires some { 1 ≤ length program.now.items }
     requires few { length program.now.items ≤ 256 }
     ensures call { let words = map ccw_of program.now.items in
-        Says words (standing_of words cursor.old (option_map (λ reply. reply_of reply.now) last.entry)) result }
+        let reply = option_map (λ reply. reply_of reply.now) last.entry in
+        Says words (standing_of words cursor.old reply) result }
     ensures cursor { let words = map ccw_of program.now.items in
-        Moves words (standing_of words cursor.old (option_map (λ reply. reply_of reply.now) last.entry)) result cursor.old cursor.new }
+        let reply = option_map (λ reply. reply_of reply.now) last.entry in
+        Moves words (standing_of words cursor.old reply) result cursor.old cursor.new }
 {
     let words = program.as_slice();
     let (next, executed) = standing(words, cursor, last);
@@ -143,9 +148,11 @@ pub fn next(program: &Program, cursor: &mut Cursor, last: Option<&Reply>) -> Nex
 /// The code and the argument of a word that is a command, as each word is that `next` gives.
 pub fn command_at(program: &Program, word: u8) -> (u8, &[u8])
     requires { HoldsCommand (map ccw_of program.now.items) word }
-    ensures word { slice_get (map ccw_of program.now.items) word ≡ Some (device result.0 result.1.now) }
-    ensures call { (at : Standing) (chained : Bool) → IsNextCommand (map ccw_of program.now.items) at word chained
-        → next_call (map ccw_of program.now.items) at ≡ Some (command result.0 result.1.now chained) }
+    ensures word { let words = map ccw_of program.now.items in
+        slice_get words word ≡ Some (device result.0 result.1.now) }
+    ensures call { let words = map ccw_of program.now.items in
+        (at : Standing) (chained : Bool) → IsNextCommand words at word chained
+        → next_call words at ≡ Some (command result.0 result.1.now chained) }
 {
     match &program.as_slice()[word as usize] {
         Ccw::Device { code, argument } => (*code, argument.as_slice()),

@@ -1,6 +1,6 @@
 //! Programs of the worked examples, and what comes of them.
-use crate::{Cursor, NextCall, Program, command_at, next};
-use channel_commands::{Ccw, Reply};
+use crate::{Cursor, NextCall, Program, command_at, is_command, next, next_call};
+use channel_commands::{BreakCause, Call, Ccw, Reply};
 use mss_base::Bytes;
 use std::alloc::Global;
 use std::test::Fail;
@@ -111,5 +111,45 @@ fn a_command_has_its_argument(rt: HostRuntime) -> Result<(), Fail> {
     let (code, argument) = command_at(&program, word);
     assert_eq!(rt; code, 0x31);
     assert_eq!(rt; argument, [1, 2].as_slice());
+    Ok(())
+}
+
+#[test]
+fn calls_come_one_by_one(rt: HostRuntime) -> Result<(), Fail> {
+    let alloc = rt.alloc();
+    let program = program_of(alloc, &[Word::Code(0x31), Word::Tic(3)])?;
+    let count = program.as_slice().len();
+    if count < 1 || count > 256 {
+        return Err(Fail::from("no program"));
+    }
+    let mut cursor = Cursor::start();
+    let Some(call) = next_call(alloc, &program, &mut cursor, None)? else {
+        return Err(Fail::from("no call"));
+    };
+    assert!(rt; is_command(&call));
+    let Call::Command {
+        code,
+        argument,
+        chained,
+    } = call
+    else {
+        return Err(Fail::from("no command"));
+    };
+    assert_eq!(rt; code, 0x31);
+    assert_eq!(rt; argument.as_slice(), [1, 2].as_slice());
+    assert!(rt; chained);
+    let done = Reply::Done {
+        status: STATUS,
+        bytes: Bytes::new(alloc),
+    };
+    let next = next_call(alloc, &program, &mut cursor, Some(&done))?;
+    assert!(rt;
+        matches!(
+            next,
+            Some(Call::Break {
+                cause: BreakCause::Program
+            })
+        )
+    );
     Ok(())
 }

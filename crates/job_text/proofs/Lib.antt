@@ -15,3 +15,4 @@ pub mod Hexadecimal
 pub mod LineBack
 pub mod TextBack
 pub mod LinesBack
+pub mod Runnable

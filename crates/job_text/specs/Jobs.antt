@@ -3,6 +3,7 @@ use Rattle.std.specs.Prelude.{ℕ, ◌≤◌, ◌<◌, ◌==◌, List, length, m
 use Rattle.std.specs.List.{AllByRecursion, IsDistinct, filter_map, find, range_with_len}
 use Rattle.channel_commands.specs.Data.{CcwData, device, transfer}
 use Rattle.channel_program.specs.Script.{ItemData, mounting, demounting, program as running}
+use Rattle.channel_program.specs.Items.{AreRunnable}
 use Rattle.mss_base.specs.Configs.{VolumeData, ConfigData, IsConfig}
 
 -- a host with what it does, in order
@@ -71,3 +72,7 @@ pub record IsJob (job : JobData) : Type 0 where
   pub scripts : AllByRecursion (IsScript job.config.volumes) job.hosts
   pub hosts_differ : IsDistinct ◌==◌ (map (λ script. script.host) job.hosts)
   pub small : sum_by script_size job.hosts ≤ TOTAL_LIMIT
+
+-- each script's programs can be run
+abbrev pub AreRunnableScripts : List ScriptData → Type 0
+AreRunnableScripts scripts = AllByRecursion (λ (script : ScriptData). AreRunnable script.items) scripts

@@ -19,6 +19,8 @@ mod write;
 
 pub use job::{HostScript, HostScripts, Item, ItemList, Job};
 pub use kind::{JobKind, Keyword, Place};
-pub use law::{job_back, jobs_are_whole, line_back, lines_back, one_spelling, text_back};
+pub use law::{
+    job_back, jobs_are_whole, line_back, lines_back, one_spelling, programs_can_be_run, text_back,
+};
 pub use read::{JobFault, read_job};
 pub use write::push_job;
