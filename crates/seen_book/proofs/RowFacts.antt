@@ -2,7 +2,7 @@
 use Rattle.std.proofs.Common.{◌≡◌, ℕ, false, List, [], ◌∷◌, refl, sym, subst, Some, None}
 use Rattle.channel_commands.specs.Data.{CallData, ReplyData, mount, demount, mounted, demounted}
 use Rattle.ckd_plain.specs.Data.{State}
-use Rattle.ckd_plain.specs.Plain.{fresh_host, plain, mount_reply, demount_reply}
+use Rattle.ckd_plain.specs.Plain.{fresh_host, plain, responded}
 use Rattle.ckd_plain.specs.History.{EntryData, IsLegal, next}
 use Rattle.seen_book.specs.Openings.{OpeningData, IsLegalFrom}
 
@@ -17,11 +17,11 @@ abbrev pub row : ℕ → List EntryData
 row v = told 1 1 (mount v false) mounted ∷ told 1 2 demount demounted ∷ told 2 1 (mount v false) mounted ∷ []
 
 one_is_legal : (v : ℕ) → IsLegal blank_volumes (told 1 1 (mount v false) mounted ∷ [])
-unfolding plain mount_reply
+unfolding plain responded
 one_is_legal v = (record { number = refl; answered = refl; fault = ((λ f. f), (λ f. f)); alone = tt }, (λ stop. absurd stop), tt)
 
 two_are_legal : (v : ℕ) → IsLegal blank_volumes (told 1 1 (mount v false) mounted ∷ told 1 2 demount demounted ∷ [])
-unfolding next plain mount_reply demount_reply
+unfolding next plain responded
 two_are_legal v = (
   (one_is_legal v).0,
   (λ stop. absurd stop),
@@ -29,7 +29,7 @@ two_are_legal v = (
 )
 
 three_are_legal : (v : ℕ) → IsLegal blank_volumes (row v)
-unfolding next plain mount_reply demount_reply
+unfolding next plain responded
 three_are_legal v = (
   (one_is_legal v).0,
   (λ stop. absurd stop),

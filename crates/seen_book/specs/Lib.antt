@@ -3,3 +3,4 @@ pub mod Entries
 pub mod Views
 pub mod Rule
 pub mod Books
+pub mod Passes

@@ -6,8 +6,9 @@ ghost use Rattle.seen_book.specs.Views.{book_view, pass_view, with_pass};
 ghost use Rattle.seen_book.specs.Books.{Begins, Shows, AreNested, HaveOneEach, AreMade, AreOfThese, closing_view};
 
 use crate::moves::{append_entry, join_book, join_pass, load, split_book, split_host};
+use crate::passes::PassList;
 use crate::rule::View;
-use crate::types::{Blank, Book, HostPass, Name, Opening, PassList, Word, Words};
+use crate::types::{Blank, Book, HostPass, Name, Opening, Word, Words};
 use atomic_table::{Seat, Table};
 use ckd_plain::Entry;
 use mss_base::{HostNo, NoMemory};
@@ -58,7 +59,11 @@ pub fn append<N: Name>(
     requires room { length book.list < 4096 }
     requires legal { IsLegalFrom N.opening (book.list ++ entry.now ∷ []) }
     ensures book { result.0 ≡ record { list = book.list ++ entry.now ∷ []; made = book.made } }
-    ensures pass { result.1 ≡ record { host = pass.host; seen = book.list ++ entry.now ∷ []; mine = pass.mine ++ entry.now ∷ [] } }
+    ensures pass { result.1 ≡ record {
+      host = pass.host;
+      seen = book.list ++ entry.now ∷ [];
+      mine = pass.mine ++ entry.now ∷ [];
+    } }
     ensures earlier { IsPrefix pass.seen book.list }
 {
     let HostPass { host, mut seat, .. } = pass;
@@ -100,7 +105,8 @@ fn end_pass<N: Name>(word: &Word<N>, book: &mut Seat<(), View>, pass: HostPass<N
     requires table { book.old.table_id ≡ N.table }
     requires holds { book.old.me.0.holds ≡ true }
     ensures table { book.new.table_id ≡ book.old.table_id }
-    ensures me { book.new.me ≡ (with_pass book.old.me.0 (pass_view pass.host pass.seen pass.mine), book.old.me.1) }
+    ensures me { let given = pass_view pass.host pass.seen pass.mine in
+        book.new.me ≡ (with_pass book.old.me.0 given, book.old.me.1) }
 {
     let HostPass { seat, .. } = pass;
     join_pass(&word.table, book, seat);
@@ -111,7 +117,8 @@ fn end_passes<N: Name>(word: &Word<N>, book: &mut Seat<(), View>, mut passes: Pa
     requires table { book.old.table_id ≡ N.table }
     requires me { book.old.me ≡ (book_view book.old.me.0.seen book.old.me.0.made, []) }
     ensures table { book.new.table_id ≡ book.old.table_id }
-    ensures me { book.new.me ≡ (closing_view book.old.me.0.seen book.old.me.0.made passes.items, []) }
+    ensures me { let whole = book.old.me.0 in
+        book.new.me ≡ (closing_view whole.seen whole.made passes.items, []) }
 {
     while let Some(pass) = passes.pop() {
         end_pass(word, book, pass);

@@ -10,10 +10,12 @@
 
 mod calls;
 mod moves;
+mod passes;
 mod rule;
 #[cfg(test)]
 mod tests;
 mod types;
 
 pub use calls::{append, close, host_pass, look, make, see, start_book};
-pub use types::{Blank, Book, HostPass, Name, Opening, PassList, Word};
+pub use passes::PassList;
+pub use types::{Blank, Book, HostPass, Name, Opening, Word};

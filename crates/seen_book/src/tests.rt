@@ -4,7 +4,8 @@ ghost use Rattle.channel_commands.specs.Views.{call_of, reply_of};
 ghost use Rattle.ckd_plain.specs.Plain.{fresh_host};
 
 use crate::{
-    Blank, Book, HostPass, Name, Word, append, close, host_pass, look, make, see, start_book,
+    Blank, Book, HostPass, Name, PassList, Word, append, close, host_pass, look, make, see,
+    start_book,
 };
 use channel_commands::{Call, Reply};
 use ckd_plain::Entry;
@@ -60,9 +61,10 @@ fn row<N: Name + Send + Sync>(
     threads_may_have(&word, &book, &second);
     let (first, looked) = look(&word, first);
     let (book, first) = see(&word, book, first);
-    let mut passes = Vec::new(alloc);
-    passes.push(first)?;
-    passes.push(second)?;
+    let mut passes = PassList::new(alloc);
+    passes.reserve(2)?;
+    passes.push(first);
+    passes.push(second);
     Ok((looked, close(word, book, passes)))
 }
 

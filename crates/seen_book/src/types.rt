@@ -110,9 +110,6 @@ impl<N: Name> Model for HostPass<N> {
     ghost invariant = { λ p. IsPass N.table N.opening N.hosts p.host p.seat };
 }
 
-/// Passes that end together.
-pub type PassList<N> = Vec<HostPass<N>>;
-
 impl Blank {
     /// The word and the book under a name.
     pub(crate) fn named<N: Name>(self) -> (Word<N>, Book<N>)

@@ -1,4 +1,4 @@
-use Rattle.std.proofs.Common.{◌≡◌, List, [], ◌++◌}
+use Rattle.std.proofs.Common.{◌≡◌, List, [], ◌++◌, length}
 use Rattle.seen_book.specs.Books.{PassData, closing_view}
 use Rattle.seen_book.proofs.calls.end_passes.Given as goal
 
@@ -8,4 +8,4 @@ invariant-loop-pass g l =
     × (l.book.me ≡ (closing_view l.initial.book.me.0.seen l.initial.book.me.0.made ps, []))
 
 abbrev pub decreases-loop-pass : goal.decreases-loop-pass
-decreases-loop-pass g l = goal.left-loop-pass g l
+decreases-loop-pass g l = length l.passes.items
