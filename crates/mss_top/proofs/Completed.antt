@@ -63,7 +63,7 @@ module _ (input_tells site_tells : Type 0) (can_read : input_tells) (can_see : s
   unbegun_complete before now (line.JobRefused n kind) none cause = absurd cause
   unbegun_complete before now line.JobRefusedLater none cause = absurd cause
   unbegun_complete before now (line.TornTrack volume cylinder head) none cause = absurd (not_torn volume cylinder head (cause can_see))
-  unbegun_complete before now (line.RestartStopped fault) none cause = absurd (no_rise before now none cause.1)
+  unbegun_complete before now (line.RestartStopped fault) none cause = absurd (no_rise before now none cause.rises)
   unbegun_complete before now line.WantOfMemory none cause = tt
 
   same_job : (other : JobData) → IsAdmitted input_tells words text left other → other ≡ job
@@ -82,9 +82,9 @@ module _ (input_tells site_tells : Type 0) (can_read : input_tells) (can_see : s
     telling_complete : (ended : RunEnd) (volumes : List (ℕ × List ℕ)) (telling : Telling) → HasHalted site_before site_now ended → HasReason ended volumes site_before site_now telling → IsComplete (told_status telling)
     telling_complete ended volumes (whole run_end.Finished) halted reason = tt
     telling_complete ended volumes (whole run_end.Limit) halted reason = tt
-    telling_complete ended volumes (whole (run_end.Stopped fault)) halted reason = absurd (no_rise site_before site_now site_none (subst (HasHalted site_before site_now) (sym reason) halted).2)
+    telling_complete ended volumes (whole (run_end.Stopped fault)) halted reason = absurd (no_rise site_before site_now site_none (subst (HasHalted site_before site_now) (sym reason) halted).1.rises)
     telling_complete ended volumes (whole run_end.Memory) halted reason = tt
-    telling_complete ended volumes (unread place tracks_ fault) halted reason = absurd (no_rise site_before site_now site_none reason.4)
+    telling_complete ended volumes (unread place tracks_ fault) halted reason = absurd (no_rise site_before site_now site_none reason.3.rises)
 
     session_complete : (start final : SiteLog) (volumes : List (ℕ × List ℕ)) (hosts : List ScriptData) (s : SessionData)
         → IsSessionOf site_tells sink_tells volumes hosts start final site_before site_now sink_before sink_now old new told s → IsComplete told

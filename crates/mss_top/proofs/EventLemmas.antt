@@ -1,6 +1,6 @@
 -- What a call leaves of the state that a content and a host stand for.
 use Rattle.std.proofs.Common.{◌≡◌, inl, inr, ℕ, suc, ◌+◌, ◌*◌, ◌%◌, ◌<◌, ◌==◌, Bool, true, false, cond, ◌&&◌, List, [], ◌∷◌, length, Option, Some, None, Result, Ok, Err, refl, sym, ◌∙◌, ap, subst, arith}
-use Rattle.std.specs.Prelude.{IsSome, is_some, not}
+use Rattle.std.specs.Prelude.{IsSome, is_some}
 use Rattle.std.specs.List.{AllByRecursion}
 use Rattle.std.proofs.lemmas.List.Sums.{sum_by-cons}
 use Rattle.std.proofs.lemmas.Bool.{cond-true, cond-false, cases_Bool, eqb-true, eq-eqb}
@@ -10,21 +10,19 @@ use Rattle.mss_base.proofs.Moments.{ended_with}
 use Rattle.ckd_track.specs.Data.{RecordData, Volumes}
 use Rattle.ckd_track.specs.Track.{reading, reading_of}
 use Rattle.channel_commands.specs.declared.command.Command.{Command}
-use Rattle.channel_commands.specs.Data.{CallData, mount, demount, command as ask, break, ReplyData, already_mounted, not_mounted, no_volume, in_chain}
+use Rattle.channel_commands.specs.Data.{CallData, mount, demount, command as ask, break, is_command, ReplyData}
 use Rattle.ckd_plain.specs.declared.host.HostState.{HostState}
 use Rattle.ckd_plain.specs.declared.unit_check.UnitCheck.{UnitCheck}
-use Rattle.ckd_plain.specs.declared.host.Prior.TheVariants as prior
 use Rattle.ckd_plain.specs.Checks.{admitted}
 use Rattle.ckd_plain.specs.Data.{State}
 use Rattle.ckd_plain.specs.Effects.{Outcome}
 use Rattle.ckd_plain.specs.Index.{Tracks}
-use Rattle.ckd_plain.specs.Plain.{Replied, opened, refused, performed, answered, judged, run, plain, mount_reply, demount_reply, with_host, with_track, written_to, written_mounted, written_there, fresh_host}
+use Rattle.ckd_plain.specs.Plain.{opened, refused_by, performed, answered, judged, run, plain, responded, there_for, with_response, with_track, written_to, written_mounted, written_there, fresh_host}
 use Rattle.channel_commands.specs.declared.call.BreakCause.TheVariants as cause
 use Rattle.ckd_plain.specs.History.{EntryData, IsAlone, IsStopped, count_of_host}
 use Rattle.track_engine.specs.Writing.{WritesTrack}
 use Rattle.mss_top.specs.Direct.{direct, direct_unit}
 use Rattle.mss_top.specs.Session.{Serials, present, AreAllTracks, Continues}
-use Rattle.mss_top.specs.Events.{is_command, there_for, responded}
 use Rattle.mss_top.proofs.DirectLemmas.{direct_written, tracks_written}
 use Rattle.mss_top.proofs.SessionLemmas.{continues_same}
 
@@ -50,28 +48,12 @@ alone_present serials number c host (break cause) = tt
 
 -- ---- calls that are no commands
 
-abbrev on : State → ℕ → ReplyData × HostState → Replied
-on s h r = (r.0, with_host s h r.1)
-
-three : (s : State) (h : ℕ) (b : Bool) (x y : ReplyData × HostState) (p q : Replied) → p ≡ on s h x → q ≡ on s h y → cond b p q ≡ on s h (cond b x y)
-three s h true x y p q e f = e
-three s h false x y p q e f = f
-
-turned : (s : State) (h : ℕ) (b : Bool) (x y : ReplyData × HostState) (p q : Replied) → p ≡ on s h x → q ≡ on s h y → cond (not b) q p ≡ on s h (cond b x y)
-turned s h true x y p q e f = e
-turned s h false x y p q e f = f
-
-pub plain_responds : (s : State) (h : ℕ) (call : CallData) → with_host s h (s.host h) ≡ s → is_command call ≡ false
-    → plain s h call ≡ ((responded (s.host h) (there_for s.volumes.serial call) call).0, with_host s h (responded (s.host h) (there_for s.volumes.serial call) call).1)
-unfolding plain mount_reply demount_reply responded
-plain_responds s h (mount volume bind) stays none =
-    let same : (r : ReplyData) → (r, s) ≡ on s h (r, s.host h) = λ r i. (r, sym stays i) in
-    three s h (s.host h).chain_open _ _ _ _ (same in_chain) (three s h (is_some (s.host h).mounted) _ _ _ _ (same already_mounted) (turned s h (is_some (s.volumes.serial volume)) _ _ _ _ refl (same no_volume)))
-plain_responds s h demount stays none =
-    let same : (r : ReplyData) → (r, s) ≡ on s h (r, s.host h) = λ r i. (r, sym stays i) in
-    three s h (s.host h).chain_open _ _ _ _ (same in_chain) (three s h (is_some (s.host h).mounted) _ _ _ _ refl (same not_mounted))
-plain_responds s h (break cause) stays none = refl
-plain_responds s h (ask code argument chained) stays none = absurd cc
+pub plain_responds : (s : State) (h : ℕ) (call : CallData) → is_command call ≡ false → plain s h call ≡ with_response s h (responded (s.host h) (there_for s.volumes.serial call) call)
+unfolding plain
+plain_responds s h (mount volume bind) none = refl
+plain_responds s h demount none = refl
+plain_responds s h (break cause) none = refl
+plain_responds s h (ask code argument chained) none = absurd cc
 
 -- the volume that is mounted then is there
 abbrev IsThere : Serials → HostState → Type 0
@@ -85,26 +67,26 @@ goes_on : (b : Bool) (x y : ReplyData × HostState) → (IsStopped x.0 → ⊥) 
 goes_on true x y p q = p
 goes_on false x y p q = q
 
-pub responded_goes_on : (host : HostState) (there : Bool) (call : CallData) → IsStopped (responded host there call).0 → ⊥
+pub responded_goes_on : (host : HostState) (there : Bool) (call : CallData) → is_command call ≡ false → IsStopped (responded host there call).0 → ⊥
 unfolding responded
-responded_goes_on host there (mount volume bind) = goes_on host.chain_open _ _ (λ is. is) (goes_on (is_some host.mounted) _ _ (λ is. is) (goes_on there _ _ (λ is. is) (λ is. is)))
-responded_goes_on host there demount = goes_on host.chain_open _ _ (λ is. is) (goes_on (is_some host.mounted) _ _ (λ is. is) (λ is. is))
-responded_goes_on host there (break cause.Program) = λ is. is
-responded_goes_on host there (break cause.Limit) = λ is. is
-responded_goes_on host there (ask code argument chained) = λ is. is
+responded_goes_on host there (mount volume bind) none = goes_on host.chain_open _ _ (λ is. is) (goes_on (is_some host.mounted) _ _ (λ is. is) (goes_on there _ _ (λ is. is) (λ is. is)))
+responded_goes_on host there demount none = goes_on host.chain_open _ _ (λ is. is) (goes_on (is_some host.mounted) _ _ (λ is. is) (λ is. is))
+responded_goes_on host there (break cause.Program) none = λ is. is
+responded_goes_on host there (break cause.Limit) none = λ is. is
+responded_goes_on host there (ask code argument chained) none = absurd cc
 
 volume_in : Option (ℕ × Bool) → ℕ
 volume_in None = 0
 volume_in (Some m) = m.0
 
-pub responded_there : (serials : Serials) (host : HostState) (call : CallData) → IsThere serials host → IsThere serials (responded host (there_for serials call) call).1
+pub responded_there : (serials : Serials) (host : HostState) (call : CallData) → is_command call ≡ false → IsThere serials host → IsThere serials (responded host (there_for serials call) call).1
 unfolding responded volume_in
-responded_there serials host (mount volume bind) there =
+responded_there serials host (mount volume bind) none there =
     either (IsThere serials) host.chain_open _ _ (λ _. there) (either (IsThere serials) (is_some host.mounted) _ _ (λ _. there) (either (IsThere serials) (is_some (serials volume)) _ _ (λ is v b same. let e : volume ≡ v = ap volume_in same in subst (λ (n : ℕ). IsSome (serials n)) e is) there))
-responded_there serials host demount there =
+responded_there serials host demount none there =
     either (IsThere serials) host.chain_open _ _ (λ _. there) (either (IsThere serials) (is_some host.mounted) _ _ (λ _ v b same. absurd cc) there)
-responded_there serials host (break cause) there = there
-responded_there serials host (ask code argument chained) there = there
+responded_there serials host (break cause) none there = there
+responded_there serials host (ask code argument chained) none there = absurd cc
 
 -- ---- commands
 
@@ -114,7 +96,7 @@ unfolding run
 run_admitted tracks host code argument chained c is = ap (judged tracks (opened host) argument chained) is
 
 pub run_refused : (tracks : Tracks) (host : HostState) (code : ℕ) (argument : List ℕ) (chained : Bool) (check : UnitCheck) → admitted (opened host) code argument ≡ Err check
-    → run tracks host code argument chained ≡ refused (record { check = check; host = record (opened host) { prior = prior.Nothing } })
+    → run tracks host code argument chained ≡ refused_by check (opened host)
 unfolding run
 run_refused tracks host code argument chained check is = ap (judged tracks (opened host) argument chained) is
 

@@ -16,4 +16,3 @@ pub mod Runs
 pub mod Told
 pub mod VolumeTexts
 pub mod Completed
-pub mod ScriptEnds

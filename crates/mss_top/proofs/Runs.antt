@@ -47,7 +47,7 @@ text_same shown shown' volumes history ended before now (unread place tracks fau
 
 reason_since : (ended : RunEnd) (volumes : List (ℕ × List ℕ)) (before middle now : ℕ) (telling : Telling) → before ≤ middle → HasReason ended volumes middle now telling → HasReason ended volumes before now telling
 reason_since ended volumes before middle now (whole end) later reason = reason
-reason_since ended volumes before middle now (unread place tracks fault) later reason = (reason.0, reason.1, reason.2, reason.3, omega (arith, reason.4))
+reason_since ended volumes before middle now (unread place tracks fault) later reason = (reason.0, reason.1, reason.2, record { count = reason.3.count; rises = omega (arith, reason.3.rises) })
 
 -- a report over equal volumes, with the count of faults since an earlier moment
 pub reported_since : (tells : Type 0) (shown shown' : Volumes) (volumes : List (ℕ × List ℕ)) (history : List EntryData) (ended : RunEnd)

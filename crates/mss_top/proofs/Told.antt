@@ -1,7 +1,7 @@
 -- A session that was told, part by part.
 use Rattle.std.proofs.Common.{◌≡◌, ◌≤◌, ◌<◌, ℕ, List, ◌++◌, length, Result, Ok, Err, refl, sym, ◌∙◌, ap, subst, append_assoc}
 use Rattle.std.specs.Prelude.{IsErrAnd}
-use Rattle.mss_base.specs.Counts.{Rises, HasCause}
+use Rattle.mss_base.specs.Counts.{Rises, HasCause, IsFaultSince}
 use Rattle.mss_base.specs.Puts.{PutsFront, Puts}
 use Rattle.mss_base.specs.declared.site.Failed.{Failed}
 use Rattle.mss_base.proofs.Putting.{puts_after, puts_stops}
@@ -89,16 +89,16 @@ module _ (tells : Type 0) (shown : Volumes) (volumes : List (ℕ × List ℕ)) (
       put = put_fault _ status.Stopped fault is rose (λ t. puts_stops old new (history_text history) (stopped_text count) (bytes t));
     }
 
-    reason_unread : (l : Last) (place tracks fault : ℕ) → place < length volumes → tracks < 7676 → fault ≡ site_now → Rises site_before site_now → HasReason (end_of l) volumes site_before site_now (unread place tracks fault)
-    reason_unread last.End place tracks fault there few is rose = (refl, there, few, is, rose)
-    reason_unread last.Limit place tracks fault there few is rose = (refl, there, few, is, rose)
+    reason_unread : (l : Last) (place tracks fault : ℕ) → place < length volumes → tracks < 7676 → IsFaultSince site_before site_now fault → HasReason (end_of l) volumes site_before site_now (unread place tracks fault)
+    reason_unread last.End place tracks fault there few counted = (refl, there, few, counted)
+    reason_unread last.Limit place tracks fault there few counted = (refl, there, few, counted)
 
-    unread_so : (l : Last) (fault middle : ℕ) (mid : List ℕ) (r : Result (Unit {0}) Failed) → (fault ≡ site_now) × Rises site_before site_now → PutsUnread tells shown volumes history old mid
+    unread_so : (l : Last) (fault middle : ℕ) (mid : List ℕ) (r : Result (Unit {0}) Failed) → IsFaultSince site_before site_now fault → PutsUnread tells shown volumes history old mid
         → told ≡ status_after status.Stopped r → sink_before ≤ middle → HasCause middle sink_now r → (tells → Puts r mid new (stopped_text fault))
         → IsReported tells shown volumes history (end_of l) site_before site_now sink_before sink_now old new told
     unread_so l fault middle mid r counted before is later cause bytes = record {
       telling = unread before.place before.tracks fault;
-      reason = reason_unread l before.place before.tracks fault before.there before.few counted.0 counted.1;
+      reason = reason_unread l before.place before.tracks fault before.there before.few counted;
       put = put_ends tells status.Stopped _ sink_before middle sink_now old new told r is later cause
           (λ t. puts_after r old mid new (history_text history ++ front_text shown volumes before.place before.tracks) (stopped_text fault) (before.put t) (bytes t));
     }

@@ -7,6 +7,7 @@ use Rattle.std.proofs.lemmas.List.Concat.{flat_map-append}
 use Rattle.std.proofs.lemmas.Option.{slice_get_read}
 use Rattle.mss_base.specs.Content.{Content, SiteLog, content}
 use Rattle.mss_base.specs.Puts.{PutsFront}
+use Rattle.mss_base.specs.Sites.{FailingReads, OnlyReads}
 use Rattle.mss_base.proofs.Putting.{part_stops}
 use Rattle.ckd_track.specs.Data.{Volumes}
 use Rattle.ckd_plain.specs.Plain.{serial_in}
@@ -19,13 +20,13 @@ use Rattle.mss_top.specs.Session.{Serials}
 use Rattle.mss_top.specs.declared.volumes.VolumesFault.{VolumesFault}
 use Rattle.mss_top.specs.declared.volumes.VolumesFault.TheVariants as volumes_fault
 
--- what such a walk keeps of its site, its sink and its buffer, and what it has put so far
-pub record IsPutting (tells sink_tells : Type 0) (begun now : SiteLog) (writes_begun writes faults_begun faults : ℕ) (old new : List ℕ) (sink_begun sink_now long : ℕ) (so_far : Content → List ℕ) : Type 0 where
-  pub told : tells → now ≡ begun
-  pub put : tells → sink_tells → new ≡ old ++ so_far (content begun)
-  pub written : writes ≡ writes_begun
-  pub later : faults_begun ≤ faults
-  pub output_later : sink_begun ≤ sink_now
+-- what such a walk keeps of its site and its sink, of which no call failed, and of its buffer, and what it has put so far
+pub record IsPutting {S : Type 0} (tells sink_tells : Type 0) (site_told : S → SiteLog) (spare writes faults : S → ℕ) (never_fails_but : FailingReads S) (begun now : S)
+    (old new : List ℕ) (sink_begun sink_now long : ℕ) (so_far : Content → List ℕ) : Type 0 where
+  pub site : OnlyReads tells site_told spare writes faults never_fails_but begun now
+  pub same : faults now ≡ faults begun
+  pub put : tells → sink_tells → new ≡ old ++ so_far (content (site_told begun))
+  pub output_same : sink_now ≡ sink_begun
   pub whole : long ≡ 16384
 
 -- ---- the tracks of a volume

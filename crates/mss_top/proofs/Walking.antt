@@ -1,15 +1,31 @@
 -- How a walk over a volume goes on.
-use Rattle.std.proofs.Common.{◌≡◌, ℕ, zero, suc, ◌+◌, ◌*◌, ◌<◌, ◌≤◌, ◌⊎◌, inl, inr, refl, sym, subst, arith}
+use Rattle.std.proofs.Common.{◌≡◌, ℕ, zero, suc, ◌+◌, ◌*◌, ◌<◌, ◌⊎◌, inl, inr, refl, sym, ◌∙◌, subst, arith}
 use Rattle.mss_base.specs.Content.{Content, SiteLog, content}
+use Rattle.mss_base.specs.Sites.{FailingReads, OnlyReads}
 use Rattle.mss_top.specs.Direct.{IsTrackAt, AreTracks, AreTracksBefore}
 
--- what a walk keeps of its site and its buffer, and what it knows so far
-pub record IsWalk (tells : Type 0) (begun now : SiteLog) (writes_begun writes faults_begun faults long : ℕ) (Known : Content → Type 0) : Type 0 where
-  pub told : tells → now ≡ begun
-  pub known : tells → Known (content begun)
-  pub written : writes ≡ writes_begun
-  pub later : faults_begun ≤ faults
+-- what a walk keeps of its site, of which no read failed, and of its buffer, and what it knows so far
+pub record IsWalk {S : Type 0} (tells : Type 0) (told : S → SiteLog) (spare writes faults : S → ℕ) (never_fails_but : FailingReads S) (begun now : S) (long : ℕ) (Known : Content → Type 0) : Type 0 where
+  pub site : OnlyReads tells told spare writes faults never_fails_but begun now
+  pub same : faults now ≡ faults begun
+  pub known : tells → Known (content (told begun))
   pub whole : long ≡ 16384
+
+module _ {S : Type 0} (tells : Type 0) (told : S → SiteLog) (spare writes faults : S → ℕ) (never_fails_but : FailingReads S) where
+  abbrev Reads : S → S → Type 0
+  Reads old new = OnlyReads tells told spare writes faults never_fails_but old new
+
+  pub reads_none : (s : S) → Reads s s
+  reads_none s = record { log = λ _. refl; room = refl; unwritten = refl; later = omega arith; sound = λ but sound. sound }
+
+  pub reads_then : (a b c : S) → Reads a b → Reads b c → Reads a c
+  reads_then a b c first second = record {
+    log = λ t. second.log t ∙ first.log t;
+    room = second.room ∙ first.room;
+    unwritten = second.unwritten ∙ first.unwritten;
+    later = omega (arith, first.later, second.later);
+    sound = λ but sound. second.sound but (first.sound but sound);
+  }
 
 less_or_same : (a b : ℕ) → a < b + 1 → (a < b) ⊎ (a ≡ b)
 less_or_same zero zero lt = inr refl

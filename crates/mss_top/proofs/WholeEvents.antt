@@ -6,7 +6,7 @@ use Rattle.ckd_track.specs.Data.{RecordData}
 use Rattle.ckd_track.specs.Track.{reading, reading_of}
 use Rattle.channel_commands.specs.declared.command.Command.{Command}
 use Rattle.channel_commands.specs.Codes.{is_write}
-use Rattle.channel_commands.specs.Data.{CallData, command as ask, ReplyData, equipment_check, stopped}
+use Rattle.channel_commands.specs.Data.{CallData, command as ask, is_command, ReplyData, equipment_check, stopped}
 use Rattle.ckd_plain.specs.declared.host.HostState.{HostState}
 use Rattle.ckd_plain.specs.declared.host.Prior.TheVariants as prior
 use Rattle.ckd_plain.specs.declared.unit_check.UnitCheck.{UnitCheck}
@@ -14,7 +14,7 @@ use Rattle.ckd_plain.specs.declared.unit_check.UnitCheck.TheVariants as check
 use Rattle.ckd_plain.specs.Checks.{admitted}
 use Rattle.ckd_plain.specs.Data.{State}
 use Rattle.ckd_plain.specs.Effects.{is_data}
-use Rattle.ckd_plain.specs.Plain.{Answer, Replied, opened, refused, performed, run, plain, tracks_under, tracks_mounted, written_to, with_host, sense_of}
+use Rattle.ckd_plain.specs.Plain.{Answer, Replied, opened, refused_by, performed, run, plain, responded, there_for, tracks_under, tracks_mounted, written_to, with_host, sense_of}
 use Rattle.ckd_plain.specs.History.{EntryData, IsStopped, count_of_host, next, excepted}
 use Rattle.ckd_plain.proofs.CommandFacts.{volume_stays}
 use Rattle.ckd_plain.proofs.Entries.{plain_entry, equipment_entry, stopped_entry}
@@ -22,10 +22,10 @@ use Rattle.ckd_plain.specs.Index.{Tracks}
 use Rattle.track_engine.specs.Tracks.{tracks_at}
 use Rattle.track_engine.specs.Writing.{WritesTrack}
 use Rattle.track_engine.specs.Answers.{ran}
-use Rattle.track_engine.specs.Faults.{IsFaultSince}
+use Rattle.mss_base.specs.Counts.{IsFaultSince}
 use Rattle.mss_top.specs.Direct.{direct, direct_unit}
 use Rattle.mss_top.specs.Session.{SessionData, Serials, present, AreAllTracks, KeptSince, IsSession, Continues}
-use Rattle.mss_top.specs.Events.{is_command, there_for, responded, with_entry}
+use Rattle.mss_top.specs.Events.{with_entry}
 use Rattle.mss_top.proofs.SessionLemmas.{with_host_present, host_present, continues_same, kept_entry, told_entry}
 use Rattle.mss_top.proofs.DirectLemmas.{tracks_shown}
 use Rattle.mss_top.proofs.EventLemmas.{Leaves, count_own, alone_present, plain_responds, responded_there, responded_goes_on, run_goes_on, run_refused, run_admitted, unwritten, leaves, writes_continue}
@@ -50,7 +50,7 @@ module _ (tells : Type 0) (serials : Serials) (number : ℕ) (site : SiteLog) (f
 
   plain_is : (call : CallData) → is_command call ≡ false → plain now number call ≡ ((answer_to call).0, present serials number (content site) (answer_to call).1)
   plain_is call none =
-      plain_responds now number call stays none
+      plain_responds now number call none
       ∙ (λ i. ((responded (host_present serials number (content site) host i) (there_for serials call) call).0, with_host now number (responded (host_present serials number (content site) host i) (there_for serials call) call).1))
       ∙ (λ i. ((answer_to call).0, with_host_present serials number (content site) host (answer_to call).1 i))
 
@@ -61,9 +61,9 @@ module _ (tells : Type 0) (serials : Serials) (number : ℕ) (site : SiteLog) (f
       let e : EntryData = entry_of call (answer_to call).0 None in
       let may = plain_entry now (count_of_host number v.history) e (sym (ap (λ (r : Replied). r.0) (plain_is call none))) counted refl (alone_present serials number (content site) host call) in
       record {
-        kept = kept_entry serials number faults faults host (answer_to call).1 v e mark v.stopped holds.kept few refl (omega arith) (responded_there serials host call holds.kept.there);
+        kept = kept_entry serials number faults faults host (answer_to call).1 v e mark v.stopped holds.kept few refl (omega arith) (responded_there serials host call none holds.kept.there);
         told = λ t. told_entry serials number site site host (answer_to call).1 v e mark v.stopped (holds.told t) holds.kept.marked open_ (continues_same site) (marked t) may.0
-            (λ _. responded_goes_on host (there_for serials call) call)
+            (λ _. responded_goes_on host (there_for serials call) call none)
             (λ _. may.1 ∙ ap (λ (r : Replied). r.1) (plain_is call none))
             (λ _. ((holds.told t).going open_).tracks);
       }
@@ -162,10 +162,10 @@ module _ (tells : Type 0) (serials : Serials) (number : ℕ) (site : SiteLog) (f
 
     -- after a command that the checks refuse
     pub whole_refusal : (why : UnitCheck) → admitted (opened host) code argument ≡ Err why → (tells → mark ≡ length site.log)
-        → let a : Answer = refused (record { check = why; host = record (opened host) { prior = prior.Nothing } }) in
+        → let a : Answer = refused_by why (opened host) in
         IsSession tells serials number site faults a.host (with_entry v (entry_of call a.reply None) mark v.stopped)
     whole_refusal why refuses marked =
-        let a : Answer = refused (record { check = why; host = record (opened host) { prior = prior.Nothing } }) in
+        let a : Answer = refused_by why (opened host) in
         let tracks = tracks_under (direct serials (content site)) host in
         let is : plain_ran host ≡ a = run_refused tracks host code argument chained why refuses in
         let same : a.host.mounted ≡ host.mounted = ap (λ (x : Answer). x.host.mounted) (sym is) ∙ volume_stays tracks host code argument chained in

@@ -11,3 +11,4 @@ pub mod Admission
 pub mod Reports
 pub mod Serial
 pub mod ReportParts
+pub mod Inputs

@@ -1,7 +1,7 @@
 -- What the report of a session says.
-use Rattle.std.specs.Prelude.{◌≡◌, ℕ, ◌<◌, Bool, true, false, List, [], ◌++◌, length, take, slice_get, Option, Some, None, Result, Ok, Err}
+use Rattle.std.specs.Prelude.{◌≡◌, ℕ, ◌<◌, ◌≤◌, Bool, true, false, List, [], ◌++◌, length, take, slice_get, Option, Some, None, Result, Ok, Err, OnOk}
 use Rattle.std.specs.List.{flat_map}
-use Rattle.mss_base.specs.Counts.{Rises}
+use Rattle.mss_base.specs.Counts.{Rises, IsFaultSince}
 use Rattle.mss_base.specs.Puts.{PutsFront}
 use Rattle.mss_base.specs.declared.site.Failed.{Failed}
 use Rattle.ckd_track.specs.Data.{Volumes}
@@ -48,10 +48,16 @@ PutsVolumes tells shown volumes old new (Ok _) = tells → new ≡ old ++ volume
 PutsVolumes tells shown volumes old new (Err (volumes_fault.Read fault)) = PutsBefore tells shown volumes old new
 PutsVolumes tells shown volumes old new (Err (volumes_fault.Put fault)) = tells → PutsFront old new (volumes_text shown volumes)
 
--- a failed read is told with the count of faults after it, which rose
+-- a failed read is told with the count of faults after it, and without one the count stays
 abbrev pub IsReadCounted : ℕ → ℕ → Result (Unit {0}) VolumesFault → Type 0
-IsReadCounted before now (Err (volumes_fault.Read fault)) = (fault ≡ now) × Rises before now
-IsReadCounted before now _ = Unit {0}
+IsReadCounted before now (Err (volumes_fault.Read fault)) = IsFaultSince before now fault
+IsReadCounted before now _ = now ≡ before
+
+-- the sink is told to have failed only where its count rose, and where all was put the count stays
+pub record HasPutCause (before now : ℕ) (result : Result (Unit {0}) VolumesFault) : Type 0 where
+  pub later : before ≤ now
+  pub failed : result ≡ Err (volumes_fault.Put report_fault.Output) → Rises before now
+  pub same : OnOk result (now ≡ before)
 
 -- what a report tells: a session to its end, or to the volumes before a track that couldn't be read, with the count of faults then
 pub data Telling : Type 0 where
@@ -84,7 +90,7 @@ tells_volumes _ = false
 abbrev pub HasReason : RunEnd → List (ℕ × List ℕ) → ℕ → ℕ → Telling → Type 0
 HasReason ended volumes before now (whole end) = end ≡ ended
 HasReason ended volumes before now (unread place tracks fault) =
-    (tells_volumes ended ≡ true) × (place < length volumes) × (tracks < 7676) × (fault ≡ now) × Rises before now
+    (tells_volumes ended ≡ true) × (place < length volumes) × (tracks < 7676) × IsFaultSince before now fault
 
 -- a session was told, with the status that goes with it
 pub record IsReported (tells : Type 0) (shown : Volumes) (volumes : List (ℕ × List ℕ)) (history : List EntryData) (ended : RunEnd)

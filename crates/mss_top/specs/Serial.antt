@@ -2,7 +2,7 @@
 use Rattle.std.specs.Prelude.{◌≡◌, ◌⊎◌, ◌≤◌, ◌<◌, ℕ, ◌+◌, length, take, slice_get, true, false, List, [], ◌∷◌, drop, Option, Some, None, Result, Ok, Err}
 use Rattle.std.specs.List.{AllByRecursion}
 use Rattle.mss_base.specs.Content.{Content, SiteLog, content, image}
-use Rattle.mss_base.specs.Counts.{Rises}
+use Rattle.mss_base.specs.Counts.{Rises, IsFaultSince}
 use Rattle.ckd_plain.specs.Data.{State}
 use Rattle.ckd_plain.specs.Plain.{serial_in, start_of}
 use Rattle.ckd_plain.specs.History.{EntryData, IsLegal, IsStopped, after}
@@ -50,7 +50,7 @@ IsUnread tells words text left before now _ = ⊥
 -- why no session begins on these volumes: the first block that is no track, or a failed read with the count of faults after it
 abbrev pub IsUnbegun : Type 0 → Content → List (ℕ × List ℕ) → ℕ → ℕ → OneLine → Type 0
 IsUnbegun tells c volumes before now (line.TornTrack volume cylinder head) = tells → IsFirstFault c volumes (record { volume = volume; fault = TornTrack cylinder head })
-IsUnbegun tells c volumes before now (line.RestartStopped fault) = (fault ≡ now) × Rises before now
+IsUnbegun tells c volumes before now (line.RestartStopped fault) = IsFaultSince before now fault
 IsUnbegun tells c volumes before now line.WantOfMemory = Unit {0}
 IsUnbegun tells c volumes before now _ = ⊥
 
@@ -59,9 +59,9 @@ abbrev pub Admits : Type 0 → List (List ℕ) → List ℕ → List ℕ → ℕ
 Admits tells words text left before now (Ok job) = IsAdmitted tells words text left job
 Admits tells words text left before now (Err said) = IsUnread tells words text left before now said
 
--- a session may begin, or the line says why not
+-- a session may begin and no read failed, or the line says why not
 abbrev pub Begins : {X : Type 0} → Type 0 → Content → List (ℕ × List ℕ) → ℕ → ℕ → Result X OneLine → Type 0
-Begins tells c volumes before now (Ok _) = Unit {0}
+Begins tells c volumes before now (Ok _) = now ≡ before
 Begins tells c volumes before now (Err said) = IsUnbegun tells c volumes before now said
 
 -- the line of volumes that weren't taken on

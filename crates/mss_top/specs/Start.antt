@@ -2,7 +2,7 @@
 use Rattle.std.specs.Prelude.{◌≡◌, ◌<◌, ℕ, List, take, slice_get, Some, Result, Ok, Err}
 use Rattle.std.specs.List.{AllByRecursion}
 use Rattle.mss_base.specs.Content.{Content}
-use Rattle.mss_base.specs.Counts.{Rises}
+use Rattle.mss_base.specs.Counts.{IsFaultSince}
 use Rattle.mss_top.specs.Direct.{IsTrackAt, AreTracks, AreTracksBefore}
 use Rattle.mss_top.specs.declared.start.StartFault.{StartFault}
 use Rattle.mss_top.specs.declared.start.VolumeFault.{VolumeFault}
@@ -21,10 +21,10 @@ Walks c volume (Ok _) = AreTracks c volume
 Walks c volume (Err (TornTrack cylinder head)) = IsFirstTorn c volume cylinder head
 Walks c volume (Err (Stopped fault)) = Unit {0}
 
--- a failed read is answered with the count of faults after it, which rose
+-- a failed read is answered with the count of faults after it, and without one the count stays
 abbrev pub IsCounted : ℕ → ℕ → Result (Unit {0}) StartFault → Type 0
-IsCounted before now (Err (Stopped fault)) = (fault ≡ now) × Rises before now
-IsCounted before now _ = Unit {0}
+IsCounted before now (Err (Stopped fault)) = IsFaultSince before now fault
+IsCounted before now _ = now ≡ before
 
 -- what a look at one block answers
 abbrev pub Looks : Content → ℕ → ℕ → ℕ → Result (Unit {0}) StartFault → Type 0
@@ -57,5 +57,5 @@ WalksAll c volumes (Err e) = IsFirstFault c volumes e
 
 -- the same count of faults, of the volume's fault
 abbrev pub AreCounted : ℕ → ℕ → Result (Unit {0}) VolumeFault → Type 0
-AreCounted before now (Ok _) = Unit {0}
+AreCounted before now (Ok _) = now ≡ before
 AreCounted before now (Err e) = IsCounted before now (Err e.fault)

@@ -1,6 +1,6 @@
 //! The input, read to its end or to one byte past the longest job text.
-ghost use Rattle.std.specs.Prelude.{◌≡◌, ◌≤◌, ℕ, ◌+◌, ◌++◌, [], length, take, drop, IfOk, OnOk, IsErrOf};
-ghost use Rattle.mss_base.specs.Counts.{Rises};
+ghost use Rattle.std.specs.Prelude.{◌≡◌, ◌≤◌, ◌+◌, ◌++◌, [], length, take, drop, IfOk, OnOk};
+ghost use Rattle.mss_top.specs.Inputs.{HasInputCause};
 
 use mss_base::{Bytes, NoMemory, Source};
 use std::alloc::{AllocError, Global};
@@ -46,12 +46,12 @@ fn take_piece<I: Source>(
     room: usize,
 ) -> Result<usize, InputFault>
     requires { room ≤ length buffer.old }
-    ensures moved { I.tells → OnOk result (bytes.old.items ++ I.left input.old ≡ bytes.new.items ++ I.left input.new) }
+    ensures moved { I.tells → OnOk result
+        (bytes.old.items ++ I.left input.old ≡ bytes.new.items ++ I.left input.new) }
     ensures longer { IfOk result (λ n. length bytes.new.items ≡ length bytes.old.items + n) }
     ensures within { IfOk result (λ n. n ≤ room) }
     ensures end { I.tells → IfOk result (λ n. n ≡ 0 → 1 ≤ room → I.left input.new ≡ []) }
-    ensures later { I.faults input.old ≤ I.faults input.new }
-    ensures failed { IsErrOf result InputFault.Failed → Rises (I.faults input.old) (I.faults input.new) }
+    ensures cause { HasInputCause (I.faults input.old) (I.faults input.new) result }
 {
     let Ok(taken) = input.take(&mut buffer[..room]) else {
         return Err(InputFault::Failed);
@@ -65,8 +65,7 @@ pub fn read_input<I: Source>(alloc: Global, input: &mut I, most: usize) -> Resul
     ensures bytes { I.tells → IfOk result (λ bytes. bytes.items ≡ take most (I.left input.old)) }
     ensures left { I.tells → OnOk result (I.left input.new ≡ drop most (I.left input.old)) }
     ensures length { IfOk result (λ bytes. length bytes.items ≤ most) }
-    ensures later { I.faults input.old ≤ I.faults input.new }
-    ensures failed { IsErrOf result InputFault.Failed → Rises (I.faults input.old) (I.faults input.new) }
+    ensures cause { HasInputCause (I.faults input.old) (I.faults input.new) result }
 {
     let mut bytes = Bytes::new(alloc);
     let mut buffer = vec![in alloc; 0u8; PIECE]?;

@@ -5,11 +5,11 @@ ghost use Rattle.std.specs.Prelude.{◌≡◌, Err, Ok, OnOk, vec_len, ◌==◌,
 ghost use Rattle.std.specs.List.{list_any};
 ghost use Rattle.mss_base.specs.Content.{content};
 ghost use Rattle.channel_commands.specs.Views.{call_of, reply_of};
-ghost use Rattle.channel_commands.specs.Data.{command};
-ghost use Rattle.ckd_plain.specs.Plain.{opened, serial_in, sense_of};
+ghost use Rattle.channel_commands.specs.Data.{command, is_command};
+ghost use Rattle.ckd_plain.specs.Plain.{opened, serial_in, there_for};
 ghost use Rattle.ckd_plain.specs.Effects.{is_data};
 ghost use Rattle.ckd_plain.specs.Checks.{admitted, Passes};
-ghost use Rattle.mss_top.specs.Events.{is_command, there_for, responded, Answers, HasStopped, with_entry};
+ghost use Rattle.mss_top.specs.Events.{Answers, HasStopped, with_entry};
 ghost use Rattle.ckd_plain.specs.Plain.{start_of};
 ghost use Rattle.mss_top.specs.Direct.{direct};
 ghost use Rattle.mss_top.specs.Session.{IsSession, Continues, AreAllTracks, opening};
@@ -17,12 +17,12 @@ ghost use Rattle.mss_top.specs.Sessions.{session_data};
 
 use crate::direct::cylinder_under;
 use crate::session::Session;
-use channel_commands::{BreakCause, Call, Command, Reply};
-use ckd_plain::steps::{opened, refused, sense_of};
-use ckd_plain::{Entry, HostState, Prior, Refusal, UnitCheck, admitted};
-use mss_base::{Bytes, HostNo, NoMemory, Serial, Site, VolumeList, VolumeNo};
+use channel_commands::{Call, Command, Reply};
+use ckd_plain::steps::{checked, is_data, opened, refused_by, respond, run_control};
+use ckd_plain::{Entry, HostState, UnitCheck, admitted};
+use mss_base::{BLOCK_BYTES, Bytes, HostNo, NoMemory, Serial, Site, VolumeList, VolumeNo};
 use std::alloc::Global;
-use track_engine::{EngineFault, is_data, run_command, run_control};
+use track_engine::{EngineFault, run_command};
 
 /// The most entries of a session.
 const ENTRY_LIMIT: usize = 4096;
@@ -75,64 +75,6 @@ fn is_there(volumes: &[(VolumeNo, Serial)], call: &Call) -> bool
     }
 }
 
-/// The reply to a call that is no command, and the host then.
-#[tactic(auto, unfolding(crate::specs::Events::responded))]
-fn respond(host: &HostState, there: bool, call: &Call) -> (Reply, HostState)
-    requires { is_command (call_of call.now) ≡ false }
-    ensures { (reply_of result.0, result.1) ≡ responded host.now there (call_of call.now) }
-{
-    match call {
-        Call::Mount { volume, bind } => {
-            if host.chain_open {
-                return (Reply::InChain, *host);
-            }
-            if host.mounted.is_some() {
-                return (Reply::AlreadyMounted, *host);
-            }
-            if !there {
-                return (Reply::NoVolume, *host);
-            }
-            (Reply::Mounted, host.with_volume(*volume, *bind))
-        }
-        Call::Demount => {
-            if host.chain_open {
-                return (Reply::InChain, *host);
-            }
-            if host.mounted.is_none() {
-                return (Reply::NotMounted, *host);
-            }
-            let demounted = HostState {
-                mounted: None,
-                ..*host
-            };
-            (Reply::Demounted, demounted)
-        }
-        Call::Break { cause } => {
-            let ended = HostState {
-                chain_open: false,
-                ..*host
-            };
-            match cause {
-                BreakCause::Program => (Reply::ProgramCheck, ended),
-                BreakCause::Limit => (Reply::ChainLimit, ended),
-            }
-        }
-        Call::Command { .. } => unreachable!(),
-    }
-}
-
-/// A host after a read that failed: its chain is over, and its sense says equipment check.
-fn checked(host: &HostState) -> HostState
-    ensures { result ≡ record host.now { chain_open = false; prior = Prior.Nothing; sense = sense_of UnitCheck.EquipmentCheck } }
-{
-    HostState {
-        chain_open: false,
-        prior: Prior::Nothing,
-        sense: sense_of(UnitCheck::EquipmentCheck),
-        ..*host
-    }
-}
-
 impl<S: Site> Machine<S> {
     ghost use Rattle.mss_top.specs.Machines.{Keeps, IsReady};
 
@@ -146,7 +88,7 @@ impl<S: Site> Machine<S> {
         number: HostNo,
         buffer: Vec<u8>,
     ) -> Self
-        requires buffer { vec_len buffer ≡ 16384 }
+        requires buffer { vec_len buffer ≡ BLOCK_BYTES }
         requires tracks { S.tells → AreAllTracks (serial_in volumes.items) (content (S.told site)) }
         ensures keeps { Keeps S.tells (S.told site) (S.faults site) result }
         ensures opening { S.tells → opening (serial_in volumes.items) result.session.first_write (S.told site)
@@ -155,7 +97,7 @@ impl<S: Site> Machine<S> {
         ensures site { result.site ≡ site }
         ensures volumes { result.volumes ≡ volumes }
         ensures number { result.number ≡ number }
-        ensures buffer { vec_len result.buffer ≡ 16384 }
+        ensures buffer { vec_len result.buffer ≡ BLOCK_BYTES }
     {
         let session = Session::new(alloc, site.writes(), site.faults());
         Machine {
@@ -241,15 +183,8 @@ impl<S: Site> Machine<S> {
         ensures answers { Answers self.old.number (command code argument.items chained) (session_data self.old.session) (session_data self.new.session) CallAnswer.Replied }
         ensures same { self.new ≡ record self.old { host = self.new.host; session = self.new.session } }
     {
-        let refusal = Refusal {
-            check,
-            host: HostState {
-                prior: Prior::Nothing,
-                ..opened(&self.host)
-            },
-        };
-        let mut now = self.host;
-        let reply = refused(self.alloc, &mut now, &refusal);
+        let mut now = opened(&self.host);
+        let reply = refused_by(self.alloc, check, &mut now);
         self.enter(code, argument, chained, reply, None);
         self.host = now;
     }
@@ -267,7 +202,7 @@ impl<S: Site> Machine<S> {
         ensures same { self.new ≡ record self.old { host = self.new.host; session = self.new.session } }
     {
         let mut now = self.host;
-        let Ok(reply) = run_control(self.alloc, &asked, argument.as_slice(), chained, &mut now)
+        let Ok(reply) = run_control(self.alloc, asked, argument.as_slice(), chained, &mut now)
         else {
             return CallAnswer::Memory;
         };
@@ -281,7 +216,7 @@ impl<S: Site> Machine<S> {
         requires keeps { Keeps S.tells (S.told self.old.site) (S.faults self.old.site) self.old }
         requires ready { IsReady self.old }
         requires room { COMMAND_WRITES ≤ S.spare self.old.site }
-        requires buffer { vec_len self.old.buffer ≡ 16384 }
+        requires buffer { vec_len self.old.buffer ≡ BLOCK_BYTES }
         requires admits { admitted (opened self.old.host) code argument.items ≡ Ok asked }
         requires passes { Passes (opened self.old.host) asked argument.items }
         requires on_tracks { is_data asked ≡ true }
@@ -291,7 +226,7 @@ impl<S: Site> Machine<S> {
         ensures fault { HasStopped (S.faults self.old.site) (S.faults self.new.site) result }
         ensures volumes { self.new.volumes ≡ self.old.volumes }
         ensures number { self.new.number ≡ self.old.number }
-        ensures buffer { vec_len self.new.buffer ≡ 16384 }
+        ensures buffer { vec_len self.new.buffer ≡ BLOCK_BYTES }
     {
         let Some((volume, _)) = self.host.mounted else {
             unreachable!()
@@ -315,7 +250,7 @@ impl<S: Site> Machine<S> {
             }
             Err(EngineFault::ReadFailed { fault }) => {
                 self.enter(code, argument, chained, Reply::EquipmentCheck, Some(fault));
-                self.host = checked(&self.host);
+                self.host = checked(UnitCheck::EquipmentCheck, &self.host);
                 CallAnswer::Replied
             }
             Err(EngineFault::WriteFailed { fault }) => {
@@ -332,14 +267,14 @@ impl<S: Site> Machine<S> {
         requires keeps { Keeps S.tells (S.told self.old.site) (S.faults self.old.site) self.old }
         requires ready { IsReady self.old }
         requires room { COMMAND_WRITES ≤ S.spare self.old.site }
-        requires buffer { vec_len self.old.buffer ≡ 16384 }
+        requires buffer { vec_len self.old.buffer ≡ BLOCK_BYTES }
         ensures keeps { Keeps S.tells (S.told self.new.site) (S.faults self.new.site) self.new }
         ensures answers { Answers self.old.number (command code argument.items chained) (session_data self.old.session) (session_data self.new.session) result }
         ensures continues { S.tells → Continues (S.told self.old.site) (S.told self.new.site) }
         ensures fault { HasStopped (S.faults self.old.site) (S.faults self.new.site) result }
         ensures volumes { self.new.volumes ≡ self.old.volumes }
         ensures number { self.new.number ≡ self.old.number }
-        ensures buffer { vec_len self.new.buffer ≡ 16384 }
+        ensures buffer { vec_len self.new.buffer ≡ BLOCK_BYTES }
     {
         match admitted(&opened(&self.host), code, argument.as_slice()) {
             Err(check) => {
@@ -382,14 +317,14 @@ impl<S: Site> Machine<S> {
     pub fn call(&mut self, call: Call) -> CallAnswer
         requires keeps { Keeps S.tells (S.told self.old.site) (S.faults self.old.site) self.old }
         requires going { self.old.session.stopped ≡ None }
-        requires buffer { vec_len self.old.buffer ≡ 16384 }
+        requires buffer { vec_len self.old.buffer ≡ BLOCK_BYTES }
         ensures keeps { Keeps S.tells (S.told self.new.site) (S.faults self.new.site) self.new }
         ensures answers { Answers self.old.number (call_of call) (session_data self.old.session) (session_data self.new.session) result }
         ensures continues { S.tells → Continues (S.told self.old.site) (S.told self.new.site) }
         ensures fault { HasStopped (S.faults self.old.site) (S.faults self.new.site) result }
         ensures volumes { self.new.volumes ≡ self.old.volumes }
         ensures number { self.new.number ≡ self.old.number }
-        ensures buffer { vec_len self.new.buffer ≡ 16384 }
+        ensures buffer { vec_len self.new.buffer ≡ BLOCK_BYTES }
     {
         if self.session.history.as_slice().len() >= ENTRY_LIMIT {
             return CallAnswer::Limit;

@@ -1,19 +1,18 @@
 //! The report of a session.
-ghost use Rattle.std.specs.Prelude.{◌≡◌, ◌≤◌, Err, Ok, length, vec_len, false};
+ghost use Rattle.std.specs.Prelude.{◌≡◌, vec_len, false};
 ghost use Rattle.mss_base.specs.Content.{content};
-ghost use Rattle.mss_base.specs.Counts.{Rises};
+ghost use Rattle.mss_base.specs.Sites.{OnlyReads};
 ghost use Rattle.mss_base.specs.Puts.{Puts};
 ghost use Rattle.mss_base.specs.Counts.{HasCause};
 ghost use Rattle.ckd_plain.specs.Plain.{serial_in};
-ghost use Rattle.report_text.specs.declared.report.ReportFault.TheVariants as fault;
 ghost use Rattle.mss_top.specs.Direct.{direct};
-ghost use Rattle.mss_top.specs.Reports.{PutsSession, IsReadCounted, IsReported, tells_volumes, end_of, last_text, last_status, status_after, status_of};
+ghost use Rattle.mss_top.specs.Reports.{PutsSession, IsReadCounted, HasPutCause, IsReported, tells_volumes, end_of, last_text, last_status, status_after, status_of};
 
 use crate::machine::Machine;
 use crate::script::RunEnd;
 use crate::status::Status;
 use crate::volumes::{VolumesFault, put_volumes};
-use mss_base::{Bytes, Failed, Sink, Site};
+use mss_base::{BLOCK_BYTES, Bytes, Failed, Sink, Site};
 use report_text::{OneLine, ReportFault, put_end, put_history, put_limit, put_line, put_stopped};
 
 /// The last line of a report whose volumes were told.
@@ -68,14 +67,15 @@ fn status_of(fault: ReportFault) -> Status
 impl<S: Site> Machine<S> {
     /// Puts the history, the volumes and the last line.
     fn put_session<O: Sink>(&mut self, output: &mut O, last: Last) -> Result<(), VolumesFault>
-        requires { vec_len self.old.buffer ≡ 16384 }
-        ensures bytes { PutsSession (S.tells × O.tells) (direct (serial_in self.old.volumes.items) (content (S.told self.old.site)))
-            self.old.volumes.items self.old.session.history.items (last_text last) (O.told output.old) (O.told output.new) result }
+        requires { vec_len self.old.buffer ≡ BLOCK_BYTES }
+        ensures bytes { PutsSession (S.tells × O.tells)
+            (direct (serial_in self.old.volumes.items) (content (S.told self.old.site)))
+            self.old.volumes.items self.old.session.history.items (last_text last)
+            (O.told output.old) (O.told output.new) result }
         ensures counted { IsReadCounted (S.faults self.old.site) (S.faults self.new.site) result }
-        ensures told { S.tells → S.told self.new.site ≡ S.told self.old.site }
-        ensures later { S.faults self.old.site ≤ S.faults self.new.site }
-        ensures output { result ≡ Err (VolumesFault.Put fault.Output) → Rises (O.faults output.old) (O.faults output.new) }
-        ensures output_later { O.faults output.old ≤ O.faults output.new }
+        ensures site { OnlyReads S.tells S.told S.spare S.writes S.faults S.never_fails_but
+            self.old.site self.new.site }
+        ensures output { HasPutCause (O.faults output.old) (O.faults output.new) result }
         ensures session { self.new.session ≡ self.old.session }
     {
         let mut line = Bytes::new(self.alloc);
@@ -88,12 +88,15 @@ impl<S: Site> Machine<S> {
 
     /// Tells a session that wasn't stopped, and the volumes.
     fn put_ended<O: Sink>(&mut self, output: &mut O, last: Last) -> Status
-        requires { vec_len self.old.buffer ≡ 16384 }
-        ensures report { IsReported (S.tells × O.tells) (direct (serial_in self.old.volumes.items) (content (S.told self.old.site)))
-            self.old.volumes.items self.old.session.history.items (end_of last) (S.faults self.old.site) (S.faults self.new.site)
-            (O.faults output.old) (O.faults output.new) (O.told output.old) (O.told output.new) result }
-        ensures told { S.tells → S.told self.new.site ≡ S.told self.old.site }
-        ensures later { S.faults self.old.site ≤ S.faults self.new.site }
+        requires { vec_len self.old.buffer ≡ BLOCK_BYTES }
+        ensures report { IsReported (S.tells × O.tells)
+            (direct (serial_in self.old.volumes.items) (content (S.told self.old.site)))
+            self.old.volumes.items self.old.session.history.items (end_of last)
+            (S.faults self.old.site) (S.faults self.new.site)
+            (O.faults output.old) (O.faults output.new)
+            (O.told output.old) (O.told output.new) result }
+        ensures site { OnlyReads S.tells S.told S.spare S.writes S.faults S.never_fails_but
+            self.old.site self.new.site }
         ensures session { self.new.session ≡ self.old.session }
     {
         match self.put_session(output, last) {
@@ -107,9 +110,12 @@ impl<S: Site> Machine<S> {
 
     /// Tells a session that a failed write stopped.
     fn put_stop<O: Sink>(&self, output: &mut O, fault: u64) -> Status
-        ensures { IsReported (S.tells × O.tells) (direct (serial_in self.now.volumes.items) (content (S.told self.now.site)))
-            self.now.volumes.items self.now.session.history.items (RunEnd.Stopped fault) (S.faults self.now.site) (S.faults self.now.site)
-            (O.faults output.old) (O.faults output.new) (O.told output.old) (O.told output.new) result }
+        ensures { IsReported (S.tells × O.tells)
+            (direct (serial_in self.now.volumes.items) (content (S.told self.now.site)))
+            self.now.volumes.items self.now.session.history.items (RunEnd.Stopped fault)
+            (S.faults self.now.site) (S.faults self.now.site)
+            (O.faults output.old) (O.faults output.new)
+            (O.told output.old) (O.told output.new) result }
     {
         let mut line = Bytes::new(self.alloc);
         match put_history(output, &mut line, self.session.history.as_slice()) {
@@ -123,12 +129,15 @@ impl<S: Site> Machine<S> {
     /// The report has the volumes as the devices show them, unless the session was stopped. Where a read of them fails,
     /// it ends there with the count of faults. After want of memory the report is one line, if nothing was put yet.
     pub fn put_report<O: Sink>(&mut self, output: &mut O, end: RunEnd) -> Status
-        requires { vec_len self.old.buffer ≡ 16384 }
-        ensures report { IsReported (S.tells × O.tells) (direct (serial_in self.old.volumes.items) (content (S.told self.old.site)))
-            self.old.volumes.items self.old.session.history.items end (S.faults self.old.site) (S.faults self.new.site)
-            (O.faults output.old) (O.faults output.new) (O.told output.old) (O.told output.new) result }
-        ensures told { S.tells → S.told self.new.site ≡ S.told self.old.site }
-        ensures later { S.faults self.old.site ≤ S.faults self.new.site }
+        requires { vec_len self.old.buffer ≡ BLOCK_BYTES }
+        ensures report { IsReported (S.tells × O.tells)
+            (direct (serial_in self.old.volumes.items) (content (S.told self.old.site)))
+            self.old.volumes.items self.old.session.history.items end
+            (S.faults self.old.site) (S.faults self.new.site)
+            (O.faults output.old) (O.faults output.new)
+            (O.told output.old) (O.told output.new) result }
+        ensures site { OnlyReads S.tells S.told S.spare S.writes S.faults S.never_fails_but
+            self.old.site self.new.site }
         ensures unread { tells_volumes end ≡ false → S.faults self.new.site ≡ S.faults self.old.site }
         ensures session { self.new.session ≡ self.old.session }
     {

@@ -1,12 +1,12 @@
 //! A whole run: words, input, job, devices, session, report.
 ghost use Rattle.std.specs.Prelude.{◌≡◌, ◌≤◌, [], None, true, map, string_bytes, length, slice_get, vec_len, IfOk, IfSome, OnOk};
-ghost use Rattle.std.specs.List.{AllByRecursion};
 ghost use Rattle.mss_base.specs.Content.{content};
+ghost use Rattle.mss_base.specs.Sites.{OnlyReads};
 ghost use Rattle.ckd_plain.specs.Plain.{serial_in};
 ghost use Rattle.mss_top.specs.Session.{AreAllTracks, Continues};
 ghost use Rattle.report_text.specs.OneLines.{one_line_text};
-ghost use Rattle.mss_top.specs.Scripts.{HasHalted, Halts, IsRunnable, SameBeginning};
-ghost use Rattle.job_text.specs.Jobs.{JobData, ScriptData};
+ghost use Rattle.mss_top.specs.Scripts.{HasHalted, Halts, SameBeginning};
+ghost use Rattle.job_text.specs.Jobs.{JobData, AreRunnableScripts};
 ghost use Rattle.mss_top.specs.Admission.{IsJobText};
 ghost use Rattle.mss_top.specs.Machines.{Keeps};
 ghost use Rattle.mss_top.specs.Sessions.{session_data};
@@ -24,15 +24,12 @@ use crate::start::{StartFault, VolumeFault, check_volumes};
 use crate::status::Status;
 use crate::words::are_serial;
 use job_text::{HostScript, Job};
-use mss_base::{HostNo, Serial, Sink, Site, Source, VolumeList, VolumeNo};
+use mss_base::{BLOCK_BYTES, HostNo, Serial, Sink, Site, Source, VolumeList, VolumeNo};
 use report_text::{OneLine, put_line};
 use std::alloc::Global;
 
 /// The input is read to its end, or to one byte past the longest job text.
 const READ_LIMIT: usize = 4_194_305;
-
-/// How many bytes a block has.
-const BLOCK_LENGTH: usize = 16_384;
 
 /// What a run leaves.
 #[derive(Drop)]
@@ -79,14 +76,15 @@ fn begin<S: Site>(
     site: &mut S,
     volumes: &[(VolumeNo, Serial)],
 ) -> Result<Vec<u8>, OneLine>
-    ensures block { IfOk result (λ block. vec_len block ≡ 16384) }
-    ensures tracks { S.tells → OnOk result (AreAllTracks (serial_in volumes.now) (content (S.told site.old))) }
-    ensures cause { Begins S.tells (content (S.told site.old)) volumes.now (S.faults site.old) (S.faults site.new) result }
-    ensures told { S.tells → S.told site.new ≡ S.told site.old }
-    ensures writes { S.writes site.new ≡ S.writes site.old }
-    ensures later { S.faults site.old ≤ S.faults site.new }
+    ensures block { IfOk result (λ block. vec_len block ≡ BLOCK_BYTES) }
+    ensures tracks { S.tells → OnOk result
+        (AreAllTracks (serial_in volumes.now) (content (S.told site.old))) }
+    ensures cause { Begins S.tells (content (S.told site.old)) volumes.now
+        (S.faults site.old) (S.faults site.new) result }
+    ensures site { OnlyReads S.tells S.told S.spare S.writes S.faults S.never_fails_but
+        site.old site.new }
 {
-    let Ok(mut block) = vec![in alloc; 0u8; BLOCK_LENGTH] else {
+    let Ok(mut block) = vec![in alloc; 0u8; BLOCK_BYTES] else {
         return Err(OneLine::WantOfMemory);
     };
     match check_volumes(site, volumes, &mut block) {
@@ -139,11 +137,11 @@ fn first_host(hosts: &[HostScript]) -> HostNo
 fn run_scripts<S: Site>(machine: &mut Machine<S>, hosts: &[HostScript]) -> RunEnd
     requires few { length hosts.now ≤ 1 }
     requires number { IfSome (slice_get hosts.now 0) (λ script. machine.old.number ≡ script.host) }
-    requires runnable { AllByRecursion (λ (script : ScriptData). AllByRecursion IsRunnable script.items) hosts.now }
+    requires runnable { AreRunnableScripts hosts.now }
     requires begins { machine.old.session.history.items ≡ [] }
     requires keeps { Keeps S.tells (S.told machine.old.site) (S.faults machine.old.site) machine.old }
     requires going { machine.old.session.stopped ≡ None }
-    requires buffer { vec_len machine.old.buffer ≡ 16384 }
+    requires buffer { vec_len machine.old.buffer ≡ BLOCK_BYTES }
     ensures follows { FollowsHosts hosts.now (session_data machine.new.session) result }
     ensures keeps { Keeps S.tells (S.told machine.new.site) (S.faults machine.new.site) machine.new }
     ensures halts { Halts result machine.new.session.stopped }
@@ -152,7 +150,7 @@ fn run_scripts<S: Site>(machine: &mut Machine<S>, hosts: &[HostScript]) -> RunEn
     ensures fault { HasHalted (S.faults machine.old.site) (S.faults machine.new.site) result }
     ensures volumes { machine.new.volumes ≡ machine.old.volumes }
     ensures number { machine.new.number ≡ machine.old.number }
-    ensures buffer { vec_len machine.new.buffer ≡ 16384 }
+    ensures buffer { vec_len machine.new.buffer ≡ BLOCK_BYTES }
 {
     match hosts {
         [script] => machine.run_script(script.items.as_slice()),
@@ -170,8 +168,8 @@ fn run_hosts<O: Sink, S: Site>(
     site: S,
 ) -> Ended<S>
     requires few { length hosts.now ≤ 1 }
-    requires runnable { AllByRecursion (λ (script : ScriptData). AllByRecursion IsRunnable script.items) hosts.now }
-    requires block { vec_len block ≡ 16384 }
+    requires runnable { AreRunnableScripts hosts.now }
+    requires block { vec_len block ≡ BLOCK_BYTES }
     requires tracks { S.tells → AreAllTracks (serial_in volumes.items) (content (S.told site)) }
     ensures session { HasSession (IsSessionOf S.tells O.tells volumes.items hosts.now
         (S.told site) (S.told result.site) (S.faults site) (S.faults result.site)
@@ -199,7 +197,7 @@ fn run_job<O: Sink, S: Site>(
     site: S,
 ) -> Ended<S>
     requires hosts { length job.hosts ≤ 1 }
-    requires block { vec_len block ≡ 16384 }
+    requires block { vec_len block ≡ BLOCK_BYTES }
     requires tracks { S.tells → AreAllTracks (serial_in job.config.volumes) (content (S.told site)) }
     ensures session { HasSession (IsSessionOf S.tells O.tells job.config.volumes job.hosts
         (S.told site) (S.told result.site) (S.faults site) (S.faults result.site)

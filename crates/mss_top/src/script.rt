@@ -1,23 +1,19 @@
 //! A host's script, call after call.
-ghost use Rattle.std.specs.Prelude.{◌≡◌, ◌≤◌, ◌<◌, ◌+◌, ℕ, IfOk, [], ◌∷◌, ◌++◌, length, map, vec_len, false, None, Some, option_map};
+ghost use Rattle.std.specs.Prelude.{◌≡◌, ◌≤◌, [], length, map, vec_len, None, option_map};
 ghost use Rattle.channel_commands.specs.Views.{call_of, reply_of, ccw_of};
-ghost use Rattle.channel_program.specs.Script.{Standing, next_call, program as running};
-ghost use Rattle.channel_program.specs.Views.{standing_of, HoldsCommand, IsNextCommand};
-ghost use Rattle.mss_top.specs.Scripts.{last_reply, NextIs};
-ghost use Rattle.mss_top.specs.Events.{is_command};
+ghost use Rattle.channel_program.specs.Items.{Asks, AreRunnable, IsRunnable};
+ghost use Rattle.channel_program.specs.Script.{ItemData, program as running};
+ghost use Rattle.job_text.specs.Views.{item_of};
+ghost use Rattle.mss_top.specs.Scripts.{last_reply};
 ghost use Rattle.mss_top.specs.Session.{Continues};
 ghost use Rattle.mss_top.specs.Sessions.{session_data};
-ghost use Rattle.job_text.specs.Views.{item_of};
-ghost use Rattle.channel_program.specs.Script.{ItemData};
-ghost use Rattle.std.specs.List.{AllByRecursion};
 
 use crate::machine::{CallAnswer, Machine};
-use channel_commands::{BreakCause, Call, Reply};
-use channel_program::{Cursor, NextCall, Program, command_at, next};
+use channel_commands::{Call, Reply};
+use channel_program::{Cursor, Program, is_command, next_call};
 use ckd_plain::Entry;
 use job_text::Item;
-use mss_base::{Bytes, NoMemory, Site};
-use std::alloc::Global;
+use mss_base::{BLOCK_BYTES, Site};
 
 /// How the run of a script ended.
 #[derive(Clone, Copy, Debug, PartialEq, Eq)]
@@ -42,56 +38,9 @@ fn last_reply(history: &[Entry], replied: bool) -> Option<&Reply>
     Some(&entry.reply)
 }
 
-/// A copy of the command at a word.
-fn command_call(alloc: Global, program: &Program, word: u8, chained: bool) -> Result<Call, NoMemory>
-    requires { HoldsCommand (map ccw_of program.now.items) word }
-    ensures { (at : Standing) → IsNextCommand (map ccw_of program.now.items) at word chained
-        → IfOk result (λ call. next_call (map ccw_of program.now.items) at ≡ Some (call_of call)) }
-{
-    let (code, argument) = command_at(program, word);
-    let argument = Bytes::of(alloc, argument)?;
-    Ok(Call::Command {
-        code,
-        argument,
-        chained,
-    })
-}
-
-/// The program's next call, after the reply to its last; none where it is finished.
-fn next_call(
-    alloc: Global,
-    program: &Program,
-    cursor: &mut Cursor,
-    last: Option<&Reply>,
-) -> Result<Option<Call>, NoMemory>
-    requires some { 1 ≤ length program.now.items }
-    requires few { length program.now.items ≤ 256 }
-    ensures { let words = map ccw_of program.now.items in
-        IfOk result (λ call. NextIs words (standing_of words cursor.old (option_map (λ reply. reply_of reply.now) last.entry)) cursor.new (option_map call_of call)) }
-{
-    Ok(match next(program, cursor, last) {
-        NextCall::Ended => None,
-        NextCall::ProgramCheck => Some(Call::Break {
-            cause: BreakCause::Program,
-        }),
-        NextCall::ChainLimit => Some(Call::Break {
-            cause: BreakCause::Limit,
-        }),
-        NextCall::Command { word, chained } => {
-            Some(command_call(alloc, program, word, chained)?)
-        }
-    })
-}
-
-fn is_command(call: &Call) -> bool
-    ensures { result ≡ is_command (call_of call.now) }
-{
-    matches!(call, Call::Command { .. })
-}
-
 impl<S: Site> Machine<S> {
     ghost use Rattle.mss_top.specs.Machines.{Keeps};
-    ghost use Rattle.mss_top.specs.Scripts.{Asks, EndsItem, EndsScript, HasHalted, Halts, IsRunnable, SameBeginning};
+    ghost use Rattle.mss_top.specs.Scripts.{EndsItem, EndsScript, HasHalted, Halts, SameBeginning};
 
     /// Runs a channel program to its end, call after call.
     pub fn run_program(&mut self, program: &Program) -> RunEnd
@@ -99,7 +48,7 @@ impl<S: Site> Machine<S> {
         requires few { length program.now.items ≤ 256 }
         requires keeps { Keeps S.tells (S.told self.old.site) (S.faults self.old.site) self.old }
         requires going { self.old.session.stopped ≡ None }
-        requires buffer { vec_len self.old.buffer ≡ 16384 }
+        requires buffer { vec_len self.old.buffer ≡ BLOCK_BYTES }
         ensures ends { EndsItem (running (map ccw_of program.now.items)) (session_data self.old.session) (session_data self.new.session) result }
         ensures keeps { Keeps S.tells (S.told self.new.site) (S.faults self.new.site) self.new }
         ensures halts { Halts result self.new.session.stopped }
@@ -108,7 +57,7 @@ impl<S: Site> Machine<S> {
         ensures fault { HasHalted (S.faults self.old.site) (S.faults self.new.site) result }
         ensures volumes { self.new.volumes ≡ self.old.volumes }
         ensures number { self.new.number ≡ self.old.number }
-        ensures buffer { vec_len self.new.buffer ≡ 16384 }
+        ensures buffer { vec_len self.new.buffer ≡ BLOCK_BYTES }
     {
         let mut cursor = Cursor::start();
         let mut replied = false;
@@ -138,7 +87,7 @@ impl<S: Site> Machine<S> {
     fn run_call(&mut self, call: Call) -> RunEnd
         requires keeps { Keeps S.tells (S.told self.old.site) (S.faults self.old.site) self.old }
         requires going { self.old.session.stopped ≡ None }
-        requires buffer { vec_len self.old.buffer ≡ 16384 }
+        requires buffer { vec_len self.old.buffer ≡ BLOCK_BYTES }
         ensures ends { (item : ItemData) → Asks item (call_of call) → EndsItem item (session_data self.old.session) (session_data self.new.session) result }
         ensures keeps { Keeps S.tells (S.told self.new.site) (S.faults self.new.site) self.new }
         ensures halts { Halts result self.new.session.stopped }
@@ -147,7 +96,7 @@ impl<S: Site> Machine<S> {
         ensures fault { HasHalted (S.faults self.old.site) (S.faults self.new.site) result }
         ensures volumes { self.new.volumes ≡ self.old.volumes }
         ensures number { self.new.number ≡ self.old.number }
-        ensures buffer { vec_len self.new.buffer ≡ 16384 }
+        ensures buffer { vec_len self.new.buffer ≡ BLOCK_BYTES }
     {
         match self.call(call) {
             CallAnswer::Replied => RunEnd::Finished,
@@ -162,7 +111,7 @@ impl<S: Site> Machine<S> {
         requires runnable { IsRunnable (item_of item.now) }
         requires keeps { Keeps S.tells (S.told self.old.site) (S.faults self.old.site) self.old }
         requires going { self.old.session.stopped ≡ None }
-        requires buffer { vec_len self.old.buffer ≡ 16384 }
+        requires buffer { vec_len self.old.buffer ≡ BLOCK_BYTES }
         ensures ends { EndsItem (item_of item.now) (session_data self.old.session) (session_data self.new.session) result }
         ensures keeps { Keeps S.tells (S.told self.new.site) (S.faults self.new.site) self.new }
         ensures halts { Halts result self.new.session.stopped }
@@ -171,7 +120,7 @@ impl<S: Site> Machine<S> {
         ensures fault { HasHalted (S.faults self.old.site) (S.faults self.new.site) result }
         ensures volumes { self.new.volumes ≡ self.old.volumes }
         ensures number { self.new.number ≡ self.old.number }
-        ensures buffer { vec_len self.new.buffer ≡ 16384 }
+        ensures buffer { vec_len self.new.buffer ≡ BLOCK_BYTES }
     {
         match item {
             Item::Mount { volume, bind } => self.run_call(Call::Mount {
@@ -185,11 +134,11 @@ impl<S: Site> Machine<S> {
 
     /// Runs a host's script from its first item, in a session without entries, until something halts it.
     pub fn run_script(&mut self, items: &[Item]) -> RunEnd
-        requires runnable { AllByRecursion IsRunnable (map item_of items.now) }
+        requires runnable { AreRunnable (map item_of items.now) }
         requires begins { self.old.session.history.items ≡ [] }
         requires keeps { Keeps S.tells (S.told self.old.site) (S.faults self.old.site) self.old }
         requires going { self.old.session.stopped ≡ None }
-        requires buffer { vec_len self.old.buffer ≡ 16384 }
+        requires buffer { vec_len self.old.buffer ≡ BLOCK_BYTES }
         ensures ends { EndsScript (map item_of items.now) (session_data self.new.session) result }
         ensures keeps { Keeps S.tells (S.told self.new.site) (S.faults self.new.site) self.new }
         ensures halts { Halts result self.new.session.stopped }
@@ -198,7 +147,7 @@ impl<S: Site> Machine<S> {
         ensures fault { HasHalted (S.faults self.old.site) (S.faults self.new.site) result }
         ensures volumes { self.new.volumes ≡ self.old.volumes }
         ensures number { self.new.number ≡ self.old.number }
-        ensures buffer { vec_len self.new.buffer ≡ 16384 }
+        ensures buffer { vec_len self.new.buffer ≡ BLOCK_BYTES }
     {
         for item in items {
             match self.run_item(item) {

@@ -1,6 +1,7 @@
 //! The walk over a volume before anything is run: each of its blocks has to read as a track.
-ghost use Rattle.std.specs.Prelude.{◌≡◌, ◌≤◌, ◌+◌, length, OnOk};
+ghost use Rattle.std.specs.Prelude.{◌≡◌, ◌+◌, length, OnOk};
 ghost use Rattle.mss_base.specs.Content.{content};
+ghost use Rattle.mss_base.specs.Sites.{OnlyReads};
 ghost use Rattle.mss_top.specs.Direct.{AreTracksBefore};
 ghost use Rattle.ckd_plain.specs.Plain.{serial_in};
 ghost use Rattle.mss_top.specs.Session.{AreAllTracks};
@@ -8,7 +9,7 @@ ghost use Rattle.mss_top.specs.Start.{Looks, Walks, WalksTo, WalksAll, IsCounted
 
 use crate::direct::direct_place;
 use ckd_track::check_track;
-use mss_base::{Cylinder, Head, Serial, Site, VolumeNo};
+use mss_base::{BLOCK_BYTES, CYLINDERS, Cylinder, HEADS, Head, Serial, Site, VolumeNo};
 
 /// Why a volume wasn't taken on.
 #[derive(Clone, Copy, Debug, PartialEq, Eq)]
@@ -27,12 +28,11 @@ fn check_block<S: Site>(
     head: Head,
     buffer: &mut [u8],
 ) -> Result<(), StartFault>
-    requires { length buffer.old ≡ 16384 }
+    requires { length buffer.old ≡ BLOCK_BYTES }
     ensures track { S.tells → Looks (content (S.told site.old)) volume cylinder head result }
     ensures counted { IsCounted (S.faults site.old) (S.faults site.new) result }
-    ensures told { S.tells → S.told site.new ≡ S.told site.old }
-    ensures writes { S.writes site.new ≡ S.writes site.old }
-    ensures later { S.faults site.old ≤ S.faults site.new }
+    ensures site { OnlyReads S.tells S.told S.spare S.writes S.faults S.never_fails_but
+        site.old site.new }
 {
     let place = direct_place(volume, cylinder, head);
     if site.read(place.unit, place.block, buffer).is_err() {
@@ -53,15 +53,14 @@ fn check_cylinder<S: Site>(
     cylinder: Cylinder,
     buffer: &mut [u8],
 ) -> Result<(), StartFault>
-    requires buffer { length buffer.old ≡ 16384 }
+    requires buffer { length buffer.old ≡ BLOCK_BYTES }
     requires before { S.tells → AreTracksBefore (content (S.told site.old)) volume cylinder 0 }
     ensures walk { S.tells → WalksTo (content (S.told site.old)) volume (cylinder + 1) result }
     ensures counted { IsCounted (S.faults site.old) (S.faults site.new) result }
-    ensures told { S.tells → S.told site.new ≡ S.told site.old }
-    ensures writes { S.writes site.new ≡ S.writes site.old }
-    ensures later { S.faults site.old ≤ S.faults site.new }
+    ensures site { OnlyReads S.tells S.told S.spare S.writes S.faults S.never_fails_but
+        site.old site.new }
 {
-    for head in 0..19u8 {
+    for head in 0..HEADS {
         let Some(head) = Head::of(head) else {
             unreachable!()
         };
@@ -76,14 +75,13 @@ pub fn check_volume<S: Site>(
     volume: VolumeNo,
     buffer: &mut [u8],
 ) -> Result<(), StartFault>
-    requires { length buffer.old ≡ 16384 }
+    requires { length buffer.old ≡ BLOCK_BYTES }
     ensures walk { S.tells → Walks (content (S.told site.old)) volume result }
     ensures counted { IsCounted (S.faults site.old) (S.faults site.new) result }
-    ensures told { S.tells → S.told site.new ≡ S.told site.old }
-    ensures writes { S.writes site.new ≡ S.writes site.old }
-    ensures later { S.faults site.old ≤ S.faults site.new }
+    ensures site { OnlyReads S.tells S.told S.spare S.writes S.faults S.never_fails_but
+        site.old site.new }
 {
-    for cylinder in 0..404u16 {
+    for cylinder in 0..CYLINDERS {
         let Some(cylinder) = Cylinder::of(cylinder) else {
             unreachable!()
         };
@@ -105,13 +103,13 @@ pub fn check_volumes<S: Site>(
     volumes: &[(VolumeNo, Serial)],
     buffer: &mut [u8],
 ) -> Result<(), VolumeFault>
-    requires { length buffer.old ≡ 16384 }
+    requires { length buffer.old ≡ BLOCK_BYTES }
     ensures walk { S.tells → WalksAll (content (S.told site.old)) volumes.now result }
-    ensures tracks { S.tells → OnOk result (AreAllTracks (serial_in volumes.now) (content (S.told site.old))) }
+    ensures tracks { S.tells → OnOk result
+        (AreAllTracks (serial_in volumes.now) (content (S.told site.old))) }
     ensures counted { AreCounted (S.faults site.old) (S.faults site.new) result }
-    ensures told { S.tells → S.told site.new ≡ S.told site.old }
-    ensures writes { S.writes site.new ≡ S.writes site.old }
-    ensures later { S.faults site.old ≤ S.faults site.new }
+    ensures site { OnlyReads S.tells S.told S.spare S.writes S.faults S.never_fails_but
+        site.old site.new }
 {
     for entry in volumes {
         let volume = entry.0;

@@ -1,16 +1,17 @@
 //! The volumes of a report, as the devices show them.
-ghost use Rattle.std.specs.Prelude.{◌≡◌, ◌≤◌, [], length};
+ghost use Rattle.std.specs.Prelude.{◌≡◌, [], length};
 ghost use Rattle.mss_base.specs.Content.{content};
-ghost use Rattle.mss_base.specs.Counts.{Rises};
+ghost use Rattle.mss_base.specs.Sites.{OnlyReads};
 ghost use Rattle.ckd_plain.specs.Plain.{serial_in};
 ghost use Rattle.mss_top.specs.Direct.{direct, direct_track};
-ghost use Rattle.mss_top.specs.Reports.{PutsVolumes, IsReadCounted};
+ghost use Rattle.mss_top.specs.Reports.{PutsVolumes, IsReadCounted, HasPutCause};
 ghost use Rattle.mss_top.specs.ReportParts.{PutsTrack, PutsTracks};
 ghost use Rattle.report_text.specs.Texts.{track_text, heading_text};
-ghost use Rattle.report_text.specs.declared.report.ReportFault.TheVariants as fault;
 
 use crate::direct::direct_place;
-use mss_base::{Bytes, Cylinder, Failed, Head, Serial, Sink, Site, VolumeNo};
+use mss_base::{
+    BLOCK_BYTES, Bytes, CYLINDERS, Cylinder, Failed, HEADS, Head, Serial, Sink, Site, VolumeNo,
+};
 use report_text::{ReportFault, put_heading, put_track};
 
 /// Why the volumes weren't told whole.
@@ -55,14 +56,14 @@ fn put_block<S: Site, O: Sink>(
     block: &mut [u8],
     line: &mut Bytes,
 ) -> Result<(), VolumesFault>
-    requires { length block.old ≡ 16384 }
-    ensures bytes { PutsTrack (S.tells × O.tells) (track_text cylinder head (direct_track (content (S.told site.old)) volume cylinder head)) (O.told output.old) (O.told output.new) result }
+    requires { length block.old ≡ BLOCK_BYTES }
+    ensures bytes { let track = direct_track (content (S.told site.old)) volume cylinder head in
+        PutsTrack (S.tells × O.tells) (track_text cylinder head track)
+        (O.told output.old) (O.told output.new) result }
     ensures counted { IsReadCounted (S.faults site.old) (S.faults site.new) result }
-    ensures told { S.tells → S.told site.new ≡ S.told site.old }
-    ensures writes { S.writes site.new ≡ S.writes site.old }
-    ensures later { S.faults site.old ≤ S.faults site.new }
-    ensures output_later { O.faults output.old ≤ O.faults output.new }
-    ensures output { result ≡ Err (VolumesFault.Put fault.Output) → Rises (O.faults output.old) (O.faults output.new) }
+    ensures site { OnlyReads S.tells S.told S.spare S.writes S.faults S.never_fails_but
+        site.old site.new }
+    ensures output { HasPutCause (O.faults output.old) (O.faults output.new) result }
 {
     let place = direct_place(volume, cylinder, head);
     if site.read(place.unit, place.block, block).is_err() {
@@ -82,20 +83,20 @@ fn put_tracks<S: Site, O: Sink>(
     block: &mut [u8],
     line: &mut Bytes,
 ) -> Result<(), VolumesFault>
-    requires { length block.old ≡ 16384 }
-    ensures bytes { PutsTracks (S.tells × O.tells) [] (direct_track (content (S.told site.old)) volume) (O.told output.old) (O.told output.new) result }
+    requires { length block.old ≡ BLOCK_BYTES }
+    ensures bytes { PutsTracks (S.tells × O.tells) []
+        (direct_track (content (S.told site.old)) volume)
+        (O.told output.old) (O.told output.new) result }
     ensures counted { IsReadCounted (S.faults site.old) (S.faults site.new) result }
-    ensures told { S.tells → S.told site.new ≡ S.told site.old }
-    ensures writes { S.writes site.new ≡ S.writes site.old }
-    ensures later { S.faults site.old ≤ S.faults site.new }
-    ensures output_later { O.faults output.old ≤ O.faults output.new }
-    ensures output { result ≡ Err (VolumesFault.Put fault.Output) → Rises (O.faults output.old) (O.faults output.new) }
+    ensures site { OnlyReads S.tells S.told S.spare S.writes S.faults S.never_fails_but
+        site.old site.new }
+    ensures output { HasPutCause (O.faults output.old) (O.faults output.new) result }
 {
-    for cylinder in 0..404u16 {
+    for cylinder in 0..CYLINDERS {
         let Some(cylinder) = Cylinder::of(cylinder) else {
             unreachable!()
         };
-        for head in 0..19u8 {
+        for head in 0..HEADS {
             let Some(head) = Head::of(head) else {
                 unreachable!()
             };
@@ -114,14 +115,14 @@ fn put_volume<S: Site, O: Sink>(
     block: &mut [u8],
     line: &mut Bytes,
 ) -> Result<(), VolumesFault>
-    requires { length block.old ≡ 16384 }
-    ensures bytes { PutsTracks (S.tells × O.tells) (heading_text volume serial.now) (direct_track (content (S.told site.old)) volume) (O.told output.old) (O.told output.new) result }
+    requires { length block.old ≡ BLOCK_BYTES }
+    ensures bytes { PutsTracks (S.tells × O.tells) (heading_text volume serial.now)
+        (direct_track (content (S.told site.old)) volume)
+        (O.told output.old) (O.told output.new) result }
     ensures counted { IsReadCounted (S.faults site.old) (S.faults site.new) result }
-    ensures told { S.tells → S.told site.new ≡ S.told site.old }
-    ensures writes { S.writes site.new ≡ S.writes site.old }
-    ensures later { S.faults site.old ≤ S.faults site.new }
-    ensures output_later { O.faults output.old ≤ O.faults output.new }
-    ensures output { result ≡ Err (VolumesFault.Put fault.Output) → Rises (O.faults output.old) (O.faults output.new) }
+    ensures site { OnlyReads S.tells S.told S.spare S.writes S.faults S.never_fails_but
+        site.old site.new }
+    ensures output { HasPutCause (O.faults output.old) (O.faults output.new) result }
 {
     put_heading(output, line, volume, serial)?;
     put_tracks(site, output, volume, block, line)
@@ -137,14 +138,14 @@ pub fn put_volumes<S: Site, O: Sink>(
     block: &mut [u8],
     line: &mut Bytes,
 ) -> Result<(), VolumesFault>
-    requires { length block.old ≡ 16384 }
-    ensures bytes { PutsVolumes (S.tells × O.tells) (direct (serial_in volumes.now) (content (S.told site.old))) volumes.now (O.told output.old) (O.told output.new) result }
+    requires { length block.old ≡ BLOCK_BYTES }
+    ensures bytes { PutsVolumes (S.tells × O.tells)
+        (direct (serial_in volumes.now) (content (S.told site.old))) volumes.now
+        (O.told output.old) (O.told output.new) result }
     ensures counted { IsReadCounted (S.faults site.old) (S.faults site.new) result }
-    ensures told { S.tells → S.told site.new ≡ S.told site.old }
-    ensures writes { S.writes site.new ≡ S.writes site.old }
-    ensures later { S.faults site.old ≤ S.faults site.new }
-    ensures output_later { O.faults output.old ≤ O.faults output.new }
-    ensures output { result ≡ Err (VolumesFault.Put fault.Output) → Rises (O.faults output.old) (O.faults output.new) }
+    ensures site { OnlyReads S.tells S.told S.spare S.writes S.faults S.never_fails_but
+        site.old site.new }
+    ensures output { HasPutCause (O.faults output.old) (O.faults output.new) result }
 {
     for entry in volumes {
         put_volume(site, output, entry.0, &entry.1, block, line)?;

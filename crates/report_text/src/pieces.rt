@@ -17,7 +17,8 @@ pub fn put_text<O: Sink>(output: &mut O, text: &str) -> Result<(), Failed>
 
 /// Puts the pieces of a line one behind the other, each by a call of its own.
 fn put_pieces<O: Sink>(output: &mut O, pieces: &[&str]) -> Result<(), Failed>
-    ensures bytes { O.tells → Puts result (O.told output.old) (O.told output.new) (flat_map (λ piece. piece.now) pieces.now) }
+    ensures bytes { O.tells → Puts result (O.told output.old) (O.told output.new)
+        (flat_map (λ piece. piece.now) pieces.now) }
     ensures cause { HasCause (O.faults output.old) (O.faults output.new) result }
 {
     for piece in pieces {
@@ -28,7 +29,8 @@ fn put_pieces<O: Sink>(output: &mut O, pieces: &[&str]) -> Result<(), Failed>
 
 /// Puts a line that ends in a number.
 pub fn put_numbered<O: Sink>(output: &mut O, text: &str, number: u64) -> Result<(), Failed>
-    ensures bytes { O.tells → Puts result (O.told output.old) (O.told output.new) (text.now ++ decimal number ++ codes "\n") }
+    ensures bytes { O.tells → Puts result (O.told output.old) (O.told output.new)
+        (text.now ++ decimal number ++ codes "\n") }
     ensures cause { HasCause (O.faults output.old) (O.faults output.new) result }
 {
     let mut digits = itoa::Buffer::new();
@@ -42,7 +44,8 @@ pub fn put_numbered_word<O: Sink>(
     number: u32,
     word: &str,
 ) -> Result<(), Failed>
-    ensures bytes { O.tells → Puts result (O.told output.old) (O.told output.new) (text.now ++ decimal number ++ codes " " ++ word.now ++ codes "\n") }
+    ensures bytes { O.tells → Puts result (O.told output.old) (O.told output.new)
+        (text.now ++ decimal number ++ codes " " ++ word.now ++ codes "\n") }
     ensures cause { HasCause (O.faults output.old) (O.faults output.new) result }
 {
     let mut digits = itoa::Buffer::new();
@@ -57,7 +60,8 @@ pub fn put_place<O: Sink>(
     cylinder: Cylinder,
     head: Head,
 ) -> Result<(), Failed>
-    ensures bytes { O.tells → Puts result (O.told output.old) (O.told output.new) (text.now ++ place_text volume cylinder head ++ codes "\n") }
+    ensures bytes { O.tells → Puts result (O.told output.old) (O.told output.new)
+        (text.now ++ place_text volume cylinder head ++ codes "\n") }
     ensures cause { HasCause (O.faults output.old) (O.faults output.new) result }
 {
     let mut volume_digits = itoa::Buffer::new();

@@ -1,8 +1,9 @@
 // The parts of a report, each put into a sink.
-ghost use Rattle.std.specs.Prelude.{◌≡◌, ◌≤◌, [], IsOk, IsErrOf, IsOkUnless, length};
-ghost use Rattle.mss_base.specs.Counts.{HasCause, Rises};
+ghost use Rattle.std.specs.Prelude.{◌≡◌, [], IsOk, IsOkUnless, length};
+ghost use Rattle.mss_base.specs.Counts.{HasCause};
 ghost use Rattle.mss_base.specs.Puts.{Puts};
 ghost use Rattle.ckd_track.specs.Track.{reading};
+ghost use Rattle.report_text.specs.Causes.{HasOutputCause};
 ghost use Rattle.report_text.specs.Texts.{numbered, entry_text, history_text, track_text, heading_text, end_text, limit_text, stopped_text};
 
 use crate::pieces::{put_numbered, put_text};
@@ -45,8 +46,7 @@ impl From<NoMemory> for ReportFault {
 /// Puts bytes that stand ready.
 fn put_bytes<O: Sink>(output: &mut O, bytes: &[u8]) -> Result<(), ReportFault>
     ensures bytes { O.tells → Puts result (O.told output.old) (O.told output.new) bytes.now }
-    ensures later { O.faults output.old ≤ O.faults output.new }
-    ensures output { IsErrOf result ReportFault.Output → Rises (O.faults output.old) (O.faults output.new) }
+    ensures cause { HasOutputCause (O.faults output.old) (O.faults output.new) result }
     ensures no_memory { IsOkUnless result ReportFault.Output }
 {
     output.put(bytes)?;
@@ -59,9 +59,9 @@ fn put_entry<O: Sink>(
     number: u64,
     entry: &Entry,
 ) -> Result<(), ReportFault>
-    ensures bytes { O.tells → Puts result (O.told output.old) (O.told output.new) (entry_text number entry.now) }
-    ensures later { O.faults output.old ≤ O.faults output.new }
-    ensures output { IsErrOf result ReportFault.Output → Rises (O.faults output.old) (O.faults output.new) }
+    ensures bytes { O.tells → Puts result (O.told output.old) (O.told output.new)
+        (entry_text number entry.now) }
+    ensures cause { HasOutputCause (O.faults output.old) (O.faults output.new) result }
 {
     buffer.truncate(0);
     push_entry(buffer, number, entry)?;
@@ -73,9 +73,9 @@ fn put_entries<O: Sink>(
     buffer: &mut Bytes,
     entries: &[Entry],
 ) -> Result<(), ReportFault>
-    ensures bytes { O.tells → Puts result (O.told output.old) (O.told output.new) (numbered entry_text 1 entries.now) }
-    ensures later { O.faults output.old ≤ O.faults output.new }
-    ensures output { IsErrOf result ReportFault.Output → Rises (O.faults output.old) (O.faults output.new) }
+    ensures bytes { O.tells → Puts result (O.told output.old) (O.told output.new)
+        (numbered entry_text 1 entries.now) }
+    ensures cause { HasOutputCause (O.faults output.old) (O.faults output.new) result }
 {
     let mut number = 1;
     for entry in entries {
@@ -93,9 +93,9 @@ pub fn put_history<O: Sink>(
     buffer: &mut Bytes,
     entries: &[Entry],
 ) -> Result<(), ReportFault>
-    ensures bytes { O.tells → Puts result (O.told output.old) (O.told output.new) (history_text entries.now) }
-    ensures later { O.faults output.old ≤ O.faults output.new }
-    ensures output { IsErrOf result ReportFault.Output → Rises (O.faults output.old) (O.faults output.new) }
+    ensures bytes { O.tells → Puts result (O.told output.old) (O.told output.new)
+        (history_text entries.now) }
+    ensures cause { HasOutputCause (O.faults output.old) (O.faults output.new) result }
 {
     put_text(output, "MSS REPORT 1\n")?;
     put_entries(output, buffer, entries)
@@ -110,9 +110,9 @@ pub fn put_heading<O: Sink>(
     number: VolumeNo,
     serial: &Serial,
 ) -> Result<(), ReportFault>
-    ensures bytes { O.tells → Puts result (O.told output.old) (O.told output.new) (heading_text number serial.now) }
-    ensures later { O.faults output.old ≤ O.faults output.new }
-    ensures output { IsErrOf result ReportFault.Output → Rises (O.faults output.old) (O.faults output.new) }
+    ensures bytes { O.tells → Puts result (O.told output.old) (O.told output.new)
+        (heading_text number serial.now) }
+    ensures cause { HasOutputCause (O.faults output.old) (O.faults output.new) result }
 {
     buffer.truncate(0);
     push_heading(buffer, number, serial)?;
@@ -130,10 +130,10 @@ pub fn put_track<O: Sink>(
     block: &[u8],
 ) -> Result<(), ReportFault>
     requires { length block.now ≡ 16384 }
-    ensures bytes { O.tells → Puts result (O.told output.old) (O.told output.new) (track_text cylinder head (reading block.now).records) }
+    ensures bytes { O.tells → Puts result (O.told output.old) (O.told output.new)
+        (track_text cylinder head (reading block.now).records) }
     ensures blank { (reading block.now).records ≡ [] → IsOk result × (output.new ≡ output.old) }
-    ensures later { O.faults output.old ≤ O.faults output.new }
-    ensures output { IsErrOf result ReportFault.Output → Rises (O.faults output.old) (O.faults output.new) }
+    ensures cause { HasOutputCause (O.faults output.old) (O.faults output.new) result }
 {
     let mut records = stored_records(block);
     let Some(first) = records.next() else {
@@ -167,7 +167,8 @@ pub fn put_limit<O: Sink>(output: &mut O) -> Result<(), Failed>
 /// `fault` is the count of faults then.
 #[tactic(auto, unfolding(crate::specs::Texts::stopped_text))]
 pub fn put_stopped<O: Sink>(output: &mut O, fault: u64) -> Result<(), Failed>
-    ensures bytes { O.tells → Puts result (O.told output.old) (O.told output.new) (stopped_text fault) }
+    ensures bytes { O.tells → Puts result (O.told output.old) (O.told output.new)
+        (stopped_text fault) }
     ensures cause { HasCause (O.faults output.old) (O.faults output.new) result }
 {
     put_numbered(output, "STOPPED ", fault)

@@ -1,5 +1,5 @@
-use Rattle.std.proofs.Common.{◌≡◌, ◌≤◌, ℕ, ◌+◌, ◌-◌, ◌++◌, List, [], length, min, sym, ap, ◌∙◌, arith}
-use Rattle.mss_top.proofs.Inputs.{take_full, drop_full, take_whole, drop_whole}
+use Rattle.std.proofs.Common.{◌≡◌, ◌≤◌, ℕ, ◌+◌, ◌-◌, ◌++◌, List, [], length, min, refl, sym, ap, ◌∙◌, arith}
+use Rattle.mss_top.proofs.Inputs.{take_full, drop_full, take_whole, drop_whole, read_so}
 use Rattle.mss_top.proofs.input.read_input.Goals as goal
 
 pub loop-bytes-init : goal.loop-bytes-init
@@ -7,7 +7,7 @@ loop-bytes-init g c = record {
   parts = λ _. sym (ap (λ (l : List ℕ). l ++ g.I.Source.left c.args.input.now) c.new-bytes.ensures);
   few = omega (arith, ap length c.new-bytes.ensures);
   piece = omega (arith, c.in_ok-buffer.ensures.len);
-  later = omega arith;
+  same = refl;
 }
 
 -- `room` is 0 only where all that is allowed was read
@@ -24,7 +24,7 @@ loop-bytes-preserved g c =
       parts = λ told. c.loop-bytes.invariant.parts told ∙ c.in-Ok.ensures.moved told;
       few = kept c.args.most (length c.loop-bytes.bytes.items) 65536 c.min-room.result c.in-Ok.taken _ (omega (arith, c.min-room.ensures, measured)) c.loop-bytes.invariant.few c.in-Ok.ensures.within c.in-Ok.ensures.longer;
       piece = c.loop-bytes.invariant.piece;
-      later = omega arith;
+      same = c.in-Ok.ensures.cause.same ∙ c.loop-bytes.invariant.same;
     }
 
 pub returns-then-room-eq0-clause-bytes : goal.returns-then-room-eq0-clause-bytes
@@ -48,3 +48,9 @@ returns-then-taken-eq0-clause-left g c = λ told.
     let none : g.I.Source.left c.take_piece.new.input ≡ [] = c.in-Ok.ensures.end told c.if-taken-eq0.true (omega arith) in
     let few : length c.take_piece.new.bytes.items ≤ c.args.most = omega (arith, c.loop-bytes.invariant.few, c.in-Ok.ensures.longer) in
     drop_whole _ c.take_piece.new.bytes.items _ c.args.most (c.loop-bytes.invariant.parts told ∙ c.in-Ok.ensures.moved told) none few
+
+pub returns-then-room-eq0-clause-cause : goal.returns-then-room-eq0-clause-cause
+returns-then-room-eq0-clause-cause g c = read_so _ _ c.loop-bytes.bytes c.loop-bytes.invariant.same
+
+pub returns-then-taken-eq0-clause-cause : goal.returns-then-taken-eq0-clause-cause
+returns-then-taken-eq0-clause-cause g c = read_so _ _ c.take_piece.new.bytes (c.in-Ok.ensures.cause.same ∙ c.loop-bytes.invariant.same)

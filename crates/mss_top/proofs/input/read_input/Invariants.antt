@@ -6,7 +6,7 @@ pub record Kept (tells : Type 0) (all bytes left : List ℕ) (most count faults_
   pub parts : tells → all ≡ bytes ++ left
   pub few : length bytes ≤ most
   pub piece : count ≡ 65536
-  pub later : faults_then ≤ faults_now
+  pub same : faults_now ≡ faults_then
 
 abbrev pub invariant-loop-bytes : goal.invariant-loop-bytes
 invariant-loop-bytes g l = Kept g.I.Source.tells (g.I.Source.left l.initial.input) l.bytes.items (g.I.Source.left l.input) l.most (vec_len l.buffer) (g.I.Source.faults l.initial.input) (g.I.Source.faults l.input)

@@ -47,7 +47,7 @@ returns-clause-session g c =
     ran.follows
     ran.halts
     (subst (λ x. HasHalted (g.S.Site.faults x) (g.S.Site.faults left.site) c.run_scripts-end.result) begins.ensures.site ran.fault)
-    put.told put.later put.unread reported in
+    put.site.log put.site.later put.unread reported in
     let same_session : c.into_session-site.result.1 ≡ left.session = c.into_session-site.ensures.session ∙ put.session in
     subst (λ x. IsSessionOf g.S.Site.tells g.O.Sink.tells volumes c.args.hosts.now (g.S.Site.told c.args.site) (g.S.Site.told x) (g.S.Site.faults c.args.site) (g.S.Site.faults x)
     (g.O.Sink.faults c.args.output.now) (g.O.Sink.faults told.new.output) (g.O.Sink.told c.args.output.now) (g.O.Sink.told told.new.output) told.result (session_data c.into_session-site.result.1)) (sym c.into_session-site.ensures.site)

@@ -16,7 +16,7 @@ returns-clause-ended g c =
       job = c.in-Ok.job;
       admitted = c.in-Ok.ensures.job;
       session = session_since g.S.Site.tells g.O.Sink.tells c.in-Ok.job.config.volumes c.in-Ok.job.hosts (g.S.Site.told c.begin.new.site) (g.S.Site.told c.args.site) _ (g.S.Site.faults c.begin.new.site) (g.S.Site.faults c.args.site) _ _ _ _ _ _ s
-          c.in-Ok-begin.ensures.told c.in-Ok-begin.ensures.later session;
+          c.in-Ok-begin.ensures.site.log c.in-Ok-begin.ensures.site.later session;
     })
     c.run_job.ensures.session
 

@@ -5,5 +5,5 @@ use Rattle.mss_top.proofs.start.check_volume.Given as goal
 
 abbrev pub invariant-loop-cylinder : goal.invariant-loop-cylinder
 invariant-loop-cylinder g l =
-    IsWalk g.S.Site.tells (g.S.Site.told l.initial.site) (g.S.Site.told l.site) (g.S.Site.writes l.initial.site) (g.S.Site.writes l.site) (g.S.Site.faults l.initial.site) (g.S.Site.faults l.site) (length l.buffer)
+    IsWalk g.S.Site.tells g.S.Site.told g.S.Site.spare g.S.Site.writes g.S.Site.faults g.S.Site.never_fails_but l.initial.site l.site (length l.buffer)
     (λ c. AreTracksBefore c l.volume l.cylinder 0)

@@ -4,6 +4,7 @@ use Rattle.mss_base.specs.Content.{SiteLog, content}
 use Rattle.ckd_plain.specs.Plain.{serial_in}
 use Rattle.report_text.specs.Texts.{heading_text, tracks_text}
 use Rattle.mss_top.specs.Direct.{direct, direct_track}
+use Rattle.mss_top.proofs.Walking.{reads_then}
 use Rattle.mss_top.proofs.VolumeTexts.{listed_track, volumes_go_on, volumes_left, tracks_put_same}
 use Rattle.mss_top.proofs.volumes.put_volumes.Goals as goal
 
@@ -16,21 +17,20 @@ returns-in_err-put_volume-clause-bytes g c =
     (listed_track (content (g.S.Site.told c.args.site.now)) c.args.volumes.now c.loop-entry.entry-index c.entry-item.result c.loop-entry-test.true c.entry-item.is)
     (g.O.Sink.told c.args.output.now) (g.O.Sink.told c.loop-entry.output) (g.O.Sink.told c.put_volume.new.output) (λ t. c.loop-entry.invariant.put t.0 t.1) c.in_err-put_volume.field-0.0
     (tracks_put_same (g.S.Site.tells × g.O.Sink.tells) (heading_text c.entry-item.result.0 c.entry-item.result.1) _ _ (g.O.Sink.told c.loop-entry.output) (g.O.Sink.told c.put_volume.new.output) c.in_err-put_volume.field-0.0
-    (λ t. ap (λ (s : SiteLog). direct_track (content s) c.entry-item.result.0) (c.loop-entry.invariant.told t.0))
+    (λ t. ap (λ (s : SiteLog). direct_track (content s) c.entry-item.result.0) (c.loop-entry.invariant.site.log t.0))
     c.in_err-put_volume.ensures.bytes))
 
 pub loop-entry-preserved : goal.loop-entry-preserved
 loop-entry-preserved g c = record {
-  told = λ tells. c.in_ok-put_volume.ensures.told tells ∙ c.loop-entry.invariant.told tells;
+  site = reads_then _ _ _ _ _ _ _ _ _ c.loop-entry.invariant.site c.in_ok-put_volume.ensures.site;
+  same = c.in_ok-put_volume.ensures.counted ∙ c.loop-entry.invariant.same;
   put = λ tells sink_tells.
       volumes_go_on (g.S.Site.tells × g.O.Sink.tells) (direct (serial_in c.args.volumes.now) (content (g.S.Site.told c.args.site.now))) c.args.volumes.now c.loop-entry.entry-index c.entry-item.result c.loop-entry-test.true c.entry-item.is
       (direct_track (content (g.S.Site.told c.args.site.now)) c.entry-item.result.0)
       (listed_track (content (g.S.Site.told c.args.site.now)) c.args.volumes.now c.loop-entry.entry-index c.entry-item.result c.loop-entry-test.true c.entry-item.is)
       (g.O.Sink.told c.args.output.now) (g.O.Sink.told c.loop-entry.output) (g.O.Sink.told c.put_volume.new.output) (λ t. c.loop-entry.invariant.put t.0 t.1)
       (λ t. subst (λ (s : SiteLog). g.O.Sink.told c.put_volume.new.output ≡ g.O.Sink.told c.loop-entry.output ++ (heading_text c.entry-item.result.0 c.entry-item.result.1 ++ tracks_text (direct_track (content s) c.entry-item.result.0) 7676))
-      (c.loop-entry.invariant.told t.0) (c.in_ok-put_volume.ensures.bytes t)) (tells, sink_tells);
-  written = c.in_ok-put_volume.ensures.writes ∙ c.loop-entry.invariant.written;
-  later = omega (arith, c.loop-entry.invariant.later, c.in_ok-put_volume.ensures.later);
-  output_later = omega (arith, c.loop-entry.invariant.output_later, c.in_ok-put_volume.ensures.output_later);
+      (c.loop-entry.invariant.site.log t.0) (c.in_ok-put_volume.ensures.bytes t)) (tells, sink_tells);
+  output_same = c.in_ok-put_volume.ensures.output.same ∙ c.loop-entry.invariant.output_same;
   whole = omega (arith, c.loop-entry.invariant.whole, c.put_volume.auto.block);
 }

@@ -7,5 +7,5 @@ abbrev pub invariant-loop-entry : goal.invariant-loop-entry
 invariant-loop-entry g l = record {
   put : g.O.Sink.tells → Part (g.O.Sink.told l.initial.output) (g.O.Sink.told l.output) (numbered entry_text l.number (drop l.entry-index l.entries)) (numbered entry_text 1 l.entries);
   number : l.number ≡ l.entry-index + 1;
-  later : g.O.Sink.faults l.initial.output ≤ g.O.Sink.faults l.output;
+  same : g.O.Sink.faults l.output ≡ g.O.Sink.faults l.initial.output;
 }

@@ -1,10 +1,10 @@
 use Rattle.std.proofs.Common.{◌≡◌, ℕ, ◌+◌, Bool, List, length, None, sym, ◌∙◌, ap, subst}
 use Rattle.channel_commands.specs.Views.{call_of}
 use Rattle.channel_commands.specs.Data.{ReplyData}
-use Rattle.ckd_plain.specs.Plain.{serial_in}
+use Rattle.ckd_plain.specs.Plain.{serial_in, there_for, responded}
 use Rattle.ckd_plain.specs.declared.host.HostState.{HostState}
 use Rattle.ckd_plain.specs.History.{EntryData}
-use Rattle.mss_top.specs.Events.{there_for, responded, with_entry}
+use Rattle.mss_top.specs.Events.{with_entry}
 use Rattle.mss_top.specs.Session.{SessionData, IsSession}
 use Rattle.mss_top.specs.Sessions.{session_data}
 use Rattle.mss_top.proofs.WholeEvents.{whole_response}

@@ -2,10 +2,12 @@ use Rattle.std.proofs.Common.{◌<◌, List, length, map, refl, sym, ◌∙◌, 
 use Rattle.std.proofs.lemmas.List.{take_all, length-map}
 use Rattle.channel_program.specs.Script.{ItemData, FollowsToEnd}
 use Rattle.job_text.specs.Views.{item_of}
-use Rattle.mss_top.specs.Scripts.{exchanges, IsRunnable}
+use Rattle.channel_program.specs.Items.{IsRunnable}
+use Rattle.channel_program.proofs.ItemFacts.{all_at, view_at, item_done}
+use Rattle.mss_top.specs.Scripts.{exchanges}
 use Rattle.mss_top.specs.Sessions.{session_data}
 use Rattle.mss_top.proofs.SessionLemmas.{continues_same, continues_then}
-use Rattle.mss_top.proofs.Items.{all_at, item_at, script_goes_on, script_halts, halted_since}
+use Rattle.mss_top.proofs.Items.{script_halts, halted_since}
 use Rattle.mss_top.proofs.machine.Machine.run_script.Goals as goal
 
 pub loop-item-init : goal.loop-item-init
@@ -26,14 +28,14 @@ loop-item-init g c = record {
 pub run_item-requires-clause-runnable : goal.run_item-requires-clause-runnable
 run_item-requires-clause-runnable g c =
     let below : c.loop-item.item-index < length (map item_of c.args.items.now) = omega (arith, c.loop-item-test.true, length-map c.args.items.now item_of) in
-    subst IsRunnable (sym (item_at c.args.items.now c.loop-item.item-index c.item-item.result c.loop-item-test.true c.item-item.is))
+    subst IsRunnable (sym (view_at item_of c.args.items.now c.loop-item.item-index c.item-item.result c.loop-item-test.true c.item-item.is))
     (all_at IsRunnable (map item_of c.args.items.now) c.loop-item.item-index (item_of c.item-item.result) c.requires.runnable below)
 
 pub returns-in_default : goal.returns-in_default
 returns-in_default g c =
     let kept = c.loop-item.invariant.goes_on in
     let below : c.loop-item.item-index < length (map item_of c.args.items.now) = omega (arith, c.loop-item-test.true, length-map c.args.items.now item_of) in
-    let is = item_at c.args.items.now c.loop-item.item-index c.item-item.result c.loop-item-test.true c.item-item.is in
+    let is = view_at item_of c.args.items.now c.loop-item.item-index c.item-item.result c.loop-item-test.true c.item-item.is in
     record {
       ends = script_halts (map item_of c.args.items.now) c.loop-item.item-index (item_of c.item-item.result) below is (session_data c.loop-item.self.session) (session_data c.run_item.new.self.session)
           c.loop-item.invariant.follows c.run_item.result c.in_default.not-Finished c.run_item.ensures.ends;
@@ -51,7 +53,7 @@ pub loop-item-preserved : goal.loop-item-preserved
 loop-item-preserved g c =
     let kept = c.loop-item.invariant.goes_on in
     let below : c.loop-item.item-index < length (map item_of c.args.items.now) = omega (arith, c.loop-item-test.true, length-map c.args.items.now item_of) in
-    let is = item_at c.args.items.now c.loop-item.item-index c.item-item.result c.loop-item-test.true c.item-item.is in
+    let is = view_at item_of c.args.items.now c.loop-item.item-index c.item-item.result c.loop-item-test.true c.item-item.is in
     record {
       goes_on = record {
         keeps = c.run_item.ensures.keeps;
@@ -63,7 +65,7 @@ loop-item-preserved g c =
         number = c.run_item.ensures.number ∙ kept.number;
         buffer = c.run_item.ensures.buffer;
       };
-      follows = script_goes_on (map item_of c.args.items.now) c.loop-item.item-index (item_of c.item-item.result) below is (session_data c.loop-item.self.session) (session_data c.run_item.new.self.session)
+      follows = item_done (map item_of c.args.items.now) c.loop-item.item-index (item_of c.item-item.result) below is (exchanges c.loop-item.self.session.history.items) (exchanges c.run_item.new.self.session.history.items)
           c.loop-item.invariant.follows c.in-Finished.ensures.ends;
     }
 
