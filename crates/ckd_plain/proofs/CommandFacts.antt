@@ -1,7 +1,8 @@
 -- What commands never do: a command that is no write writes nothing, a control command sees no track, and none mounts.
 use Rattle.std.proofs.Common.{◌≡◌, ℕ, zero, suc, Bool, true, false, cond, List, Option, Some, None, Result, Ok, Err, refl, ap, ◌∙◌}
-use Rattle.std.specs.Prelude.{◌==◌, bit_and}
+use Rattle.std.specs.Prelude.{◌==◌, ◌+◌, bit_and}
 use Rattle.channel_commands.specs.Codes.{is_write}
+use Rattle.mss_base.specs.declared.numbers.TheConstants.{HEADS}
 use Rattle.channel_commands.specs.declared.command.Command.{Command}
 use Rattle.channel_commands.specs.declared.command.Command.TheVariants as command
 use Rattle.channel_commands.specs.declared.command.ReadWhat.{ReadWhat}
@@ -110,7 +111,7 @@ module _ (m : Option (ℕ × Bool)) (sense_ : List ℕ) where
 
   pass_index-has : (host : HostState) (multi : Bool) → Has host → Holds Has Refuses (pass_index host multi)
   unfolding pass_index
-  pass_index-has host true has = one_of Has (bit_and host.mask 0x18 == 0x18) _ _ has (one_of Has (host.head == 18) _ _ has has)
+  pass_index-has host true has = one_of Has (bit_and host.mask 0x18 == 0x18) _ _ has (one_of Has (host.head + 1 == HEADS) _ _ has has)
   pass_index-has host false has = one_of Has (host.passes == 0) _ _ has has
 
   abbrev Finds : Result Found Refusal → Type 0

@@ -5,6 +5,7 @@ use Rattle.channel_commands.specs.declared.command.Command.TheVariants as comman
 use Rattle.channel_commands.specs.declared.command.SeekKind.TheVariants as seek
 use Rattle.channel_commands.specs.declared.command.WriteKind.TheVariants as write
 use Rattle.channel_commands.specs.Codes.{command_of, least}
+use Rattle.mss_base.specs.declared.numbers.TheConstants.{CYLINDERS, HEADS}
 use Rattle.ckd_plain.specs.declared.host.HostState.{HostState}
 use Rattle.ckd_plain.specs.declared.host.Prior.{Prior}
 use Rattle.ckd_plain.specs.declared.host.Prior.TheVariants as prior
@@ -60,8 +61,11 @@ is_prior_permitted _ _ = true
 
 -- a seek's address BB CC HH lies on the volume
 abbrev pub is_address : Command → List ℕ → Bool
-is_address (command.Seek seek.Head) argument = nat_lt (number_at argument 4) 19
-is_address (command.Seek _) argument = (number_at argument 0 == 0) && nat_lt (number_at argument 2) 404 && nat_lt (number_at argument 4) 19
+is_address (command.Seek seek.Head) argument = nat_lt (number_at argument 4) HEADS
+is_address (command.Seek _) argument =
+    (number_at argument 0 == 0)
+    && nat_lt (number_at argument 2) CYLINDERS
+    && nat_lt (number_at argument 4) HEADS
 is_address _ argument = true
 
 -- the command, where it passes the checks, and else what the first that fails gives; sense alone needs no volume

@@ -5,6 +5,7 @@ ghost use Rattle.ckd_plain.specs.Checks.{number_at, is_seek_allowed, is_write_al
 
 use crate::host::{HostState, Prior};
 use crate::unit_check::UnitCheck;
+use mss_base::{CYLINDERS, HEADS};
 use channel_commands::{Command, SeekKind, WriteKind, command_of, least};
 
 /// The number in the two bytes at `place`.
@@ -55,11 +56,11 @@ fn is_address(command: Command, argument: &[u8]) -> bool
     ensures { result ≡ is_address command argument.now }
 {
     match command {
-        Command::Seek(SeekKind::Head) => number_at(argument, 4) < 19,
+        Command::Seek(SeekKind::Head) => number_at(argument, 4) < u16::from(HEADS),
         Command::Seek(_) => {
             number_at(argument, 0) == 0
-                && number_at(argument, 2) < 404
-                && number_at(argument, 4) < 19
+                && number_at(argument, 2) < CYLINDERS
+                && number_at(argument, 4) < u16::from(HEADS)
         }
         _ => true,
     }

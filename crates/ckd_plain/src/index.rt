@@ -9,7 +9,7 @@ use crate::found::FoundRecord;
 use crate::host::{HostState, Position};
 use crate::unit_check::{Refusal, UnitCheck};
 use ckd_track::Track;
-use mss_base::Head;
+use mss_base::{HEADS, Head};
 
 /// How many tracks a command may look at.
 const LOOKS: u8 = 20;
@@ -86,7 +86,7 @@ fn record_at<'a>(track: &'a Track, host: &HostState, number: usize) -> Option<Fo
 
 /// The same, on the tracks of a cylinder.
 fn record_under<'a>(tracks: &'a [Track], host: &HostState, number: usize) -> Option<FoundRecord<'a>>
-    requires { length tracks.now ≡ 19 }
+    requires { length tracks.now ≡ HEADS }
     ensures item { IsRecordAt number host.now result
         (record_at (cylinder_of tracks.now host.now.head) host.now number) }
     ensures small { IfSome result (λ _. number ≤ 97) }
@@ -103,7 +103,7 @@ pub fn next_record<'a>(
     first: u8,
     multi: bool,
 ) -> Result<FoundRecord<'a>, Refusal>
-    requires cylinder { length tracks.now ≡ 19 }
+    requires cylinder { length tracks.now ≡ HEADS }
     ensures found { Gives found_of result
         (next_record (cylinder_of tracks.now) from.now first multi) }
     ensures counted { IfOk result (λ found. HasCount (item_of found)) }
@@ -152,7 +152,7 @@ pub fn this_or_next<'a>(
     at_hand: Option<u8>,
     multi: bool,
 ) -> Result<FoundRecord<'a>, Refusal>
-    requires cylinder { length tracks.now ≡ 19 }
+    requires cylinder { length tracks.now ≡ HEADS }
     ensures found { Gives found_of result
         (this_or_next at_hand (cylinder_of tracks.now) host.now multi) }
     ensures counted { IfOk result (λ found. HasCount (item_of found)) }

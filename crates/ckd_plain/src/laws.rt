@@ -1,6 +1,6 @@
 //! Laws of histories and of commands, for the layers that keep a history or run commands elsewhere, and what follows
 //! from the definition of the plain machine, for its reader. A function calls a law to have it in its proof.
-ghost use Rattle.std.specs.Prelude.{◌≡◌, ◌≢◌, ◌+◌, ◌≤◌, ℕ, Bool, true, false, List, [], ◌∷◌, ◌++◌, IsSome, if◌then◌else◌};
+ghost use Rattle.std.specs.Prelude.{◌≡◌, ◌≢◌, ◌+◌, ◌≤◌, ◌<◌, ℕ, Bool, true, false, List, [], ◌∷◌, ◌++◌, IsSome, if◌then◌else◌};
 ghost use Rattle.channel_commands.specs.Data.{CallData, command, done, equipment_check, no_space, stopped};
 ghost use Rattle.ckd_track.specs.Data.{RecordData};
 ghost use Rattle.ckd_plain.specs.Data.{State};
@@ -16,6 +16,7 @@ ghost use Rattle.ckd_plain.specs.Laws.{IsSameFor, IsUnderHead, IsWithinCost, Has
 ghost use Rattle.ckd_plain.specs.Plain.{UNIT_CHECK, sense_of, no_sense, keeps_sense, opened, performed, run, plain, NeedsNoTrack, responded, there_for, with_response};
 
 use crate::unit_check::UnitCheck;
+use mss_base::HEADS;
 
 /// A legal history goes on by an entry that may come next.
 pub fn legal_goes_on()
@@ -75,7 +76,7 @@ pub fn stopped_entry_is_next()
 /// The definition looks at twenty tracks for the next record; more looks find the same.
 pub fn twenty_looks_suffice()
     ensures { (more : ℕ) (tracks : Tracks) (host : HostState) (first : ℕ) (multi : Bool)
-        → host.head ≤ 18
+        → host.head < HEADS
         → next_within (20 + more) tracks host first multi ≡ next_record tracks host first multi }
 {}
 

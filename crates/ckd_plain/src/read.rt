@@ -11,7 +11,7 @@ use crate::index::{this_or_next, to_home};
 use crate::trouble::Trouble;
 use channel_commands::ReadWhat;
 use ckd_track::Track;
-use mss_base::{Bytes, NoMemory};
+use mss_base::{Bytes, HEADS, NoMemory};
 use std::alloc::Global;
 
 /// The bytes of both.
@@ -122,7 +122,7 @@ fn read_record(
     what: ReadWhat,
     multi: bool,
 ) -> Result<DoneCommand, Trouble>
-    requires cylinder { length tracks.now ≡ 19 }
+    requires cylinder { length tracks.now ≡ HEADS }
     requires no_home { what ≢ ReadWhat.Home }
     requires no_zero { what ≢ ReadWhat.RecordZero }
     ensures { GivesUnless effect_of result (read (cylinder_of tracks.now) host.now what multi) }
@@ -142,7 +142,7 @@ pub fn read(
     what: ReadWhat,
     multi: bool,
 ) -> Result<DoneCommand, Trouble>
-    requires cylinder { length tracks.now ≡ 19 }
+    requires cylinder { length tracks.now ≡ HEADS }
     ensures { GivesUnless effect_of result (read (cylinder_of tracks.now) host.now what multi) }
 {
     match what {

@@ -17,7 +17,7 @@ use crate::trouble::Trouble;
 use crate::write::write;
 use channel_commands::{Command, Reply, WriteKind};
 use ckd_track::Track;
-use mss_base::NoMemory;
+use mss_base::{HEADS, NoMemory};
 use std::alloc::Global;
 
 /// A write on the host's track among those of its cylinder.
@@ -29,7 +29,7 @@ fn write_under(
     kind: WriteKind,
     argument: &[u8],
 ) -> Result<DoneCommand, Trouble>
-    requires cylinder { length tracks.old ≡ 19 }
+    requires cylinder { length tracks.old ≡ HEADS }
     requires long { least (Command.Write kind) ≤ length argument.now }
     requires permitted { IsTrue (is_prior_permitted left (Command.Write kind)) }
     ensures { GivesEffect host.now tracks.old tracks.new result
@@ -52,7 +52,7 @@ fn outcome(
     command: Command,
     argument: &[u8],
 ) -> Result<DoneCommand, Trouble>
-    requires cylinder { length tracks.old ≡ 19 }
+    requires cylinder { length tracks.old ≡ HEADS }
     requires long { least command ≤ length argument.now }
     requires address { IsTrue (is_address command argument.now) }
     requires permitted { IsTrue (is_prior_permitted left command) }
@@ -79,7 +79,7 @@ fn performed(
     argument: &[u8],
     chained: bool,
 ) -> Result<Reply, NoMemory>
-    requires cylinder { length tracks.old ≡ 19 }
+    requires cylinder { length tracks.old ≡ HEADS }
     requires passes { Passes host.old command argument.now }
     ensures answer { IfOk result (Answers
         (performed (cylinder_of tracks.old) host.old command argument.now chained)
@@ -95,7 +95,7 @@ fn performed(
     }
 }
 
-/// A command on the 19 tracks of the host's cylinder.
+/// A command on the tracks of the host's cylinder.
 ///
 /// After want of memory the host and the tracks are as they were.
 #[tactic(auto, unfolding(crate::specs::Plain::run))]
@@ -107,7 +107,7 @@ pub fn run_command(
     argument: &[u8],
     chained: bool,
 ) -> Result<Reply, NoMemory>
-    requires cylinder { length tracks.old ≡ 19 }
+    requires cylinder { length tracks.old ≡ HEADS }
     ensures answer { IfOk result (Answers
         (run (cylinder_of tracks.old) host.old code argument.now chained)
         host.old tracks.old tracks.new host.new) }

@@ -11,7 +11,7 @@ use crate::index::{next_record, this_or_next, to_home};
 use crate::unit_check::Refusal;
 use channel_commands::{Command, SearchField, SearchTest};
 use ckd_track::Track;
-use mss_base::Bytes;
+use mss_base::{Bytes, HEADS};
 use std::alloc::Global;
 use std::cmp::Ordering;
 
@@ -117,7 +117,7 @@ fn search_id(
     multi: bool,
     argument: &[u8],
 ) -> Result<DoneCommand, Refusal>
-    requires cylinder { length tracks.now ≡ 19 }
+    requires cylinder { length tracks.now ≡ HEADS }
     requires long { 5 ≤ length argument.now }
     ensures { Gives effect_of result
         (search (cylinder_of tracks.now) host.now SearchField.Id test multi argument.now) }
@@ -147,7 +147,7 @@ fn search_key(
     multi: bool,
     argument: &[u8],
 ) -> Result<DoneCommand, Refusal>
-    requires cylinder { length tracks.now ≡ 19 }
+    requires cylinder { length tracks.now ≡ HEADS }
     ensures { Gives effect_of result
         (search (cylinder_of tracks.now) host.now SearchField.Key test multi argument.now) }
 {
@@ -168,7 +168,7 @@ pub fn search(
     multi: bool,
     argument: &[u8],
 ) -> Result<DoneCommand, Refusal>
-    requires cylinder { length tracks.now ≡ 19 }
+    requires cylinder { length tracks.now ≡ HEADS }
     requires long { least (Command.Search field test multi) ≤ length argument.now }
     ensures { Gives effect_of result
         (search (cylinder_of tracks.now) host.now field test multi argument.now) }

@@ -12,7 +12,7 @@ pub enum UnitCheck {
     EquipmentCheck,
     /// A new record would cost more than its track has.
     InvalidTrackFormat,
-    /// A multi-track command passed the index of head 18.
+    /// A multi-track command passed the index of the last head.
     EndOfCylinder,
     /// The second pass of the index, or a record that isn't there.
     NoRecordFound,

@@ -9,11 +9,11 @@ use crate::host::HostState;
 use crate::run::run_command;
 use channel_commands::Reply;
 use ckd_track::{Records, Track};
-use mss_base::{Cylinder, Head, NoMemory, Serial};
+use mss_base::{CYLINDERS, Cylinder, HEADS, Head, NoMemory, Serial};
 use std::alloc::Global;
 use std::marker::Model;
 
-/// The 19 tracks of a cylinder.
+/// The tracks of a cylinder, one a head.
 #[derive(Drop)]
 pub struct CylinderTracks {
     tracks: Vec<Track>,
@@ -21,22 +21,23 @@ pub struct CylinderTracks {
 
 impl Model for CylinderTracks {
     ghost use Rattle.std.specs.Prelude.{◌≡◌, List, length};
+    ghost use Rattle.mss_base.specs.declared.numbers.TheConstants.{HEADS};
     ghost use Rattle.ckd_track.specs.Data.{RecordData};
 
     ghost Value = { List (List RecordData) };
 
     ghost view = { λ c. c.tracks.items };
 
-    ghost invariant = { λ c. length c.tracks.items ≡ 19 };
+    ghost invariant = { λ c. length c.tracks.items ≡ HEADS };
 }
 
 impl CylinderTracks {
-    /// 19 tracks without records.
+    /// Tracks without records.
     pub fn blank(alloc: Global) -> Result<CylinderTracks, NoMemory>
-        ensures { IfOk result (λ c. c ≡ replicate 19 []) }
+        ensures { IfOk result (λ c. c ≡ replicate HEADS []) }
     {
         let mut tracks = Vec::new(alloc);
-        for _ in 0..19usize {
+        for _ in 0..HEADS {
             tracks.push(Track {
                 records: Records::new(alloc),
             })?;
@@ -92,10 +93,10 @@ impl PlainVolume {
     /// A volume without records.
     pub fn blank(alloc: Global, serial: Serial) -> Result<PlainVolume, NoMemory>
         ensures serial { IfOk result (λ v. v.serial ≡ serial) }
-        ensures cylinders { IfOk result (λ v. v.cylinders ≡ replicate 404 (replicate 19 [])) }
+        ensures cylinders { IfOk result (λ v. v.cylinders ≡ replicate CYLINDERS (replicate HEADS [])) }
     {
         let mut cylinders = Vec::new(alloc);
-        for _ in 0..404usize {
+        for _ in 0..CYLINDERS {
             cylinders.push(CylinderTracks::blank(alloc)?)?;
         }
         Ok(PlainVolume { serial, cylinders })

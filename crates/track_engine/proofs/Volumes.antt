@@ -1,11 +1,12 @@
 -- A host keeps its volume on its way past the index and to the home address.
 use Rattle.std.proofs.Common.{◌≡◌, ℕ, Bool, true, false, ◌==◌, Option, Result, Ok, Err, refl, ap, ◌∙◌}
-use Rattle.std.specs.Prelude.{bit_and, MatchResult}
+use Rattle.std.specs.Prelude.{◌+◌, bit_and, MatchResult}
 use Rattle.std.proofs.lemmas.Bool.{cond_both}
 use Rattle.ckd_plain.specs.declared.host.HostState.{HostState}
 use Rattle.ckd_plain.specs.declared.unit_check.Refusal.{Refusal}
 use Rattle.ckd_plain.specs.declared.host.Position.{Position}
 use Rattle.ckd_plain.specs.declared.host.Position.TheVariants as position
+use Rattle.mss_base.specs.declared.numbers.TheConstants.{HEADS}
 use Rattle.ckd_plain.specs.Index.{pass_index, home_from, to_home}
 
 -- the volume of the host that is left
@@ -17,7 +18,7 @@ volume_left-pass_index : (host : HostState) (multi : Bool) → volume_left (pass
 unfolding pass_index
 volume_left-pass_index host true =
     cond_both (bit_and host.mask 0x18 == 0x18) _ _ (λ (r : Result HostState Refusal). volume_left r ≡ host.mounted) (λ _. refl)
-    (λ _. cond_both (host.head == 18) _ _ (λ (r : Result HostState Refusal). volume_left r ≡ host.mounted) (λ _. refl) (λ _. refl))
+    (λ _. cond_both (host.head + 1 == HEADS) _ _ (λ (r : Result HostState Refusal). volume_left r ≡ host.mounted) (λ _. refl) (λ _. refl))
 volume_left-pass_index host false = cond_both (host.passes == 0) _ _ (λ (r : Result HostState Refusal). volume_left r ≡ host.mounted) (λ _. refl) (λ _. refl)
 
 -- where the index was passed, and where that ended the command

@@ -17,7 +17,7 @@ use crate::place::{CylinderPlace, EngineFault, NotDone};
 use ckd_plain::steps::{FoundRecord, candidate, pass_index, to_home};
 use ckd_plain::{HostState, Refusal, UnitCheck};
 use ckd_track::find_record;
-use mss_base::{BLOCK_BYTES, Failed, Head, Site};
+use mss_base::{BLOCK_BYTES, Failed, HEADS, Head, Site};
 
 /// How many tracks a command may look at.
 const LOOKS: u8 = 20;
@@ -37,7 +37,7 @@ pub fn bring_block<S: Site>(
     head: Head,
 ) -> Result<(), EngineFault>
     requires buffer { length buffer.old ≡ BLOCK_BYTES }
-    requires place { place.now.first_block + 18 < 2 ^ 32 }
+    requires place { place.now.first_block + HEADS ≤ 2 ^ 32 }
     ensures block { S.tells → OnOk result (IsBlockOn (S.told site.old) place.now head buffer.new) }
     ensures reads { OnlyReads S.tells S.told S.spare S.writes S.faults S.never_fails_but
         site.old site.new }
@@ -102,7 +102,7 @@ fn pass<S: Site>(
     multi: bool,
 ) -> Result<HostState, NotDone>
     requires buffer { length buffer.old ≡ BLOCK_BYTES }
-    requires place { place.now.first_block + 18 < 2 ^ 32 }
+    requires place { place.now.first_block + HEADS ≤ 2 ^ 32 }
     ensures passed { GivesBut (λ passed. passed) result (pass_index host.now multi) }
     ensures block { S.tells → IsBlockOn (S.told site.old) place.now host.now.head buffer.old
         → IfOk result (λ passed. IsBlockOn (S.told site.old) place.now passed.head buffer.new) }
@@ -131,7 +131,7 @@ pub fn next_record<S: Site>(
     multi: bool,
 ) -> Result<RecordPlace, NotDone>
     requires buffer { length buffer.old ≡ BLOCK_BYTES }
-    requires place { place.now.first_block + 18 < 2 ^ 32 }
+    requires place { place.now.first_block + HEADS ≤ 2 ^ 32 }
     ensures found { S.tells → GivesBut (found_at buffer.new) result
         (next_record (tracks_on (S.told site.old) place.now) from.now first multi) }
     ensures there { IfOk result (λ at. at.number ≤ length (reading buffer.new).records) }
@@ -191,7 +191,7 @@ pub fn this_or_next<S: Site>(
     multi: bool,
 ) -> Result<RecordPlace, NotDone>
     requires buffer { length buffer.old ≡ BLOCK_BYTES }
-    requires place { place.now.first_block + 18 < 2 ^ 32 }
+    requires place { place.now.first_block + HEADS ≤ 2 ^ 32 }
     ensures found { S.tells → GivesBut (found_at buffer.new) result
         (this_or_next at_hand (tracks_on (S.told site.old) place.now) host.now multi) }
     ensures there { IfOk result (λ at. at.number ≤ length (reading buffer.new).records) }

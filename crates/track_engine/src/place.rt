@@ -5,9 +5,9 @@ ghost use Rattle.track_engine.specs.declared.place.NotDone.TheVariants.{Refused,
 ghost use Rattle.track_engine.specs.declared.place.EngineFault.TheVariants.{Memory};
 
 use ckd_plain::Refusal;
-use mss_base::{BlockPlace, Head, NoMemory, UnitNo};
+use mss_base::{BlockPlace, HEADS, Head, NoMemory, UnitNo};
 
-/// The blocks of a cylinder: that of head 0, and the 18 behind it.
+/// The blocks of a cylinder: that of head 0, and those of the other heads behind it.
 #[derive(Clone, Copy, Debug, PartialEq, Eq)]
 pub struct CylinderPlace {
     pub unit: UnitNo,
@@ -56,13 +56,13 @@ impl From<NoMemory> for NotDone {
 impl CylinderPlace {
     /// The block of a head.
     pub fn block_of(&self, head: Head) -> BlockPlace
-        requires { self.now.first_block + 18 < 2 ^ 32 }
+        requires { self.now.first_block + HEADS ≤ 2 ^ 32 }
         ensures value { result ≡ record {
           unit = self.now.unit;
           block = self.now.first_block +
               head;
         } }
-        ensures in_range { head ≤ 18 }
+        ensures in_range { head < HEADS }
     {
         BlockPlace {
             unit: self.unit,

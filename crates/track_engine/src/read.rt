@@ -1,5 +1,5 @@
 // Reads.
-ghost use Rattle.std.specs.Prelude.{◌≡◌, ◌≢◌, ◌<◌, ◌+◌, ◌^◌, length, IfOk, IfErr, Bool, true, false};
+ghost use Rattle.std.specs.Prelude.{◌≤◌, ◌≡◌, ◌≢◌, ◌<◌, ◌+◌, ◌^◌, length, IfOk, IfErr, Bool, true, false};
 ghost use Rattle.mss_base.specs.Content.{content};
 ghost use Rattle.mss_base.specs.Sites.{OnlyReads};
 ghost use Rattle.mss_base.specs.declared.place.UnitNo.{UnitNo};
@@ -14,7 +14,7 @@ use crate::place::{CylinderPlace, NotDone};
 use channel_commands::ReadWhat;
 use ckd_plain::HostState;
 use ckd_plain::steps::{DoneCommand, at_hand, home_read, record_zero_read};
-use mss_base::{BLOCK_BYTES, Site};
+use mss_base::{BLOCK_BYTES, HEADS, Site};
 use std::alloc::Global;
 
 /// A read of a record.
@@ -29,7 +29,7 @@ fn read_record<S: Site>(
     multi: bool,
 ) -> Result<DoneCommand, NotDone>
     requires buffer { length buffer.old ≡ BLOCK_BYTES }
-    requires place { place.now.first_block + 18 < 2 ^ 32 }
+    requires place { place.now.first_block + HEADS ≤ 2 ^ 32 }
     requires no_home { what ≢ ReadWhat.Home }
     requires no_zero { what ≢ ReadWhat.RecordZero }
     ensures done { S.tells → GivesBut effect_of result
@@ -59,7 +59,7 @@ pub fn read<S: Site>(
     multi: bool,
 ) -> Result<DoneCommand, NotDone>
     requires buffer { length buffer.old ≡ BLOCK_BYTES }
-    requires place { place.now.first_block + 18 < 2 ^ 32 }
+    requires place { place.now.first_block + HEADS ≤ 2 ^ 32 }
     ensures done { S.tells → GivesBut effect_of result
         (read (tracks_on (S.told site.old) place.now) host.now what multi) }
     ensures volume { KeepsVolume (λ done. done.host) host.now.mounted result }

@@ -26,7 +26,7 @@ use crate::write::{write_count_key_data, write_data};
 use channel_commands::{Command, Reply, SearchField, WriteKind};
 use ckd_plain::steps::{DoneCommand, cleared, finished, opened, refused};
 use ckd_plain::{HostState, Prior};
-use mss_base::{BLOCK_BYTES, Site};
+use mss_base::{BLOCK_BYTES, HEADS, Site};
 use std::alloc::Global;
 
 /// A search or a read.
@@ -41,7 +41,7 @@ fn look<S: Site>(
     argument: &[u8],
 ) -> Result<DoneCommand, NotDone>
     requires buffer { length buffer.old ≡ BLOCK_BYTES }
-    requires place { place.now.first_block + 18 < 2 ^ 32 }
+    requires place { place.now.first_block + HEADS ≤ 2 ^ 32 }
     requires long { least command ≤ length argument.now }
     requires data { is_data command ≡ true }
     requires reads { is_write command ≡ false }
@@ -80,7 +80,7 @@ fn carry_out<S: Site>(
     argument: &[u8],
 ) -> Result<DoneCommand, NotDone>
     requires buffer { length buffer.old ≡ BLOCK_BYTES }
-    requires place { place.now.first_block + 18 < 2 ^ 32 }
+    requires place { place.now.first_block + HEADS ≤ 2 ^ 32 }
     requires long { least command ≤ length argument.now }
     requires permitted { IsTrue (is_prior_permitted left command) }
     requires data { is_data command ≡ true }
@@ -134,7 +134,7 @@ fn run<S: Site>(
     host: &mut HostState,
 ) -> Result<Reply, EngineFault>
     requires buffer { length buffer.old ≡ BLOCK_BYTES }
-    requires place { place.now.first_block + 18 < 2 ^ 32 }
+    requires place { place.now.first_block + HEADS ≤ 2 ^ 32 }
     requires passes { Passes (opened host.old) command.now argument.now }
     requires data { is_data command.now ≡ true }
     requires tracks { S.tells → AreTracksOn (S.told site.old) place.now }
@@ -196,7 +196,7 @@ pub fn run_command<S: Site>(
     host: &mut HostState,
 ) -> Result<Reply, EngineFault>
     requires buffer { length buffer.old ≡ BLOCK_BYTES }
-    requires place { place.now.first_block + 18 < 2 ^ 32 }
+    requires place { place.now.first_block + HEADS ≤ 2 ^ 32 }
     requires passes { Passes (opened host.old) command.now argument.now }
     requires data { is_data command.now ≡ true }
     requires tracks { S.tells → AreTracksOn (S.told site.old) place.now }

@@ -17,7 +17,7 @@ use crate::place::{CylinderPlace, NotDone};
 use channel_commands::SearchTest;
 use ckd_plain::steps::{DoneCommand, home_searched, key_at_hand};
 use ckd_plain::{HostState, Refusal};
-use mss_base::{BLOCK_BYTES, Site};
+use mss_base::{BLOCK_BYTES, HEADS, Site};
 use std::alloc::Global;
 
 /// Search home address equal.
@@ -52,7 +52,7 @@ pub fn search_id<S: Site>(
     argument: &[u8],
 ) -> Result<DoneCommand, NotDone>
     requires buffer { length buffer.old ≡ BLOCK_BYTES }
-    requires place { place.now.first_block + 18 < 2 ^ 32 }
+    requires place { place.now.first_block + HEADS ≤ 2 ^ 32 }
     requires long { 5 ≤ length argument.now }
     ensures done { S.tells → GivesBut effect_of result
         (search (tracks_on (S.told site.old) place.now) host.now SearchField.Id test multi
@@ -82,7 +82,7 @@ pub fn search_key<S: Site>(
     argument: &[u8],
 ) -> Result<DoneCommand, NotDone>
     requires buffer { length buffer.old ≡ BLOCK_BYTES }
-    requires place { place.now.first_block + 18 < 2 ^ 32 }
+    requires place { place.now.first_block + HEADS ≤ 2 ^ 32 }
     ensures done { S.tells → GivesBut effect_of result
         (search (tracks_on (S.told site.old) place.now) host.now SearchField.Key test multi
         argument.now) }
