@@ -1,0 +1,3 @@
+pub mod CopyFacts
+pub mod ExitFacts
+pub mod DueFacts
