@@ -1,0 +1,2 @@
+pub mod Choosers
+pub mod Order
