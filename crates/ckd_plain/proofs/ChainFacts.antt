@@ -2,7 +2,7 @@
 use Rattle.std.proofs.Common.{◌≡◌, ℕ, Bool, true, false, refl, sym, subst, inl, inr}
 use Rattle.std.specs.Prelude.{◌==◌, ◌&&◌, not}
 use Rattle.std.proofs.lemmas.Bool.Decides.{eqb_tells}
-use Rattle.channel_commands.specs.Data.{ReplyData, done, has_trouble}
+use Rattle.channel_commands.specs.Data.{ReplyData, has_trouble}
 use Rattle.channel_commands.specs.declared.command.Command.{Command}
 use Rattle.ckd_plain.specs.declared.host.HostState.{HostState}
 use Rattle.ckd_plain.specs.Effects.{Effect, END_OF_FILE, is_ending}

@@ -1,6 +1,6 @@
 -- Which entries may come next, and what they leave.
 use Rattle.std.proofs.Common.{◌≡◌, ℕ, ◌+◌, Bool, true, false, cond, List, None, Result, Ok, Err, refl, sym, ap, subst, ◌∙◌}
-use Rattle.std.specs.Prelude.{IsSome, is_some, not}
+use Rattle.std.specs.Prelude.{IsSome, is_some}
 use Rattle.channel_commands.specs.declared.call.BreakCause.TheVariants as cause
 use Rattle.channel_commands.specs.declared.command.Command.{Command}
 use Rattle.channel_commands.specs.Data.{CallData, mount, demount, command, break, ReplyData, done, mounted, demounted, already_mounted, not_mounted, no_volume, in_chain, program_check, chain_limit, equipment_check, no_space, stopped}
@@ -10,7 +10,7 @@ use Rattle.ckd_plain.specs.declared.unit_check.UnitCheck.TheVariants as check
 use Rattle.ckd_plain.specs.Data.{State}
 use Rattle.ckd_plain.specs.Index.{Tracks}
 use Rattle.ckd_plain.specs.Effects.{Outcome}
-use Rattle.ckd_plain.specs.Plain.{Replied, opened, answered, performed, judged, run, plain, responded}
+use Rattle.ckd_plain.specs.Plain.{opened, answered, performed, judged, run, plain, responded}
 use Rattle.ckd_plain.specs.History.{EntryData, IsAnswered, IsNextEntry, IsAlone, IsDataCommand, IsWriteCommand, keeps_fault, excepted, left_by, next}
 
 -- ---- the plain machine gives no exception

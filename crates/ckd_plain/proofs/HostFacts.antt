@@ -1,6 +1,6 @@
 -- A call sees the volumes and its own host, and leaves the other hosts.
-use Rattle.std.proofs.Common.{◌≡◌, ◌≢◌, ℕ, Bool, true, false, cond, None, refl, sym, ap, ◌∙◌, inl, inr}
-use Rattle.std.specs.Prelude.{◌==◌, not, is_some}
+use Rattle.std.proofs.Common.{◌≡◌, ◌≢◌, ℕ, cond, refl, sym, ap, ◌∙◌, inl, inr}
+use Rattle.std.specs.Prelude.{◌==◌}
 use Rattle.std.proofs.lemmas.Bool.Decides.{eqb_tells}
 use Rattle.channel_commands.specs.Data.{CallData, mount, demount, command, break, ReplyData}
 use Rattle.ckd_plain.specs.declared.host.HostState.{HostState}

@@ -1,5 +1,5 @@
 -- What a write needs and what it is answered.
-use Rattle.std.proofs.Common.{◌≡◌, ◌⊎◌, inl, inr, ℕ, Bool, true, false, cond, List, [], ◌∷◌, ◌++◌, take, Option, Some, None, Result, Ok, Err, refl, sym, ap, ◌∙◌}
+use Rattle.std.proofs.Common.{◌≡◌, inl, inr, ℕ, Bool, true, false, List, [], ◌∷◌, ◌++◌, take, Result, Ok, Err, refl, sym, ap, ◌∙◌}
 use Rattle.std.proofs.lemmas.Bool.{cases_Bool, cond-true, cond-false}
 use Rattle.channel_commands.specs.Codes.{is_write}
 use Rattle.channel_commands.specs.declared.command.Command.{Command}
@@ -12,10 +12,10 @@ use Rattle.ckd_plain.specs.declared.host.Prior.{Prior}
 use Rattle.ckd_plain.specs.declared.host.Prior.TheVariants as prior
 use Rattle.ckd_plain.specs.declared.unit_check.Refusal.{Refusal}
 use Rattle.ckd_plain.specs.Checks.{◌>>=◌, is_prior_permitted, Passes}
-use Rattle.ckd_plain.specs.Effects.{Effect, Outcome, prior_number, with_body, with_key_body, new_record, updated, fits, formatted, write_, effect}
+use Rattle.ckd_plain.specs.Effects.{Outcome, prior_number, new_record, fits, formatted, write_, effect}
 use Rattle.ckd_plain.specs.Index.{Tracks, Found, same_record}
 use Rattle.ckd_plain.specs.Laws.{HasNoBytes}
-use Rattle.ckd_plain.specs.Plain.{opened, cleared, answered, performed}
+use Rattle.ckd_plain.specs.Plain.{opened, answered, performed}
 
 -- ---- the reply has no bytes
 

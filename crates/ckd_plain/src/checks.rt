@@ -5,8 +5,8 @@ ghost use Rattle.ckd_plain.specs.Checks.{number_at, is_seek_allowed, is_write_al
 
 use crate::host::{HostState, Prior};
 use crate::unit_check::UnitCheck;
-use mss_base::{CYLINDERS, HEADS};
 use channel_commands::{Command, SeekKind, WriteKind, command_of, least};
+use mss_base::{CYLINDERS, HEADS};
 
 /// The number in the two bytes at `place`.
 pub fn number_at(argument: &[u8], place: usize) -> u16

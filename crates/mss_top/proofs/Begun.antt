@@ -1,5 +1,5 @@
 -- A session that begins.
-use Rattle.std.proofs.Common.{◌≡◌, inl, inr, ℕ, ◌==◌, [], length, None, refl, sym, ◌∙◌, ap, arith}
+use Rattle.std.proofs.Common.{◌≡◌, inl, inr, ℕ, ◌==◌, length, refl, sym, ◌∙◌, ap, arith}
 use Rattle.std.proofs.Math.Path.{fun_ext}
 use Rattle.std.proofs.lemmas.Bool.{cond-true, cond-false, cases_Bool}
 use Rattle.mss_base.specs.Content.{SiteLog, content}
@@ -7,12 +7,8 @@ use Rattle.ckd_plain.specs.declared.host.HostState.{HostState}
 use Rattle.ckd_plain.specs.Data.{State}
 use Rattle.ckd_plain.specs.Plain.{start_of, fresh_host}
 use Rattle.mss_top.specs.Direct.{direct}
-use Rattle.mss_top.specs.Session.{SessionData, Serials, opening, present, hosts_with, AreAllTracks, IsSession}
+use Rattle.mss_top.specs.Session.{Serials, opening, present, hosts_with, AreAllTracks, IsSession, begun}
 use Rattle.mss_top.proofs.SessionLemmas.{opening_at_start}
-
--- a session without entries
-abbrev pub begun : ℕ → ℕ → SessionData
-begun writes faults = record { history = []; marks = []; first_write = writes; first_faults = faults; stopped = None }
 
 present_fresh : (serials : Serials) (number : ℕ) (site : SiteLog) → start_of (direct serials (content site)) ≡ present serials number (content site) fresh_host
 present_fresh serials number site = ap (λ (f : ℕ → HostState). let w : State = record { volumes = direct serials (content site); host = f } in w) (fun_ext at)

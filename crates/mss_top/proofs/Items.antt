@@ -1,7 +1,7 @@
 -- A script that is under way.
-use Rattle.std.proofs.Common.{◌≡◌, ◌<◌, ◌≤◌, ℕ, ◌+◌, true, false, List, [], ◌∷◌, ◌++◌, length, take, get_or, refl, sym, ◌∙◌, ap, subst, arith}
+use Rattle.std.proofs.Common.{◌≡◌, ◌<◌, ◌≤◌, ℕ, true, List, [], ◌∷◌, ◌++◌, length, take, get_or, refl, ◌∙◌, ap, arith}
 use Rattle.channel_commands.specs.Data.{CallData}
-use Rattle.channel_program.specs.Script.{ItemData, Exchange, FollowsToEnd}
+use Rattle.channel_program.specs.Script.{ItemData, FollowsToEnd}
 use Rattle.channel_program.specs.Items.{Asks}
 use Rattle.channel_program.proofs.ItemFacts.{gives_call, item_begun, item_left}
 use Rattle.ckd_plain.specs.History.{EntryData}

@@ -7,6 +7,7 @@ pub mod Admitted
 pub mod EventLemmas
 pub mod WholeEvents
 pub mod Entered
+pub mod CallLemmas
 pub mod Running
 pub mod Begun
 pub mod Items

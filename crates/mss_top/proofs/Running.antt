@@ -1,7 +1,8 @@
 -- A program that is under way.
-use Rattle.std.proofs.Common.{◌≡◌, ◌≤◌, ◌<◌, ℕ, ◌+◌, ◌-◌, Bool, true, false, List, [], ◌∷◌, ◌++◌, length, Option, Some, None, refl, sym, ◌∙◌, ap, subst, arith, vec_len, length-append}
+use Rattle.std.proofs.Common.{◌≡◌, ◌<◌, ℕ, ◌+◌, ◌-◌, Bool, true, false, List, [], ◌∷◌, ◌++◌, length, Option, Some, None, refl, sym, ◌∙◌, ap, subst, arith, vec_len, length-append}
 use Rattle.std.specs.Prelude.{slice_get, option_map, is_some, not}
 use Rattle.mss_base.specs.Content.{SiteLog}
+use Rattle.mss_base.specs.Sites.{FailingReads}
 use Rattle.channel_commands.specs.Data.{CallData, is_command, ReplyData, CcwData}
 use Rattle.channel_program.specs.declared.cursor.Cursor.{Cursor}
 use Rattle.channel_program.specs.Views.{standing_of}
@@ -11,18 +12,19 @@ use Rattle.channel_program.proofs.ProgramFacts.{HasRun, run_goes_on, gives_since
 use Rattle.ckd_plain.specs.History.{EntryData}
 use Rattle.mss_top.specs.Session.{SessionData, Continues}
 use Rattle.mss_top.specs.Sessions.{session_data}
+use Rattle.mss_top.specs.Calls.{MakesCalls}
 use Rattle.mss_top.specs.Machines.{Keeps}
 use Rattle.mss_top.specs.Scripts.{exchange, exchanges, last_reply, SameBeginning, GivesSession}
 use Rattle.mss_top.specs.declared.machine.Machine.{Machine}
 use Rattle.mss_top.proofs.SessionLemmas.{get_last}
 
 -- what a machine keeps over several calls
-pub record IsGoingOn (S : Type 0) (tells : Type 0) (told : S → SiteLog) (faults : S → ℕ) (begun now : Machine S) : Type 0 where
+pub record IsGoingOn (S : Type 0) (tells : Type 0) (told : S → SiteLog) (spare writes faults : S → ℕ) (never_fails_but : FailingReads S) (begun now : Machine S) : Type 0 where
   pub keeps : Keeps tells (told now.site) (faults now.site) now
   pub going : now.session.stopped ≡ None
   pub beginning : SameBeginning (session_data begun.session) (session_data now.session)
   pub continues : tells → Continues (told begun.site) (told now.site)
-  pub later : faults begun.site ≤ faults now.site
+  pub calls : MakesCalls spare writes faults never_fails_but begun now
   pub volumes : now.volumes ≡ begun.volumes
   pub number : now.number ≡ begun.number
   pub buffer : vec_len now.buffer ≡ 16384

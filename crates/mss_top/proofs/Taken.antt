@@ -1,5 +1,5 @@
 -- The text of the input: what is taken of it, and the line of volumes that aren't taken on.
-use Rattle.std.proofs.Common.{◌≡◌, inl, inr, ℕ, ◌<◌, ◌≤◌, nat_lt, true, false, List, length, take, drop, Result, Ok, Err, IfOk, sym, ◌∙◌, ap, arith}
+use Rattle.std.proofs.Common.{◌≡◌, inl, inr, ℕ, ◌<◌, ◌≤◌, nat_lt, true, false, List, length, take, Result, Ok, Err, IfOk, sym, ◌∙◌, ap, arith}
 use Rattle.std.proofs.lemmas.Bool.{cases_Bool, cond-true}
 use Rattle.std.proofs.lemmas.Bool.Decides.{nat_tests}
 use Rattle.std.proofs.lemmas.List.{take_all, length-take-le}
@@ -9,11 +9,12 @@ use Rattle.job_text.specs.declared.kind.JobKind.TheVariants.{TooBig}
 use Rattle.report_text.specs.declared.one_line.OneLine.{OneLine}
 use Rattle.report_text.specs.declared.one_line.OneLine.TheVariants as line
 use Rattle.mss_top.specs.Admission.{IsTaken}
-use Rattle.mss_base.specs.Content.{Content}
+use Rattle.mss_base.specs.Content.{content}
 use Rattle.mss_top.specs.declared.start.StartFault.{StartFault}
 use Rattle.mss_top.specs.declared.start.StartFault.TheVariants.{TornTrack, Stopped}
 use Rattle.mss_top.specs.declared.start.VolumeFault.{VolumeFault}
-use Rattle.mss_top.specs.Serial.{READ_LIMIT, Admits, IsUnbegun, refusal_by, refusal_of}
+use Rattle.mss_top.specs.Parties.{Stream, Devices}
+use Rattle.mss_top.specs.Serial.{READ_LIMIT, IsRead, Admits, IsUnbegun, refusal_by, refusal_of}
 use Rattle.mss_top.specs.Words.{are_serial}
 use Rattle.mss_top.specs.Start.{IsFirstFault, WalksAll, IsCounted, AreCounted}
 
@@ -52,14 +53,14 @@ taken_alike front text (Err (line.TornTrack volume cylinder head)) same is = abs
 taken_alike front text (Err (line.RestartStopped fault)) same is = absurd is
 
 -- the input's text is taken as what was read of it is
-pub admits : (tells : Type 0) (words : List (List ℕ)) (text left : List ℕ) (before now : ℕ) (front : List ℕ) (r : Result JobData OneLine) → are_serial words ≡ true → (tells → front ≡ take READ_LIMIT text)
-    → (tells → left ≡ drop READ_LIMIT text) → IsTaken front r → Admits tells words text left before now r
-admits tells words text left before now front r command fronts rest is = by_result r (λ t. taken_alike front text r (ap job_of (fronts t) ∙ job_of_front text) is) is
+pub admits : (words : List (List ℕ)) (input : Stream) (front : List ℕ) (r : Result JobData OneLine) → are_serial words ≡ true → (input.tells → front ≡ take READ_LIMIT input.was)
+    → IsRead input → IsTaken front r → Admits words input r
+admits words input front r command fronts rest is = by_result r (λ t. taken_alike front input.was r (ap job_of (fronts t) ∙ job_of_front input.was) is) is
   where
-    by_result : (r : Result JobData OneLine) → (tells → IsTaken text r) → IsTaken front r → Admits tells words text left before now r
+    by_result : (r : Result JobData OneLine) → (input.tells → IsTaken input.was r) → IsTaken front r → Admits words input r
     by_result (Ok job) whole is = record { command = command; text_ = whole; read = rest }
-    by_result (Err (line.JobRefused n kind)) whole is = (command, whole, rest)
-    by_result (Err line.JobRefusedLater) whole is = (command, whole, rest)
+    by_result (Err (line.JobRefused n kind)) whole is = record { command = command; text_ = whole; read = rest }
+    by_result (Err line.JobRefusedLater) whole is = record { command = command; text_ = whole; read = rest }
     by_result (Err line.WantOfMemory) whole is = command
     by_result (Err line.WordsRefused) whole is = absurd is
     by_result (Err line.InputFault) whole is = absurd is
@@ -72,9 +73,9 @@ few_hosts text (Ok job) is = is.hosts
 few_hosts text (Err said) is = tt
 
 -- the line of a walk's fault has the walk's cause
-pub unbegun : (tells : Type 0) (c : Content) (volumes : List (ℕ × List ℕ)) (before now : ℕ) (refused : VolumeFault) → (tells → WalksAll c volumes (Err refused)) → AreCounted before now (Err refused) → IsUnbegun tells c volumes before now (refusal_of refused)
-unbegun tells c volumes before now refused walks counted = by_fault refused.volume refused.fault walks counted
+pub unbegun : (volumes : List (ℕ × List ℕ)) (site : Devices) (refused : VolumeFault) → (site.tells → WalksAll (content site.was) volumes (Err refused)) → AreCounted site.faults_was site.faults_now (Err refused) → IsUnbegun volumes site (refusal_of refused)
+unbegun volumes site refused walks counted = by_fault refused.volume refused.fault walks counted
   where
-    by_fault : (volume : ℕ) (fault : StartFault) → (tells → IsFirstFault c volumes (record { volume = volume; fault = fault })) → IsCounted before now (Err fault) → IsUnbegun tells c volumes before now (refusal_by volume fault)
+    by_fault : (volume : ℕ) (fault : StartFault) → (site.tells → IsFirstFault (content site.was) volumes (record { volume = volume; fault = fault })) → IsCounted site.faults_was site.faults_now (Err fault) → IsUnbegun volumes site (refusal_by volume fault)
     by_fault volume (TornTrack cylinder head) walks counted = walks
     by_fault volume (Stopped fault) walks counted = counted

@@ -9,7 +9,11 @@ use Rattle.mss_top.specs.declared.machine.CallAnswer.TheVariants.{Replied, Stopp
 
 -- the session with an entry and its mark last
 abbrev pub with_entry : SessionData → EntryData → ℕ → Option ℕ → SessionData
-with_entry v e mark stopped = record v { history = v.history ++ e ∷ []; marks = v.marks ++ mark ∷ []; stopped = stopped }
+with_entry v e mark stopped = record v {
+  history = v.history ++ e ∷ [];
+  marks = v.marks ++ mark ∷ [];
+  stopped = stopped;
+}
 
 -- the history got an entry of this host's call
 pub record IsEntered (number : ℕ) (call : CallData) (old new : SessionData) : Type 0 where
@@ -23,7 +27,8 @@ pub record IsEntered (number : ℕ) (call : CallData) (old new : SessionData) : 
 -- what an answer says of the session
 abbrev pub Answers : ℕ → CallData → SessionData → SessionData → CallAnswer → Type 0
 Answers number call old new Replied = IsEntered number call old new × (new.stopped ≡ None)
-Answers number call old new (Stopped fault) = IsEntered number call old new × (new.stopped ≡ Some fault)
+Answers number call old new (Stopped fault) =
+    IsEntered number call old new × (new.stopped ≡ Some fault)
 Answers number call old new Limit = (length old.history ≡ 4096) × (new ≡ old)
 Answers number call old new Memory = new ≡ old
 

@@ -1,10 +1,12 @@
 pub mod Words
+pub mod Parties
 pub mod Direct
 pub mod Start
 pub mod Session
 pub mod Sessions
 pub mod Events
 pub mod Machines
+pub mod Calls
 pub mod Scripts
 pub mod Status
 pub mod Admission

@@ -3,6 +3,7 @@ use Rattle.std.specs.Prelude.{◌≡◌, ◌<◌, ℕ, List, take, slice_get, So
 use Rattle.std.specs.List.{AllByRecursion}
 use Rattle.mss_base.specs.Content.{Content}
 use Rattle.mss_base.specs.Counts.{IsFaultSince}
+use Rattle.mss_base.specs.declared.numbers.TheConstants.{CYLINDERS, HEADS}
 use Rattle.mss_top.specs.Direct.{IsTrackAt, AreTracks, AreTracksBefore}
 use Rattle.mss_top.specs.declared.start.StartFault.{StartFault}
 use Rattle.mss_top.specs.declared.start.VolumeFault.{VolumeFault}
@@ -10,12 +11,13 @@ use Rattle.mss_top.specs.declared.start.StartFault.TheVariants.{TornTrack, Stopp
 
 -- this block is the first, by cylinder and head, that doesn't read as a track
 pub record IsFirstTorn (c : Content) (volume cylinder head : ℕ) : Type 0 where
-  pub on : cylinder < 404
-  pub low : head < 19
+  pub on : cylinder < CYLINDERS
+  pub low : head < HEADS
   pub before : AreTracksBefore c volume cylinder head
   pub torn : IsTrackAt c volume cylinder head → ⊥
 
--- what the walk answers over this content: every block is a track, or the first that is none; of a read that failed the content says nothing
+-- What the walk answers over this content: every block is a track, or the first that is none.
+-- Of a read that failed the content says nothing.
 abbrev pub Walks : Content → ℕ → Result (Unit {0}) StartFault → Type 0
 Walks c volume (Ok _) = AreTracks c volume
 Walks c volume (Err (TornTrack cylinder head)) = IsFirstTorn c volume cylinder head
@@ -29,13 +31,15 @@ IsCounted before now _ = now ≡ before
 -- what a look at one block answers
 abbrev pub Looks : Content → ℕ → ℕ → ℕ → Result (Unit {0}) StartFault → Type 0
 Looks c volume cylinder head (Ok _) = IsTrackAt c volume cylinder head
-Looks c volume cylinder head (Err (TornTrack at_cylinder at_head)) = (at_cylinder ≡ cylinder) × (at_head ≡ head) × (IsTrackAt c volume cylinder head → ⊥)
+Looks c volume cylinder head (Err (TornTrack at_cylinder at_head)) =
+    (at_cylinder ≡ cylinder) × (at_head ≡ head) × (IsTrackAt c volume cylinder head → ⊥)
 Looks c volume cylinder head (Err (Stopped fault)) = Unit {0}
 
 -- what a walk up to this cylinder answers
 abbrev pub WalksTo : Content → ℕ → ℕ → Result (Unit {0}) StartFault → Type 0
 WalksTo c volume cylinder (Ok _) = AreTracksBefore c volume cylinder 0
-WalksTo c volume cylinder (Err (TornTrack at_cylinder at_head)) = IsFirstTorn c volume at_cylinder at_head
+WalksTo c volume cylinder (Err (TornTrack at_cylinder at_head)) =
+    IsFirstTorn c volume at_cylinder at_head
 WalksTo c volume cylinder (Err (Stopped fault)) = Unit {0}
 
 -- each block of these volumes reads as a track

@@ -2,6 +2,7 @@
 use Rattle.std.specs.Prelude.{◌≡◌, ℕ, List, ◌++◌}
 use Rattle.mss_base.specs.Counts.{Rises}
 use Rattle.mss_base.specs.Puts.{PutsFront}
+use Rattle.mss_top.specs.Parties.{Stream}
 use Rattle.mss_top.specs.declared.status.Status.{Status}
 use Rattle.mss_top.specs.declared.status.Status.TheVariants as status
 
@@ -17,8 +18,11 @@ code_of status.Limit = 6
 code_of status.OutputFault = 7
 code_of status.Memory = 8
 
--- What a status tells of its text: that it was put whole, or a front of it, since the sink failed or memory ran out.
-pub data IsPut (tells : Type 0) (due : Status) (text : List ℕ) (before now : ℕ) (old new : List ℕ) (told : Status) : Type 0 where
-  whole : told ≡ due → (tells → new ≡ old ++ text) → IsPut tells due text before now old new told
-  broken : told ≡ status.OutputFault → Rises before now → (tells → PutsFront old new text) → IsPut tells due text before now old new told
-  cut : told ≡ status.Memory → (tells → PutsFront old new text) → IsPut tells due text before now old new told
+-- What a status tells of its text: that it was put whole, or a front of it, since the sink failed
+-- or memory ran out.
+pub data IsPut (due : Status) (text : List ℕ) (sink : Stream) (told : Status) : Type 0 where
+  whole : told ≡ due → (sink.tells → sink.now ≡ sink.was ++ text) → IsPut due text sink told
+  broken : told ≡ status.OutputFault → Rises sink.faults_was sink.faults_now
+      → (sink.tells → PutsFront sink.was sink.now text) → IsPut due text sink told
+  cut : told ≡ status.Memory → (sink.tells → PutsFront sink.was sink.now text)
+      → IsPut due text sink told

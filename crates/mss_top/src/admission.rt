@@ -7,7 +7,8 @@ use std::alloc::Global;
 
 /// The job of a text, where it has at most one host, or the line that refuses the text.
 ///
-/// A text that is no job is refused with its first bad line, a job of several hosts as one for later.
+/// A text that is no job is refused with its first bad line, a job of several hosts as one for
+/// later.
 pub fn job_to_run(alloc: Global, text: &[u8]) -> Result<Job, OneLine>
     ensures { IsTaken text.now result }
 {

@@ -5,7 +5,9 @@ ghost use Rattle.mss_top.specs.Direct.{direct_unit};
 ghost use Rattle.mss_base.specs.declared.place.UnitNo.TheVariants.{Cartridge};
 
 use ckd_plain::HostState;
-use mss_base::{BlockPlace, CartridgeNo, Cylinder, Head, UnitNo, VolumeNo, cartridge_block};
+use mss_base::{
+    BlockPlace, CYLINDERS, CartridgeNo, Cylinder, HEADS, Head, UnitNo, VolumeNo, cartridge_block,
+};
 use track_engine::CylinderPlace;
 
 /// How many cylinders lie on a cartridge.
@@ -36,14 +38,14 @@ pub fn direct_place(volume: VolumeNo, cylinder: Cylinder, head: Head) -> BlockPl
 /// The place of the cylinder that a host stands on.
 pub fn cylinder_under(volume: VolumeNo, host: &HostState) -> CylinderPlace
     ensures unit { result.unit ≡ direct_unit volume host.now.cylinder }
-    ensures first { result.first_block ≡ host.now.cylinder % 202 * 19 }
-    ensures low { host.now.cylinder < 404 }
-    ensures low_head { host.now.head < 19 }
+    ensures first { result.first_block ≡ host.now.cylinder % CYLINDERS_OF_CARTRIDGE * HEADS }
+    ensures low { host.now.cylinder < CYLINDERS }
+    ensures low_head { host.now.head < HEADS }
 {
     let head = host.head.get();
-    prove!(head < 19);
+    prove!(head < HEADS);
     CylinderPlace {
         unit: UnitNo::Cartridge(cartridge(volume, host.cylinder)),
-        first_block: u32::from(host.cylinder.get() % CYLINDERS_OF_CARTRIDGE) * 19,
+        first_block: u32::from(host.cylinder.get() % CYLINDERS_OF_CARTRIDGE) * u32::from(HEADS),
     }
 }

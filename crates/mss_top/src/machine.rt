@@ -1,7 +1,9 @@
 //! One host's calls on volumes that lie straight on cartridges.
 //!
 //! Each call is answered where the data lie, and appends one entry to the session's history.
-ghost use Rattle.std.specs.Prelude.{◌≡◌, Err, Ok, OnOk, vec_len, ◌==◌, ◌≤◌, ◌<◌, ◌+◌, ◌^◌, ◌%◌, ◌*◌, ℕ, [], ◌∷◌, ◌++◌, length, false, true, is_some, None, Some};
+ghost use Rattle.std.specs.Prelude.{◌≡◌, Err, Ok, OnOk, vec_len, ◌==◌, ◌≤◌, ◌<◌, ◌+◌};
+ghost use Rattle.std.specs.Prelude.{◌^◌, ◌%◌, ◌*◌, ℕ, [], ◌∷◌, ◌++◌, length, false, true};
+ghost use Rattle.std.specs.Prelude.{is_some, None, Some};
 ghost use Rattle.std.specs.List.{list_any};
 ghost use Rattle.mss_base.specs.Content.{content};
 ghost use Rattle.channel_commands.specs.Views.{call_of, reply_of};
@@ -10,9 +12,9 @@ ghost use Rattle.ckd_plain.specs.Plain.{opened, serial_in, there_for};
 ghost use Rattle.ckd_plain.specs.Effects.{is_data};
 ghost use Rattle.ckd_plain.specs.Checks.{admitted, Passes};
 ghost use Rattle.mss_top.specs.Events.{Answers, HasStopped, with_entry};
-ghost use Rattle.ckd_plain.specs.Plain.{start_of};
+ghost use Rattle.ckd_plain.specs.Plain.{start_of, fresh_host};
 ghost use Rattle.mss_top.specs.Direct.{direct};
-ghost use Rattle.mss_top.specs.Session.{IsSession, Continues, AreAllTracks, opening};
+ghost use Rattle.mss_top.specs.Session.{IsSession, Continues, AreAllTracks, opening, begun};
 ghost use Rattle.mss_top.specs.Sessions.{session_data};
 
 use crate::direct::cylinder_under;
@@ -76,7 +78,8 @@ fn is_there(volumes: &[(VolumeNo, Serial)], call: &Call) -> bool
 }
 
 impl<S: Site> Machine<S> {
-    ghost use Rattle.mss_top.specs.Machines.{Keeps, IsReady};
+    ghost use Rattle.mss_top.specs.Machines.{Keeps, IsReady, next_entry};
+    ghost use Rattle.mss_top.specs.Calls.{MakesCalls};
 
     /// A machine of one host on these volumes, whose session begins now.
     ///
@@ -91,12 +94,14 @@ impl<S: Site> Machine<S> {
         requires buffer { vec_len buffer ≡ BLOCK_BYTES }
         requires tracks { S.tells → AreAllTracks (serial_in volumes.items) (content (S.told site)) }
         ensures keeps { Keeps S.tells (S.told site) (S.faults site) result }
-        ensures opening { S.tells → opening (serial_in volumes.items) result.session.first_write (S.told site)
+        ensures opening { S.tells
+            → opening (serial_in volumes.items) result.session.first_write (S.told site)
             ≡ start_of (direct (serial_in volumes.items) (content (S.told site))) }
-        ensures session { session_data result.session ≡ record { history = []; marks = []; first_write = S.writes site; first_faults = S.faults site; stopped = None } }
+        ensures session { session_data result.session ≡ begun (S.writes site) (S.faults site) }
         ensures site { result.site ≡ site }
         ensures volumes { result.volumes ≡ volumes }
         ensures number { result.number ≡ number }
+        ensures host { result.host ≡ fresh_host }
         ensures buffer { vec_len result.buffer ≡ BLOCK_BYTES }
     {
         let session = Session::new(alloc, site.writes(), site.faults());
@@ -131,7 +136,7 @@ impl<S: Site> Machine<S> {
     /// The entry of a call, which comes next.
     fn entry(&self, call: Call, reply: Reply, fault: Option<u64>) -> Entry
         requires { length self.now.session.history.items < 4096 }
-        ensures { result ≡ record { host = self.now.number; number = length self.now.session.history.items + 1; call = call_of call; reply = reply_of reply; fault = fault } }
+        ensures { result ≡ next_entry self.now (call_of call) (reply_of reply) fault }
     {
         Entry {
             host: self.number,
@@ -148,8 +153,12 @@ impl<S: Site> Machine<S> {
         requires keeps { Keeps S.tells (S.told self.old.site) (S.faults self.old.site) self.old }
         requires ready { IsReady self.old }
         ensures keeps { Keeps S.tells (S.told self.new.site) (S.faults self.new.site) self.new }
-        ensures answers { Answers self.old.number (call_of call) (session_data self.old.session) (session_data self.new.session) CallAnswer.Replied }
-        ensures same { self.new ≡ record self.old { host = self.new.host; session = self.new.session } }
+        ensures answers { Answers self.old.number (call_of call)
+            (session_data self.old.session) (session_data self.new.session) CallAnswer.Replied }
+        ensures devices { MakesCalls S.spare S.writes S.faults S.never_fails_but
+            self.old self.new }
+        ensures same { self.new
+            ≡ record self.old { host = self.new.host; session = self.new.session } }
     {
         let there = is_there(self.volumes.as_slice(), &call);
         let (reply, now) = respond(&self.host, there, &call);
@@ -162,7 +171,9 @@ impl<S: Site> Machine<S> {
     /// Puts the entry of a command last.
     fn enter(&mut self, code: u8, argument: Bytes, chained: bool, reply: Reply, fault: Option<u64>)
         requires { IsReady self.old }
-        ensures entered { session_data self.new.session ≡ with_entry (session_data self.old.session) (record { host = self.old.number; number = length self.old.session.history.items + 1; call = command code argument.items chained; reply = reply_of reply; fault = fault }) (S.writes self.old.site) self.old.session.stopped }
+        ensures entered { session_data self.new.session ≡ with_entry (session_data self.old.session)
+            (next_entry self.old (command code argument.items chained) (reply_of reply) fault)
+            (S.writes self.old.site) self.old.session.stopped }
         ensures same { self.new ≡ record self.old { session = self.new.session } }
     {
         let call = Call::Command {
@@ -180,8 +191,12 @@ impl<S: Site> Machine<S> {
         requires ready { IsReady self.old }
         requires refuses { admitted (opened self.old.host) code argument.items ≡ Err check }
         ensures keeps { Keeps S.tells (S.told self.new.site) (S.faults self.new.site) self.new }
-        ensures answers { Answers self.old.number (command code argument.items chained) (session_data self.old.session) (session_data self.new.session) CallAnswer.Replied }
-        ensures same { self.new ≡ record self.old { host = self.new.host; session = self.new.session } }
+        ensures answers { Answers self.old.number (command code argument.items chained)
+            (session_data self.old.session) (session_data self.new.session) CallAnswer.Replied }
+        ensures devices { MakesCalls S.spare S.writes S.faults S.never_fails_but
+            self.old self.new }
+        ensures same { self.new
+            ≡ record self.old { host = self.new.host; session = self.new.session } }
     {
         let mut now = opened(&self.host);
         let reply = refused_by(self.alloc, check, &mut now);
@@ -197,9 +212,13 @@ impl<S: Site> Machine<S> {
         requires passes { Passes (opened self.old.host) asked argument.items }
         requires control { is_data asked ≡ false }
         ensures keeps { Keeps S.tells (S.told self.new.site) (S.faults self.new.site) self.new }
-        ensures answers { Answers self.old.number (command code argument.items chained) (session_data self.old.session) (session_data self.new.session) result }
+        ensures answers { Answers self.old.number (command code argument.items chained)
+            (session_data self.old.session) (session_data self.new.session) result }
         ensures fault { HasStopped (S.faults self.old.site) (S.faults self.new.site) result }
-        ensures same { self.new ≡ record self.old { host = self.new.host; session = self.new.session } }
+        ensures devices { MakesCalls S.spare S.writes S.faults S.never_fails_but
+            self.old self.new }
+        ensures same { self.new
+            ≡ record self.old { host = self.new.host; session = self.new.session } }
     {
         let mut now = self.host;
         let Ok(reply) = run_control(self.alloc, asked, argument.as_slice(), chained, &mut now)
@@ -221,8 +240,11 @@ impl<S: Site> Machine<S> {
         requires passes { Passes (opened self.old.host) asked argument.items }
         requires on_tracks { is_data asked ≡ true }
         ensures keeps { Keeps S.tells (S.told self.new.site) (S.faults self.new.site) self.new }
-        ensures answers { Answers self.old.number (command code argument.items chained) (session_data self.old.session) (session_data self.new.session) result }
+        ensures answers { Answers self.old.number (command code argument.items chained)
+            (session_data self.old.session) (session_data self.new.session) result }
         ensures continues { S.tells → Continues (S.told self.old.site) (S.told self.new.site) }
+        ensures devices { MakesCalls S.spare S.writes S.faults S.never_fails_but
+            self.old self.new }
         ensures fault { HasStopped (S.faults self.old.site) (S.faults self.new.site) result }
         ensures volumes { self.new.volumes ≡ self.old.volumes }
         ensures number { self.new.number ≡ self.old.number }
@@ -269,8 +291,11 @@ impl<S: Site> Machine<S> {
         requires room { COMMAND_WRITES ≤ S.spare self.old.site }
         requires buffer { vec_len self.old.buffer ≡ BLOCK_BYTES }
         ensures keeps { Keeps S.tells (S.told self.new.site) (S.faults self.new.site) self.new }
-        ensures answers { Answers self.old.number (command code argument.items chained) (session_data self.old.session) (session_data self.new.session) result }
+        ensures answers { Answers self.old.number (command code argument.items chained)
+            (session_data self.old.session) (session_data self.new.session) result }
         ensures continues { S.tells → Continues (S.told self.old.site) (S.told self.new.site) }
+        ensures devices { MakesCalls S.spare S.writes S.faults S.never_fails_but
+            self.old self.new }
         ensures fault { HasStopped (S.faults self.old.site) (S.faults self.new.site) result }
         ensures volumes { self.new.volumes ≡ self.old.volumes }
         ensures number { self.new.number ≡ self.old.number }
@@ -291,7 +316,8 @@ impl<S: Site> Machine<S> {
         }
     }
 
-    /// Makes room for an entry and the writes of a command; after want of memory the session is as it was.
+    /// Makes room for an entry and the writes of a command. After want of memory the session is as
+    /// it was.
     fn prepare(&mut self) -> Result<(), NoMemory>
         requires keeps { Keeps S.tells (S.told self.old.site) (S.faults self.old.site) self.old }
         requires going { self.old.session.stopped ≡ None }
@@ -299,7 +325,10 @@ impl<S: Site> Machine<S> {
         ensures keeps { Keeps S.tells (S.told self.new.site) (S.faults self.new.site) self.new }
         ensures session { session_data self.new.session ≡ session_data self.old.session }
         ensures told { S.tells → S.told self.new.site ≡ S.told self.old.site }
+        ensures writes { S.writes self.new.site ≡ S.writes self.old.site }
         ensures faults { S.faults self.new.site ≡ S.faults self.old.site }
+        ensures devices { MakesCalls S.spare S.writes S.faults S.never_fails_but
+            self.old self.new }
         ensures ready { OnOk result (IsReady self.new) }
         ensures room { OnOk result (COMMAND_WRITES ≤ S.spare self.new.site) }
         ensures volumes { self.new.volumes ≡ self.old.volumes }
@@ -319,8 +348,11 @@ impl<S: Site> Machine<S> {
         requires going { self.old.session.stopped ≡ None }
         requires buffer { vec_len self.old.buffer ≡ BLOCK_BYTES }
         ensures keeps { Keeps S.tells (S.told self.new.site) (S.faults self.new.site) self.new }
-        ensures answers { Answers self.old.number (call_of call) (session_data self.old.session) (session_data self.new.session) result }
+        ensures answers { Answers self.old.number (call_of call)
+            (session_data self.old.session) (session_data self.new.session) result }
         ensures continues { S.tells → Continues (S.told self.old.site) (S.told self.new.site) }
+        ensures devices { MakesCalls S.spare S.writes S.faults S.never_fails_but
+            self.old self.new }
         ensures fault { HasStopped (S.faults self.old.site) (S.faults self.new.site) result }
         ensures volumes { self.new.volumes ≡ self.old.volumes }
         ensures number { self.new.number ≡ self.old.number }

@@ -1,12 +1,13 @@
 //! The report of a session.
 ghost use Rattle.std.specs.Prelude.{◌≡◌, vec_len, false};
-ghost use Rattle.mss_base.specs.Content.{content};
 ghost use Rattle.mss_base.specs.Sites.{OnlyReads};
 ghost use Rattle.mss_base.specs.Puts.{Puts};
 ghost use Rattle.mss_base.specs.Counts.{HasCause};
-ghost use Rattle.ckd_plain.specs.Plain.{serial_in};
-ghost use Rattle.mss_top.specs.Direct.{direct};
-ghost use Rattle.mss_top.specs.Reports.{PutsSession, IsReadCounted, HasPutCause, IsReported, tells_volumes, end_of, last_text, last_status, status_after, status_of};
+ghost use Rattle.mss_top.specs.Machines.{matter_of_machine};
+ghost use Rattle.mss_top.specs.Parties.{between};
+ghost use Rattle.mss_top.specs.Reports.{PutsSession, IsReadCounted, HasPutCause, IsReported};
+ghost use Rattle.mss_top.specs.Reports.{tells_volumes, end_of, last_text, last_status};
+ghost use Rattle.mss_top.specs.Reports.{status_after, status_of};
 
 use crate::machine::Machine;
 use crate::script::RunEnd;
@@ -68,15 +69,15 @@ impl<S: Site> Machine<S> {
     /// Puts the history, the volumes and the last line.
     fn put_session<O: Sink>(&mut self, output: &mut O, last: Last) -> Result<(), VolumesFault>
         requires { vec_len self.old.buffer ≡ BLOCK_BYTES }
-        ensures bytes { PutsSession (S.tells × O.tells)
-            (direct (serial_in self.old.volumes.items) (content (S.told self.old.site)))
-            self.old.volumes.items self.old.session.history.items (last_text last)
-            (O.told output.old) (O.told output.new) result }
+        ensures bytes { PutsSession (S.tells × O.tells) (matter_of_machine S.told self.old)
+            (last_text last) (O.told output.old) (O.told output.new) result }
         ensures counted { IsReadCounted (S.faults self.old.site) (S.faults self.new.site) result }
         ensures site { OnlyReads S.tells S.told S.spare S.writes S.faults S.never_fails_but
             self.old.site self.new.site }
         ensures output { HasPutCause (O.faults output.old) (O.faults output.new) result }
-        ensures session { self.new.session ≡ self.old.session }
+        ensures same { self.new
+            ≡ record self.old { site = self.new.site; buffer = self.new.buffer } }
+        ensures buffer { vec_len self.new.buffer ≡ BLOCK_BYTES }
     {
         let mut line = Bytes::new(self.alloc);
         put_history(output, &mut line, self.session.history.as_slice())?;
@@ -89,15 +90,14 @@ impl<S: Site> Machine<S> {
     /// Tells a session that wasn't stopped, and the volumes.
     fn put_ended<O: Sink>(&mut self, output: &mut O, last: Last) -> Status
         requires { vec_len self.old.buffer ≡ BLOCK_BYTES }
-        ensures report { IsReported (S.tells × O.tells)
-            (direct (serial_in self.old.volumes.items) (content (S.told self.old.site)))
-            self.old.volumes.items self.old.session.history.items (end_of last)
-            (S.faults self.old.site) (S.faults self.new.site)
-            (O.faults output.old) (O.faults output.new)
-            (O.told output.old) (O.told output.new) result }
+        ensures report { IsReported (matter_of_machine S.told self.old) (end_of last)
+            (between S.tells S.told S.faults self.old.site self.new.site)
+            (between O.tells O.told O.faults output.old output.new) result }
         ensures site { OnlyReads S.tells S.told S.spare S.writes S.faults S.never_fails_but
             self.old.site self.new.site }
-        ensures session { self.new.session ≡ self.old.session }
+        ensures same { self.new
+            ≡ record self.old { site = self.new.site; buffer = self.new.buffer } }
+        ensures buffer { vec_len self.new.buffer ≡ BLOCK_BYTES }
     {
         match self.put_session(output, last) {
             Ok(()) => last.status(),
@@ -110,12 +110,9 @@ impl<S: Site> Machine<S> {
 
     /// Tells a session that a failed write stopped.
     fn put_stop<O: Sink>(&self, output: &mut O, fault: u64) -> Status
-        ensures { IsReported (S.tells × O.tells)
-            (direct (serial_in self.now.volumes.items) (content (S.told self.now.site)))
-            self.now.volumes.items self.now.session.history.items (RunEnd.Stopped fault)
-            (S.faults self.now.site) (S.faults self.now.site)
-            (O.faults output.old) (O.faults output.new)
-            (O.told output.old) (O.told output.new) result }
+        ensures { IsReported (matter_of_machine S.told self.now) (RunEnd.Stopped fault)
+            (between S.tells S.told S.faults self.now.site self.now.site)
+            (between O.tells O.told O.faults output.old output.new) result }
     {
         let mut line = Bytes::new(self.alloc);
         match put_history(output, &mut line, self.session.history.as_slice()) {
@@ -126,20 +123,21 @@ impl<S: Site> Machine<S> {
 
     /// Puts the report of a session that ended so, and answers with the run's status.
     ///
-    /// The report has the volumes as the devices show them, unless the session was stopped. Where a read of them fails,
-    /// it ends there with the count of faults. After want of memory the report is one line, if nothing was put yet.
+    /// The report has the volumes as the devices show them, unless the session was stopped. Where a
+    /// read of them fails, it ends there with the count of faults. After want of memory the report
+    /// is one line, if nothing was put yet.
     pub fn put_report<O: Sink>(&mut self, output: &mut O, end: RunEnd) -> Status
         requires { vec_len self.old.buffer ≡ BLOCK_BYTES }
-        ensures report { IsReported (S.tells × O.tells)
-            (direct (serial_in self.old.volumes.items) (content (S.told self.old.site)))
-            self.old.volumes.items self.old.session.history.items end
-            (S.faults self.old.site) (S.faults self.new.site)
-            (O.faults output.old) (O.faults output.new)
-            (O.told output.old) (O.told output.new) result }
+        ensures report { IsReported (matter_of_machine S.told self.old) end
+            (between S.tells S.told S.faults self.old.site self.new.site)
+            (between O.tells O.told O.faults output.old output.new) result }
         ensures site { OnlyReads S.tells S.told S.spare S.writes S.faults S.never_fails_but
             self.old.site self.new.site }
-        ensures unread { tells_volumes end ≡ false → S.faults self.new.site ≡ S.faults self.old.site }
-        ensures session { self.new.session ≡ self.old.session }
+        ensures unread { tells_volumes end ≡ false
+            → S.faults self.new.site ≡ S.faults self.old.site }
+        ensures same { self.new
+            ≡ record self.old { site = self.new.site; buffer = self.new.buffer } }
+        ensures buffer { vec_len self.new.buffer ≡ BLOCK_BYTES }
     {
         match end {
             RunEnd::Finished => self.put_ended(output, Last::End),

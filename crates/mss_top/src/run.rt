@@ -1,5 +1,6 @@
 //! A whole run: words, input, job, devices, session, report.
-ghost use Rattle.std.specs.Prelude.{◌≡◌, ◌≤◌, [], None, true, map, string_bytes, length, slice_get, vec_len, IfOk, IfSome, OnOk};
+ghost use Rattle.std.specs.Prelude.{◌≡◌, ◌≤◌, [], None, map, string_bytes, length, slice_get};
+ghost use Rattle.std.specs.Prelude.{vec_len, IfOk, IfSome, OnOk};
 ghost use Rattle.mss_base.specs.Content.{content};
 ghost use Rattle.mss_base.specs.Sites.{OnlyReads};
 ghost use Rattle.ckd_plain.specs.Plain.{serial_in};
@@ -7,11 +8,12 @@ ghost use Rattle.mss_top.specs.Session.{AreAllTracks, Continues};
 ghost use Rattle.report_text.specs.OneLines.{one_line_text};
 ghost use Rattle.mss_top.specs.Scripts.{HasHalted, Halts, SameBeginning};
 ghost use Rattle.job_text.specs.Jobs.{JobData, AreRunnableScripts};
-ghost use Rattle.mss_top.specs.Admission.{IsJobText};
 ghost use Rattle.mss_top.specs.Machines.{Keeps};
+ghost use Rattle.mss_top.specs.Calls.{MakesCalls, LeavesDevices};
+ghost use Rattle.mss_top.specs.Parties.{between};
 ghost use Rattle.mss_top.specs.Sessions.{session_data};
-ghost use Rattle.mss_top.specs.Words.{are_serial};
-ghost use Rattle.mss_top.specs.Serial.{IsFaultless, IsComplete, Admits, Begins, Ends, FollowsHosts, HasSession, IsSessionOf, IsRefused, IsRun, line_status, refusal_of};
+ghost use Rattle.mss_top.specs.Serial.{IsComplete, GoesWell, Admits, Begins, Ends, FollowsHosts};
+ghost use Rattle.mss_top.specs.Serial.{HasSession, IsSessionOf, line_status, refusal_of};
 ghost use Rattle.mss_top.specs.Status.{IsPut};
 
 use crate::admission::job_to_run;
@@ -42,7 +44,8 @@ pub struct Ended<S> {
 
 /// The job of the input, where the words are the command, or the line that says why there is none.
 fn admit<I: Source>(alloc: Global, words: &[String], input: &mut I) -> Result<Job, OneLine>
-    ensures job { Admits I.tells (map string_bytes words.now) (I.left input.old) (I.left input.new) (I.faults input.old) (I.faults input.new) result }
+    ensures job { Admits (map string_bytes words.now)
+        (between I.tells I.left I.faults input.old input.new) result }
     ensures hosts { IfOk result (λ job. length job.hosts ≤ 1) }
 {
     if !are_serial(words) {
@@ -70,7 +73,8 @@ fn refusal(refused: &VolumeFault) -> OneLine
     }
 }
 
-/// A buffer for blocks, where every block of the volumes is a track, or the line that says why no session begins.
+/// A buffer for blocks, where every block of the volumes is a track, or the line that says why no
+/// session begins.
 fn begin<S: Site>(
     alloc: Global,
     site: &mut S,
@@ -79,8 +83,7 @@ fn begin<S: Site>(
     ensures block { IfOk result (λ block. vec_len block ≡ BLOCK_BYTES) }
     ensures tracks { S.tells → OnOk result
         (AreAllTracks (serial_in volumes.now) (content (S.told site.old))) }
-    ensures cause { Begins S.tells (content (S.told site.old)) volumes.now
-        (S.faults site.old) (S.faults site.new) result }
+    ensures cause { Begins volumes.now (between S.tells S.told S.faults site.old site.new) result }
     ensures site { OnlyReads S.tells S.told S.spare S.writes S.faults S.never_fails_but
         site.old site.new }
 {
@@ -108,7 +111,8 @@ fn line_status(line: OneLine) -> Status
 
 /// Ends a run without a session by its one line.
 fn refuse<O: Sink, S: Site>(output: &mut O, site: S, line: OneLine) -> Ended<S>
-    ensures put { IsPut O.tells (line_status line) (one_line_text line) (O.faults output.old) (O.faults output.new) (O.told output.old) (O.told output.new) result.status }
+    ensures put { IsPut (line_status line) (one_line_text line)
+        (between O.tells O.told O.faults output.old output.new) result.status }
     ensures site { result.site ≡ site }
     ensures session { result.session ≡ None }
 {
@@ -139,14 +143,19 @@ fn run_scripts<S: Site>(machine: &mut Machine<S>, hosts: &[HostScript]) -> RunEn
     requires number { IfSome (slice_get hosts.now 0) (λ script. machine.old.number ≡ script.host) }
     requires runnable { AreRunnableScripts hosts.now }
     requires begins { machine.old.session.history.items ≡ [] }
-    requires keeps { Keeps S.tells (S.told machine.old.site) (S.faults machine.old.site) machine.old }
+    requires keeps { Keeps S.tells
+        (S.told machine.old.site) (S.faults machine.old.site) machine.old }
     requires going { machine.old.session.stopped ≡ None }
     requires buffer { vec_len machine.old.buffer ≡ BLOCK_BYTES }
     ensures follows { FollowsHosts hosts.now (session_data machine.new.session) result }
-    ensures keeps { Keeps S.tells (S.told machine.new.site) (S.faults machine.new.site) machine.new }
+    ensures keeps { Keeps S.tells
+        (S.told machine.new.site) (S.faults machine.new.site) machine.new }
     ensures halts { Halts result machine.new.session.stopped }
-    ensures beginning { SameBeginning (session_data machine.old.session) (session_data machine.new.session) }
+    ensures beginning { SameBeginning
+        (session_data machine.old.session) (session_data machine.new.session) }
     ensures continues { S.tells → Continues (S.told machine.old.site) (S.told machine.new.site) }
+    ensures devices { MakesCalls S.spare S.writes S.faults S.never_fails_but
+        machine.old machine.new }
     ensures fault { HasHalted (S.faults machine.old.site) (S.faults machine.new.site) result }
     ensures volumes { machine.new.volumes ≡ machine.old.volumes }
     ensures number { machine.new.number ≡ machine.old.number }
@@ -171,11 +180,12 @@ fn run_hosts<O: Sink, S: Site>(
     requires runnable { AreRunnableScripts hosts.now }
     requires block { vec_len block ≡ BLOCK_BYTES }
     requires tracks { S.tells → AreAllTracks (serial_in volumes.items) (content (S.told site)) }
-    ensures session { HasSession (IsSessionOf S.tells O.tells volumes.items hosts.now
-        (S.told site) (S.told result.site) (S.faults site) (S.faults result.site)
-        (O.faults output.old) (O.faults output.new) (O.told output.old) (O.told output.new) result.status) result.session }
+    ensures session { HasSession (IsSessionOf volumes.items hosts.now
+        (between S.tells S.told S.faults site result.site)
+        (between O.tells O.told O.faults output.old output.new) result.status) result.session }
     ensures continues { S.tells → Continues (S.told site) (S.told result.site) }
-    ensures later { S.faults site ≤ S.faults result.site }
+    ensures devices { LeavesDevices S.tells S.told S.spare S.writes S.faults S.never_fails_but
+        result.session site result.site }
 {
     let mut machine = Machine::begin(alloc, site, volumes, first_host(hosts), block);
     let end = run_scripts(&mut machine, hosts);
@@ -198,12 +208,14 @@ fn run_job<O: Sink, S: Site>(
 ) -> Ended<S>
     requires hosts { length job.hosts ≤ 1 }
     requires block { vec_len block ≡ BLOCK_BYTES }
-    requires tracks { S.tells → AreAllTracks (serial_in job.config.volumes) (content (S.told site)) }
-    ensures session { HasSession (IsSessionOf S.tells O.tells job.config.volumes job.hosts
-        (S.told site) (S.told result.site) (S.faults site) (S.faults result.site)
-        (O.faults output.old) (O.faults output.new) (O.told output.old) (O.told output.new) result.status) result.session }
+    requires tracks { S.tells
+        → AreAllTracks (serial_in job.config.volumes) (content (S.told site)) }
+    ensures session { HasSession (IsSessionOf job.config.volumes job.hosts
+        (between S.tells S.told S.faults site result.site)
+        (between O.tells O.told O.faults output.old output.new) result.status) result.session }
     ensures continues { S.tells → Continues (S.told site) (S.told result.site) }
-    ensures later { S.faults site ≤ S.faults result.site }
+    ensures devices { LeavesDevices S.tells S.told S.spare S.writes S.faults S.never_fails_but
+        result.session site result.site }
 {
     let Job { config, hosts } = job;
     run_hosts(alloc, config.volumes, hosts.as_slice(), block, output, site)
@@ -211,10 +223,11 @@ fn run_job<O: Sink, S: Site>(
 
 /// Runs the job that the input has, on the volumes of the site, and puts its report.
 ///
-/// The words are the command, `serial` alone. The input is read to its end, or to one byte past the longest job text,
-/// before anything is looked at. A text that is no job is refused with its first bad line, a job of several hosts as one
-/// for later. Nothing is written to the site unless the whole job was admitted and each block of its volumes is a track.
-/// Without a session the output is one line, which says why.
+/// The words are the command, `serial` alone. The input is read to its end, or to one byte past the
+/// longest job text, before anything is looked at. A text that is no job is refused with its first
+/// bad line, a job of several hosts as one for later. Nothing is written to the site unless the
+/// whole job was admitted and each block of its volumes is a track. Without a session the output is
+/// one line, which says why.
 pub fn serial<I: Source, O: Sink, S: Site>(
     alloc: Global,
     words: &[String],
@@ -222,22 +235,18 @@ pub fn serial<I: Source, O: Sink, S: Site>(
     output: &mut O,
     mut site: S,
 ) -> Ended<S>
-    ensures ended { Ends
-        (IsRefused I.tells S.tells O.tells (map string_bytes words.now) (I.left input.old) (I.left input.new) (content (S.told site))
-        (I.faults input.old) (I.faults input.new) (S.faults site) (S.faults result.site) (O.faults output.old) (O.faults output.new)
-        (O.told output.old) (O.told output.new) result.status)
-        (IsRun I.tells S.tells O.tells (map string_bytes words.now) (I.left input.old) (I.left input.new) (S.told site) (S.told result.site)
-        (S.faults site) (S.faults result.site) (O.faults output.old) (O.faults output.new)
-        (O.told output.old) (O.told output.new) result.status)
-        result.session }
+    ensures ended { Ends (map string_bytes words.now)
+        (between I.tells I.left I.faults input.old input.new)
+        (between S.tells S.told S.faults site result.site)
+        (between O.tells O.told O.faults output.old output.new) result.status result.session }
     ensures continues { S.tells → Continues (S.told site) (S.told result.site) }
-    ensures complete { (job : JobData) → IsFaultless (I.faults input.old) (I.faults input.new) → IsFaultless (S.faults site) (S.faults result.site)
-        → IsFaultless (O.faults output.old) (O.faults output.new)
-        → are_serial (map string_bytes words.now) ≡ true → I.tells → IsJobText (I.left input.old) job → S.tells
-        → AreAllTracks (serial_in job.config.volumes) (content (S.told site))
+    ensures complete { (job : JobData) → GoesWell (map string_bytes words.now)
+        (between I.tells I.left I.faults input.old input.new)
+        (between S.tells S.told S.faults site result.site)
+        (between O.tells O.told O.faults output.old output.new) job
         → IsComplete result.status }
-    ensures unwritten { result.session ≡ None → S.writes result.site ≡ S.writes site }
-    ensures later { S.faults site ≤ S.faults result.site }
+    ensures devices { LeavesDevices S.tells S.told S.spare S.writes S.faults S.never_fails_but
+        result.session site result.site }
 {
     let job = match admit(alloc, words, input) {
         Ok(job) => job,

@@ -51,7 +51,8 @@ const TWO_HOSTS: &str = "mss 1 frames 1 recorders 1\nhost 1\nhost 2\ndone\n";
 const PROGRAM_WITHOUT_WORDS: &str =
     "mss 1 frames 1 recorders 1\n# Line 5 ends it.\nhost 1\nprogram\nend\ndone\n";
 
-/// The first search can't read its track, nor can the second of the next program: its first finds the track blank.
+/// The first search can't read its track, nor can the second of the next program: its first finds
+/// the track blank.
 const TWO_FAULTS_REPORT: &str = "MSS REPORT 1\n\
     entry 1 host 1 mount 0 mounted\n\
     entry 2 host 1 ccw 07 status 0C\n\
@@ -62,7 +63,8 @@ const TWO_FAULTS_REPORT: &str = "MSS REPORT 1\n\
     volume 0 VOL001\n\
     END\n";
 
-/// Behind the walk's 7,676 reads, the search reads its track, and so does the write before its first device write.
+/// Behind the walk's 7,676 reads, the search reads its track, and so does the write before its
+/// first device write.
 const FIRST_WRITE: u64 = 7_679;
 
 /// Calls of the devices that fail, counted from 1.
@@ -117,8 +119,8 @@ fn a_record_is_written_and_read_back(rt: HostRuntime) -> Result<(), Fail> {
     Ok(())
 }
 
-/// A run that doesn't go to its end: its word, what of its job is replaced by what, the calls that fail, its status
-/// and what it puts.
+/// A run that doesn't go to its end: its word, what of its job is replaced by what, the calls that
+/// fail, its status and what it puts.
 struct Case<'a> {
     word: &'a str,
     change: (&'a str, &'a str),

@@ -40,6 +40,7 @@ fn last_reply(history: &[Entry], replied: bool) -> Option<&Reply>
 
 impl<S: Site> Machine<S> {
     ghost use Rattle.mss_top.specs.Machines.{Keeps};
+    ghost use Rattle.mss_top.specs.Calls.{MakesCalls};
     ghost use Rattle.mss_top.specs.Scripts.{EndsItem, EndsScript, HasHalted, Halts, SameBeginning};
 
     /// Runs a channel program to its end, call after call.
@@ -49,11 +50,15 @@ impl<S: Site> Machine<S> {
         requires keeps { Keeps S.tells (S.told self.old.site) (S.faults self.old.site) self.old }
         requires going { self.old.session.stopped ≡ None }
         requires buffer { vec_len self.old.buffer ≡ BLOCK_BYTES }
-        ensures ends { EndsItem (running (map ccw_of program.now.items)) (session_data self.old.session) (session_data self.new.session) result }
+        ensures ends { EndsItem (running (map ccw_of program.now.items))
+            (session_data self.old.session) (session_data self.new.session) result }
         ensures keeps { Keeps S.tells (S.told self.new.site) (S.faults self.new.site) self.new }
         ensures halts { Halts result self.new.session.stopped }
-        ensures beginning { SameBeginning (session_data self.old.session) (session_data self.new.session) }
+        ensures beginning { SameBeginning
+            (session_data self.old.session) (session_data self.new.session) }
         ensures continues { S.tells → Continues (S.told self.old.site) (S.told self.new.site) }
+        ensures devices { MakesCalls S.spare S.writes S.faults S.never_fails_but
+            self.old self.new }
         ensures fault { HasHalted (S.faults self.old.site) (S.faults self.new.site) result }
         ensures volumes { self.new.volumes ≡ self.old.volumes }
         ensures number { self.new.number ≡ self.old.number }
@@ -88,11 +93,15 @@ impl<S: Site> Machine<S> {
         requires keeps { Keeps S.tells (S.told self.old.site) (S.faults self.old.site) self.old }
         requires going { self.old.session.stopped ≡ None }
         requires buffer { vec_len self.old.buffer ≡ BLOCK_BYTES }
-        ensures ends { (item : ItemData) → Asks item (call_of call) → EndsItem item (session_data self.old.session) (session_data self.new.session) result }
+        ensures ends { (item : ItemData) → Asks item (call_of call) → EndsItem item
+            (session_data self.old.session) (session_data self.new.session) result }
         ensures keeps { Keeps S.tells (S.told self.new.site) (S.faults self.new.site) self.new }
         ensures halts { Halts result self.new.session.stopped }
-        ensures beginning { SameBeginning (session_data self.old.session) (session_data self.new.session) }
+        ensures beginning { SameBeginning
+            (session_data self.old.session) (session_data self.new.session) }
         ensures continues { S.tells → Continues (S.told self.old.site) (S.told self.new.site) }
+        ensures devices { MakesCalls S.spare S.writes S.faults S.never_fails_but
+            self.old self.new }
         ensures fault { HasHalted (S.faults self.old.site) (S.faults self.new.site) result }
         ensures volumes { self.new.volumes ≡ self.old.volumes }
         ensures number { self.new.number ≡ self.old.number }
@@ -112,11 +121,15 @@ impl<S: Site> Machine<S> {
         requires keeps { Keeps S.tells (S.told self.old.site) (S.faults self.old.site) self.old }
         requires going { self.old.session.stopped ≡ None }
         requires buffer { vec_len self.old.buffer ≡ BLOCK_BYTES }
-        ensures ends { EndsItem (item_of item.now) (session_data self.old.session) (session_data self.new.session) result }
+        ensures ends { EndsItem (item_of item.now)
+            (session_data self.old.session) (session_data self.new.session) result }
         ensures keeps { Keeps S.tells (S.told self.new.site) (S.faults self.new.site) self.new }
         ensures halts { Halts result self.new.session.stopped }
-        ensures beginning { SameBeginning (session_data self.old.session) (session_data self.new.session) }
+        ensures beginning { SameBeginning
+            (session_data self.old.session) (session_data self.new.session) }
         ensures continues { S.tells → Continues (S.told self.old.site) (S.told self.new.site) }
+        ensures devices { MakesCalls S.spare S.writes S.faults S.never_fails_but
+            self.old self.new }
         ensures fault { HasHalted (S.faults self.old.site) (S.faults self.new.site) result }
         ensures volumes { self.new.volumes ≡ self.old.volumes }
         ensures number { self.new.number ≡ self.old.number }
@@ -132,7 +145,8 @@ impl<S: Site> Machine<S> {
         }
     }
 
-    /// Runs a host's script from its first item, in a session without entries, until something halts it.
+    /// Runs a host's script from its first item, in a session without entries, until something
+    /// halts it.
     pub fn run_script(&mut self, items: &[Item]) -> RunEnd
         requires runnable { AreRunnable (map item_of items.now) }
         requires begins { self.old.session.history.items ≡ [] }
@@ -142,8 +156,11 @@ impl<S: Site> Machine<S> {
         ensures ends { EndsScript (map item_of items.now) (session_data self.new.session) result }
         ensures keeps { Keeps S.tells (S.told self.new.site) (S.faults self.new.site) self.new }
         ensures halts { Halts result self.new.session.stopped }
-        ensures beginning { SameBeginning (session_data self.old.session) (session_data self.new.session) }
+        ensures beginning { SameBeginning
+            (session_data self.old.session) (session_data self.new.session) }
         ensures continues { S.tells → Continues (S.told self.old.site) (S.told self.new.site) }
+        ensures devices { MakesCalls S.spare S.writes S.faults S.never_fails_but
+            self.old self.new }
         ensures fault { HasHalted (S.faults self.old.site) (S.faults self.new.site) result }
         ensures volumes { self.new.volumes ≡ self.old.volumes }
         ensures number { self.new.number ≡ self.old.number }

@@ -1,5 +1,5 @@
 //! What a session keeps for its report.
-ghost use Rattle.std.specs.Prelude.{◌≡◌, ◌≤◌, ◌++◌, [], ◌∷◌, OnOk, None};
+ghost use Rattle.std.specs.Prelude.{◌≡◌, ◌≤◌, OnOk};
 
 use ckd_plain::Entry;
 use mss_base::{Listed, NoMemory};
@@ -11,7 +11,8 @@ pub type EntryList = Listed<Entry>;
 /// Numbers of writes, in order.
 pub type MarkList = Listed<u64>;
 
-/// A session: its history, and for each entry how many writes the site had made when it was answered.
+/// A session: its history, and for each entry how many writes the site had made when it was
+/// answered.
 #[derive(Drop)]
 pub struct Session {
     pub history: EntryList,
@@ -25,11 +26,13 @@ pub struct Session {
 }
 
 impl Session {
+    ghost use Rattle.mss_top.specs.Events.{with_entry};
+    ghost use Rattle.mss_top.specs.Session.{begun};
     ghost use Rattle.mss_top.specs.Sessions.{session_data};
 
     /// A session that begins, at these counts of its site.
     pub fn new(alloc: Global, first_write: u64, first_faults: u64) -> Session
-        ensures { session_data result ≡ record { history = []; marks = []; first_write = first_write; first_faults = first_faults; stopped = None } }
+        ensures { session_data result ≡ begun first_write first_faults }
     {
         Session {
             history: EntryList::new(alloc),
@@ -55,7 +58,8 @@ impl Session {
     pub fn append(&mut self, entry: Entry, mark: u64)
         requires room { 1 ≤ self.old.history.spare }
         requires room_marks { 1 ≤ self.old.marks.spare }
-        ensures { session_data self.new ≡ record (session_data self.old) { history = self.old.history.items ++ entry ∷ []; marks = self.old.marks.items ++ mark ∷ [] } }
+        ensures { session_data self.new
+            ≡ with_entry (session_data self.old) entry mark self.old.stopped }
     {
         self.history.push(entry);
         self.marks.push(mark);

@@ -1,9 +1,7 @@
 -- Devices that were read at most, one read after another.
-use Rattle.std.proofs.Common.{◌≡◌, ℕ, Bool, ◌≤◌, ◌∙◌, Result, arith, subst}
-use Rattle.std.specs.Prelude.{IfErr}
+use Rattle.std.proofs.Common.{◌≡◌, ℕ, Bool, ◌∙◌, arith, subst}
 use Rattle.mss_base.specs.Content.{SiteLog}
 use Rattle.mss_base.specs.Sites.{FailingReads, OnlyReads}
-use Rattle.ckd_plain.specs.declared.done.DoneCommand.{DoneCommand}
 use Rattle.track_engine.specs.declared.place.EngineFault.TheVariants.{ReadFailed, WriteFailed, Memory}
 use Rattle.track_engine.specs.declared.place.NotDone.{NotDone}
 use Rattle.track_engine.specs.declared.place.NotDone.TheVariants.{Refused, Fault}

@@ -9,5 +9,5 @@ pub returns-in-Memory-clause-report : goal.returns-in-Memory-clause-report
 returns-in-Memory-clause-report g c = record {
   telling = whole run_end.Memory;
   reason = sym c.in-Memory.is;
-  put = put_ends (g.S.Site.tells × g.O.Sink.tells) status.Memory _ _ _ _ _ _ _ c.put_line.result c.status_after.ensures (omega arith) c.put_line.ensures.cause (λ t. c.put_line.ensures.bytes t.1);
+  put = put_ends status.Memory _ _ _ _ c.put_line.result c.status_after.ensures (omega arith) c.put_line.ensures.cause (λ t. c.put_line.ensures.bytes t.1);
 }

@@ -1,4 +1,4 @@
-use Rattle.std.proofs.Common.{◌≡◌, List, map, Option, Some, refl, sym, ◌∙◌, ap, arith, false}
+use Rattle.std.proofs.Common.{◌≡◌, List, map, Some, refl, sym, ◌∙◌, ap, false}
 use Rattle.std.specs.Prelude.{option_map, is_some, not}
 use Rattle.channel_commands.specs.Data.{CallData, is_command, CcwData}
 use Rattle.channel_commands.specs.Views.{call_of, ccw_of}
@@ -9,6 +9,7 @@ use Rattle.channel_program.proofs.ProgramFacts.{run_stays, gives_since}
 use Rattle.mss_top.specs.Session.{SessionData}
 use Rattle.mss_top.specs.Sessions.{session_data}
 use Rattle.mss_top.specs.Scripts.{last_reply, exchanges}
+use Rattle.mss_top.proofs.CallLemmas.{calls_then}
 use Rattle.mss_top.proofs.SessionLemmas.{continues_then}
 use Rattle.mss_top.proofs.Running.{asked_of, program_stops, program_ends, program_goes_on, fewer_left}
 use Rattle.mss_top.proofs.machine.Machine.run_program.Goals as goal
@@ -84,7 +85,7 @@ loop-next-preserved g c =
         going = c.in-Replied.ensures.answers.1;
         beginning = record { first_write = entered.first_write ∙ kept.beginning.first_write; first_faults = entered.first_faults ∙ kept.beginning.first_faults };
         continues = λ is_told. continues_then _ _ _ (kept.continues is_told) (c.call.ensures.continues is_told);
-        later = omega (arith, kept.later, c.in-Replied.ensures.fault);
+        calls = calls_then _ _ _ _ _ _ _ kept.calls c.call.ensures.devices;
         volumes = c.call.ensures.volumes ∙ kept.volumes;
         number = c.call.ensures.number ∙ kept.number;
         buffer = c.call.ensures.buffer;

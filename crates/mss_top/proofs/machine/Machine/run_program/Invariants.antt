@@ -10,7 +10,7 @@ use Rattle.mss_top.proofs.machine.Machine.run_program.Given as goal
 abbrev pub invariant-loop-next : goal.invariant-loop-next
 invariant-loop-next g l =
     record {
-      goes_on : IsGoingOn g.row.S.Denot g.S.Site.tells g.S.Site.told g.S.Site.faults l.initial.self l.self;
+      goes_on : IsGoingOn g.row.S.Denot g.S.Site.tells g.S.Site.told g.S.Site.spare g.S.Site.writes g.S.Site.faults g.S.Site.never_fails_but l.initial.self l.self;
       run : HasRun (map ccw_of l.program.items) (exchanges l.initial.self.session.history.items) (exchanges l.self.session.history.items) (standing_of (map ccw_of l.program.items) l.cursor (last_reply l.replied l.self.session.history.items));
     }
 

@@ -6,6 +6,7 @@ use Rattle.channel_program.specs.Items.{IsRunnable}
 use Rattle.channel_program.proofs.ItemFacts.{all_at, view_at, item_done}
 use Rattle.mss_top.specs.Scripts.{exchanges}
 use Rattle.mss_top.specs.Sessions.{session_data}
+use Rattle.mss_top.proofs.CallLemmas.{no_call, calls_then}
 use Rattle.mss_top.proofs.SessionLemmas.{continues_same, continues_then}
 use Rattle.mss_top.proofs.Items.{script_halts, halted_since}
 use Rattle.mss_top.proofs.machine.Machine.run_script.Goals as goal
@@ -17,7 +18,7 @@ loop-item-init g c = record {
     going = c.requires.going;
     beginning = record { first_write = refl; first_faults = refl };
     continues = λ _. continues_same _;
-    later = omega arith;
+    calls = no_call _ _ _ _ _;
     volumes = refl;
     number = refl;
     buffer = c.requires.buffer;
@@ -43,7 +44,8 @@ returns-in_default g c =
       halts = c.run_item.ensures.halts;
       beginning = record { first_write = c.run_item.ensures.beginning.first_write ∙ kept.beginning.first_write; first_faults = c.run_item.ensures.beginning.first_faults ∙ kept.beginning.first_faults };
       continues = λ is_told. continues_then _ _ _ (kept.continues is_told) (c.run_item.ensures.continues is_told);
-      fault = halted_since _ _ _ c.run_item.result kept.later c.run_item.ensures.fault;
+      devices = calls_then _ _ _ _ _ _ _ kept.calls c.run_item.ensures.devices;
+      fault = halted_since _ _ _ c.run_item.result kept.calls.later c.run_item.ensures.fault;
       volumes = c.run_item.ensures.volumes ∙ kept.volumes;
       number = c.run_item.ensures.number ∙ kept.number;
       buffer = c.run_item.ensures.buffer;
@@ -60,7 +62,7 @@ loop-item-preserved g c =
         going = c.in-Finished.ensures.halts;
         beginning = record { first_write = c.run_item.ensures.beginning.first_write ∙ kept.beginning.first_write; first_faults = c.run_item.ensures.beginning.first_faults ∙ kept.beginning.first_faults };
         continues = λ is_told. continues_then _ _ _ (kept.continues is_told) (c.run_item.ensures.continues is_told);
-        later = omega (arith, kept.later, c.in-Finished.ensures.fault);
+        calls = calls_then _ _ _ _ _ _ _ kept.calls c.run_item.ensures.devices;
         volumes = c.run_item.ensures.volumes ∙ kept.volumes;
         number = c.run_item.ensures.number ∙ kept.number;
         buffer = c.run_item.ensures.buffer;

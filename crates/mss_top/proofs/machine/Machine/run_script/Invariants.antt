@@ -7,6 +7,6 @@ use Rattle.mss_top.proofs.machine.Machine.run_script.Given as goal
 
 abbrev pub invariant-loop-item : goal.invariant-loop-item
 invariant-loop-item g l = record {
-  goes_on : IsGoingOn g.row.S.Denot g.S.Site.tells g.S.Site.told g.S.Site.faults l.initial.self l.self;
+  goes_on : IsGoingOn g.row.S.Denot g.S.Site.tells g.S.Site.told g.S.Site.spare g.S.Site.writes g.S.Site.faults g.S.Site.never_fails_but l.initial.self l.self;
   follows : FollowsToEnd (take l.item-index (map item_of l.items)) (exchanges l.self.session.history.items);
 }
