@@ -1,0 +1,116 @@
+-- A core whose row changes, with its message.
+use Rattle.std.proofs.Common.{◌≡◌, ◌≢◌, inl, inr, ℕ, ◌<◌, Bool, true, false, cond, ◌&&◌, ◌==◌, nat_lt, List, [], ◌∷◌, ◌++◌, length, Option, Some, None, refl, sym, ◌∙◌, ap, subst, arith, get_or-set_same, get_or-set_other}
+use Rattle.std.specs.Prelude.{slice_set}
+use Rattle.std.specs.Option.{option_map}
+use Rattle.std.proofs.Math.Path.{fun_ext}
+use Rattle.std.proofs.lemmas.Bool.{cond-true, cond-false, lt-ltb}
+use Rattle.std.proofs.lemmas.Bool.Decides.{eqb_tells}
+use Rattle.mss_base.specs.Content.{SiteLog, content, Writes}
+use Rattle.mss_base.specs.declared.place.UnitNo.{UnitNo}
+use Rattle.mss_base.specs.declared.place.UnitNo.TheVariants.{TableA, TableB}
+use Rattle.mss_base.proofs.Moments.{ended_with}
+use Rattle.volume_table.specs.Row.{RowValue}
+use Rattle.volume_table.specs.Changes.{effect}
+use Rattle.volume_table.specs.declared.changes.Change.{Change}
+use Rattle.table_pair.specs.Copies.{copy_at}
+use Rattle.table_pair.specs.Pair.{HoldsRow, IsOpenWith, row_of_copies, is_table, ChangesRow, OldOrNew}
+use Rattle.table_pair.proofs.PairFacts.{held_row}
+use Rattle.shown_volumes.specs.Shown.{RowsOf, told_row, rows_of}
+use Rattle.shown_volumes.specs.Changing.{MayChange}
+use Rattle.shown_volumes.proofs.MomentFacts.{change_moments}
+use Rattle.core_state.specs.declared.session.Message.{Message}
+use Rattle.core_state.specs.declared.task.Task.{Task}
+use Rattle.core_state.specs.CoreValue.{CoreValue}
+use Rattle.volume_table.specs.Listed.{listed}
+use Rattle.core_state.specs.IsCore.{IsCore, IsTold, IsGoing}
+use Rattle.core_state.specs.Served.{AreServed}
+use Rattle.core_state.specs.Entered.{worked}
+use Rattle.core_state.specs.Agrees.{with_change, changed, creates, IsAllowedIn, message_of}
+use Rattle.core_state.proofs.ChangeLemmas.{told_change}
+use Rattle.fault_queue.specs.Requests.{RequestsData}
+
+-- the rows with another one of a volume
+pub row_set : (rows : List (Option RowValue)) (volume : ℕ) (q : RowValue) → volume < length rows → (w : ℕ) → listed (slice_set rows volume (Some q)) w ≡ cond (w == volume) (Some q) (listed rows w)
+row_set rows volume q low w = elim (eqb_tells w volume) [
+  | inl e ↦ rw (e.0, e.1) (get_or-set_same rows volume (Some q) None low)
+  | inr e ↦ rw e.0 (get_or-set_other rows volume w (Some q) None e.1)
+]
+
+pub row_put : (rows : List (Option RowValue)) (volume : ℕ) (q : RowValue) → volume < length rows → listed (slice_set rows volume (Some q)) volume ≡ Some q
+row_put rows volume q low = get_or-set_same rows volume (Some q) None low
+
+pub row_left : (rows : List (Option RowValue)) (volume : ℕ) (q : RowValue) (w : ℕ) → w ≢ volume → listed (slice_set rows volume (Some q)) w ≡ listed rows w
+row_left rows volume q w other = get_or-set_other rows volume w (Some q) None other
+
+pub turned : (volume w : ℕ) → (w == volume) ≡ false → (volume == w) ≡ false
+turned volume w other = elim (eqb_tells volume w) [
+  | inl e ↦ absurd (elim (eqb_tells w volume) [ inl f ↦ (let z : true ≡ false = sym f.0 ∙ other in cc) | inr f ↦ f.1 (sym e.1) ])
+  | inr e ↦ e.0
+]
+
+module _ (S : Type 0) {C : Type 0} (s t : SiteLog) (v : CoreValue S C) (x : S) (core : IsCore v) (told : IsTold s v) (open_ : v.stopped ≡ None)
+    (volume mark : ℕ) (change : Change) (r : RowValue) (there : listed v.rows volume ≡ Some r) (low : volume < 32)
+    (simple : (o : Option RowValue) → changed change o ≡ option_map (effect change) o)
+    (no_create : (w : ℕ) → creates w (message_of mark volume change (listed v.rows)) ≡ false)
+    (allowed : IsAllowedIn (listed v.rows) volume change (Some r))
+    (may : MayChange v.config.frames volume (effect change r) (content s))
+    (writes : Writes (ChangesRow volume (OldOrNew volume (effect change r) (content s)) (content s)) s t)
+    (holds : HoldsRow (effect change r) volume (content t)) (at_end : mark ≡ length t.log) (grows : length s.log < length t.log)
+    (owners : List (Option (ℕ × ℕ))) (moving : List Bool) (requests : RequestsData) (tasks : List (Option Task))
+    (served : AreServed (content t) (listed (slice_set v.rows volume (Some (effect change r)))) tasks) where
+  abbrev new : RowValue
+  new = effect change r
+
+  abbrev m : Message
+  m = message_of mark volume change (listed v.rows)
+
+  going : IsGoing s v
+  going = told.going open_
+
+  fits : volume < length v.rows
+  fits = let p = core.places in omega (arith, p)
+
+  last : ChangesRow volume (OldOrNew volume new (content s)) (content s) (content t)
+  last = ended_with (ChangesRow volume (OldOrNew volume new (content s)) (content s)) s t writes
+
+  rows_at_ : (w : ℕ) → rows_of (content t) w ≡ listed (slice_set v.rows volume (Some new)) w
+  rows_at_ w = elim (eqb_tells w volume) [
+    | inl e ↦ ap (rows_of (content t)) e.1 ∙ cond-true _ _ _ (lt-ltb volume 32 low) ∙ ap told_row (held_row new volume (content t) holds) ∙ sym (row_set v.rows volume new fits w ∙ cond-true _ _ _ e.0)
+    | inr e ↦
+        let other = turned volume w e.0 in
+        (λ i. cond (nat_lt w 32) (told_row (row_of_copies (copy_at (last.others TableA w other i)) (copy_at (last.others TableB w other i)))) None)
+        ∙ ap (λ (rows : RowsOf). rows w) going.rows_ ∙ sym (row_set v.rows volume new fits w ∙ cond-false _ _ _ e.0)
+  ]
+
+  copies_ : (w : ℕ) (q : RowValue) → listed (slice_set v.rows volume (Some new)) w ≡ Some q → HoldsRow q w (content t)
+  copies_ w q is = elim (eqb_tells w volume) [
+    | inl e ↦
+        let o : Some new ≡ Some q = sym (row_set v.rows volume new fits w ∙ cond-true _ _ _ e.0) ∙ is in
+        let same : new ≡ q = cc in
+        subst (λ (z : ℕ). HoldsRow q z (content t)) (sym e.1) (subst (λ (y : RowValue). HoldsRow y volume (content t)) same holds)
+    | inr e ↦
+        let other = turned volume w e.0 in
+        let h = going.copies w q (sym (row_set v.rows volume new fits w ∙ cond-false _ _ _ e.0) ∙ is) in
+        record {
+          a = subst (λ (y : List ℕ). IsOpenWith q (copy_at y)) (sym (last.others TableA w other)) h.a;
+          b = subst (λ (y : List ℕ). IsOpenWith q (copy_at y)) (sym (last.others TableB w other)) h.b;
+        }
+  ]
+
+  changes_at : (w : ℕ) → with_change (listed v.rows) m w ≡ listed (slice_set v.rows volume (Some new)) w
+  changes_at w = elim (eqb_tells w volume) [
+    | inl e ↦ cond-true _ _ _ e.0 ∙ simple (listed v.rows w) ∙ ap (option_map (effect change)) (ap (listed v.rows) e.1 ∙ there) ∙ sym (row_set v.rows volume new fits w ∙ cond-true _ _ _ e.0)
+    | inr e ↦ cond-false _ _ _ e.0 ∙ sym (row_set v.rows volume new fits w ∙ cond-false _ _ _ e.0)
+  ]
+
+  pub told_by_change : IsTold t (worked v x (slice_set v.rows volume (Some (effect change r)))
+      (v.console ++ (message_of mark volume change (listed v.rows)) ∷ []) owners moving requests tasks)
+  told_by_change =
+      told_change S s t v x (slice_set v.rows volume (Some new)) m told open_ core.marked
+      (change_moments v.config.frames volume new s t may writes) at_end grows no_create
+      (subst (λ (o : Option RowValue). IsAllowedIn (listed v.rows) volume change o) (sym there) allowed, refl)
+      (fun_ext changes_at) (fun_ext rows_at_) copies_ owners moving requests tasks served
+
+  -- blocks that are no table's stay
+  pub blocks_stay : (unit : UnitNo) (block : ℕ) → is_table unit ≡ false → content t unit block ≡ content s unit block
+  blocks_stay unit block none = last.others unit block (ap (λ (b : Bool). b && (volume == block)) none)

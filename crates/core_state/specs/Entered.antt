@@ -1,0 +1,69 @@
+-- A core after an event.
+use Rattle.shown_volumes.specs.Shown.{SameTables, shown}
+use Rattle.std.specs.Prelude.{◌≡◌, ℕ, Bool, true, List, [], ◌∷◌, ◌++◌, Option}
+use Rattle.mss_base.specs.Content.{Content, SiteLog, content, Writes}
+use Rattle.ckd_plain.specs.declared.host.HostState.{HostState}
+use Rattle.ckd_plain.specs.Data.{State}
+use Rattle.ckd_plain.specs.History.{EntryData, after, next, IsNextEntry, count_of_host}
+use Rattle.ckd_plain.specs.Near.{IsNear}
+use Rattle.volume_table.specs.Row.{RowValue}
+use Rattle.shown_volumes.specs.Sound.{IsSound}
+use Rattle.core_state.specs.declared.task.Task.{Task}
+use Rattle.core_state.specs.declared.session.Message.{Message}
+use Rattle.core_state.specs.StopRule.{is_answered}
+use Rattle.core_state.specs.Agrees.{EntryAgrees}
+use Rattle.core_state.specs.CoreValue.{CoreValue}
+use Rattle.core_state.specs.Pins.{host_at}
+use Rattle.volume_table.specs.Listed.{listed}
+use Rattle.core_state.specs.IsCore.{opening_of}
+use Rattle.core_state.specs.Served.{AreServed}
+use Rattle.fault_queue.specs.Requests.{RequestsData}
+
+-- the core with an entry at the end of its history
+abbrev pub entered : {S C : Type 0} → CoreValue S C → S → EntryData → ℕ → List HostState
+    → RequestsData → List (Option Task) → Option ℕ → CoreValue S C
+entered v site e mark hosts requests tasks stopped =
+    record v {
+      site = site;
+      history = v.history ++ e ∷ [];
+      marks = v.marks ++ mark ∷ [];
+      hosts = hosts;
+      requests = requests;
+      tasks = tasks;
+      stopped = stopped;
+    }
+
+-- the core after an event without an entry
+abbrev pub worked : {S C : Type 0} → CoreValue S C → S → List (Option RowValue) → List Message
+    → List (Option (ℕ × ℕ)) → List Bool → RequestsData → List (Option Task) → CoreValue S C
+worked v site rows console owners moving requests tasks =
+    record v {
+      site = site;
+      rows = rows;
+      console = console;
+      owners = owners;
+      moving = moving;
+      requests = requests;
+      tasks = tasks;
+    }
+
+-- the plain state that a core stands for
+abbrev pub plain_of : {S C : Type 0} → SiteLog → CoreValue S C → State
+plain_of site v = after (opening_of site v) v.history
+
+-- what an answered entry leaves
+pub record Leaves (rows : List (Option RowValue)) (s : State) (e : EntryData)
+    (hosts : List HostState) (tasks : List (Option Task)) (old new : SiteLog) : Type 0 where
+  pub hosts_ : (next s e).host ≡ host_at hosts
+  pub shows : shown (content new) ≡ (next s e).volumes
+  pub tables : SameTables (content old) (content new)
+  pub served : AreServed (content new) (listed rows) tasks
+
+-- an entry that may come next, and what its event wrote
+pub record Enters (frames : ℕ) (rows : List (Option RowValue)) (s : State)
+    (history : List EntryData) (e : EntryData) (hosts : List HostState) (tasks : List (Option Task))
+    (old new : SiteLog) : Type 0 where
+  pub may : IsNextEntry s (count_of_host e.host history) e
+  pub writes : Writes (λ (d : Content). IsSound frames d × IsNear s e.host e.call (shown d)) old new
+  pub agrees : EntryAgrees frames (listed rows) s e e.reply
+  pub leaves : is_answered e.reply ≡ true → Leaves rows s e hosts tasks old new

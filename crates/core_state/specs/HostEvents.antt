@@ -1,0 +1,161 @@
+-- What a host's event answers, and the core that it leaves.
+use Rattle.std.specs.Prelude.{◌≡◌, ℕ, Bool, false, if◌then◌else◌, List, length, Option, Some, None, is_some}
+use Rattle.std.specs.Option.{ForSome}
+use Rattle.channel_commands.specs.declared.command.Command.{Command}
+use Rattle.channel_commands.specs.Data.{CallData, mount, command as ask, ReplyData, equipment_check, no_space}
+use Rattle.ckd_plain.specs.declared.host.HostState.{HostState}
+use Rattle.ckd_plain.specs.declared.unit_check.UnitCheck.{UnitCheck}
+use Rattle.ckd_plain.specs.declared.unit_check.UnitCheck.TheVariants as check
+use Rattle.ckd_plain.specs.Plain.{checked, responded}
+use Rattle.mss_base.specs.Places.{frame_block}
+use Rattle.volume_table.specs.Row.{RowValue}
+use Rattle.volume_table.specs.Changes.{effect}
+use Rattle.volume_table.specs.Listed.{listed}
+use Rattle.volume_table.specs.declared.changes.Change.TheVariants as change
+use Rattle.fault_queue.specs.declared.queue.RequestState.TheVariants as request
+use Rattle.core_state.specs.declared.session.Event.TheVariants.{Host}
+use Rattle.core_state.specs.declared.rule.Waiting.{Waiting}
+use Rattle.core_state.specs.declared.rule.Waiting.TheVariants.{Busy, Fault, Held}
+use Rattle.core_state.specs.declared.rule.HostRule.{HostRule}
+use Rattle.core_state.specs.declared.rule.HostRule.TheVariants.{IsStopped, IsFull, IsBusy, IsMoving, IsHeld, Responds, HasFailed, HasNoSpace, Faults, Marks, Runs}
+use Rattle.core_state.specs.CoreValue.{CoreData}
+use Rattle.core_state.specs.Devices.{StillHold, FailRead, HaveRow, FailRow, Run, RunOn, FailOn}
+use Rattle.core_state.specs.HostRules.{request_for, host_rule}
+use Rattle.core_state.specs.Pins.{host_at, page_of}
+use Rattle.core_state.specs.Steps.{noted, with_row, with_change, after_reply, after_stop, ends_request, going_on, with_request, touching, used}
+
+-- what a host is answered
+pub data HostTold : Type 0 where
+  replied : ℕ → ReplyData → HostTold
+  marked : HostTold
+  waits : Waiting → HostTold
+  halts : ℕ → HostTold
+  at_limit : HostTold
+  no_memory : HostTold
+
+-- ---- what a host is told without its tracks
+
+abbrev pub is_there : List (Option RowValue) → CallData → Bool
+is_there rows (mount volume bind) = is_some (listed rows volume)
+is_there rows _ = false
+
+-- the reply, and the host then
+abbrev pub response : CoreData → ℕ → CallData → ReplyData × HostState
+response core h call = responded (host_at core.hosts h) (is_there core.rows call) call
+
+-- a reply that plain volumes don't give, and the host then
+abbrev pub exception : UnitCheck → ReplyData → CoreData → ℕ → ReplyData × HostState
+exception why reply core h = (reply, checked why (host_at core.hosts h))
+
+abbrev pub equipment : CoreData → ℕ → ReplyData × HostState
+equipment = exception check.EquipmentCheck equipment_check
+
+-- ---- the outcomes of the rules
+
+-- nothing changed
+abbrev pub IsSame : Type 0 → CoreData → CoreData → Type 0
+IsSame tells core core' =
+    StillHold tells core.site core'.site × (core' ≡ record core { site = core'.site })
+
+-- the host is replied this, and nothing is written
+abbrev pub Replies : Type 0 → CoreData → ℕ → CallData → Option ℕ → ReplyData × HostState → HostTold
+    → CoreData → Type 0
+Replies tells core h call fault answer told core' =
+    StillHold tells core.site core'.site
+    × (told ≡ replied (length core.history) answer.0)
+    × (core' ≡ after_reply core'.site h call fault answer core)
+
+-- the host waits, and its request ends where the call isn't for it
+abbrev pub Holds : Type 0 → CoreData → ℕ → CallData → CoreData → Type 0
+Holds tells core h call core' =
+    StillHold tells core.site core'.site
+    × (core' ≡ record (if ends_request core h call then noted (Host h) (going_on core h call)
+    else core) { site = core'.site })
+
+-- the cylinder is asked for, unless it is already
+abbrev pub Asks : Type 0 → CoreData → ℕ → CallData → ℕ → ℕ → CoreData → Type 0
+Asks tells core h call volume cylinder core' =
+    StillHold tells core.site core'.site
+    × (core' ≡ record (if is_some (request_for core h call) then core
+    else noted (Host h) (with_request h volume cylinder request.Queued (going_on core h call)))
+    { site = core'.site })
+
+-- the cylinder becomes changed, for the host to write it then; where its row isn't written, the
+-- list of rows has the new one all the same
+abbrev pub MarksIt : Type 0 → CoreData → ℕ → CallData → ℕ → ℕ → HostTold → CoreData → Type 0
+MarksIt tells core h call volume cylinder marked core' =
+    ForSome (listed core.rows volume)
+    (λ r. HaveRow tells volume (effect (change.Changed cylinder) r) core.site core'.site)
+    × (core' ≡ noted (Host h) (touching (volume, page_of cylinder)
+    (with_request h volume cylinder request.Ready
+    (with_change volume (change.Changed cylinder)
+    (record (going_on core h call) { site = core'.site })))))
+MarksIt tells core h call volume cylinder (halts fault) core' =
+    ForSome (listed core.rows volume)
+    (λ r. FailRow tells volume (effect (change.Changed cylinder) r) fault core.site core'.site)
+    × (core' ≡ after_stop core'.site h call (with_row volume (change.Changed cylinder) core))
+MarksIt tells core h call volume cylinder _ core' = ⊥
+
+-- a command on the host's cylinder, which stands in a frame
+abbrev pub run_of : CoreData → ℕ → ℕ → Command → List ℕ → Bool → Run
+run_of core h frame c argument chained = record {
+  host = host_at core.hosts h;
+  at = frame_block frame (host_at core.hosts h).cylinder 0;
+  command = c;
+  argument = argument;
+  chained = chained;
+}
+
+abbrev pub page_under : CoreData → ℕ → ℕ → ℕ × ℕ
+page_under core h volume = (volume, page_of (host_at core.hosts h).cylinder)
+
+-- the command runs on the frame's blocks
+abbrev pub RunsIt : Type 0 → CoreData → ℕ → CallData → Command → ℕ → ℕ → HostTold → CoreData
+    → Type 0
+RunsIt tells core h call c volume frame (replied index equipment_check) core' =
+    FailRead tells core.site core'.site
+    × (index ≡ length core.history)
+    × (core' ≡ after_reply core'.site h call (Some core'.site.faults) (equipment core h) core)
+RunsIt tells core h (ask code argument chained) c volume frame (replied index reply) core' =
+    (host : HostState)
+    × RunOn tells (run_of core h frame c argument chained) core.site core'.site (reply, host)
+    × (index ≡ length core.history)
+    × (core' ≡ after_reply core'.site h (ask code argument chained) None (reply, host)
+    (used c (page_under core h volume) frame core))
+RunsIt tells core h (ask code argument chained) c volume frame (halts fault) core' =
+    FailOn tells (run_of core h frame c argument chained) fault core.site core'.site
+    × (core' ≡ after_stop core'.site h (ask code argument chained) core)
+RunsIt tells core h call c volume frame _ core' = ⊥
+
+-- ---- the rules
+
+-- what an event that meets a rule answers, and the core then; wherever it takes memory, it may be
+-- refused
+abbrev pub HostDoes : Type 0 → CoreData → ℕ → CallData → HostRule → HostTold → CoreData → Type 0
+HostDoes tells core h call (IsStopped fault) told core' =
+    (told ≡ halts fault) × IsSame tells core core'
+HostDoes tells core h call IsFull told core' = (told ≡ at_limit) × IsSame tells core core'
+HostDoes tells core h call rule no_memory core' = IsSame tells core core'
+HostDoes tells core h call (IsBusy owner) told core' =
+    (told ≡ waits (Busy owner)) × IsSame tells core core'
+HostDoes tells core h call (IsMoving cylinder) told core' =
+    (told ≡ waits (Fault cylinder)) × IsSame tells core core'
+HostDoes tells core h call (IsHeld frame) told core' =
+    (told ≡ waits (Held frame)) × Holds tells core h call core'
+HostDoes tells core h call Responds told core' =
+    Replies tells core h call None (response core h call) told core'
+HostDoes tells core h call (HasFailed fault) told core' =
+    Replies tells core h call (Some fault) (equipment core h) told core'
+HostDoes tells core h call HasNoSpace told core' =
+    Replies tells core h call None (exception check.NoSpace no_space core h) told core'
+HostDoes tells core h call (Faults volume cylinder) told core' =
+    (told ≡ waits (Fault cylinder)) × Asks tells core h call volume cylinder core'
+HostDoes tells core h call (Marks volume cylinder) told core' =
+    MarksIt tells core h call volume cylinder told core'
+HostDoes tells core h call (Runs c volume frame) told core' =
+    RunsIt tells core h call c volume frame told core'
+
+-- the first rule that applies gives this answer and this core
+abbrev pub HostEvent : Type 0 → CoreData → ℕ → CallData → HostTold → CoreData → Type 0
+HostEvent tells core h call told core' =
+    HostDoes tells core h call (host_rule core h call) told core'
