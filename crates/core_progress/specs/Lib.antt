@@ -1,0 +1,2 @@
+pub mod CoreFits
+pub mod Progress
