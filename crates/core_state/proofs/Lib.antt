@@ -4,6 +4,7 @@ pub mod Limits
 pub mod CountedFacts
 pub mod HostFacts
 pub mod StopsLemmas
+pub mod AnsweredFacts
 pub mod EntryLemmas
 pub mod ChangeLemmas
 pub mod Serving

@@ -39,6 +39,7 @@
 #![tactic(auto)]
 
 mod change;
+pub mod law;
 pub mod looks;
 mod machine;
 mod rule;

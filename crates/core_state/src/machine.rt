@@ -32,6 +32,7 @@ pub type RecorderList = Listed<Recorder>;
 pub type HostStateList = Listed<HostState>;
 
 /// The devices of a session, and all that is known of them. In a clause it is a `CoreValue`.
+#[derive(Drop)]
 pub struct Core<S: Site, C: Choose> {
     pub config: Config,
     pub chooser: Chooser<C>,
