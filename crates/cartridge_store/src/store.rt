@@ -97,7 +97,8 @@ impl Store {
         from: Place,
         to: Place,
     ) -> Result<(), MoveFault>
-        ensures { Moves self.old self.new cartridge from to result }
+        ensures moves { Moves self.old self.new cartridge from to result }
+        ensures known { cartridge < length self.old }
     {
         let number = cartridge.get() as usize;
         let place = self.place(cartridge);
