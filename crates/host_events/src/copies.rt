@@ -1,0 +1,63 @@
+// Copies that an event takes before it changes anything.
+ghost use Rattle.std.specs.Prelude.{◌≡◌, ◌≤◌, ◌+◌, length, IfOk};
+ghost use Rattle.channel_commands.specs.Views.{call_of, reply_of};
+ghost use Rattle.ckd_plain.specs.History.{count_of_host};
+
+use channel_commands::{Call, Reply};
+use ckd_plain::Entry;
+use mss_base::{Bytes, HostNo, NoMemory};
+use std::alloc::Global;
+
+/// A copy of a call. Only the argument of a command takes memory.
+pub fn copy_of_call(alloc: Global, call: &Call) -> Result<Call, NoMemory>
+    ensures { IfOk result (λ copy. call_of copy ≡ call_of call.now) }
+{
+    Ok(match call {
+        Call::Mount { volume, bind } => Call::Mount {
+            volume: *volume,
+            bind: *bind,
+        },
+        Call::Demount => Call::Demount,
+        Call::Command {
+            code,
+            argument,
+            chained,
+        } => Call::Command {
+            code: *code,
+            argument: Bytes::of(alloc, argument.as_slice())?,
+            chained: *chained,
+        },
+        Call::Break { cause } => Call::Break { cause: *cause },
+    })
+}
+
+/// A copy of a reply. Only bytes that a command read take memory.
+pub fn copy_of_reply(alloc: Global, reply: &Reply) -> Result<Reply, NoMemory>
+    ensures { IfOk result (λ copy. reply_of copy ≡ reply_of reply.now) }
+{
+    Ok(match reply {
+        Reply::Done { status, bytes } => Reply::Done {
+            status: *status,
+            bytes: Bytes::of(alloc, bytes.as_slice())?,
+        },
+        Reply::Mounted => Reply::Mounted,
+        Reply::Demounted => Reply::Demounted,
+        Reply::AlreadyMounted => Reply::AlreadyMounted,
+        Reply::NotMounted => Reply::NotMounted,
+        Reply::NoVolume => Reply::NoVolume,
+        Reply::InChain => Reply::InChain,
+        Reply::ProgramCheck => Reply::ProgramCheck,
+        Reply::ChainLimit => Reply::ChainLimit,
+        Reply::EquipmentCheck => Reply::EquipmentCheck,
+        Reply::NoSpace => Reply::NoSpace,
+        Reply::Stopped => Reply::Stopped,
+    })
+}
+
+/// The number of a host's next entry, from 1.
+pub fn next_number(history: &[Entry], host: HostNo) -> u64
+    requires { length history.now ≤ 4096 }
+    ensures { result ≡ count_of_host host history.now + 1 }
+{
+    history.iter().filter(|entry| entry.host == host).count() as u64 + 1
+}

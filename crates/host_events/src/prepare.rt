@@ -1,0 +1,36 @@
+// The memory that an event which writes takes before it changes anything.
+ghost use Rattle.std.specs.Prelude.{◌≡◌, ◌≤◌, IfOk, OnOk};
+ghost use Rattle.channel_commands.specs.Views.{call_of};
+ghost use Rattle.core_state.specs.Sessions.{session_data};
+ghost use Rattle.host_events.specs.Runs.{Reserves};
+
+use crate::copies::copy_of_call;
+use channel_commands::Call;
+use core_state::Session;
+use mss_base::{NoMemory, Site};
+use std::alloc::Global;
+
+/// A copy of a call, with room for what its event tells and for so many writes. After want of memory all but the room
+/// is as it was.
+pub fn prepare<S: Site>(
+    alloc: Global,
+    session: &mut Session,
+    site: &mut S,
+    call: &Call,
+    writes: u32,
+) -> Result<Call, NoMemory>
+    ensures copy { IfOk result (λ copy. call_of copy ≡ call_of call.now) }
+    ensures session { session_data session.new ≡ session_data session.old }
+    ensures room { OnOk result (1 ≤ session.new.history.spare) }
+    ensures room_marks { OnOk result (1 ≤ session.new.marks.spare) }
+    ensures room_console { OnOk result (1 ≤ session.new.console.spare) }
+    ensures room_events { OnOk result (1 ≤ session.new.events.spare) }
+    ensures room_site { OnOk result (writes ≤ S.spare site.new) }
+    ensures site { Reserves S.tells S.told S.spare S.writes S.faults S.never_fails_but
+        site.old site.new }
+{
+    let copy = copy_of_call(alloc, call)?;
+    session.reserve()?;
+    site.reserve(writes)?;
+    Ok(copy)
+}

@@ -1,0 +1,77 @@
+// Replies without a look at the tracks.
+ghost use Rattle.std.specs.Prelude.{◌≡◌, IfOk, length};
+ghost use Rattle.channel_commands.specs.Views.{call_of, reply_of};
+ghost use Rattle.ckd_plain.specs.Plain.{NeedsNoTrack, responded};
+ghost use Rattle.core_state.specs.CoreValue.{seen};
+ghost use Rattle.core_state.specs.HostEvents.{HostDoes, is_there};
+ghost use Rattle.core_state.specs.HostRules.{host_rule};
+ghost use Rattle.core_state.specs.declared.rule.HostRule.TheVariants.{Responds};
+ghost use Rattle.host_events.specs.Answers.{told_of};
+
+use crate::answer::HostAnswer;
+use crate::reply::reply;
+use channel_commands::{Call, Reply};
+use ckd_plain::HostState;
+use ckd_plain::steps::{respond, respond_command};
+use core_state::Core;
+use core_state::looks::host_at;
+use mss_base::{HostNo, NoMemory, Site};
+use std::alloc::Global;
+use victim_choice::Choose;
+use volume_table::VolumeRow;
+
+/// Whether the volume that a call asks for is there.
+fn is_there(rows: &[Option<VolumeRow>], call: &Call) -> bool
+    requires { length rows.now ≡ 32 }
+    ensures { result ≡ is_there rows.now (call_of call.now) }
+{
+    match call {
+        Call::Mount { volume, .. } => rows[usize::from(volume.get())].is_some(),
+        _ => false,
+    }
+}
+
+/// The reply to a call that needs no track, and the host then; `there` says whether the volume that the call asks for
+/// is there.
+fn response(
+    alloc: Global,
+    host: &HostState,
+    there: bool,
+    call: &Call,
+) -> Result<(Reply, HostState), NoMemory>
+    requires { NeedsNoTrack host.now (call_of call.now) }
+    ensures { IfOk result (λ answer. (reply_of answer.0, answer.1)
+        ≡ responded host.now there (call_of call.now)) }
+{
+    let Call::Command {
+        code,
+        argument,
+        chained,
+    } = call
+    else {
+        return Ok(respond(host, there, call));
+    };
+    let mut now = *host;
+    let reply = respond_command(alloc, *code, argument.as_slice(), *chained, &mut now)?;
+    Ok((reply, now))
+}
+
+/// Replies a call that meets no other rule, without a look at the tracks. The host's request ends, if it has one.
+pub fn reply_plainly<S: Site, C: Choose>(
+    core: &mut Core<S, C>,
+    host: HostNo,
+    call: &Call,
+) -> HostAnswer
+    requires rule { host_rule core.old host (call_of call.now) ≡ Responds }
+    ensures event { HostDoes S.tells (seen S.told S.writes S.faults core.old) host
+        (call_of call.now) Responds (told_of result) (seen S.told S.writes S.faults core.new) }
+    ensures chooser { core.new.chooser ≡ core.old.chooser }
+    ensures site { core.new.site ≡ core.old.site }
+{
+    let state = host_at(core.hosts.as_slice(), host);
+    let there = is_there(&core.rows, call);
+    let Ok((told, now)) = response(core.alloc, &state, there, call) else {
+        return HostAnswer::Memory;
+    };
+    reply(core, host, call, told, None, &now)
+}

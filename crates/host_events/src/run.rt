@@ -1,0 +1,226 @@
+// The event of a search, read or write on a staged cylinder.
+ghost use Rattle.std.specs.Prelude.{◌≡◌, ◌≤◌, ◌<◌, ◌+◌, ◌^◌, Bool, length, true, false, IfOk, IfErr, IsOk};
+ghost use Rattle.mss_base.specs.Content.{content};
+ghost use Rattle.mss_base.specs.Places.{frame_block};
+ghost use Rattle.mss_base.specs.Sites.{MayWrite};
+ghost use Rattle.mss_base.specs.declared.block.TheConstants.{BLOCK_BYTES};
+ghost use Rattle.mss_base.specs.declared.place.UnitNo.{UnitNo};
+ghost use Rattle.channel_commands.specs.Codes.{is_write};
+ghost use Rattle.channel_commands.specs.Data.{is_command};
+ghost use Rattle.channel_commands.specs.Views.{call_of, reply_of};
+ghost use Rattle.ckd_plain.specs.Checks.{Passes};
+ghost use Rattle.ckd_plain.specs.Effects.{is_data};
+ghost use Rattle.ckd_plain.specs.Laws.{HasNoBytes};
+ghost use Rattle.ckd_plain.specs.Plain.{IsDone, opened};
+ghost use Rattle.track_engine.specs.Faults.{IsNoFailure, IsNoFailedWrite};
+ghost use Rattle.track_engine.specs.Tracks.{AreTracks};
+ghost use Rattle.core_state.specs.CoreValue.{seen};
+ghost use Rattle.core_state.specs.HostRules.{host_rule};
+ghost use Rattle.core_state.specs.HostEvents.{HostDoes};
+ghost use Rattle.core_state.specs.Pins.{host_at};
+ghost use Rattle.core_state.specs.Tasks.{tasks_after};
+ghost use Rattle.core_state.specs.declared.rule.HostRule.TheVariants.{Runs};
+ghost use Rattle.host_events.specs.Answers.{told_of};
+ghost use Rattle.host_events.specs.Parts.{GoesOn, IsUnfailed};
+ghost use Rattle.host_events.specs.Runs.{argument_of, run_by, devices, bare_write, Comes};
+
+use crate::answer::HostAnswer;
+use crate::prepare::prepare;
+use crate::reply::enter;
+use channel_commands::{Call, Command, Reply};
+use ckd_plain::steps::checked;
+use ckd_plain::{HostState, UnitCheck};
+use core_state::looks::host_at;
+use core_state::{Core, TaskList, touch_all};
+use mss_base::{
+    Bytes, CYLINDERS, FrameNo, HEADS, Head, HostNo, NoMemory, Page, Site, VolumeNo, frame_block,
+};
+use std::alloc::Global;
+use track_engine::{CylinderPlace, EngineFault, run_command};
+use victim_choice::Choose;
+
+/// How many writes a command makes at most.
+const RUN_WRITES: u32 = 4;
+
+/// The state of a host, which stands on a track of a volume.
+fn standing(hosts: &[HostState], host: HostNo) -> HostState
+    requires { length hosts.now ≡ 8 }
+    ensures state { result ≡ host_at hosts.now host }
+    ensures cylinder { result.cylinder < CYLINDERS }
+    ensures head { result.head < HEADS }
+{
+    let state = host_at(hosts, host);
+    let _cylinder = state.cylinder.get();
+    let _head = state.head.get();
+    state
+}
+
+/// The blocks of a host's cylinder in a frame.
+fn place_in(frame: FrameNo, host: &HostState) -> CylinderPlace
+    ensures unit { result.unit ≡ (frame_block frame host.now.cylinder 0).unit }
+    ensures block { result.first_block ≡ (frame_block frame host.now.cylinder 0).block }
+    ensures in_range { result.first_block < 7600 }
+{
+    let at = frame_block(frame, host.cylinder, Head::of(0).unwrap());
+    CylinderPlace {
+        unit: at.unit,
+        first_block: at.block,
+    }
+}
+
+/// The reply of a command that was carried out, without the bytes that a write's reply doesn't have.
+fn bare(alloc: Global, command: &Command, reply: Reply) -> Reply
+    requires { IsDone (reply_of reply) }
+    ensures { reply_of result ≡ bare_write command.now (reply_of reply) }
+{
+    let Reply::Done { status, bytes } = reply else {
+        unreachable!()
+    };
+    let bytes = match command {
+        Command::Write(_) => Bytes::new(alloc),
+        _ => bytes,
+    };
+    Reply::Done { status, bytes }
+}
+
+/// A copy of the reply of a command that was carried out. Without bytes it takes no memory.
+fn copy_of_done(alloc: Global, reply: &Reply) -> Result<Reply, NoMemory>
+    requires { IsDone (reply_of reply.now) }
+    ensures copy { IfOk result (λ copy. reply_of copy ≡ reply_of reply.now) }
+    ensures none { HasNoBytes (reply_of reply.now) → IsOk result }
+{
+    let Reply::Done { status, bytes } = reply else {
+        unreachable!()
+    };
+    let bytes = Bytes::of(alloc, bytes.as_slice())?;
+    Ok(Reply::Done {
+        status: *status,
+        bytes,
+    })
+}
+
+/// Runs a call's command on the blocks of the host's cylinder in a frame, and gives its reply twice: for the history, and
+/// for the host.
+fn run_in<S: Site>(
+    alloc: Global,
+    site: &mut S,
+    buffer: &mut [u8],
+    frame: FrameNo,
+    call: &Call,
+    command: &Command,
+    host: &mut HostState,
+) -> Result<(Reply, Reply), EngineFault>
+    requires buffer { length buffer.old ≡ BLOCK_BYTES }
+    requires asks { is_command (call_of call.now) ≡ true }
+    requires passes { Passes (opened host.old) command.now (argument_of (call_of call.now)) }
+    requires data { is_data command.now ≡ true }
+    requires tracks { S.tells → AreTracks (content (S.told site.old))
+        (frame_block frame host.old.cylinder 0).unit
+        (frame_block frame host.old.cylinder 0).block }
+    requires room { RUN_WRITES ≤ S.spare site.old }
+    ensures comes { Comes S.tells
+        (run_by host.old (frame_block frame host.old.cylinder 0) command.now (call_of call.now))
+        (devices S.told S.writes S.faults site.old) (devices S.told S.writes S.faults site.new)
+        host.new result }
+    ensures site_ { MayWrite RUN_WRITES S.spare S.writes S.faults S.never_fails_but
+        site.old site.new }
+    ensures works { (but : UnitNo → Bool) → S.never_fails_but site.old but
+        → but (frame_block frame host.old.cylinder 0).unit ≡ false → IfErr result IsNoFailure }
+    ensures only_reads_fail { (but : UnitNo → Bool) → S.never_fails_but site.old but
+        → IfErr result IsNoFailedWrite }
+{
+    let Call::Command {
+        argument,
+        chained,
+        ..
+    } = call
+    else {
+        unreachable!()
+    };
+    let bytes = argument.as_slice();
+    let place = place_in(frame, host);
+    let reply = run_command(alloc, site, &place, buffer, command, bytes, *chained, host)?;
+    let reply = bare(alloc, command, reply);
+    let Ok(copy) = copy_of_done(alloc, &reply) else {
+        return Err(EngineFault::Memory);
+    };
+    Ok((reply, copy))
+}
+
+/// A write touches each task that takes the page.
+fn touch_after(command: &Command, tasks: &mut TaskList, volume: VolumeNo, page: Page)
+    ensures { tasks.new.items ≡ tasks_after command.now volume page tasks.old.items }
+{
+    match command {
+        Command::Write(_) => touch_all(tasks, volume, page),
+        _ => {}
+    }
+}
+
+/// Runs a command on the frame of the host's cylinder.
+pub fn run<S: Site, C: Choose>(
+    core: &mut Core<S, C>,
+    host: HostNo,
+    call: &Call,
+    command: &Command,
+    volume: VolumeNo,
+    frame: FrameNo,
+) -> HostAnswer
+    requires rule { host_rule core.old host (call_of call.now) ≡ Runs command.now volume frame }
+    ensures event { HostDoes S.tells (seen S.told S.writes S.faults core.old) host
+        (call_of call.now) (Runs command.now volume frame) (told_of result)
+        (seen S.told S.writes S.faults core.new) }
+    ensures chooser { core.new.chooser ≡ core.old.chooser }
+    ensures devices { MayWrite RUN_WRITES S.spare S.writes S.faults S.never_fails_but
+        core.old.site core.new.site }
+    ensures works { (but : UnitNo → Bool) → S.never_fails_but core.old.site but
+        → but (frame_block frame (host_at core.old.hosts host).cylinder 0).unit ≡ false
+        → IsUnfailed (told_of result) }
+    ensures only_reads_fail { (but : UnitNo → Bool) → S.never_fails_but core.old.site but
+        → GoesOn (told_of result) }
+{
+    let at = usize::from(host.get()) - 1;
+    let old = standing(core.hosts.as_slice(), host);
+    let alloc = core.alloc;
+    let Ok(copy) = prepare(alloc, &mut core.session, &mut core.site, call, RUN_WRITES) else {
+        return HostAnswer::Memory;
+    };
+    let index = core.session.history.as_slice().len() as u64;
+    let mut now = old;
+    match run_in(
+        alloc,
+        &mut core.site,
+        &mut core.buffer,
+        frame,
+        call,
+        command,
+        &mut now,
+    ) {
+        Ok((reply, told)) => {
+            let mark = core.site.writes();
+            enter(&mut core.session, host, copy, reply, None, mark);
+            core.hosts.set(at, now);
+            core.requests.end(host);
+            touch_after(command, &mut core.tasks, volume, old.cylinder.page());
+            core.recency.touch(frame);
+            HostAnswer::Replied { index, reply: told }
+        }
+        Err(EngineFault::ReadFailed { fault }) => {
+            let mark = core.site.writes();
+            let reply = Reply::EquipmentCheck;
+            enter(&mut core.session, host, copy, reply, Some(fault), mark);
+            core.hosts.set(at, checked(UnitCheck::EquipmentCheck, &old));
+            core.requests.end(host);
+            let reply = Reply::EquipmentCheck;
+            HostAnswer::Replied { index, reply }
+        }
+        Err(EngineFault::WriteFailed { fault }) => {
+            let mark = core.site.writes();
+            let reply = Reply::Stopped;
+            enter(&mut core.session, host, copy, reply, Some(fault), mark);
+            core.session.stopped = Some(fault);
+            HostAnswer::Stopped { fault }
+        }
+        Err(EngineFault::Memory) => HostAnswer::Memory,
+    }
+}
