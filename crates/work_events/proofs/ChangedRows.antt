@@ -1,0 +1,84 @@
+-- A core whose row changes: what it keeps where the change is done, and where a write of it failed.
+use Rattle.std.proofs.Common.{◌≡◌, ℕ, ◌≤◌, ◌<◌, Bool, List, [], ◌∷◌, ◌++◌, length, Option, Some, None, sym, ◌∙◌, ap, subst}
+use Rattle.std.specs.Prelude.{slice_set}
+use Rattle.std.specs.Option.{option_map, ForSome}
+use Rattle.std.proofs.lemmas.List.{length-set}
+use Rattle.mss_base.specs.Content.{SiteLog, content}
+use Rattle.mss_base.specs.Counts.{IsFaultSince}
+use Rattle.volume_table.specs.Row.{RowValue}
+use Rattle.volume_table.specs.Listed.{listed}
+use Rattle.volume_table.specs.Changes.{IsAllowed, effect}
+use Rattle.volume_table.specs.declared.changes.Change.{Change}
+use Rattle.table_pair.specs.Pair.{HoldsRow}
+use Rattle.shown_volumes.specs.Shown.{RowsOf}
+use Rattle.shown_volumes.specs.Changing.{MayChange, IsReady}
+use Rattle.shown_volumes.proofs.AllowedFacts.{allowed_may}
+use Rattle.shown_volumes.proofs.MomentFacts.{change_moments}
+use Rattle.fault_queue.specs.Requests.{RequestsData}
+use Rattle.core_state.specs.declared.task.Task.{Task}
+use Rattle.core_state.specs.declared.session.Event.TheVariants.{Work}
+use Rattle.core_state.specs.Agrees.{message_of}
+use Rattle.core_state.specs.CoreValue.{CoreValue}
+use Rattle.core_state.specs.Counted.{IsCounted}
+use Rattle.core_state.specs.SessionData.{data_of, with_last_message}
+use Rattle.core_state.specs.Rows.{with_changed, Rewrites}
+use Rattle.core_state.specs.TheCore.{IsWhole, IsKept}
+use Rattle.core_state.specs.Entered.{worked}
+use Rattle.core_state.proofs.WholeEvents.{whole_change_failed}
+use Rattle.core_state.proofs.CountedFacts.{counted_stop}
+use Rattle.work_events.proofs.KeptFacts.{kept_noted}
+use Rattle.work_events.proofs.OwnTask.{sound_now, rows_now}
+
+-- what the devices hold once a row is changed
+pub record IsRewritten (s : SiteLog) (volume : ℕ) (row : RowValue) (t : SiteLog) (mark : ℕ) : Type 0 where
+  pub writes : Rewrites volume row s t
+  pub holds : HoldsRow row volume (content t)
+  pub at_end : mark ≡ length t.log
+  pub grows : length s.log < length t.log
+
+pub rewritten : (volume : ℕ) (row : RowValue) (s mid t : SiteLog) (mark : ℕ) → mid ≡ s → Rewrites volume row mid t → HoldsRow row volume (content t) → mark ≡ length t.log → length mid.log < length t.log → IsRewritten s volume row t mark
+rewritten volume row s mid t mark same writes holds at_end grows = record {
+  writes = subst (λ (z : SiteLog). Rewrites volume row z t) same writes;
+  holds = holds;
+  at_end = at_end;
+  grows = subst (λ (z : SiteLog). length z.log < length t.log) same grows;
+}
+
+-- a change that a volume's row may have, and for which the devices are ready
+pub record IsDueChange {S C : Type 0} (tells : Type 0) (s : SiteLog) (v : CoreValue S C) (volume : ℕ) (change : Change) : Type 0 where
+  pub r : RowValue
+  pub there : listed v.rows volume ≡ Some r
+  pub allowed : IsAllowed change r
+  pub ready : tells → IsReady v.config.frames change r (content s)
+
+-- then it shows the same
+pub may_now : (S : Type 0) {C : Type 0} (tells : Type 0) (s : SiteLog) (v : CoreValue S C) (whole : IsWhole tells s v) (open_ : v.stopped ≡ None) (volume : ℕ) (change : Change) (r : RowValue) → listed v.rows volume ≡ Some r → IsAllowed change r
+    → (tells → IsReady v.config.frames change r (content s)) → tells → MayChange v.config.frames volume (effect change r) (content s)
+may_now S tells s v whole open_ volume change r there allowed ready tl =
+    allowed_may v.config.frames volume change r (content s) (sound_now S tells s v whole open_ tl) (ap (λ (rows : RowsOf). rows volume) (rows_now S tells s v whole open_ tl) ∙ there)
+    ((whole.kept open_).are_rows volume r there) allowed (ready tl)
+
+-- the list of rows then
+pub rows_changed : (rows : List (Option RowValue)) (volume : ℕ) (change : Change) (r : RowValue) → listed rows volume ≡ Some r → with_changed volume change rows ≡ slice_set rows volume (Some (effect change r))
+rows_changed rows volume change r there = ap (λ (o : Option RowValue). slice_set rows volume (option_map (effect change) o)) there
+
+module _ (S : Type 0) {C : Type 0} (tells : Type 0) (s t : SiteLog) (writes faults later_writes later room : ℕ) (v : CoreValue S C) (kept : IsKept tells s writes faults room v) (open_ : v.stopped ≡ None)
+    (n : ℕ) (x : S) (volume : ℕ) (change : Change) (more : writes ≤ later_writes) (le : faults ≤ later) where
+  -- a write of it failed: the core stops
+  pub kept_unchanged : IsDueChange tells s v volume change → (tells → ForSome (listed v.rows volume) (λ r. Rewrites volume (effect change r) s t)) → IsFaultSince faults later later
+      → IsKept tells t later_writes later room (record v { site = x; rows = with_changed volume change v.rows; stopped = Some later; events = v.events ++ Work n ∷ [] })
+  kept_unchanged due rewrites failed =
+      kept_noted tells t later_writes later room (record v { site = x; rows = with_changed volume change v.rows; stopped = Some later }) (v.events ++ Work n ∷ [])
+      (whole_change_failed S tells s t v x later (with_changed volume change v.rows) kept.whole open_ (length-set v.rows volume (option_map (effect change) (listed v.rows volume)) ∙ (kept.whole.kept open_).places)
+      (λ tl. change_moments v.config.frames volume (effect change due.r) s t (may_now S tells s v kept.whole open_ volume change due.r due.there due.allowed due.ready tl) (rewrites tl due.r due.there)))
+      (counted_stop writes faults later_writes later v.requests (data_of v) kept.counted more le open_ failed) kept.buffer
+
+  -- it is done: the message is told
+  pub kept_changed : (r : RowValue) → listed v.rows volume ≡ Some r → (owners : List (Option (ℕ × ℕ))) (moving : List Bool) (requests : RequestsData) (tasks : List (Option Task))
+      → IsWhole tells t (worked v x (slice_set v.rows volume (Some (effect change r))) (v.console ++ message_of later_writes volume change (listed v.rows) ∷ []) owners moving requests tasks)
+      → IsCounted later_writes later requests (with_last_message (message_of later_writes volume change (listed v.rows)) (data_of v))
+      → IsKept tells t later_writes later room (record (worked v x (with_changed volume change v.rows) (v.console ++ message_of later_writes volume change (listed v.rows) ∷ []) owners moving requests tasks) { events = v.events ++ Work n ∷ [] })
+  kept_changed r there owners moving requests tasks whole counted =
+      subst (λ (rows : List (Option RowValue)). IsKept tells t later_writes later room (record (worked v x rows (v.console ++ message_of later_writes volume change (listed v.rows) ∷ []) owners moving requests tasks) { events = v.events ++ Work n ∷ [] }))
+      (sym (rows_changed v.rows volume change r there))
+      (kept_noted tells t later_writes later room (worked v x (slice_set v.rows volume (Some (effect change r))) (v.console ++ message_of later_writes volume change (listed v.rows) ∷ []) owners moving requests tasks) (v.events ++ Work n ∷ []) whole counted kept.buffer)

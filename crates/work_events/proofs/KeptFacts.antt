@@ -1,0 +1,75 @@
+-- What an event leaves is kept, once it is whole and its counts are.
+use Rattle.std.proofs.Common.{◌≡◌, ℕ, ◌<◌, List, length, Option, None, subst, arith}
+use Rattle.mss_base.specs.Content.{SiteLog}
+use Rattle.mss_base.specs.declared.block.TheConstants.{BLOCK_BYTES}
+use Rattle.std.specs.List.{range_with_len}
+use Rattle.std.proofs.lemmas.List.Sorted.{length_permutation}
+use Rattle.std.proofs.lemmas.List.FromFn.{length-range_with_len}
+use Rattle.cartridge_store.specs.declared.store.Place.{Place}
+use Rattle.accessors.specs.Rails.{RailData}
+use Rattle.victim_choice.specs.Order.{touched, IsOrderOf}
+use Rattle.core_state.specs.declared.session.Event.{Event}
+use Rattle.core_state.specs.Beside.{IsBeside}
+use Rattle.core_state.specs.CoreValue.{CoreValue}
+use Rattle.core_state.specs.Counted.{IsCounted}
+use Rattle.core_state.specs.SessionData.{data_of}
+use Rattle.core_state.specs.TheCore.{IsWhole, IsKept}
+use Rattle.core_state.proofs.BesideFacts.{whole_beside, whole_noted, beside_touched}
+use Rattle.core_state.proofs.CountedFacts.{counted_later}
+use Rattle.core_state.proofs.Moved.{whole_moved}
+
+-- an event more is told
+pub kept_noted : {S C : Type 0} (tells : Type 0) (site : SiteLog) (writes faults room : ℕ) (v : CoreValue S C) (events : List Event)
+    → IsWhole tells site v → IsCounted writes faults v.requests (data_of v) → room ≡ BLOCK_BYTES
+    → IsKept tells site writes faults room (record v { events = events })
+kept_noted tells site writes faults room v events whole counted buffer = record {
+  whole = whole_noted tells site v events whole;
+  counted = record {
+    marks_ = counted.marks_;
+    messages = counted.messages;
+    entries = counted.entries;
+    began = counted.began;
+    faults_ = counted.faults_;
+    going = counted.going;
+    stop = counted.stop;
+  };
+  buffer = buffer;
+}
+
+-- a core that is the same is kept as well
+pub kept_at : {S C : Type 0} (tells : Type 0) (told : S → SiteLog) (writes faults : S → ℕ) (room : ℕ) (v w : CoreValue S C) → v ≡ w
+    → IsKept tells (told v.site) (writes v.site) (faults v.site) room v → IsKept tells (told w.site) (writes w.site) (faults w.site) room w
+kept_at {S} {C} tells told writes faults room v w same kept = subst (λ (z : CoreValue S C). IsKept tells (told z.site) (writes z.site) (faults z.site) room z) same kept
+
+-- another site that holds and counts the same
+pub kept_moved : (S : Type 0) {C : Type 0} (tells : Type 0) (s t : SiteLog) (writes faults later_writes later room : ℕ) (v : CoreValue S C) (x : S) → (tells → t ≡ s) → later_writes ≡ writes → later ≡ faults
+    → IsKept tells s writes faults room v → IsKept tells t later_writes later room (record v { site = x })
+kept_moved S tells s t writes faults later_writes later room v x same unwritten sound kept = record {
+  whole = whole_moved S tells s t v x kept.whole same;
+  counted = counted_later writes faults later_writes later v.requests (data_of v) kept.counted (omega (arith, unwritten)) (omega (arith, sound));
+  buffer = kept.buffer;
+}
+
+-- what stands beside the tables changes
+pub kept_beside : {S C : Type 0} (tells : Type 0) (site : SiteLog) (writes faults room : ℕ) (v : CoreValue S C) (recency : List ℕ) (recorders : List (Option ℕ)) (store : List Place) (rail : RailData) (events : List Event)
+    → IsKept tells site writes faults room v → length recorders ≡ v.config.recorders → (v.stopped ≡ None → IsBeside v.config.frames v.config.recorders recency recorders store)
+    → IsKept tells site writes faults room (record v { recency = recency; recorders = recorders; store = store; rail = rail; events = events })
+kept_beside tells site writes faults room v recency recorders store rail events kept long is = record {
+  whole = whole_beside v recency recorders store rail events tells site kept.whole long is;
+  counted = (kept_noted tells site writes faults room v events kept.whole kept.counted kept.buffer).counted;
+  buffer = kept.buffer;
+}
+
+-- a frame is touched
+pub kept_touched : {S C : Type 0} (tells : Type 0) (site : SiteLog) (writes faults room : ℕ) (v : CoreValue S C) (frame : ℕ) → frame < v.config.frames
+    → IsKept tells site writes faults room v → IsKept tells site writes faults room (record v { recency = touched frame v.recency })
+kept_touched tells site writes faults room v frame below kept =
+    kept_beside tells site writes faults room v (touched frame v.recency) v.recorders v.store v.rail v.events kept kept.whole.shaped.recorders_
+    (λ none. beside_touched v.config.frames v.config.recorders v.recency v.recorders v.store frame below (kept.whole.kept none).beside)
+
+-- a frame stands in the order of touch
+pub in_order : (frames frame : ℕ) (recency : List ℕ) → IsOrderOf frames recency → frame < frames → frame < length recency
+in_order frames frame recency is below =
+    let long = length_permutation (range_with_len 0 frames) recency is in
+    let count = length-range_with_len 0 frames in
+    omega (arith, long, count, below)

@@ -1,0 +1,46 @@
+use Rattle.std.proofs.Common.{◌≡◌, ◌<◌, [], ◌∷◌, ◌++◌, length, None, sym, ◌∙◌, ap, subst}
+use Rattle.std.specs.Prelude.{slice_set, vec_len}
+use Rattle.cartridge_store.specs.declared.store.Place.TheVariants.{Cell}
+use Rattle.cartridge_store.specs.Places.{home_of, place_of, with_place}
+use Rattle.core_state.specs.declared.session.Event.TheVariants.{Work}
+use Rattle.core_state.specs.CoreValue.{CoreValue}
+use Rattle.core_state.specs.SessionData.{data_of, of_parts, with_last_event}
+use Rattle.core_state.specs.Sessions.{session_data}
+use Rattle.core_state.specs.TheCore.{IsKept}
+use Rattle.work_events.proofs.KeptFacts.{kept_at}
+use Rattle.work_events.proofs.RuleFacts.{rule_returns}
+use Rattle.work_events.proofs.CarryWhole.{cell_is_free, kept_given_back}
+use Rattle.work_events.proofs.carrying.give_back.Goals as goal
+
+pub put-requires-clause-lies : goal.put-requires-clause-lies
+put-requires-clause-lies g c =
+    let now = c.args.core.now in
+    let is = c.core.view_is in
+    let kept = kept_at g.S.Site.tells g.S.Site.told g.S.Site.writes g.S.Site.faults (vec_len c.core.inside.buffer) _ now is c.core.invariant in
+    let says = rule_returns now c.args.recorder c.requires.fits kept.whole.kept c.args.cartridge c.requires.rule in
+    ap (λ (z : CoreValue g.row.S.Denot g.row.C.Denot). place_of z.store c.args.cartridge) is ∙ says.lies
+
+pub put-requires-clause-free : goal.put-requires-clause-free
+put-requires-clause-free g c =
+    let now = c.args.core.now in
+    let is = c.core.view_is in
+    let kept = kept_at g.S.Site.tells g.S.Site.told g.S.Site.writes g.S.Site.faults (vec_len c.core.inside.buffer) _ now is c.core.invariant in
+    let says = rule_returns now c.args.recorder c.requires.fits kept.whole.kept c.args.cartridge c.requires.rule in
+    let beside = (kept.whole.kept says.going).beside in
+    λ other low at. cell_is_free now.config.frames now.config.recorders now.recency now.recorders now.store beside c.args.cartridge other low (sym (ap (λ (z : CoreValue g.row.S.Denot g.row.C.Denot). place_of z.store other) is) ∙ at ∙ ap Cell c.get.ensures.value)
+
+pub invariant_of-core-2 : goal.invariant_of-core-2
+invariant_of-core-2 g c =
+    let now = c.args.core.now in
+    let is = c.core.view_is in
+    let kept = kept_at g.S.Site.tells g.S.Site.told g.S.Site.writes g.S.Site.faults (vec_len c.core.inside.buffer) _ now is c.core.invariant in
+    let says = rule_returns now c.args.recorder c.requires.fits kept.whole.kept c.args.cartridge c.requires.rule in
+    let known : c.args.cartridge < length now.store = subst (λ (z : CoreValue g.row.S.Denot g.row.C.Denot). c.args.cartridge < length z.store) is c.put.ensures.known in
+    let number : c.from.result ≡ c.args.recorder = c.from.ensures ∙ c.get-3.ensures.value in
+    let told : session_data c.did.new.session ≡ with_last_event (Work c.args.recorder) (data_of now) = c.did.ensures.told ∙ ap (with_last_event (Work c.args.recorder)) (c.reserve.ensures.same ∙ ap (λ (z : CoreValue g.row.S.Denot g.row.C.Denot). data_of z) is) in
+    let recorders : c.set.new.self.items ≡ slice_set now.recorders c.args.recorder None = c.set.ensures.items ∙ (λ i. slice_set (is i).recorders (number i) (c.empty.ensures i)) in
+    let store : c.put.new.store ≡ with_place c.args.cartridge (home_of c.args.cartridge) now.store = c.put.ensures.there ∙ (λ i. with_place c.args.cartridge (Cell (c.get.ensures.value i)) (is i).store) in
+    let path : ◌≡◌ {A = CoreValue g.row.S.Denot g.row.C.Denot} _ (record now { recorders = slice_set now.recorders c.args.recorder None; store = with_place c.args.cartridge (home_of c.args.cartridge) now.store; rail = c.carry.new.rail; events = now.events ++ Work c.args.recorder ∷ [] }) =
+    λ i. record (of_parts (is i) (is i).site (is i).rows (is i).owners (is i).moving (is i).requests (is i).tasks (is i).hosts (told i)) { recorders = recorders i; store = store i; rail = c.carry.new.rail } in
+    subst (λ (z : CoreValue g.row.S.Denot g.row.C.Denot). IsKept g.S.Site.tells (g.S.Site.told z.site) (g.S.Site.writes z.site) (g.S.Site.faults z.site) (vec_len c.core.inside.buffer) z) (sym path)
+    (kept_given_back g.S.Site.tells (g.S.Site.told now.site) (g.S.Site.writes now.site) (g.S.Site.faults now.site) (vec_len c.core.inside.buffer) now kept c.args.recorder c.args.cartridge known c.requires.fits c.carry.new.rail says)

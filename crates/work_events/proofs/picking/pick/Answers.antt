@@ -1,0 +1,47 @@
+use Rattle.std.proofs.Common.{◌≡◌, [], ◌∷◌, ◌++◌, length, true, None, Some, sym, ◌∙◌, ap, subst, arith}
+use Rattle.std.specs.Prelude.{slice_set, vec_len, is_some}
+use Rattle.fault_queue.specs.declared.queue.RequestState.TheVariants.{Moving}
+use Rattle.fault_queue.specs.Requests.{request_of, with_state}
+use Rattle.core_state.specs.declared.session.Event.TheVariants.{Work}
+use Rattle.core_state.specs.CoreValue.{CoreValue}
+use Rattle.core_state.specs.SessionData.{data_of, of_parts, with_last_event}
+use Rattle.core_state.specs.Sessions.{session_data}
+use Rattle.core_state.specs.TheCore.{IsKept}
+use Rattle.work_events.proofs.KeptFacts.{kept_at}
+use Rattle.work_events.proofs.RuleFacts.{rule_picks, task_for}
+use Rattle.work_events.proofs.PickWhole.{kept_picked}
+use Rattle.work_events.proofs.picking.pick.Goals as goal
+
+pub begin_task-requires-clause-frame : goal.begin_task-requires-clause-frame
+begin_task-requires-clause-frame g c =
+    let now = c.args.core.now in
+    let is = c.core.view_is in
+    let kept = kept_at g.S.Site.tells g.S.Site.told g.S.Site.writes g.S.Site.faults (vec_len c.core.inside.buffer) _ now is c.core.invariant in
+    let says = rule_picks now c.args.recorder c.requires.fits kept.whole.kept c.args.host c.args.frame c.requires.rule in
+    let size : length c.core.inside.frames.owners ≡ now.config.frames = ap (λ (z : CoreValue g.row.S.Denot g.row.C.Denot). length z.owners) is ∙ kept.whole.shaped.owners_ in
+    let low = says.may.known in
+    omega (arith, size, low)
+
+pub begin_task-requires-clause-asked : goal.begin_task-requires-clause-asked
+begin_task-requires-clause-asked g c =
+    let now = c.args.core.now in
+    let is = c.core.view_is in
+    let kept = kept_at g.S.Site.tells g.S.Site.told g.S.Site.writes g.S.Site.faults (vec_len c.core.inside.buffer) _ now is c.core.invariant in
+    let says = rule_picks now c.args.recorder c.requires.fits kept.whole.kept c.args.host c.args.frame c.requires.rule in
+    ap is_some (ap (λ (z : CoreValue g.row.S.Denot g.row.C.Denot). request_of z.requests c.args.host) is ∙ says.may.asked)
+
+pub invariant_of-core-2 : goal.invariant_of-core-2
+invariant_of-core-2 g c =
+    let now = c.args.core.now in
+    let is = c.core.view_is in
+    let kept = kept_at g.S.Site.tells g.S.Site.told g.S.Site.writes g.S.Site.faults (vec_len c.core.inside.buffer) _ now is c.core.invariant in
+    let says = rule_picks now c.args.recorder c.requires.fits kept.whole.kept c.args.host c.args.frame c.requires.rule in
+    let told : session_data c.did.new.session ≡ with_last_event (Work c.args.recorder) (data_of now) = c.did.ensures.told ∙ ap (with_last_event (Work c.args.recorder)) (c.reserve.ensures.same ∙ ap (λ (z : CoreValue g.row.S.Denot g.row.C.Denot). data_of z) is) in
+    let tasks : c.begin_task.new.tasks.items ≡ slice_set now.tasks c.args.recorder (Some (task_for c.args.host c.args.frame None)) = c.begin_task.ensures.tasks ∙ (λ i. slice_set (is i).tasks c.args.recorder (Some (task_for c.args.host c.args.frame None))) in
+    let moving : c.begin_task.new.frames.moving ≡ slice_set now.moving c.args.frame true = ap (λ f. f.moving) c.begin_task.ensures.frames ∙ (λ i. slice_set (is i).moving c.args.frame true) in
+    let owners : c.begin_task.new.frames.owners ≡ now.owners = ap (λ f. f.owners) c.begin_task.ensures.frames ∙ ap (λ (z : CoreValue g.row.S.Denot g.row.C.Denot). z.owners) is in
+    let requests : c.begin_task.new.requests ≡ with_state c.args.host Moving now.requests = c.begin_task.ensures.requests ∙ (λ i. with_state c.args.host Moving (is i).requests) in
+    let path : ◌≡◌ {A = CoreValue g.row.S.Denot g.row.C.Denot} _ (record now { moving = slice_set now.moving c.args.frame true; requests = with_state c.args.host Moving now.requests; tasks = slice_set now.tasks c.args.recorder (Some (task_for c.args.host c.args.frame None)); events = now.events ++ Work c.args.recorder ∷ [] }) =
+    λ i. of_parts (is i) (is i).site (is i).rows (owners i) (moving i) (requests i) (tasks i) (is i).hosts (told i) in
+    subst (λ (z : CoreValue g.row.S.Denot g.row.C.Denot). IsKept g.S.Site.tells (g.S.Site.told z.site) (g.S.Site.writes z.site) (g.S.Site.faults z.site) (vec_len c.core.inside.buffer) z) (sym path)
+    (kept_picked g.row.S.Denot g.S.Site.tells (g.S.Site.told now.site) (g.S.Site.writes now.site) (g.S.Site.faults now.site) (vec_len c.core.inside.buffer) now kept says.going c.args.recorder (task_for c.args.host c.args.frame None) says.request says.may)

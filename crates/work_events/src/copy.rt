@@ -1,0 +1,64 @@
+// The event that copies a track.
+ghost use Rattle.std.specs.Prelude.{◌≡◌, ◌<◌, Bool};
+ghost use Rattle.mss_base.specs.Sites.{MayWrite};
+ghost use Rattle.mss_base.specs.declared.place.UnitNo.{UnitNo};
+ghost use Rattle.transfers.specs.Copies.{IsReadable};
+ghost use Rattle.core_state.specs.CoreValue.{seen};
+ghost use Rattle.core_state.specs.WorkEvents.{WorkDoes};
+ghost use Rattle.core_state.specs.WorkRules.{work_rule};
+ghost use Rattle.core_state.specs.declared.rule.WorkRule.TheVariants.{Copies};
+
+use crate::parts::{did, end_task, put_task, reserve, served};
+use core_state::{Core, Task, WorkAnswer, WorkKind};
+use fault_queue::RequestState;
+use mss_base::{RecorderNo, Site};
+use transfers::{Transfer, copy_track};
+use victim_choice::Choose;
+
+/// Copies the next track of a transfer. Only where a read or a write fails, the task ends, and its request has failed with
+/// the count of faults. After want of memory all is as it was.
+pub fn copy<S: Site, C: Choose>(
+    core: &mut Core<S, C>,
+    recorder: RecorderNo,
+    transfer: Transfer,
+) -> WorkAnswer
+    requires rule { work_rule core.old recorder ≡ Copies transfer }
+    requires fits { recorder < core.old.config.recorders }
+    ensures event { WorkDoes S.tells (C.may core.old.chooser)
+        (seen S.told S.writes S.faults core.old) recorder (Copies transfer) result
+        (seen S.told S.writes S.faults core.new) }
+    ensures chooser { core.new.chooser ≡ core.old.chooser }
+    ensures devices { MayWrite 1 S.spare S.writes S.faults S.never_fails_but
+        core.old.site core.new.site }
+    ensures works { (but : UnitNo → Bool) → S.never_fails_but core.old.site but
+        → IsReadable but transfer → core.new.requests ≡ core.old.requests }
+{
+    let (task, _request) = served(core, recorder);
+    if reserve(&mut core.session, &mut core.site, 1).is_err() {
+        return WorkAnswer::Memory;
+    }
+    let mut next = transfer;
+    match copy_track(&mut core.site, &mut next, &mut core.buffer) {
+        Ok(()) => {
+            let goes_on = Task {
+                transfer: Some(next),
+                ..task
+            };
+            put_task(&mut core.tasks, recorder, Some(goes_on));
+            did(&mut core.session, recorder, WorkKind::Copy)
+        }
+        Err(_) => {
+            let fault = core.site.faults();
+            let failed = RequestState::Failed { fault };
+            end_task(
+                &mut core.frames,
+                &mut core.requests,
+                &mut core.tasks,
+                recorder,
+                &task,
+                failed,
+            );
+            did(&mut core.session, recorder, WorkKind::Copy)
+        }
+    }
+}

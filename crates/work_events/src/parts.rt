@@ -1,0 +1,104 @@
+// Steps on the parts of a core that several events make.
+ghost use Rattle.std.specs.Prelude.{◌≡◌, ◌≤◌, ◌<◌, IsSome, OnOk, None, length, slice_set, false};
+ghost use Rattle.mss_base.specs.Sites.{StaysSound};
+ghost use Rattle.mss_base.specs.declared.numbers.TheConstants.{CYLINDERS};
+ghost use Rattle.core_state.specs.SessionData.{with_last_event};
+ghost use Rattle.core_state.specs.Working.{Serves};
+ghost use Rattle.core_state.specs.declared.rule.WorkAnswer.TheVariants.{Did, Stopped};
+ghost use Rattle.core_state.specs.declared.session.Event.TheVariants.{Work};
+ghost use Rattle.core_state.specs.Sessions.{session_data};
+ghost use Rattle.fault_queue.specs.Requests.{request_of, with_state};
+ghost use Rattle.staging_adapter.specs.Frames.{IsFrame, with_moving};
+ghost use Rattle.work_events.specs.Served.{IsServing};
+
+use core_state::{Core, Event, Session, Task, WorkAnswer, WorkKind};
+use fault_queue::{Queue, Request, RequestState};
+use mss_base::{NoMemory, RecorderNo, Site};
+use staging_adapter::Frames;
+use victim_choice::Choose;
+
+/// The task of a recorder that has one, and its host's request.
+pub fn served<S: Site, C: Choose>(core: &Core<S, C>, recorder: RecorderNo) -> (Task, Request)
+    requires { IsServing core.now recorder }
+    ensures serves { Serves core.now recorder result.0 result.1 }
+    ensures low { result.1.cylinder < CYLINDERS }
+    ensures known { result.0.frame < 200 }
+{
+    let Some(task) = core.task(recorder) else {
+        unreachable!()
+    };
+    let Some(request) = core.request(task.host) else {
+        unreachable!()
+    };
+    // These looks tell that the cylinder is one of 404, and the frame one of 200.
+    let _cylinder = request.cylinder.get();
+    let _frame = task.frame.get();
+    (*task, request)
+}
+
+/// Puts a recorder's task, or none.
+pub fn put_task(tasks: &mut Vec<Option<Task>>, recorder: RecorderNo, task: Option<Task>)
+    requires { recorder < length tasks.old.items }
+    ensures { tasks.new.items ≡ slice_set tasks.old.items recorder task }
+{
+    tasks[usize::from(recorder.get())] = task;
+}
+
+/// Makes room for what an event tells, and for so many writes. After want of memory all but the room is as it was.
+pub fn reserve<S: Site>(session: &mut Session, site: &mut S, writes: u32) -> Result<(), NoMemory>
+    ensures same { session_data session.new ≡ session_data session.old }
+    ensures told { S.tells → S.told site.new ≡ S.told site.old }
+    ensures writes { S.writes site.new ≡ S.writes site.old }
+    ensures faults { S.faults site.new ≡ S.faults site.old }
+    ensures spare { S.spare site.old ≤ S.spare site.new }
+    ensures sound { StaysSound S.never_fails_but site.old site.new }
+    ensures room { OnOk result (writes ≤ S.spare site.new) }
+    ensures room_console { OnOk result (1 ≤ session.new.console.spare) }
+    ensures room_events { OnOk result (1 ≤ session.new.events.spare) }
+{
+    session.reserve()?;
+    site.reserve(writes)
+}
+
+/// Ends a recorder's task: its frame moves no more, and its host's request is in this state.
+pub fn end_task(
+    frames: &mut Frames,
+    requests: &mut Queue,
+    tasks: &mut Vec<Option<Task>>,
+    recorder: RecorderNo,
+    task: &Task,
+    state: RequestState,
+)
+    requires frame { IsFrame frames.old task.now.frame }
+    requires asked { IsSome (request_of requests.old task.now.host) }
+    requires fits { recorder < length tasks.old.items }
+    ensures frames { frames.new ≡ with_moving task.now.frame false frames.old }
+    ensures requests { requests.new ≡ with_state task.now.host state requests.old }
+    ensures tasks { tasks.new.items ≡ slice_set tasks.old.items recorder None }
+{
+    frames.set_moving(task.frame, false);
+    requests.set(task.host, state);
+    put_task(tasks, recorder, None);
+}
+
+/// Tells an event of a recorder, which did this.
+pub fn did(session: &mut Session, recorder: RecorderNo, what: WorkKind) -> WorkAnswer
+    requires { 1 ≤ session.old.events.spare }
+    ensures told { session_data session.new ≡
+        with_last_event (Work recorder) (session_data session.old) }
+    ensures answer { result ≡ Did what }
+{
+    session.note(Event::Work(recorder));
+    WorkAnswer::Did(what)
+}
+
+/// Tells an event of a recorder in which a write failed, behind which the count of faults was this.
+pub fn stop(session: &mut Session, recorder: RecorderNo, fault: u64) -> WorkAnswer
+    requires { 1 ≤ session.old.events.spare }
+    ensures told { session_data session.new ≡
+        with_last_event (Work recorder) (session_data session.old) }
+    ensures answer { result ≡ Stopped fault }
+{
+    session.note(Event::Work(recorder));
+    WorkAnswer::Stopped { fault }
+}
