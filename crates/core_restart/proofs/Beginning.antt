@@ -1,0 +1,199 @@
+-- The core with which a session begins is whole, and its counts are right.
+use Rattle.std.proofs.Common.{◌≡◌, ℕ, ◌≤◌, List, length, Option, None, refl, sym, ◌∙◌, ap, subst, arith}
+use Rattle.std.specs.Prelude.{vec_len}
+use Rattle.mss_base.specs.Configs.{ConfigData, VolumeData}
+use Rattle.mss_base.specs.Content.{SiteLog, content}
+use Rattle.mss_base.specs.declared.block.TheConstants.{BLOCK_BYTES}
+use Rattle.volume_table.specs.Row.{RowValue}
+use Rattle.volume_table.specs.Listed.{listed}
+use Rattle.shown_volumes.specs.Shown.{RowsOf}
+use Rattle.mss_restart.specs.Opening.{missing, IsOpened, AreHeld}
+use Rattle.mss_restart.specs.Usable.{AreUsableFor}
+use Rattle.mss_restart.specs.declared.creations.Creation.{Creation}
+use Rattle.mss_restart.specs.declared.opening.Opened.{Opened}
+use Rattle.mss_restart.proofs.Creating.{AreRising}
+use Rattle.mss_restart.proofs.UsableFacts.{AreFew, few_listed}
+use Rattle.core_state.specs.CoreValue.{CoreValue, DevicesSeen}
+use Rattle.core_state.specs.Agrees.{AllAllowed, rows_after, handed_rows}
+use Rattle.core_state.specs.IsCore.{AllDone}
+use Rattle.core_state.specs.TheCore.{IsWhole, IsKept}
+use Rattle.core_state.specs.SessionData.{SessionData, data_of}
+use Rattle.core_state.specs.SessionData as session
+use Rattle.core_state.specs.declared.session.Message.{Message}
+use Rattle.staging_adapter.specs.Frames.{FramesData}
+use Rattle.accessors.specs.Rails.{RailData, rail_start}
+use Rattle.std.proofs.lemmas.List.{length-replicate}
+use Rattle.mss_restart.specs.Answers.{CreatesCounted}
+use Rattle.core_restart.specs.declared.parts.Parts.{Parts}
+use Rattle.core_state.proofs.Begun.{begun, whole_begun}
+use Rattle.core_state.proofs.CountedFacts.{counted_begun}
+use Rattle.core_restart.specs.Owners.{AreRows, AreOwners}
+use Rattle.core_restart.specs.Console.{creations_of, HaveRows, TellCreations}
+use Rattle.core_restart.specs.Parts.{AreParts, MayBegin}
+use Rattle.core_restart.specs.Begins.{Begins}
+use Rattle.core_restart.proofs.OwnerFacts.{are_owned}
+use Rattle.core_restart.proofs.ConsoleFacts.{HaveNone, AreApart, missing_apart, missing_none, few_missing, as_many, have_rows, all_done, leads, all_allowed, handed_are}
+
+-- a core in which nothing has happened is one of its parts
+begins_is : {S C : Type 0} (config : ConfigData) (chooser : C) (writes faults : ℕ) (v : CoreValue S C) → Begins config chooser writes faults v → v ≡ begun v.site chooser config v.store v.rows v.owners v.console writes faults
+begins_is config chooser writes faults v is = λ i. record {
+  site = v.site;
+  chooser = is.chooser_ i;
+  config = is.config_ i;
+  rows = v.rows;
+  owners = v.owners;
+  moving = is.moving_ i;
+  recency = is.recency_ i;
+  requests = is.no_requests i;
+  tasks = is.no_tasks i;
+  recorders = is.empty i;
+  store = v.store;
+  rail = is.rail_ i;
+  hosts = is.fresh i;
+  history = is.no_entries i;
+  marks = is.no_marks i;
+  console = v.console;
+  events = is.no_events i;
+  first_write = is.first_write_ i;
+  first_faults = is.first_faults_ i;
+  stopped = is.going i;
+}
+
+module _ (tells : Type 0) (told : SiteLog) (writes faults : ℕ) (config : ConfigData) (rising : AreRising config.volumes) where
+  -- each created volume has a row
+  pub rows_made : (rows : List (Option RowValue)) (made : List Creation) → MayBegin tells told writes config rows made → HaveRows (listed rows) made
+  rows_made rows made ready =
+      let c = ready.counted in
+      have_rows (missing c.before config.volumes) c.before (listed rows) made ready.written writes c.creates (missing_apart c.before config.volumes rising) c.counted
+
+  -- and each configured volume was created once at most
+  pub few_made : (rows : List (Option RowValue)) (made : List Creation) → MayBegin tells told writes config rows made → length made ≤ length config.volumes
+  few_made rows made ready =
+      let c = ready.counted in
+      let few = few_missing c.before config.volumes in
+      let same = as_many (missing c.before config.volumes) made ready.written writes c.counted in
+      omega (arith, few, same)
+
+  module _ {S C : Type 0} (chooser : C) (v : CoreValue S C) (is : Begins config chooser writes faults v) (ready : MayBegin tells told writes config v.rows (creations_of v.console)) where
+    abbrev before : RowsOf
+    before = ready.counted.before
+
+    abbrev made : List VolumeData
+    made = missing ready.counted.before config.volumes
+
+    abbrev now : RowsOf
+    now = listed v.rows
+
+    apart : AreApart made
+    apart = missing_apart before config.volumes rising
+
+    none : HaveNone before made
+    none = missing_none before config.volumes
+
+    few : AreFew now
+    few = few_listed v.rows ready.rows_.places
+
+    handed : handed_rows now v.console ≡ before
+    handed = handed_are made before now v.console ready.written writes ready.counted.creates ready.counted.counted is.created none
+
+    allowed : AllAllowed (handed_rows now v.console) v.console
+    allowed = subst (λ (r : RowsOf). AllAllowed r v.console) (sym handed) (all_allowed made before now v.console ready.written writes ready.counted.creates apart ready.counted.counted is.created none few)
+
+    leads_now : rows_after (handed_rows now v.console) v.console ≡ now
+    leads_now = ap (λ (r : RowsOf). rows_after r v.console) handed ∙ leads made before now v.console ready.written writes ready.counted.creates apart ready.counted.counted is.created
+
+    done : AllDone writes v.console
+    done = (all_done made v.console ready.written writes ready.counted.counted).1
+
+    module _ (at_end : tells → writes ≡ length told.log) where
+      whole : IsWhole tells told v
+      whole =
+          subst (IsWhole tells told) (sym (begins_is config chooser writes faults v is))
+          (whole_begun S C tells told v.site chooser config v.store is.at_home v.rows v.owners writes faults v.console (are_owned config.frames v.rows ready.rows_ v.owners is.owners_) at_end
+          (λ tl. (ready.opened tl).shows.sound) (λ tl. sym (ready.opened tl).rows_are)
+          (λ tl. subst (λ (r : RowsOf). AreHeld r (content told)) (sym (ready.opened tl).rows_are) (ready.opened tl).held)
+          (λ tl. subst (λ (n : ℕ). AllDone n v.console) (at_end tl) done) (λ tl. allowed) (λ tl. leads_now))
+
+      pub kept_begun : (room : ℕ) → room ≡ BLOCK_BYTES → IsKept tells told writes faults room v
+      kept_begun room is_block = record {
+        whole = whole;
+        counted = counted_begun writes faults v.requests (data_of v) is.no_entries is.no_marks is.no_requests is.going is.first_write_ is.first_faults_ done;
+        buffer = is_block;
+      }
+
+-- ---- its parts
+
+-- a core of its parts, and of a session
+abbrev pub core_of : {S C : Type 0} → S → C → Parts → List (Option RowValue) → FramesData → RailData → SessionData → CoreValue S C
+core_of site chooser parts rows frames rail d = record {
+  site = site;
+  chooser = chooser;
+  config = parts.config;
+  rows = rows;
+  owners = frames.owners;
+  moving = frames.moving;
+  recency = parts.recency;
+  requests = parts.requests;
+  tasks = parts.tasks.items;
+  recorders = parts.recorders.items;
+  store = parts.store;
+  rail = rail;
+  hosts = parts.hosts.items;
+  history = d.history;
+  marks = d.marks;
+  console = d.console;
+  events = d.events;
+  first_write = d.first_write;
+  first_faults = d.first_faults;
+  stopped = d.stopped;
+}
+
+module _ {S C : Type 0} (site : S) (chooser kept : C) (parts : Parts) (rows : List (Option RowValue)) (frames : FramesData) (rail : RailData) (d : SessionData) (console : List Message) (writes faults : ℕ)
+    (are : AreParts parts.config parts) (kept_is : kept ≡ chooser) (owners : AreOwners (length parts.frames.owners) (listed rows) frames.owners) (moving : frames.moving ≡ parts.frames.moving) (rail_is : rail ≡ rail_start)
+    (tells_console : TellCreations (listed rows) console) (is : d ≡ session.begun console writes faults) where
+  pub begins_of : Begins parts.config chooser writes faults (core_of site kept parts rows frames rail d)
+  begins_of = record {
+    config_ = refl;
+    chooser_ = kept_is;
+    owners_ =
+        let count : length parts.frames.owners ≡ parts.config.frames = ap (λ (f : FramesData). length f.owners) are.frames_ ∙ length-replicate {A = Option (ℕ × ℕ)} parts.config.frames None in
+        subst (λ (n : ℕ). AreOwners n (listed rows) frames.owners) count owners;
+    moving_ = moving ∙ ap (λ (f : FramesData). f.moving) are.frames_;
+    recency_ = are.recency_;
+    no_requests = are.requests_;
+    no_tasks = are.tasks_;
+    empty = are.recorders_;
+    at_home = are.at_home;
+    rail_ = rail_is;
+    fresh = are.hosts_;
+    no_entries = ap (λ (x : SessionData). x.history) is;
+    no_marks = ap (λ (x : SessionData). x.marks) is;
+    created = subst (λ (ms : List Message). TellCreations (listed rows) ms) (sym (ap (λ (x : SessionData). x.console) is)) tells_console;
+    no_events = ap (λ (x : SessionData). x.events) is;
+    first_write_ = ap (λ (x : SessionData). x.first_write) is;
+    first_faults_ = ap (λ (x : SessionData). x.first_faults) is;
+    going = ap (λ (x : SessionData). x.stopped) is;
+  }
+
+  pub kept_of : (tells : Type 0) (told : SiteLog) → AreRising parts.config.volumes → (made : List Creation) → creations_of console ≡ made → MayBegin tells told writes parts.config rows made → (tells → writes ≡ length told.log)
+      → IsKept tells told writes faults (vec_len parts.buffer) (core_of site kept parts rows frames rail d)
+  kept_of tells told rising made made_is ready at_end =
+      let same : creations_of d.console ≡ made = ap (λ (x : SessionData). creations_of x.console) is ∙ made_is in
+      kept_begun tells told writes faults parts.config rising chooser (core_of site kept parts rows frames rail d) begins_of (subst (λ (ms : List Creation). MayBegin tells told writes parts.config rows ms) (sym same) ready) at_end
+      (vec_len parts.buffer) are.buffer_
+
+-- an opening that was answered is one to begin from
+pub may_begin : (tells : Type 0) (config : ConfigData) (old new : DevicesSeen) (opened : Opened) (rows : List (Option RowValue)) → rows ≡ opened.rows.items → AreRows rows → AreUsableFor config (listed opened.rows.items) → length opened.rows.items ≡ 32
+    → CreatesCounted config old.writes new.writes (listed opened.rows.items) opened.creations.items → (tells → IsOpened config (content old.told) (content new.told) opened.rows.items)
+    → MayBegin tells new.told new.writes config rows opened.creations.items
+may_begin tells config old new opened rows same are_rows usable places counted is =
+    let be : List (Option RowValue) → Type 0 = λ rs. AreRows rs → MayBegin tells new.told new.writes config rs opened.creations.items in
+    subst be (sym same)
+    (λ are. record {
+      rows_ = record { places = places; are_rows = are; below = usable.usable.frames_below; once = usable.usable.frames_once };
+      written = old.writes;
+      counted = counted;
+      from = content old.told;
+      opened = is;
+    })
+    are_rows

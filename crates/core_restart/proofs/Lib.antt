@@ -1,0 +1,4 @@
+pub mod OwnerFacts
+pub mod ConsoleFacts
+pub mod Beginning
+pub mod Answering

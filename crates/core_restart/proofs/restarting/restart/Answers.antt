@@ -1,0 +1,37 @@
+use Rattle.std.proofs.Common.{◌≡◌, List, sym, ◌∙◌, subst}
+use Rattle.mss_base.specs.Configs.{ConfigData}
+use Rattle.mss_restart.specs.declared.creations.Creation.{Creation}
+use Rattle.core_restart.specs.Parts.{MayBegin}
+use Rattle.core_restart.proofs.Beginning.{may_begin}
+use Rattle.core_restart.specs.Opening.{seen_of}
+use Rattle.core_restart.proofs.Answering.{none_told, then_none_told}
+use Rattle.core_restart.proofs.restarting.restart.Goals as goal
+
+pub returns-in_default-clause-told : goal.returns-in_default-clause-told
+returns-in_default-clause-told g c = λ tells. none_told c.args.config.now (seen_of g.S.Site.told g.S.Site.writes g.S.Site.faults c.args.site)
+
+pub returns-in_default-copies_of-clause-told : goal.returns-in_default-copies_of-clause-told
+returns-in_default-copies_of-clause-told g c = λ tells.
+    let old = seen_of g.S.Site.told g.S.Site.writes g.S.Site.faults c.args.site in
+    let new = seen_of g.S.Site.told g.S.Site.writes g.S.Site.faults c.in-Ok-open_rows.site in
+    let are = c.in-Ok-open_rows.ensures in
+    then_none_told c.args.config.now old new c.in-Ok-open_rows.opened
+    (record { opens = are.opens tells; exact = are.exact tells; moments = are.moments tells; complete = are.complete tells; untouched = are.untouched tells })
+
+pub begin-requires-clause-opened : goal.begin-requires-clause-opened
+begin-requires-clause-opened g c =
+    let tells = g.S.Site.tells in
+    let old = seen_of g.S.Site.told g.S.Site.writes g.S.Site.faults c.args.site in
+    let new = seen_of g.S.Site.told g.S.Site.writes g.S.Site.faults c.in-Ok-open_rows.site in
+    let are = c.in-Ok-open_rows.ensures in
+    let copies = c.in-Ok-copies_of.ensures in
+    let rows = c.in-Ok-copies_of.rows.items in
+    let rows_are : rows ≡ c.in-Ok-open_rows.opened.rows.items = copies.same ∙ c.as_slice.ensures in
+    subst (λ (config : ConfigData). MayBegin tells new.told new.writes config rows c.as_slice-in-Ok-open_rows.result.now) (sym c.in-Ok.ensures.config_)
+    (subst (λ (made : List Creation). MayBegin tells new.told new.writes c.args.config.now rows made) (sym c.as_slice-in-Ok-open_rows.ensures)
+    (may_begin tells c.args.config.now old new c.in-Ok-open_rows.opened rows rows_are copies.rows are.usable are.whole are.counted are.opens))
+
+pub returns-in-Err-clause-told : goal.returns-in-Err-clause-told
+returns-in-Err-clause-told g c = λ tells.
+    let are = c.in-Err.ensures in
+    record { opens = are.opens tells; exact = are.exact tells; moments = are.moments tells; complete = are.complete tells; untouched = are.untouched tells }

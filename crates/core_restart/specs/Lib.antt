@@ -1,0 +1,5 @@
+pub mod Owners
+pub mod Console
+pub mod Opening
+pub mod Parts
+pub mod Begins

@@ -1,0 +1,39 @@
+-- What a core needs of memory beside its rows, and from what it can begin.
+use Rattle.std.specs.Prelude.{◌≡◌, ◌≤◌, ℕ, List, [], length, replicate, Option, None, vec_len}
+use Rattle.mss_base.specs.Configs.{ConfigData}
+use Rattle.mss_base.specs.Content.{Content, SiteLog, content}
+use Rattle.mss_base.specs.declared.block.TheConstants.{BLOCK_BYTES}
+use Rattle.volume_table.specs.Row.{RowValue}
+use Rattle.volume_table.specs.Listed.{listed}
+use Rattle.ckd_plain.specs.Plain.{fresh_host}
+use Rattle.cartridge_store.specs.Places.{place_of, home_of}
+use Rattle.staging_adapter.specs.Frames.{free_frames}
+use Rattle.victim_choice.specs.Order.{untouched}
+use Rattle.mss_restart.specs.declared.creations.Creation.{Creation}
+use Rattle.mss_restart.specs.Opening.{IsOpened}
+use Rattle.mss_restart.specs.Answers.{CreatesCounted}
+use Rattle.core_restart.specs.declared.parts.Parts.{Parts}
+use Rattle.core_restart.specs.Owners.{HaveFrames}
+
+-- everything at its start, with room for a message of each configured volume
+pub record AreParts (config : ConfigData) (parts : Parts) : Type 0 where
+  pub config_ : parts.config ≡ config
+  pub buffer_ : vec_len parts.buffer ≡ BLOCK_BYTES
+  pub frames_ : parts.frames ≡ free_frames config.frames
+  pub recency_ : parts.recency ≡ untouched config.frames
+  pub requests_ : parts.requests ≡ []
+  pub tasks_ : parts.tasks.items ≡ replicate config.recorders None
+  pub at_home : (cartridge : ℕ) → place_of parts.store cartridge ≡ home_of cartridge
+  pub recorders_ : parts.recorders.items ≡ replicate config.recorders None
+  pub hosts_ : parts.hosts.items ≡ replicate 8 fresh_host
+  pub console_ : parts.console.items ≡ []
+  pub room : length config.volumes ≤ parts.console.spare
+
+-- an opened site, of which so many writes were made by now: its rows, and the creations behind them
+pub record MayBegin (tells : Type 0) (told : SiteLog) (writes : ℕ) (config : ConfigData)
+    (rows : List (Option RowValue)) (made : List Creation) : Type 0 where
+  pub rows_ : HaveFrames config.frames rows
+  pub written : ℕ
+  pub counted : CreatesCounted config written writes (listed rows) made
+  pub from : Content
+  pub opened : tells → IsOpened config from (content told) rows

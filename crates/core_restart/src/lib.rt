@@ -1,0 +1,18 @@
+//! The core with which a session begins.
+//!
+//! The layers above rely on `restart`: it opens the rows of a site, and makes a core of them in which nothing has happened
+//! yet (`specs/Begins.antt`). What it makes of the site, and what it refuses, is that of `open_rows` of `mss_restart`, said
+//! of a core in `specs/Opening.antt`.
+#![tactic(auto)]
+
+mod console;
+mod numbers;
+mod owners;
+mod parts;
+mod restarting;
+mod rows;
+#[cfg(test)]
+mod tests;
+
+pub use mss_restart::Refused;
+pub use restarting::restart;

@@ -1,0 +1,128 @@
+// The restart of a site.
+ghost use Rattle.std.specs.Prelude.{◌≡◌, IfOk};
+ghost use Rattle.mss_restart.specs.Survey.{NeverFails, TellsNoFailure};
+ghost use Rattle.mss_restart.specs.Creations.{WritesOn};
+ghost use Rattle.core_state.specs.SessionData.{begun};
+ghost use Rattle.core_state.specs.Sessions.{session_data};
+ghost use Rattle.core_restart.specs.Begins.{Begins};
+ghost use Rattle.core_restart.specs.Console.{creations_of};
+ghost use Rattle.core_restart.specs.Opening.{OpensAny, OpensTold, answer_of, seen_of, site_of};
+ghost use Rattle.core_restart.specs.Parts.{AreParts, MayBegin};
+
+use crate::console::tell_creations;
+use crate::owners::own_frames;
+use crate::parts::Parts;
+use crate::rows::copies_of;
+use accessors::Rail;
+use core_state::{Core, MessageList, Rows, Session};
+use mss_base::{Config, Site};
+use mss_restart::{Creation, Refused, open_rows};
+use std::alloc::Global;
+use victim_choice::{Choose, Chooser};
+
+/// The session that begins now.
+fn session_of<S: Site>(alloc: Global, site: &S, console: MessageList) -> Session
+    ensures { session_data result ≡ begun console.items (S.writes site.now) (S.faults site.now) }
+{
+    Session::new(alloc, console, site.writes(), site.faults())
+}
+
+/// The core of a session that begins now, of an opened site.
+fn begin<S: Site, C: Choose>(
+    alloc: Global,
+    site: S,
+    rows: Rows,
+    creations: &[Creation],
+    parts: Parts,
+    chooser: C,
+) -> Core<S, C>
+    requires able { C.can_choose chooser }
+    requires parts { AreParts parts.config parts }
+    requires opened { MayBegin S.tells (S.told site) (S.writes site)
+        parts.config rows.items creations.now }
+    ensures begins { Begins parts.config chooser (S.writes site) (S.faults site) result }
+    ensures site { result.site ≡ site }
+    ensures rows { result.rows ≡ rows.items }
+    ensures creations { creations_of result.console ≡ creations.now }
+{
+    let Parts {
+        config,
+        buffer,
+        mut frames,
+        recency,
+        requests,
+        tasks,
+        store,
+        recorders,
+        hosts,
+        mut console,
+    } = parts;
+    // The numbers of its volumes rise, which a body knows of a configuration that it looks into.
+    let _volumes = &config.volumes;
+    own_frames(&mut frames, &rows);
+    tell_creations(&mut console, &rows, creations);
+    let session = session_of(alloc, &site, console);
+    Core {
+        config,
+        chooser: Chooser::new(chooser),
+        site,
+        alloc,
+        buffer,
+        rows,
+        frames,
+        recency,
+        requests,
+        tasks,
+        store,
+        rail: Rail::start(),
+        recorders,
+        hosts,
+        session,
+    }
+}
+
+/// Opens a site and makes the core of a session on it, in which nothing has happened yet. Its console tells the volumes
+/// of the configuration that had no row and were created, blank.
+///
+/// A content with a fault is refused by its first fault, and nothing is written. `RowUnread` and `Stopped` come only where
+/// a call of the site failed, and keep its count of faults. After want of memory each repair and creation that was begun
+/// was written to its end. Where it refuses, it hands the site back. A stop at any moment, also within a call that fails,
+/// leaves a sound content sound; it then shows the volumes that it showed before, with a front of the new ones.
+///
+/// The memory of the core is taken before anything is written, but for that of its rows.
+pub fn restart<S: Site, C: Choose + Drop>(
+    alloc: Global,
+    site: S,
+    config: &Config,
+    chooser: C,
+) -> Result<Core<S, C>, (S, Refused)>
+    requires able { C.can_choose chooser }
+    ensures told { S.tells → OpensTold config.now (seen_of S.told S.writes S.faults site)
+        (seen_of S.told S.writes S.faults (site_of result)) (answer_of result) }
+    ensures any { OpensAny config.now (seen_of S.told S.writes S.faults site)
+        (seen_of S.told S.writes S.faults (site_of result)) (answer_of result) }
+    ensures works { NeverFails S.never_fails_but site → TellsNoFailure (answer_of result) }
+    ensures devices { WritesOn S.writes S.faults S.never_fails_but site (site_of result) }
+    ensures begins { IfOk result (λ core.
+        Begins config.now chooser (S.writes core.site) (S.faults core.site) core) }
+{
+    let Ok(parts) = Parts::new(alloc, config) else {
+        return Err((site, Refused::Memory));
+    };
+    match open_rows(alloc, site, config) {
+        Err(refusal) => Err(refusal),
+        Ok((site, opened)) => {
+            let Ok(rows) = copies_of(alloc, opened.rows.as_slice()) else {
+                return Err((site, Refused::Memory));
+            };
+            Ok(begin(
+                alloc,
+                site,
+                rows,
+                opened.creations.as_slice(),
+                parts,
+                chooser,
+            ))
+        }
+    }
+}
