@@ -2,6 +2,7 @@
 ghost use Rattle.std.specs.Prelude.{◌≡◌, ◌≤◌, ◌+◌, length, IfOk};
 ghost use Rattle.channel_commands.specs.Views.{call_of, reply_of};
 ghost use Rattle.ckd_plain.specs.History.{count_of_host};
+ghost use Rattle.core_state.specs.Counted.{AreEntries};
 
 use channel_commands::{Call, Reply};
 use ckd_plain::Entry;
@@ -54,10 +55,14 @@ pub fn copy_of_reply(alloc: Global, reply: &Reply) -> Result<Reply, NoMemory>
     })
 }
 
-/// The number of a host's next entry, from 1.
+/// The number of a host's next entry, from 1: one more than that of its last one, which mostly lies near the end.
 pub fn next_number(history: &[Entry], host: HostNo) -> u64
-    requires { length history.now ≤ 4096 }
+    requires few { length history.now ≤ 4096 }
+    requires entries { AreEntries history.now }
     ensures { result ≡ count_of_host host history.now + 1 }
 {
-    history.iter().filter(|entry| entry.host == host).count() as u64 + 1
+    match history.iter().rev().find(|entry| entry.host == host) {
+        Some(last) => last.number + 1,
+        None => 1,
+    }
 }

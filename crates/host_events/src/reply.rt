@@ -2,6 +2,7 @@
 ghost use Rattle.std.specs.Prelude.{◌≡◌, ◌≤◌, ◌<◌, length};
 ghost use Rattle.channel_commands.specs.Views.{call_of, reply_of};
 ghost use Rattle.core_state.specs.CoreValue.{seen};
+ghost use Rattle.core_state.specs.Counted.{AreEntries};
 ghost use Rattle.core_state.specs.Sessions.{session_data};
 ghost use Rattle.host_events.specs.Answers.{told_of};
 ghost use Rattle.host_events.specs.Replies.{with_reply, after_answer, IsUpheld, RepliesOr};
@@ -24,6 +25,7 @@ pub fn enter(
     mark: u64,
 )
     requires few { length session.old.history.items ≤ 4096 }
+    requires entries { AreEntries session.old.history.items }
     requires room { 1 ≤ session.old.history.spare }
     requires room_marks { 1 ≤ session.old.marks.spare }
     requires room_events { 1 ≤ session.old.events.spare }
