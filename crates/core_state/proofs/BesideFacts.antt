@@ -1,4 +1,4 @@
--- A whole core where only what stands beside its tables changes.
+-- A whole core where only what stands beside its tables changes. Layers above cite these lemmas.
 use Rattle.std.proofs.Common.{◌≡◌, ◌≢◌, inl, inr, ℕ, ◌<◌, true, List, length, Option, Some, None, sym, ◌∙◌, ap, get_or-set_same, get_or-set_other}
 use Rattle.std.specs.Prelude.{slice_set}
 use Rattle.std.proofs.lemmas.Bool.{false≢true}
@@ -7,9 +7,12 @@ use Rattle.std.proofs.lemmas.List.{length-set}
 use Rattle.mss_base.specs.Content.{SiteLog}
 use Rattle.cartridge_store.specs.declared.store.Place.{Place}
 use Rattle.accessors.specs.Rails.{RailData}
+use Rattle.fault_queue.specs.Requests.{RequestsData}
 use Rattle.core_state.specs.declared.session.Event.{Event}
 use Rattle.core_state.specs.CoreValue.{CoreValue}
 use Rattle.core_state.specs.Beside.{IsBeside, held_at}
+use Rattle.core_state.specs.Counted.{IsCounted}
+use Rattle.core_state.specs.SessionData.{SessionData}
 use Rattle.cartridge_store.specs.declared.store.Place.TheVariants.{Cell, Hand, Recorder}
 use Rattle.cartridge_store.specs.Places.{place_of, home_of, with_place}
 use Rattle.victim_choice.specs.Order.{touched}
@@ -65,6 +68,10 @@ module _ {S C : Type 0} (v : CoreValue S C) (recency : List ℕ) (recorders : Li
 -- an event is noted
 pub whole_noted : {S C : Type 0} (tells : Type 0) (s : SiteLog) (v : CoreValue S C) (events : List Event) → IsWhole tells s v → IsWhole tells s (record v { events = events })
 whole_noted tells s v events whole = whole_beside v v.recency v.recorders v.store v.rail events tells s whole whole.shaped.recorders_ (λ none. (whole.kept none).beside)
+
+pub counted_noted : (writes faults : ℕ) (requests : RequestsData) (d : SessionData) (events : List Event) → IsCounted writes faults requests d → IsCounted writes faults requests (record d { events = events })
+counted_noted writes faults requests d events is =
+    record { marks_ = is.marks_; messages = is.messages; entries = is.entries; began = is.began; faults_ = is.faults_; going = is.going; stop = is.stop }
 
 -- ---- what stands beside, as it changes
 

@@ -51,7 +51,7 @@ done-push : (n : ℕ) (ms : List Message) (m : Message) → m.mark ≤ n → All
 done-push n [] m le all = (le, tt)
 done-push n (x ∷ ms) m le all = (all.0, done-push n ms m le all.1)
 
-created-push : (volume : ℕ) (ms : List Message) (m : Message) → creates volume m ≡ false → has_created volume (ms ++ m ∷ []) ≡ has_created volume ms
+pub created-push : (volume : ℕ) (ms : List Message) (m : Message) → creates volume m ≡ false → has_created volume (ms ++ m ∷ []) ≡ has_created volume ms
 created-push volume [] m none = ap (λ (b : Bool). b || false) none
 created-push volume (x ∷ ms) m none = ap (λ (b : Bool). creates volume x || b) (created-push volume ms m none)
 

@@ -115,7 +115,7 @@ module _ (core : CoreData) (recorder : ℕ) where
 
   copies : (x : Transfer) → (t : Option Task) → task_of core recorder ≡ t → is_some t ≡ true → WorkDoes ⊥ first_place core recorder (work.Copies x) (task_step core recorder (work.Copies x) t).0 (task_step core recorder (work.Copies x) t).1
   copies x None is e = absurd cc
-  copies x (Some task) is e = subst (λ (o : Option Task). WithTask o (λ one. TaskDoes ⊥ core recorder (work.Copies x) one (task_step core recorder (work.Copies x) (Some task)).0 (task_step core recorder (work.Copies x) (Some task)).1)) (sym is) (refl, inl (record { written = λ tl. absurd tl; later = omega arith; sound = refl }, refl))
+  copies x (Some task) is e = subst (λ (o : Option Task). WithTask o (λ one. TaskDoes ⊥ core recorder (work.Copies x) one (task_step core recorder (work.Copies x) (Some task)).0 (task_step core recorder (work.Copies x) (Some task)).1)) (sym is) (refl, inl (record { written = λ tl. absurd tl; copied = λ tl. absurd tl; later = omega arith; sound = refl }, refl))
 
   frees : (volume page : ℕ) → (t : Option Task) → task_of core recorder ≡ t → is_some t ≡ true → WorkDoes ⊥ first_place core recorder (work.Frees volume page) (task_step core recorder (work.Frees volume page) t).0 (task_step core recorder (work.Frees volume page) t).1
   frees volume page None is e = absurd cc

@@ -1,5 +1,6 @@
 -- The console's messages agree with the history.
-use Rattle.std.specs.Prelude.{◌≡◌, ◌≢◌, ◌≤◌, ◌<◌, ℕ, ◌/◌, ◌==◌, nat_le, Bool, true, false, ◌||◌, if◌then◌else◌, List, [], ◌∷◌, Option, Some, None, option_map}
+use Rattle.std.specs.Prelude.{◌≡◌, ◌≢◌, ◌≤◌, ◌<◌, ℕ, ◌/◌, ◌==◌, nat_le, Bool, true, false, ◌||◌}
+use Rattle.std.specs.Prelude.{if◌then◌else◌, List, [], ◌∷◌, Option, Some, None, option_map}
 use Rattle.ckd_plain.specs.declared.host.HostState.{HostState}
 use Rattle.channel_commands.specs.Data.{ReplyData, done, no_space, stopped}
 use Rattle.ckd_plain.specs.Data.{State}

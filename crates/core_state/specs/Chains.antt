@@ -1,5 +1,6 @@
 -- Events one after the other.
-use Rattle.std.specs.Prelude.{◌≡◌, ◌⊎◌, ◌<◌, ℕ, zero, suc, Bool, true, false, ◌&&◌, ◌||◌, List, [], ◌∷◌, Option, Some, None, is_some, IsSome}
+use Rattle.std.specs.Prelude.{◌≡◌, ◌⊎◌, ◌<◌, ℕ, zero, suc, Bool, true, false, ◌&&◌, ◌||◌, List, []}
+use Rattle.std.specs.Prelude.{◌∷◌, Option, Some, None, is_some, IsSome}
 use Rattle.channel_commands.specs.Data.{CallData}
 use Rattle.ckd_plain.specs.History.{EntryData}
 use Rattle.fault_queue.specs.declared.queue.Request.{Request}
@@ -118,8 +119,8 @@ module _ (tells : Type 0) (may : List Candidate → ℕ → Type 0) where
   has_call calls (h ∷ hs) core = is_some (calls core.history h) || has_call calls hs core
 
   -- so many rounds, before each of which some host has a call: in each the recorders work until
-  -- nothing is left to do, and then each host that has a call calls. That none has one at the end is
-  -- for what goes on to say.
+  -- nothing is left to do, and then each host that has a call calls. That none has one at the end
+  -- is for what goes on to say.
   abbrev pub Rounds : (List EntryData → ℕ → Option CallData) → List ℕ → List ℕ → ℕ → CoreData
       → List Step → CoreData → Onward → Type 0
   Rounds calls hosts recorders zero core steps core' go = go core steps

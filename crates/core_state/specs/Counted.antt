@@ -1,5 +1,6 @@
 -- What a core keeps of its counts, whatever its devices tell.
-use Rattle.std.specs.Prelude.{◌≡◌, ◌⊎◌, ◌↔◌, ◌≤◌, ℕ, ◌+◌, List, [], ◌∷◌, ◌++◌, slice_get, Option, Some, None, IsSome, IsTrue}
+use Rattle.std.specs.Prelude.{◌≡◌, ◌⊎◌, ◌↔◌, ◌≤◌, ℕ, ◌+◌, List, [], ◌∷◌, ◌++◌, slice_get, Option}
+use Rattle.std.specs.Prelude.{Some, None, IsSome, IsTrue}
 use Rattle.std.specs.Option.{option_and_then}
 use Rattle.mss_base.specs.Counts.{Rises, IsFaultWithin}
 use Rattle.ckd_plain.specs.History.{EntryData, IsStopped, HasNoStop, count_of_host, keeps_fault}

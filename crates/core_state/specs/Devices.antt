@@ -14,7 +14,8 @@ use Rattle.table_pair.specs.Pair.{HoldsRow}
 use Rattle.track_engine.specs.Answers.{ran}
 use Rattle.track_engine.specs.Faults.{HasUnitCheck}
 use Rattle.track_engine.specs.Writing.{WritesTrack, HoldsWritten}
-use Rattle.transfers.specs.Copies.{target, AddsAtMost, AddsCopy}
+use Rattle.shown_volumes.specs.Shown.{block_at}
+use Rattle.transfers.specs.Copies.{target, source, AddsAtMost, AddsCopy}
 use Rattle.transfers.specs.declared.transfer.Transfer.{Transfer}
 use Rattle.core_state.specs.CoreValue.{DevicesSeen}
 use Rattle.core_state.specs.Rows.{Rewrites}
@@ -106,9 +107,11 @@ pub record FailOn (tells : Type 0) (r : Run) (fault : ℕ) (old new : DevicesSee
 
 -- ---- a track is copied
 
--- the whole block is copied, and no call failed
+-- the whole block is copied, in one write, and no call failed
 pub record CopyBlock (tells : Type 0) (t : Transfer) (old new : DevicesSeen) : Type 0 where
   pub written : tells → AddsCopy t old.told new.told
+  pub copied : tells
+      → block_at (content new.told) (target t t.next) ≡ source t t.next (content old.told)
   pub later : old.writes ≤ new.writes
   pub sound : new.faults ≡ old.faults
 

@@ -1,8 +1,10 @@
 -- What a host's event answers, and the core that it leaves.
-use Rattle.std.specs.Prelude.{◌≡◌, ℕ, Bool, false, if◌then◌else◌, List, length, Option, Some, None, is_some}
+use Rattle.std.specs.Prelude.{◌≡◌, ℕ, Bool, false, if◌then◌else◌, List, length, Option, Some, None}
+use Rattle.std.specs.Prelude.{is_some}
 use Rattle.std.specs.Option.{ForSome}
 use Rattle.channel_commands.specs.declared.command.Command.{Command}
-use Rattle.channel_commands.specs.Data.{CallData, mount, command as ask, ReplyData, equipment_check, no_space}
+use Rattle.channel_commands.specs.Data.{CallData, mount, command as ask, ReplyData, equipment_check}
+use Rattle.channel_commands.specs.Data.{no_space}
 use Rattle.ckd_plain.specs.declared.host.HostState.{HostState}
 use Rattle.ckd_plain.specs.declared.unit_check.UnitCheck.{UnitCheck}
 use Rattle.ckd_plain.specs.declared.unit_check.UnitCheck.TheVariants as check
@@ -17,12 +19,15 @@ use Rattle.core_state.specs.declared.session.Event.TheVariants.{Host}
 use Rattle.core_state.specs.declared.rule.Waiting.{Waiting}
 use Rattle.core_state.specs.declared.rule.Waiting.TheVariants.{Busy, Fault, Held}
 use Rattle.core_state.specs.declared.rule.HostRule.{HostRule}
-use Rattle.core_state.specs.declared.rule.HostRule.TheVariants.{IsStopped, IsFull, IsBusy, IsMoving, IsHeld, Responds, HasFailed, HasNoSpace, Faults, Marks, Runs}
+use Rattle.core_state.specs.declared.rule.HostRule.TheVariants.{IsStopped, IsFull, IsBusy, IsMoving}
+use Rattle.core_state.specs.declared.rule.HostRule.TheVariants.{IsHeld, Responds, HasFailed}
+use Rattle.core_state.specs.declared.rule.HostRule.TheVariants.{HasNoSpace, Faults, Marks, Runs}
 use Rattle.core_state.specs.CoreValue.{CoreData}
 use Rattle.core_state.specs.Devices.{StillHold, FailRead, HaveRow, FailRow, Run, RunOn, FailOn}
 use Rattle.core_state.specs.HostRules.{request_for, host_rule}
 use Rattle.core_state.specs.Pins.{host_at, page_of}
-use Rattle.core_state.specs.Steps.{noted, with_row, with_change, after_reply, after_stop, ends_request, going_on, with_request, touching, used}
+use Rattle.core_state.specs.Steps.{noted, with_row, with_change, after_reply, after_stop}
+use Rattle.core_state.specs.Steps.{ends_request, going_on, with_request, touching, used}
 
 -- what a host is answered
 pub data HostTold : Type 0 where

@@ -1,5 +1,6 @@
 -- Which rule a host's call meets.
-use Rattle.std.specs.Prelude.{ℕ, ◌==◌, nat_lt, nat_le, Bool, true, false, not, ◌&&◌, if◌then◌else◌, List, [], ◌∷◌, length, Option, Some, None, is_some, Result, Ok, Err}
+use Rattle.std.specs.Prelude.{ℕ, ◌==◌, nat_lt, nat_le, Bool, true, false, not, ◌&&◌, if◌then◌else◌}
+use Rattle.std.specs.Prelude.{List, [], ◌∷◌, length, Option, Some, None, is_some, Result, Ok, Err}
 use Rattle.std.specs.Option.{option_map, option_and_then, unwrap_or}
 use Rattle.channel_commands.specs.declared.command.Command.{Command}
 use Rattle.channel_commands.specs.Codes.{is_write}
@@ -14,11 +15,15 @@ use Rattle.fault_queue.specs.declared.queue.Request.{Request}
 use Rattle.fault_queue.specs.declared.queue.RequestState.{RequestState}
 use Rattle.fault_queue.specs.declared.queue.RequestState.TheVariants as request
 use Rattle.fault_queue.specs.Requests.{request_of}
+use Rattle.core_state.specs.declared.session.TheConstants.{ENTRY_LIMIT}
 use Rattle.core_state.specs.declared.task.Task.{Task}
 use Rattle.core_state.specs.declared.rule.HostRule.{HostRule}
-use Rattle.core_state.specs.declared.rule.HostRule.TheVariants.{IsStopped, IsFull, IsBusy, IsMoving, IsHeld, Responds, HasFailed, HasNoSpace, Faults, Marks, Runs}
+use Rattle.core_state.specs.declared.rule.HostRule.TheVariants.{IsStopped, IsFull, IsBusy, IsMoving}
+use Rattle.core_state.specs.declared.rule.HostRule.TheVariants.{IsHeld, Responds, HasFailed}
+use Rattle.core_state.specs.declared.rule.HostRule.TheVariants.{HasNoSpace, Faults, Marks, Runs}
 use Rattle.core_state.specs.CoreValue.{CoreValue}
-use Rattle.core_state.specs.Pins.{host_at, volume_under, page_of, frame_in, state_in, are_all_bound, owner_of}
+use Rattle.core_state.specs.Pins.{host_at, volume_under, page_of, frame_in, state_in, are_all_bound}
+use Rattle.core_state.specs.Pins.{owner_of}
 use Rattle.volume_table.specs.Listed.{listed}
 
 -- ---- the call
@@ -69,7 +74,7 @@ stopped_rule core = option_map IsStopped core.stopped
 
 -- there is no room for an entry
 abbrev pub full_rule : {S C : Type 0} → CoreValue S C → Option HostRule
-full_rule core = where_so (nat_le 4096 (length core.history)) IsFull
+full_rule core = where_so (nat_le ENTRY_LIMIT (length core.history)) IsFull
 
 -- a command on a mounted volume that another host owns
 abbrev pub busy_rule : {S C : Type 0} → CoreValue S C → ℕ → CallData → Option HostRule

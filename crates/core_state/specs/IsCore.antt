@@ -8,6 +8,7 @@ use Rattle.table_pair.specs.Pair.{HoldsRow}
 use Rattle.shown_volumes.specs.Shown.{RowsOf, rows_of, shown}
 use Rattle.shown_volumes.specs.Sound.{frame_in}
 use Rattle.core_state.specs.declared.session.Message.{Message}
+use Rattle.core_state.specs.declared.session.TheConstants.{ENTRY_LIMIT}
 use Rattle.fault_queue.specs.declared.queue.Request.{Request}
 use Rattle.core_state.specs.StopRule.{opening, StopsWell}
 use Rattle.core_state.specs.Agrees.{Agrees, handed_rows, rows_after}
@@ -41,7 +42,7 @@ pub record IsCore {S C : Type 0} (v : CoreValue S C) : Type 0 where
   pub requests_ : IsOnce v.requests
   pub owners_ : length v.owners ≡ v.config.frames
   pub moving_ : length v.moving ≡ v.config.frames
-  pub few : length v.history ≤ 4096
+  pub few : length v.history ≤ ENTRY_LIMIT
   pub marked : length v.marks ≡ length v.history
   pub alone : (volume h other : ℕ) → owns v.hosts v.requests h volume ≡ true
       → owns v.hosts v.requests other volume ≡ true → h ≡ other

@@ -9,6 +9,7 @@ pub mod Fitting
 pub mod HostEvents
 pub mod HostRules
 pub mod IsCore
+pub mod MakingRoom
 pub mod Pins
 pub mod Rows
 pub mod Running
@@ -22,3 +23,4 @@ pub mod TheCore
 pub mod WorkEvents
 pub mod WorkRules
 pub mod Working
+pub mod Beginning

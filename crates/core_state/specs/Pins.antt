@@ -1,6 +1,8 @@
 -- Which frames may be taken, and who owns a volume.
 use Rattle.volume_table.specs.Listed.{listed}
-use Rattle.std.specs.Prelude.{ℕ, ◌*◌, ◌/◌, ◌-◌, ◌==◌, nat_lt, Bool, true, false, not, ◌&&◌, ◌||◌, if◌then◌else◌, List, ◌∷◌, length, filter, filter_map, slice_index_or, slice_set, Option, Some, None, is_some}
+use Rattle.std.specs.Prelude.{ℕ, ◌*◌, ◌/◌, ◌-◌, ◌==◌, nat_lt, Bool, true, false, not, ◌&&◌, ◌||◌}
+use Rattle.std.specs.Prelude.{if◌then◌else◌, List, ◌∷◌, length, filter, filter_map, slice_index_or}
+use Rattle.std.specs.Prelude.{slice_set, Option, Some, None, is_some}
 use Rattle.std.specs.Option.{option_map, option_and_then}
 use Rattle.std.specs.List.{list_any, range_with_len}
 use Rattle.volume_table.specs.Row.{RowValue, frame_of, state_of}

@@ -8,7 +8,8 @@ use Rattle.shown_volumes.specs.Sound.{IsSameAt, IsStagedAs}
 use Rattle.core_state.specs.declared.task.Task.{Task}
 use Rattle.transfers.specs.declared.transfer.Transfer.{Transfer}
 use Rattle.transfers.specs.declared.transfer.TransferKind.{TransferKind}
-use Rattle.transfers.specs.declared.transfer.TransferKind.TheVariants.{StageBlank, StageCartridge, Destage}
+use Rattle.transfers.specs.declared.transfer.TransferKind.TheVariants.{StageBlank, StageCartridge}
+use Rattle.transfers.specs.declared.transfer.TransferKind.TheVariants.{Destage}
 use Rattle.core_state.specs.Pins.{task_at}
 
 -- the first tracks of a cylinder stand in its page's frame as they do where it is staged. With 19

@@ -1,5 +1,6 @@
 -- Cores with some parts changed: the steps of which an event is made.
-use Rattle.std.specs.Prelude.{ℕ, ◌+◌, Bool, true, false, not, ◌&&◌, if◌then◌else◌, List, [], ◌∷◌, ◌++◌, slice_set, Option, Some, None, is_some}
+use Rattle.std.specs.Prelude.{ℕ, ◌+◌, Bool, true, false, not, ◌&&◌, if◌then◌else◌, List, [], ◌∷◌}
+use Rattle.std.specs.Prelude.{◌++◌, slice_set, Option, Some, None, is_some}
 use Rattle.channel_commands.specs.Data.{CallData, ReplyData, stopped}
 use Rattle.channel_commands.specs.declared.command.Command.{Command}
 use Rattle.ckd_plain.specs.declared.host.HostState.{HostState}

@@ -1,5 +1,6 @@
 -- What a stop may leave of a session.
-use Rattle.std.specs.Prelude.{◌≡◌, ◌⊎◌, ◌≤◌, ℕ, ◌+◌, nat_le, Bool, true, false, ◌&&◌, if◌then◌else◌, List, ◌∷◌, length, take, slice_get, Option, Some, None}
+use Rattle.std.specs.Prelude.{◌≡◌, ◌⊎◌, ◌≤◌, ℕ, ◌+◌, nat_le, Bool, true, false, ◌&&◌, if◌then◌else◌}
+use Rattle.std.specs.Prelude.{List, ◌∷◌, length, take, slice_get, Option, Some, None}
 use Rattle.mss_base.specs.Content.{SiteLog, image, after as written_after}
 use Rattle.ckd_track.specs.Data.{Volumes}
 use Rattle.channel_commands.specs.Data.{ReplyData, stopped}

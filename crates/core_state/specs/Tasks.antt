@@ -1,6 +1,7 @@
 -- What a core keeps of the tasks of its recorders, whatever its devices tell.
 use Rattle.transfers.specs.Dues.{IsDue}
-use Rattle.std.specs.Prelude.{◌≡◌, ◌≢◌, ◌⊎◌, ◌≤◌, ◌<◌, ℕ, ◌/◌, Bool, true, List, map, if◌then◌else◌, Option, Some, None}
+use Rattle.std.specs.Prelude.{◌≡◌, ◌≢◌, ◌⊎◌, ◌≤◌, ◌<◌, ℕ, ◌/◌, Bool, true, List, map, if◌then◌else◌}
+use Rattle.std.specs.Prelude.{Option, Some, None}
 use Rattle.std.specs.Option.{ForSome, option_map}
 use Rattle.channel_commands.specs.Codes.{is_write}
 use Rattle.channel_commands.specs.declared.command.Command.{Command}

@@ -2,6 +2,7 @@
 use Rattle.std.specs.Prelude.{◌≡◌, ◌≤◌, ℕ, length, None}
 use Rattle.mss_base.specs.Content.{SiteLog}
 use Rattle.mss_base.specs.declared.block.TheConstants.{BLOCK_BYTES}
+use Rattle.core_state.specs.declared.session.TheConstants.{ENTRY_LIMIT}
 use Rattle.core_state.specs.CoreValue.{CoreValue}
 use Rattle.core_state.specs.Counted.{IsCounted}
 use Rattle.core_state.specs.IsCore.{IsCore, IsTold}
@@ -15,7 +16,7 @@ pub record IsShaped {S C : Type 0} (v : CoreValue S C) : Type 0 where
   pub moving_ : length v.moving ≡ v.config.frames
   pub tasks_ : length v.tasks ≡ v.config.recorders
   pub recorders_ : length v.recorders ≡ v.config.recorders
-  pub few : length v.history ≤ 4096
+  pub few : length v.history ≤ ENTRY_LIMIT
   pub marked : length v.marks ≡ length v.history
 
 -- its parts agree while it isn't stopped; what it is told holds where its devices tell

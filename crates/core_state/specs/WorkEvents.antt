@@ -18,12 +18,15 @@ use Rattle.core_state.specs.declared.rule.WorkKind.TheVariants as kind
 use Rattle.core_state.specs.declared.rule.WorkAnswer.{WorkAnswer}
 use Rattle.core_state.specs.declared.rule.WorkAnswer.TheVariants.{Did, Idle, Stopped, Memory}
 use Rattle.core_state.specs.declared.rule.WorkRule.{WorkRule}
-use Rattle.core_state.specs.declared.rule.WorkRule.TheVariants.{IsStopped, IsIdle, GivesBack, Picks, PicksVictim, Abandons, Fetches, Copies, Ends, Frees, Assigns}
+use Rattle.core_state.specs.declared.rule.WorkRule.TheVariants.{IsStopped, IsIdle, GivesBack, Picks}
+use Rattle.core_state.specs.declared.rule.WorkRule.TheVariants.{PicksVictim, Abandons, Fetches}
+use Rattle.core_state.specs.declared.rule.WorkRule.TheVariants.{Copies, Ends, Frees, Assigns}
 use Rattle.core_state.specs.CoreValue.{CoreData}
 use Rattle.core_state.specs.Devices.{StillHold, HaveRow, FailRow, CopyBlock, LeaveBlock}
 use Rattle.core_state.specs.HostEvents.{IsSame}
 use Rattle.core_state.specs.Pins.{candidates}
-use Rattle.core_state.specs.Steps.{noted, with_row, with_change, most_recent, with_owner, with_task, picked, task_ended, given_back, fetched}
+use Rattle.core_state.specs.Steps.{noted, with_row, with_change, most_recent, with_owner, with_task}
+use Rattle.core_state.specs.Steps.{picked, task_ended, given_back, fetched}
 use Rattle.core_state.specs.WorkRules.{task_of, work_rule}
 
 -- ---- the outcomes of the rules

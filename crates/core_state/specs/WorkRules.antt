@@ -1,5 +1,6 @@
 -- Which rule a recorder meets.
-use Rattle.std.specs.Prelude.{ℕ, ◌==◌, nat_lt, Bool, true, false, not, ◌&&◌, if◌then◌else◌, List, [], ◌∷◌, length, slice_get, Option, Some, None, is_some}
+use Rattle.std.specs.Prelude.{ℕ, ◌==◌, nat_lt, Bool, true, false, not, ◌&&◌, if◌then◌else◌, List}
+use Rattle.std.specs.Prelude.{[], ◌∷◌, length, slice_get, Option, Some, None, is_some}
 use Rattle.std.specs.Option.{option_map, option_and_then, unwrap_or}
 use Rattle.volume_table.specs.Row.{RowValue}
 use Rattle.mss_base.specs.Firsts.{where_so, ◌or◌}
@@ -9,16 +10,20 @@ use Rattle.fault_queue.specs.declared.queue.RequestState.TheVariants as request
 use Rattle.fault_queue.specs.Requests.{RequestsData, request_of}
 use Rattle.transfers.specs.declared.transfer.Transfer.{Transfer}
 use Rattle.transfers.specs.declared.transfer.TransferKind.{TransferKind}
-use Rattle.transfers.specs.declared.transfer.TransferKind.TheVariants.{StageBlank, StageCartridge, Destage}
+use Rattle.transfers.specs.declared.transfer.TransferKind.TheVariants.{StageBlank, StageCartridge}
+use Rattle.transfers.specs.declared.transfer.TransferKind.TheVariants.{Destage}
 use Rattle.cartridge_store.specs.declared.store.Place.{Place}
 use Rattle.cartridge_store.specs.declared.store.Place.TheVariants.{Cell}
 use Rattle.cartridge_store.specs.Places.{place_of}
 use Rattle.core_state.specs.declared.task.Task.{Task}
 use Rattle.core_state.specs.declared.rule.WorkRule.{WorkRule}
-use Rattle.core_state.specs.declared.rule.WorkRule.TheVariants.{IsStopped, IsIdle, GivesBack, Picks, PicksVictim, Abandons, Fetches, Copies, Ends, Frees, Assigns}
+use Rattle.core_state.specs.declared.rule.WorkRule.TheVariants.{IsStopped, IsIdle, GivesBack, Picks}
+use Rattle.core_state.specs.declared.rule.WorkRule.TheVariants.{PicksVictim, Abandons, Fetches}
+use Rattle.core_state.specs.declared.rule.WorkRule.TheVariants.{Copies, Ends, Frees, Assigns}
 use Rattle.core_state.specs.CoreValue.{CoreValue}
 use Rattle.core_state.specs.Beside.{held_at}
-use Rattle.core_state.specs.Pins.{task_at, frame_in, state_in, asked_page, page_of, is_moving, free_frame, changed_in, candidates}
+use Rattle.core_state.specs.Pins.{task_at, frame_in, state_in, asked_page, page_of, is_moving}
+use Rattle.core_state.specs.Pins.{free_frame, changed_in, candidates}
 use Rattle.volume_table.specs.Listed.{listed}
 use Rattle.transfers.specs.Dues.{cartridge_with}
 

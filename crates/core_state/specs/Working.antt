@@ -5,7 +5,8 @@ use Rattle.volume_table.specs.Changes.{with_frame}
 use Rattle.fault_queue.specs.declared.queue.Request.{Request}
 use Rattle.core_state.specs.declared.task.Task.{Task}
 use Rattle.transfers.specs.declared.transfer.Transfer.{Transfer}
-use Rattle.transfers.specs.declared.transfer.TransferKind.TheVariants.{StageBlank, StageCartridge, Destage}
+use Rattle.transfers.specs.declared.transfer.TransferKind.TheVariants.{StageBlank, StageCartridge}
+use Rattle.transfers.specs.declared.transfer.TransferKind.TheVariants.{Destage}
 use Rattle.core_state.specs.CoreValue.{CoreValue}
 use Rattle.fault_queue.specs.declared.queue.RequestState.TheVariants.{Queued, Ready}
 use Rattle.core_state.specs.Pins.{task_at, moves_at}

@@ -31,12 +31,12 @@ fn freed_by(rows: &[Option<VolumeRow>], volume: VolumeNo, change: &Change) -> Op
     }
 }
 
-/// Changes the row of a volume: in the list, in both copies, and with its message, whose mark is the count of writes
-/// then.
+/// Changes the row of a volume: in the list, in both copies, and with its message, whose mark is
+/// the count of writes then.
 ///
-/// It makes six writes at most, and takes no memory. Where one of them fails the session stops, and tells no message;
-/// the copies hold the old row or the new one, and the list has the new one. The rest of the session stays, with its
-/// room.
+/// It makes six writes at most, and takes no memory. Where one of them fails the session stops, and
+/// tells no message; the copies hold the old row or the new one, and the list has the new one. The
+/// rest of the session stays, with its room.
 pub fn write_change<S: Site>(
     site: &mut S,
     rows: &mut Rows,

@@ -84,7 +84,8 @@ impl<S: Site, C: Choose> Model for Core<S, C> {
     } };
 
     ghost invariant = { λ c.
-        IsKept S.tells (S.told c.site) (S.writes c.site) (S.faults c.site) (vec_len c.buffer) (record {
+        IsKept S.tells (S.told c.site) (S.writes c.site) (S.faults c.site)
+        (vec_len c.buffer) (record {
           site = c.site;
           chooser = c.chooser;
           config = c.config;
@@ -109,7 +110,7 @@ impl<S: Site, C: Choose> Model for Core<S, C> {
 }
 
 impl<S: Site, C: Choose> Core<S, C> {
-    /// The entries so far, 4,096 at most.
+    /// The entries so far, [`ENTRY_LIMIT`] at most.
     pub fn history(&self) -> &EntryList
         ensures { result.now.items ≡ self.now.history }
     {
@@ -152,7 +153,8 @@ impl<S: Site, C: Choose> Core<S, C> {
         &self.frames
     }
 
-    /// The host that owns a volume: it has the volume mounted, and a chain open or a request for it. At most one does.
+    /// The host that owns a volume: it has the volume mounted, and a chain open or a request for
+    /// it. At most one does.
     pub fn owner(&self, volume: VolumeNo) -> Option<HostNo>
         ensures { result ≡ owner_of self.now volume }
     {

@@ -6,6 +6,9 @@ use mss_base::{FrameNo, HostNo, Listed, NoMemory, RecorderNo, VolumeNo};
 use std::alloc::Global;
 use volume_table::Change;
 
+/// How many entries a history has at most.
+pub const ENTRY_LIMIT: usize = 4096;
+
 /// A change of a row.
 #[derive(Clone, Copy, Debug, PartialEq, Eq)]
 pub struct Message {
@@ -36,8 +39,8 @@ pub type MessageList = Listed<Message>;
 /// Events, in order.
 pub type EventList = Listed<Event>;
 
-/// What a session tells: its history with the mark of each entry, the changes of rows, and the events that changed the
-/// core.
+/// What a session tells: its history with the mark of each entry, the changes of rows, and the
+/// events that changed the core.
 #[derive(Drop)]
 pub struct Session {
     pub history: EntryList,
@@ -54,10 +57,12 @@ pub struct Session {
 }
 
 impl Session {
-    ghost use Rattle.core_state.specs.SessionData.{begun, with_last_entry, with_last_event, with_last_message};
+    ghost use Rattle.core_state.specs.SessionData.{begun, with_last_entry, with_last_event};
+    ghost use Rattle.core_state.specs.SessionData.{with_last_message};
     ghost use Rattle.core_state.specs.Sessions.{session_data};
 
-    /// A session that begins at these counts of its site, with these changes of rows on its console.
+    /// A session that begins at these counts of its site, with these changes of rows on its
+    /// console.
     pub fn new(alloc: Global, console: MessageList, first_write: u64, first_faults: u64) -> Session
         ensures { session_data result ≡ begun console.items first_write first_faults }
     {

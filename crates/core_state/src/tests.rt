@@ -1,4 +1,5 @@
-// Changes of a row with their messages, over devices of which a call may fail, and what a session is told.
+// Changes of a row with their messages, over devices of which a call may fail, and what a session
+// is told.
 ghost use Rattle.std.specs.Prelude.{◌≡◌, length, IfOk};
 
 use crate::*;

@@ -21,11 +21,11 @@ use Rattle.core_state.specs.HostRules.{host_rule}
 use Rattle.core_state.specs.IsCore.{IsCore}
 use Rattle.core_state.specs.Pins.{host_at, owns}
 use Rattle.core_state.proofs.Limits.{host_stopped}
+use Rattle.core_state.proofs.RuleWalks.{some_of}
 use Rattle.host_events.specs.Causes.{Goes, NeedsNoLook, Looks, IsToMark, IsToRun, CauseOfReply, CauseOf, OrNoMemory, IsOfMark, IsOfRun, AnswersEachCause}
 use Rattle.host_events.proofs.Outcomes.{EachOutcome, outcome}
 use Rattle.host_events.proofs.RuleFacts.{IsLate, AsksFor, RunsOn, rule_goes, rule_stopped, rule_full, rule_busy, rule_moving, rule_held, rule_responds, rule_failed, rule_no_space, rule_faults, rule_marks, rule_runs_on}
 use Rattle.host_events.proofs.RuleParts.{mounted_under, passes_found, state_at, frame_at}
-use Rattle.host_events.proofs.FirstRule.{some_of}
 use Rattle.host_events.proofs.RuleOf.{at_limit as at_the_limit, busy_is, served_is, held_is, responds_is, failed_is, no_space_is, fault_is, marks_is, runs_is}
 
 -- ---- a reply without a look at the tracks is none of the three exceptions

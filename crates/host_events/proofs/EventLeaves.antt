@@ -28,6 +28,8 @@ use Rattle.fault_queue.proofs.RequestFacts.{request_other, once_put, with_state_
 use Rattle.core_state.specs.declared.session.Event.TheVariants.{Host}
 use Rattle.core_state.specs.declared.rule.HostRule.{HostRule}
 use Rattle.core_state.specs.declared.rule.HostRule.TheVariants.{Marks, Runs}
+use Rattle.core_state.specs.Agrees.{has_created}
+use Rattle.core_state.specs.Beginning.{KeepsBeginning}
 use Rattle.core_state.specs.Chains.{OneOf}
 use Rattle.core_state.specs.CoreValue.{CoreData, DevicesSeen}
 use Rattle.core_state.specs.Devices.{StillHold, WriteRow, Run, WritesFor, answer_on}
@@ -36,9 +38,9 @@ use Rattle.core_state.specs.HostRules.{request_for, host_rule}
 use Rattle.core_state.specs.IsCore.{IsCore}
 use Rattle.core_state.specs.Pins.{host_at, put_host, page_of}
 use Rattle.core_state.specs.Steps.{noted, with_row, after_reply, after_stop, used, entry_of, with_change, touching, ends_request, going_on, with_request}
-use Rattle.core_state.proofs.RuleWalks.{none_some}
+use Rattle.core_state.proofs.ChangeLemmas.{created-push}
+use Rattle.core_state.proofs.RuleWalks.{none_some, some_of}
 use Rattle.host_events.specs.Leaves.{KeepsHistory, EntersAsTold, LeavesOthers, LeavesMachine, LeavesCartridges}
-use Rattle.host_events.proofs.FirstRule.{some_of}
 use Rattle.host_events.proofs.Outcomes.{IsMarked, EachOutcome, outcome}
 use Rattle.host_events.proofs.RuleFacts.{rule_goes, rule_stopped, rule_marks, OnMark}
 
@@ -185,6 +187,55 @@ module _ (tells : Type 0) (core : CoreData) (h : ℕ) (core' : CoreData) where
     owners = stays (λ c. c.owners) (λ c d. refl) (λ c history marks hosts recency stopped. refl) call told event;
     moving = stays (λ c. c.moving) (λ c d. refl) (λ c history marks hosts recency stopped. refl) call told event;
   }
+
+  beginning_by : ((volume : ℕ) → has_created volume core'.console ≡ has_created volume core.console) → (call : CallData) (told : HostTold) → HostEvent tells core h call told core' → KeepsBeginning core core'
+  beginning_by created call told event = record {
+    config = stays (λ c. c.config) (λ c d. refl) (λ c history marks hosts recency stopped. refl) call told event;
+    first_write = stays (λ c. c.first_write) (λ c d. refl) (λ c history marks hosts recency stopped. refl) call told event;
+    first_faults = stays (λ c. c.first_faults) (λ c d. refl) (λ c history marks hosts recency stopped. refl) call told event;
+    created = created;
+  }
+
+-- ---- the volumes that were created
+
+module _ (tells : Type 0) (core : CoreData) (h : ℕ) (core' : CoreData) where
+  module _ (volume : ℕ) where
+    abbrev has : CoreData → Bool
+    has c = has_created volume c.console
+
+    abbrev Alike : CoreData → Type 0
+    Alike c = has c ≡ has core
+
+    created_each : (call : CallData) → EachOutcome tells core h call core' (λ rule told. Alike core')
+    created_each call = record {
+      stops = λ fault same. ap has same.1;
+      fills = λ same. ap has same.1;
+      lacks = λ rule late same. ap has same.1;
+      is_busy = λ owner same. ap has same.1;
+      moves = λ cylinder same. ap has same.1;
+      holds = λ frame held.
+          ap has held.1
+          ∙ cond_both (ends_request core h call) (noted (Host h) (going_on core h call)) core (λ (c : CoreData). Alike (record c { site = core'.site }))
+          (λ _. going core h call (λ (c : CoreData). Alike (record (noted (Host h) c) { site = core'.site })) refl refl) (λ _. refl);
+      responds = λ done. ap has done.1;
+      fails = λ fault done. ap has done.1;
+      is_full = λ done. ap has done.1;
+      asks = λ w cylinder asks.
+          ap has asks.1
+          ∙ cond_both (is_some (request_for core h call)) core (asked_of core h call w cylinder (going_on core h call)) (λ (c : CoreData). Alike (record c { site = core'.site }))
+          (λ _. refl) (λ _. going core h call (λ (c : CoreData). Alike (record (asked_of core h call w cylinder c) { site = core'.site })) refl refl);
+      marks = λ w cylinder marks.
+          ap has marks.1
+          ∙ going core h call (λ (c : CoreData). Alike (marked_of core h call w cylinder core'.site c)) (created-push volume core.console _ refl) (created-push volume core.console _ refl);
+      unmarked = λ w cylinder fault un. ap has un.1;
+      unread = λ c w frame un. ap has un.1;
+      runs = λ c w frame code argument chained status bytes ran. ap has ran.3;
+      unwritten = λ c w frame code argument chained fault un. ap has un.2;
+    }
+
+  pub keeps_beginning : (call : CallData) (told : HostTold) → HostEvent tells core h call told core' → KeepsBeginning core core'
+  keeps_beginning call told event =
+      beginning_by tells core h core' (λ volume. outcome tells core h core' (λ k rule t. Alike volume core') call (created_each volume call) (host_rule core h call) told event) call told event
 
 -- ---- other hosts
 

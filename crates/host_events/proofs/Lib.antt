@@ -1,4 +1,3 @@
-pub mod FirstRule
 pub mod RuleParts
 pub mod RuleFacts
 pub mod RuleOf

@@ -24,6 +24,7 @@ use Rattle.core_state.specs.Counted.{IsEntryBehind}
 use Rattle.core_state.specs.Entered.{entered, worked}
 use Rattle.core_state.specs.HostEvents.{HostDoes, marked, halts}
 use Rattle.core_state.specs.HostRules.{request_for, host_rule}
+use Rattle.core_state.specs.MakingRoom.{Reserves}
 use Rattle.core_state.specs.IsCore.{IsCore}
 use Rattle.core_state.specs.Pins.{page_of, is_on}
 use Rattle.core_state.specs.Rows.{HasRow, Rewrites, with_changed}
@@ -31,17 +32,16 @@ use Rattle.core_state.specs.SessionData.{SessionData, data_of, of_parts, with_st
 use Rattle.core_state.specs.Steps.{entry_of, noted, with_change, ends_request, going_on, with_request, touching}
 use Rattle.core_state.specs.Tasks.{touched_all}
 use Rattle.core_state.specs.TheCore.{IsWhole, IsKept}
-use Rattle.core_state.proofs.BesideFacts.{whole_noted}
+use Rattle.core_state.proofs.BesideFacts.{whole_noted, counted_noted}
 use Rattle.core_state.proofs.CountedFacts.{counted_request, counted_message, counted_halt}
 use Rattle.core_state.proofs.HostFacts.{IsHost}
 use Rattle.core_state.proofs.RuleWalks.{none_some}
 use Rattle.host_events.specs.Parts.{ready_for}
 use Rattle.host_events.specs.Replies.{with_reply}
-use Rattle.host_events.specs.Runs.{Reserves, devices}
+use Rattle.host_events.specs.Runs.{devices}
 use Rattle.host_events.proofs.MarkRequests.{ready_put}
 use Rattle.host_events.proofs.RuleFacts.{OnMark, rule_marks}
 use Rattle.host_events.proofs.Standing.{mounted_host, staged_low}
-use Rattle.host_events.proofs.ReplyFacts.{counted_noted}
 use Rattle.host_events.proofs.WholeMark.{whole_marked, whole_mark_failed}
 
 module _ (S : Type 0) {C : Type 0} (tells : Type 0) (told : S → SiteLog) (spare writes faults : S → ℕ) (never : FailingReads S) {u : CoreValue S C} (v : CoreValue S C) (view : u ≡ v) (room : ℕ)
@@ -139,7 +139,7 @@ module _ (S : Type 0) {C : Type 0} (tells : Type 0) (told : S → SiteLog) (spar
         pub marked_kept : IsKept tells (told x) (writes x) (faults x) room (of_parts u x rows u.owners u.moving requests tasks u.hosts d)
         marked_kept = subst (IsKept tells (told x) (writes x) (faults x) room) (sym kept_path) (record {
           whole = whole_;
-          counted = counted_noted (writes x) (faults x) put _ (Host h)
+          counted = counted_noted (writes x) (faults x) put _ (u.events ++ Host h ∷ [])
               (counted_message (writes x) (faults x) (writes x) (faults x) put (data_of u)
               (counted_request (writes u.site) (faults u.site) (writes x) (faults x) u.requests (data_of u) kept.counted more later h (Some (ready_for volume cylinder)) core.requests_ (λ fault is. absurd (none_some fault is)))
               (omega arith) (omega arith) (message_of (writes x) volume (Changed cylinder) (listed u.rows)) (omega arith));
@@ -190,7 +190,7 @@ module _ (S : Type 0) {C : Type 0} (tells : Type 0) (told : S → SiteLog) (spar
         pub unmarked_kept : IsKept tells (told x) (writes x) (faults x) room (of_parts u x rows u.owners u.moving requests u.tasks u.hosts d)
         unmarked_kept = subst (IsKept tells (told x) (writes x) (faults x) room) (sym stop_path) (record {
           whole = whole_stopped;
-          counted = counted_noted (writes x) (faults x) u.requests _ (Host h)
+          counted = counted_noted (writes x) (faults x) u.requests _ (u.events ++ Host h ∷ [])
               (counted_halt (writes u.site) (faults u.site) (writes x) (faults x) u.requests (data_of u) kept.counted more later on.goes.going (record { count = refl; rises = rises_ })
               (entry_of u.history h call stopped (Some (faults x))) behind tt refl);
           buffer = kept.buffer;

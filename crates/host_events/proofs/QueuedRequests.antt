@@ -22,7 +22,7 @@ use Rattle.core_state.specs.Running.{IsNotAwaited}
 use Rattle.core_state.specs.SessionData.{data_of}
 use Rattle.core_state.specs.Steps.{noted, with_request, going_on}
 use Rattle.core_state.specs.TheCore.{IsWhole}
-use Rattle.core_state.proofs.BesideFacts.{whole_noted}
+use Rattle.core_state.proofs.BesideFacts.{whole_noted, counted_noted}
 use Rattle.core_state.proofs.CoreWork.{owned_of}
 use Rattle.core_state.proofs.CountedFacts.{counted_request}
 use Rattle.core_state.proofs.Fitting.{fit_put}
@@ -31,7 +31,6 @@ use Rattle.core_state.proofs.HostRequests.{asked_own, waiting_put, tasks_with_re
 use Rattle.core_state.proofs.RuleWalks.{none_some, some_is}
 use Rattle.core_state.proofs.WholeEvents.{whole_work}
 use Rattle.host_events.specs.Replies.{after_asking, IsUpheld}
-use Rattle.host_events.proofs.ReplyFacts.{counted_noted}
 use Rattle.host_events.proofs.RuleFacts.{OnFault}
 
 abbrev queued : ℕ → ℕ → Request
@@ -74,7 +73,7 @@ module _ {S C : Type 0} (tells : Type 0) (s : SiteLog) (writes faults : ℕ) (v 
   upheld_put : IsUpheld tells s writes faults (record v { requests = put_request v.requests h asked; events = v.events ++ Host h ∷ [] })
   upheld_put = record {
     whole = whole_noted tells s _ (v.events ++ Host h ∷ []) whole_asked;
-    counted = counted_noted writes faults _ _ (Host h)
+    counted = counted_noted writes faults _ _ (v.events ++ Host h ∷ [])
         (counted_request writes faults writes faults v.requests (data_of v) is.counted (omega arith) (omega arith) h asked core.requests_ (λ fault kept. absurd (none_some fault kept)));
   }
 

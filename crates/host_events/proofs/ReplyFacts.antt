@@ -15,20 +15,18 @@ use Rattle.ckd_plain.specs.Near.{IsNear, unchanged}
 use Rattle.volume_table.specs.Listed.{listed}
 use Rattle.shown_volumes.specs.Shown.{shown}
 use Rattle.shown_volumes.specs.Sound.{IsSound}
-use Rattle.core_state.specs.declared.session.Event.{Event}
 use Rattle.core_state.specs.declared.session.Event.TheVariants.{Host}
 use Rattle.core_state.specs.Agrees.{EntryAgrees}
 use Rattle.core_state.specs.CoreValue.{CoreValue}
-use Rattle.core_state.specs.Counted.{IsCounted, fault_asked}
+use Rattle.core_state.specs.Counted.{fault_asked}
 use Rattle.core_state.specs.Entered.{plain_of, Enters}
 use Rattle.core_state.specs.IsCore.{IsCore, IsGoing, IsTold}
 use Rattle.core_state.specs.Pins.{host_at, put_host, is_on, asks_for, owns}
 use Rattle.core_state.specs.Running.{IsNotBusy, IsNotAwaited}
-use Rattle.core_state.specs.SessionData.{SessionData, with_last_event, data_of}
+use Rattle.core_state.specs.SessionData.{data_of}
 use Rattle.core_state.specs.Steps.{entry_of}
 use Rattle.core_state.specs.TheCore.{IsKept}
-use Rattle.fault_queue.specs.Requests.{RequestsData}
-use Rattle.core_state.proofs.BesideFacts.{whole_noted}
+use Rattle.core_state.proofs.BesideFacts.{whole_noted, counted_noted}
 use Rattle.core_state.proofs.CoreFacts.{sound_of}
 use Rattle.core_state.proofs.CountedFacts.{counted_entry}
 use Rattle.core_state.proofs.HostFacts.{IsHost, IsHostOf, host_same, host_other, host_fits}
@@ -44,11 +42,6 @@ pub upheld_of : {S C : Type 0} (tells : Type 0) (told : S → SiteLog) (writes f
     → IsKept tells (told inside.site) (writes inside.site) (faults inside.site) room inside → IsUpheld tells (told v.site) (writes v.site) (faults v.site) v
 upheld_of tells told writes faults room inside v is kept =
     subst (λ (x : CoreValue _ _). IsUpheld tells (told x.site) (writes x.site) (faults x.site) x) is (record { whole = kept.whole; counted = kept.counted })
-
--- an event is noted
-pub counted_noted : (writes faults : ℕ) (requests : RequestsData) (d : SessionData) (event : Event) → IsCounted writes faults requests d → IsCounted writes faults requests (with_last_event event d)
-counted_noted writes faults requests d event is =
-    record { marks_ = is.marks_; messages = is.messages; entries = is.entries; began = is.began; faults_ = is.faults_; going = is.going; stop = is.stop }
 
 -- the host that is put, by number
 pub host_put : (hosts : List HostState) (h : ℕ) (x : HostState) → IsHostOf hosts h → host_at (put_host hosts h x) ≡ (λ (other : ℕ). cond (other == h) x (host_at hosts other))
@@ -115,7 +108,7 @@ module _ {S C : Type 0} (tells : Type 0) (s : SiteLog) (writes faults : ℕ) (v 
         is.whole goes.going goes.few
         (tasks_with_host v.config.frames (listed v.rows) v.moving v.requests v.hosts v.tasks core.tasks_ h now None (host_fits v.hosts h low core.hosts_) core.requests_ quiet (λ q none. absurd (none_some q none)) owes.binds)
         refl (λ q ready. ready) owes.has (λ q none. absurd (none_some q none)) owes.enters counts owes.goes_on);
-    counted = counted_noted writes faults _ _ (Host h)
+    counted = counted_noted writes faults _ _ (v.events ++ Host h ∷ [])
         (counted_entry writes faults writes faults v.requests (data_of v) is.counted (omega arith) (omega arith) goes.going (entry_of v.history h call reply fault) h None core.requests_
         (record { number = refl; fault = owes.keeps }) owes.goes_on (λ kept at. inr (owes.from kept at)) refl);
   }

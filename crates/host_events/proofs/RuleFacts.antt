@@ -31,9 +31,8 @@ use Rattle.core_state.specs.HostEvents.{HostTold, HostDoes, HostEvent}
 use Rattle.core_state.specs.IsCore.{IsCore}
 use Rattle.core_state.specs.Pins.{host_at, volume_under, owner_of, is_on, state_of_row, are_all_bound}
 use Rattle.core_state.specs.Running.{IsStagedAt, IsNotBusy, IsNotAwaited}
-use Rattle.core_state.proofs.RuleWalks.{some_is, none_some, where_test, tested}
+use Rattle.core_state.proofs.RuleWalks.{some_is, none_some, where_test, tested, first, last, mapped_at, chained_at, chained_some, some_of}
 pub use Rattle.host_events.specs.Causes.{Goes, HasNoSpaceFor}
-use Rattle.host_events.proofs.FirstRule.{first, last, mapped_at, chained_at, chained_some, some_of}
 use Rattle.core_state.proofs.MovingFacts.{moving_unstaged}
 use Rattle.host_events.proofs.RuleParts.{IsData, data_is, data_stands, not_busy, quiet_else, for_it, all_bound, no_space_at, moving_has_space}
 

@@ -24,8 +24,8 @@ use Rattle.core_state.specs.IsCore.{IsCore}
 use Rattle.core_state.specs.Pins.{host_at, volume_under, are_all_bound, owns, owner_of}
 use Rattle.core_state.specs.Running.{IsNotBusy, IsNotAwaited}
 use Rattle.core_state.proofs.Limits.{full_at_limit, room_below}
+use Rattle.core_state.proofs.RuleWalks.{chained_some}
 use Rattle.host_events.specs.Causes.{HasNoSpaceFor, Goes, IsKeptOff, LeavesServed, IsAtLimit}
-use Rattle.host_events.proofs.FirstRule.{chained_some}
 use Rattle.host_events.proofs.RuleParts.{data_is, passes_found, owner_low, for_it, state_at, frame_at, no_space_at, all_bound, mounted_under}
 use Rattle.host_events.proofs.RuleFacts.{moving_is}
 

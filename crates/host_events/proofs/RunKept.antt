@@ -18,6 +18,7 @@ use Rattle.core_state.specs.CoreValue.{CoreValue, DevicesSeen, seen}
 use Rattle.core_state.specs.Devices.{StillHold, FailRead, Run, RunOn, FailOn}
 use Rattle.core_state.specs.HostEvents.{HostDoes, replied, halts, no_memory}
 use Rattle.core_state.specs.HostRules.{host_rule}
+use Rattle.core_state.specs.MakingRoom.{Reserves}
 use Rattle.core_state.specs.IsCore.{IsCore}
 use Rattle.core_state.specs.Pins.{host_at, put_host}
 use Rattle.core_state.specs.SessionData.{SessionData, data_of, of_parts, with_stop}
@@ -27,7 +28,7 @@ use Rattle.core_state.proofs.HostFacts.{IsHost}
 use Rattle.victim_choice.specs.Order.{touched}
 use Rattle.victim_choice.proofs.OrderFacts.{order_long}
 use Rattle.host_events.specs.Replies.{with_reply, IsUpheld}
-use Rattle.host_events.specs.Runs.{Reserves, argument_of, is_chained, run_by, devices}
+use Rattle.host_events.specs.Runs.{argument_of, is_chained, run_by, devices}
 use Rattle.host_events.proofs.RuleFacts.{OnRun, rule_runs}
 use Rattle.host_events.proofs.RunDoes.{still_from, read_from, run_from, stop_from, run_does, stop_does}
 use Rattle.host_events.proofs.Standing.{mounted_host}

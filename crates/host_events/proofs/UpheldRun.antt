@@ -13,7 +13,7 @@ use Rattle.fault_queue.specs.Requests.{put_request}
 use Rattle.victim_choice.specs.Order.{touched}
 use Rattle.core_state.specs.declared.session.Event.TheVariants.{Host}
 use Rattle.core_state.specs.CoreValue.{CoreValue, DevicesSeen}
-use Rattle.core_state.specs.Counted.{IsEntryBehind, IsCounted}
+use Rattle.core_state.specs.Counted.{IsEntryBehind}
 use Rattle.core_state.specs.Devices.{FailRead, RunOn, FailOn}
 use Rattle.core_state.specs.Entered.{entered}
 use Rattle.core_state.specs.IsCore.{IsCore}
@@ -22,13 +22,12 @@ use Rattle.core_state.specs.SessionData.{data_of}
 use Rattle.core_state.specs.Steps.{entry_of}
 use Rattle.core_state.specs.Tasks.{tasks_after}
 use Rattle.core_state.specs.TheCore.{IsWhole}
-use Rattle.core_state.proofs.BesideFacts.{beside_touched, whole_beside, whole_noted}
+use Rattle.core_state.proofs.BesideFacts.{beside_touched, whole_beside, whole_noted, counted_noted}
 use Rattle.core_state.proofs.CountedFacts.{counted_entry, counted_halt}
 use Rattle.core_state.proofs.HostFacts.{IsHost}
-use Rattle.core_state.proofs.Moved.{whole_moved}
+use Rattle.core_state.proofs.Moved.{whole_moved, counted_moved}
 use Rattle.core_state.proofs.RuleWalks.{none_some, some_is}
 use Rattle.host_events.specs.Replies.{after_answer, IsUpheld}
-use Rattle.host_events.proofs.ReplyFacts.{counted_noted}
 use Rattle.host_events.proofs.RuleFacts.{OnRun}
 use Rattle.host_events.proofs.WholeRun.{done_goes_on, whole_run, whole_stopped, whole_check}
 
@@ -55,7 +54,7 @@ pub upheld_moved : (S : Type 0) {C : Type 0} (tells : Type 0) (v : CoreValue S C
     → (tells → t ≡ s) → writes' ≡ writes → faults' ≡ faults → IsUpheld tells t writes' faults' (record v { site = x })
 upheld_moved S tells v s t writes faults writes' faults' x up same unwritten sound = record {
   whole = whole_moved S tells s t v x up.whole same;
-  counted = subst (λ (p : ℕ × ℕ). IsCounted p.0 p.1 v.requests (data_of v)) (λ i. (sym unwritten i, sym sound i)) up.counted;
+  counted = counted_moved S v writes faults writes' faults' x unwritten sound up.counted;
 }
 
 -- ---- a command on its frame
@@ -96,7 +95,7 @@ module _ (S : Type 0) {C : Type 0} (tells : Type 0) (v : CoreValue S C) (old new
   upheld_run reply now ran = record {
     whole = whole_beside (run_entered reply now call) (touched frame v.recency) v.recorders v.store v.rail (v.events ++ Host h ∷ []) tells new.told whole_ whole_.shaped.recorders_
         (λ none. beside_touched v.config.frames v.config.recorders v.recency v.recorders v.store frame on.below core.beside);
-    counted = counted_noted new.writes new.faults _ _ (Host h)
+    counted = counted_noted new.writes new.faults _ _ (v.events ++ Host h ∷ [])
         (counted_entry old.writes old.faults new.writes new.faults v.requests (data_of v) up.counted more later on.goes.going (entry_of v.history h call reply None) h None core.requests_
         (behind reply None (keeps_none reply ran.done_)) (done_goes_on reply ran.done_) (λ fault is. absurd (none_some fault is)) refl);
   }
@@ -110,7 +109,7 @@ module _ (S : Type 0) {C : Type 0} (tells : Type 0) (v : CoreValue S C) (old new
       → IsUpheld tells new.told new.writes new.faults (after_answer (record v { site = x }) new.writes h call (Some new.faults) (equipment_check, checked check.EquipmentCheck (host_at v.hosts h)))
   upheld_check failed = record {
     whole = whole_noted tells new.told (check_entered call) (v.events ++ Host h ∷ []) whole_;
-    counted = counted_noted new.writes new.faults _ _ (Host h)
+    counted = counted_noted new.writes new.faults _ _ (v.events ++ Host h ∷ [])
         (counted_entry old.writes old.faults new.writes new.faults v.requests (data_of v) up.counted more later on.goes.going (entry_of v.history h call equipment_check (Some new.faults)) h None core.requests_
         (behind equipment_check (Some new.faults) ((λ some_. refl), (λ keeps. refl))) (λ stops. stops)
         (λ fault is. inl (record { count = sym (some_is new.faults fault is); rises = failed.failed })) refl);
@@ -133,7 +132,7 @@ module _ (S : Type 0) {C : Type 0} (tells : Type 0) (v : CoreValue S C) (old new
       (record (entered v x (entry_of v.history h call stopped (Some new.faults)) new.writes v.hosts v.requests v.tasks (Some new.faults)) { events = v.events ++ Host h ∷ [] })
   upheld_stop fault failed = record {
     whole = whole_noted tells new.told (stop_entered call) (v.events ++ Host h ∷ []) whole_;
-    counted = counted_noted new.writes new.faults _ _ (Host h)
+    counted = counted_noted new.writes new.faults _ _ (v.events ++ Host h ∷ [])
         (counted_halt old.writes old.faults new.writes new.faults v.requests (data_of v) up.counted more later on.goes.going (record { count = refl; rises = failed.cause.rises })
         (entry_of v.history h call stopped (Some new.faults)) (behind stopped (Some new.faults) ((λ some_. refl), (λ keeps. refl))) tt refl);
   }

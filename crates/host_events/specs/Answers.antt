@@ -1,6 +1,7 @@
 -- What an answer to a host stands for.
 use Rattle.channel_commands.specs.Views.{reply_of}
-use Rattle.core_state.specs.HostEvents.{HostTold, replied, marked, waits, halts, at_limit, no_memory}
+use Rattle.core_state.specs.HostEvents.{HostTold, replied, marked, waits, halts, at_limit}
+use Rattle.core_state.specs.HostEvents.{no_memory}
 use Rattle.host_events.specs.declared.answer.HostAnswer.{HostAnswer}
 use Rattle.host_events.specs.declared.answer.HostAnswer.TheVariants as answer
 

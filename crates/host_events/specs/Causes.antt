@@ -3,7 +3,8 @@ use Rattle.std.specs.Prelude.{◌≡◌, ◌≢◌, ◌⊎◌, ℕ, ◌/◌, ◌
 use Rattle.mss_base.specs.Counts.{Rises, IsFaultSince}
 use Rattle.channel_commands.specs.declared.command.Command.{Command}
 use Rattle.channel_commands.specs.Codes.{is_write}
-use Rattle.channel_commands.specs.Data.{CallData, is_command, ReplyData, done, equipment_check, no_space, stopped}
+use Rattle.channel_commands.specs.Data.{CallData, is_command, ReplyData, done, equipment_check}
+use Rattle.channel_commands.specs.Data.{no_space, stopped}
 use Rattle.ckd_plain.specs.declared.host.HostState.{HostState}
 use Rattle.volume_table.specs.Row.{RowValue, frame_of, state_of}
 use Rattle.volume_table.specs.Listed.{listed}
@@ -16,7 +17,9 @@ use Rattle.core_state.specs.declared.rule.Waiting.TheVariants.{Busy, Fault, Held
 use Rattle.core_state.specs.Agrees.{UnderHost}
 use Rattle.core_state.specs.Counted.{fault_asked}
 use Rattle.core_state.specs.CoreValue.{CoreValue, CoreData}
-use Rattle.core_state.specs.HostEvents.{HostTold, replied, marked, waits, halts, at_limit, no_memory, response}
+use Rattle.core_state.specs.declared.session.TheConstants.{ENTRY_LIMIT}
+use Rattle.core_state.specs.HostEvents.{HostTold, replied, marked, waits, halts, at_limit}
+use Rattle.core_state.specs.HostEvents.{no_memory, response}
 use Rattle.core_state.specs.HostRules.{data_command, would_bind, taken_from}
 use Rattle.core_state.specs.Pins.{host_at, owns}
 use Rattle.core_state.specs.Running.{IsNotBusy, IsNotAwaited}
@@ -25,7 +28,7 @@ use Rattle.host_events.specs.Leaves.{AddsEntry}
 -- the core goes on, and has room for an entry
 pub record Goes {S C : Type 0} (v : CoreValue S C) : Type 0 where
   pub going : v.stopped ≡ None
-  pub few : length v.history < 4096
+  pub few : length v.history < ENTRY_LIMIT
 
 -- the page under a host has no frame, and each frame has a page of a volume that some host has
 -- bound
@@ -39,7 +42,7 @@ HasNoSpaceFor frames rows hosts h =
 
 module _ (core : CoreData) (h : ℕ) (call : CallData) where
   abbrev pub IsAtLimit : Type 0
-  IsAtLimit = (core.stopped ≡ None) × (4096 ≤ length core.history)
+  IsAtLimit = (core.stopped ≡ None) × (ENTRY_LIMIT ≤ length core.history)
 
   -- a command on a volume that another host owns
   pub record IsKeptOff (owner : ℕ) : Type 0 where

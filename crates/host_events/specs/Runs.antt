@@ -1,7 +1,6 @@
--- What comes of a command that is run for a host, and of the memory that its event takes.
-use Rattle.std.specs.Prelude.{◌≡◌, ◌≤◌, ℕ, Bool, false, List, [], Result, Ok, Err, if◌then◌else◌}
+-- What comes of a command that is run for a host.
+use Rattle.std.specs.Prelude.{◌≡◌, ℕ, Bool, false, List, [], Result, Ok, Err, if◌then◌else◌}
 use Rattle.mss_base.specs.Content.{SiteLog}
-use Rattle.mss_base.specs.Sites.{FailingReads, StaysSound}
 use Rattle.mss_base.specs.declared.place.BlockPlace.{BlockPlace}
 use Rattle.channel_commands.specs.Codes.{is_write}
 use Rattle.channel_commands.specs.Data.{CallData, command as ask, ReplyData, done}
@@ -10,22 +9,14 @@ use Rattle.channel_commands.specs.declared.call.Reply.{Reply}
 use Rattle.channel_commands.specs.declared.command.Command.{Command}
 use Rattle.ckd_plain.specs.declared.host.HostState.{HostState}
 use Rattle.track_engine.specs.declared.place.EngineFault.{EngineFault}
-use Rattle.track_engine.specs.declared.place.EngineFault.TheVariants.{ReadFailed, WriteFailed, Memory}
+use Rattle.track_engine.specs.declared.place.EngineFault.TheVariants.{ReadFailed, WriteFailed}
+use Rattle.track_engine.specs.declared.place.EngineFault.TheVariants.{Memory}
 use Rattle.core_state.specs.CoreValue.{DevicesSeen}
 use Rattle.core_state.specs.Devices.{StillHold, FailRead, Run, RunOn, FailOn}
 
 -- what is seen of a site
 abbrev pub devices : {S : Type 0} → (S → SiteLog) → (S → ℕ) → (S → ℕ) → S → DevicesSeen
 devices told writes faults s = record { told = told s; writes = writes s; faults = faults s }
-
--- a site with room for some writes, and nothing else changed
-pub record Reserves {S : Type 0} (tells : Type 0) (told : S → SiteLog) (spare writes faults : S → ℕ)
-    (never_fails_but : FailingReads S) (old new : S) : Type 0 where
-  pub log : tells → told new ≡ told old
-  pub room : spare old ≤ spare new
-  pub unwritten : writes new ≡ writes old
-  pub same : faults new ≡ faults old
-  pub sound : StaysSound never_fails_but old new
 
 -- the bytes that go with a command, and whether a further one is chained behind it
 abbrev pub argument_of : CallData → List ℕ
@@ -51,7 +42,8 @@ abbrev pub bare_write : Command → ReplyData → ReplyData
 bare_write c (done status bytes) = done status (if is_write c then [] else bytes)
 bare_write c reply = reply
 
--- a reply with its copy, or why there is none: a read failed, or a write of the devices, or memory was refused
+-- a reply with its copy, or why there is none: a read failed, or a write of the devices, or memory
+-- was refused
 abbrev pub Comes : Type 0 → Run → DevicesSeen → DevicesSeen → HostState
     → Result (Reply × Reply) EngineFault → Type 0
 Comes tells r old new left (Ok replies) =

@@ -1,8 +1,10 @@
 // Copies that an event takes before it changes anything.
-ghost use Rattle.std.specs.Prelude.{◌≡◌, ◌≤◌, ◌+◌, length, IfOk};
+ghost use Rattle.std.specs.Prelude.{◌≡◌, ◌≤◌, ◌+◌, length, IfOk, IsOk};
 ghost use Rattle.channel_commands.specs.Views.{call_of, reply_of};
 ghost use Rattle.ckd_plain.specs.History.{count_of_host};
+ghost use Rattle.ckd_plain.specs.Laws.{HasNoBytes};
 ghost use Rattle.core_state.specs.Counted.{AreEntries};
+ghost use Rattle.core_state.specs.declared.session.TheConstants.{ENTRY_LIMIT};
 
 use channel_commands::{Call, Reply};
 use ckd_plain::Entry;
@@ -34,7 +36,8 @@ pub fn copy_of_call(alloc: Global, call: &Call) -> Result<Call, NoMemory>
 
 /// A copy of a reply. Only bytes that a command read take memory.
 pub fn copy_of_reply(alloc: Global, reply: &Reply) -> Result<Reply, NoMemory>
-    ensures { IfOk result (λ copy. reply_of copy ≡ reply_of reply.now) }
+    ensures copy { IfOk result (λ copy. reply_of copy ≡ reply_of reply.now) }
+    ensures none { HasNoBytes (reply_of reply.now) → IsOk result }
 {
     Ok(match reply {
         Reply::Done { status, bytes } => Reply::Done {
@@ -55,9 +58,10 @@ pub fn copy_of_reply(alloc: Global, reply: &Reply) -> Result<Reply, NoMemory>
     })
 }
 
-/// The number of a host's next entry, from 1: one more than that of its last one, which mostly lies near the end.
+/// The number of a host's next entry, from 1: one more than that of its last one, which mostly lies
+/// near the end.
 pub fn next_number(history: &[Entry], host: HostNo) -> u64
-    requires few { length history.now ≤ 4096 }
+    requires few { length history.now ≤ ENTRY_LIMIT }
     requires entries { AreEntries history.now }
     ensures { result ≡ count_of_host host history.now + 1 }
 {

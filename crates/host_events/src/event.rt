@@ -28,10 +28,10 @@ use victim_choice::Choose;
 
 /// Does what the first rule that a host's call meets says, and answers the host.
 ///
-/// Its memory comes first: after `Memory` all is as it was. After `Wait` and `Marked` the call is to be made again; a wait
-/// changes nothing but the host's request. `Replied` and a `Stopped` of this event put one entry last. Where no call of the
-/// site fails but reads, no event stops the core; where the host's track can be read, its command isn't an equipment
-/// check.
+/// Its memory comes first: after `Memory` all is as it was. After `Wait` and `Marked` the call is
+/// to be made again; a wait changes nothing but the host's request. `Replied` and a `Stopped` of
+/// this event put one entry last. Where no call of the site fails but reads, no event stops the
+/// core; where the host's track can be read, its command isn't an equipment check.
 pub fn host_event<S: Site, C: Choose>(
     core: &mut Core<S, C>,
     host: HostNo,

@@ -38,8 +38,8 @@ pub fn fail<S: Site, C: Choose>(
     reply(core, host, call, Reply::EquipmentCheck, Some(fault), &now)
 }
 
-/// Replies that there is no space: the page has no frame, and each frame is bound. The host's request ends, if it has
-/// one.
+/// Replies that there is no space: the page has no frame, and each frame is bound. The host's
+/// request ends, if it has one.
 pub fn refuse_space<S: Site, C: Choose>(
     core: &mut Core<S, C>,
     host: HostNo,

@@ -3,6 +3,7 @@ ghost use Rattle.std.specs.Prelude.{◌≡◌, ◌≤◌, ℕ, List, Some, None}
 ghost use Rattle.channel_commands.specs.Data.{CallData};
 ghost use Rattle.fault_queue.specs.Requests.{IsOnce};
 ghost use Rattle.core_state.specs.declared.rule.Waiting.{Waiting};
+ghost use Rattle.core_state.specs.Beginning.{IsLater};
 ghost use Rattle.core_state.specs.Chains.{Step, IsChain};
 ghost use Rattle.core_state.specs.CoreValue.{CoreData};
 ghost use Rattle.core_state.specs.HostEvents.{HostTold, waits, halts, no_memory, HostEvent, IsSame};
@@ -20,11 +21,19 @@ ghost use Rattle.host_events.specs.Leaves.{
 use mss_base::Site;
 use victim_choice::Choose;
 
-/// An event of a host puts at most one entry last: of that host and call, at the place and with the reply that is told.
+/// An event of a host puts at most one entry last: of that host and call, at the place and with the
+/// reply that is told.
 pub fn events_add_one_entry_at_most<S: Site>()
     ensures { (core : CoreData) (h : ℕ) (call : CallData) (told : HostTold) (left : CoreData)
         → (core.stopped ≡ None → IsCore core) → HostEvent S.tells core h call told left
         → EntersAsTold core h call told left }
+{}
+
+/// An event of a host leaves the beginning of the session, and adds to the log alone.
+pub fn events_are_later<S: Site>()
+    ensures { (core : CoreData) (h : ℕ) (call : CallData) (told : HostTold) (left : CoreData)
+        → (core.stopped ≡ None → IsCore core) → HostEvent S.tells core h call told left
+        → IsLater S.tells core left }
 {}
 
 /// An event of a host leaves the other hosts and what they asked for, and moves nothing.
@@ -36,8 +45,8 @@ pub fn events_leave_the_rest<S: Site>()
         (left : CoreData) → HostEvent S.tells core h call told left → LeavesMachine core left }
 {}
 
-/// A wait changes nothing but the request of its host, and puts the event down where it does. Want of memory changes
-/// nothing.
+/// A wait changes nothing but the request of its host, and puts the event down where it does. Want
+/// of memory changes nothing.
 pub fn waits_change_requests_alone<S: Site>()
     ensures waits { (core : CoreData) (h : ℕ) (call : CallData) (w : Waiting) (left : CoreData)
         → HostEvent S.tells core h call (waits w) left
@@ -53,8 +62,8 @@ pub fn host_events_write_no_cartridge<S: Site>()
         → S.tells → LeavesCartridges core.site.told left.site.told }
 {}
 
-/// A core that answers that it is stopped keeps that fault. From then on each event, of any host or recorder, answers
-/// that fault, and changes nothing.
+/// A core that answers that it is stopped keeps that fault. From then on each event, of any host or
+/// recorder, answers that fault, and changes nothing.
 pub fn stopped_cores_stay<S: Site, C: Choose>()
     ensures stops { (core : CoreData) (h : ℕ) (call : CallData) (fault : ℕ) (left : CoreData)
         → (core.stopped ≡ None → IsCore core) → HostEvent S.tells core h call (halts fault) left
@@ -65,8 +74,8 @@ pub fn stopped_cores_stay<S: Site, C: Choose>()
         → AllHalt fault steps × IsSame S.tells core left }
 {}
 
-/// Each answer of an event of a host has its cause, and each cause its answer: the first that the call finds. In place of
-/// any but the first two, memory may be refused.
+/// Each answer of an event of a host has its cause, and each cause its answer: the first that the
+/// call finds. In place of any but the first two, memory may be refused.
 pub fn answers_have_their_causes<S: Site>()
     ensures forth { (core : CoreData) (h : ℕ) (call : CallData) (told : HostTold) (left : CoreData)
         → (core.stopped ≡ None → IsCore core) → HostEvent S.tells core h call told left

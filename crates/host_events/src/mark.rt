@@ -81,20 +81,17 @@ pub fn mark<S: Site, C: Choose>(
     ensures chooser { core.new.chooser ≡ core.old.chooser }
     ensures devices { MayWrite CHANGE_WRITES S.spare S.writes S.faults S.never_fails_but
         core.old.site core.new.site }
-    ensures works { (but : UnitNo → Bool) → S.never_fails_but core.old.site but
+    ensures only_reads_fail { (but : UnitNo → Bool) → S.never_fails_but core.old.site but
         → GoesOn (told_of result) }
 {
-    let Ok(copy) = prepare(
-        core.alloc,
-        &mut core.session,
-        &mut core.site,
-        call,
-        CHANGE_WRITES,
-    ) else {
+    // Only the entry of a failed write needs the call. Its memory, and the request's, has to be
+    // there before the row changes.
+    let session = &mut core.session;
+    let site = &mut core.site;
+    let Ok(copy) = prepare(core.alloc, session, site, call, CHANGE_WRITES) else {
         return HostAnswer::Memory;
     };
     let had = core.requests.of(host).is_some();
-    // The memory that the request takes is refused before the row changes.
     let Ok(()) = ask(&mut core.requests, host, had, volume, cylinder) else {
         return HostAnswer::Memory;
     };

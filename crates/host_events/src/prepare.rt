@@ -1,17 +1,17 @@
 // The memory that an event which writes takes before it changes anything.
 ghost use Rattle.std.specs.Prelude.{◌≡◌, ◌≤◌, IfOk, OnOk};
 ghost use Rattle.channel_commands.specs.Views.{call_of};
+ghost use Rattle.core_state.specs.MakingRoom.{Reserves};
 ghost use Rattle.core_state.specs.Sessions.{session_data};
-ghost use Rattle.host_events.specs.Runs.{Reserves};
 
 use crate::copies::copy_of_call;
 use channel_commands::Call;
-use core_state::Session;
+use core_state::{Session, make_room};
 use mss_base::{NoMemory, Site};
 use std::alloc::Global;
 
-/// A copy of a call, with room for what its event tells and for so many writes. After want of memory all but the room
-/// is as it was.
+/// A copy of a call, with room for what its event tells and for so many writes. After want of
+/// memory all but the room is as it was.
 pub fn prepare<S: Site>(
     alloc: Global,
     session: &mut Session,
@@ -30,7 +30,6 @@ pub fn prepare<S: Site>(
         site.old site.new }
 {
     let copy = copy_of_call(alloc, call)?;
-    session.reserve()?;
-    site.reserve(writes)?;
+    make_room(session, site, writes)?;
     Ok(copy)
 }

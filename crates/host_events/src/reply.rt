@@ -4,6 +4,7 @@ ghost use Rattle.channel_commands.specs.Views.{call_of, reply_of};
 ghost use Rattle.core_state.specs.CoreValue.{seen};
 ghost use Rattle.core_state.specs.Counted.{AreEntries};
 ghost use Rattle.core_state.specs.Sessions.{session_data};
+ghost use Rattle.core_state.specs.declared.session.TheConstants.{ENTRY_LIMIT};
 ghost use Rattle.host_events.specs.Answers.{told_of};
 ghost use Rattle.host_events.specs.Replies.{with_reply, after_answer, IsUpheld, RepliesOr};
 
@@ -24,7 +25,7 @@ pub fn enter(
     fault: Option<u64>,
     mark: u64,
 )
-    requires few { length session.old.history.items ≤ 4096 }
+    requires few { length session.old.history.items ≤ ENTRY_LIMIT }
     requires entries { AreEntries session.old.history.items }
     requires room { 1 ≤ session.old.history.spare }
     requires room_marks { 1 ≤ session.old.marks.spare }
@@ -44,8 +45,8 @@ pub fn enter(
     session.note(Event::Host(host));
 }
 
-/// Replies a call, for which the devices aren't asked: its entry is put last, the host is now this one, and its request
-/// ends. After want of memory all is as it was.
+/// Replies a call, for which the devices aren't asked: its entry is put last, the host is now this
+/// one, and its request ends. After want of memory all is as it was.
 pub fn reply<S: Site, C: Choose>(
     core: &mut Core<S, C>,
     host: HostNo,
@@ -54,7 +55,7 @@ pub fn reply<S: Site, C: Choose>(
     fault: Option<u64>,
     now: &HostState,
 ) -> HostAnswer
-    requires few { length core.old.history < 4096 }
+    requires few { length core.old.history < ENTRY_LIMIT }
     requires upheld { IsUpheld S.tells (S.told core.old.site) (S.writes core.old.site)
         (S.faults core.old.site) (after_answer core.old (S.writes core.old.site) host
         (call_of call.now) fault (reply_of reply, now.now)) }

@@ -31,8 +31,8 @@ fn is_there(rows: &[Option<VolumeRow>], call: &Call) -> bool
     }
 }
 
-/// The reply to a call that needs no track, and the host then; `there` says whether the volume that the call asks for
-/// is there.
+/// The reply to a call that needs no track, and the host then; `there` says whether the volume that
+/// the call asks for is there.
 fn response(
     alloc: Global,
     host: &HostState,
@@ -56,7 +56,8 @@ fn response(
     Ok((reply, now))
 }
 
-/// Replies a call that meets no other rule, without a look at the tracks. The host's request ends, if it has one.
+/// Replies a call that meets no other rule, without a look at the tracks. The host's request ends,
+/// if it has one.
 pub fn reply_plainly<S: Site, C: Choose>(
     core: &mut Core<S, C>,
     host: HostNo,

@@ -31,13 +31,10 @@ use channel_commands::{Call, Command};
 use ckd_plain::steps::{is_data, opened};
 use ckd_plain::{HostState, admitted};
 use core_state::looks::{are_all_bound, frame_in, host_at, owner_of, state_in};
-use core_state::{Core, HostRule, Task};
+use core_state::{Core, ENTRY_LIMIT, HostRule, Task};
 use fault_queue::{Request, RequestState};
 use mss_base::{Config, FrameNo, HostNo, Site, VolumeNo};
 use victim_choice::Choose;
-
-/// How many entries a history has at most.
-const ENTRY_LIMIT: usize = 4096;
 
 /// A host's call, with the state of the host.
 #[derive(Clone, Copy)]

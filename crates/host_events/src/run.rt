@@ -1,16 +1,14 @@
 // The event of a search, read or write on a staged cylinder.
-ghost use Rattle.std.specs.Prelude.{◌≡◌, ◌≤◌, ◌<◌, ◌+◌, ◌^◌, Bool, length, true, false, IfOk, IfErr, IsOk};
+ghost use Rattle.std.specs.Prelude.{◌≡◌, ◌≤◌, ◌<◌, Bool, length, true, false, IfErr};
 ghost use Rattle.mss_base.specs.Content.{content};
 ghost use Rattle.mss_base.specs.Places.{frame_block};
 ghost use Rattle.mss_base.specs.Sites.{MayWrite};
 ghost use Rattle.mss_base.specs.declared.block.TheConstants.{BLOCK_BYTES};
 ghost use Rattle.mss_base.specs.declared.place.UnitNo.{UnitNo};
-ghost use Rattle.channel_commands.specs.Codes.{is_write};
 ghost use Rattle.channel_commands.specs.Data.{is_command};
 ghost use Rattle.channel_commands.specs.Views.{call_of, reply_of};
 ghost use Rattle.ckd_plain.specs.Checks.{Passes};
 ghost use Rattle.ckd_plain.specs.Effects.{is_data};
-ghost use Rattle.ckd_plain.specs.Laws.{HasNoBytes};
 ghost use Rattle.ckd_plain.specs.Plain.{IsDone, opened};
 ghost use Rattle.track_engine.specs.Faults.{IsNoFailure, IsNoFailedWrite};
 ghost use Rattle.track_engine.specs.Tracks.{AreTracks};
@@ -25,6 +23,7 @@ ghost use Rattle.host_events.specs.Parts.{GoesOn, IsUnfailed};
 ghost use Rattle.host_events.specs.Runs.{argument_of, run_by, devices, bare_write, Comes};
 
 use crate::answer::HostAnswer;
+use crate::copies::copy_of_reply;
 use crate::prepare::prepare;
 use crate::reply::enter;
 use channel_commands::{Call, Command, Reply};
@@ -32,9 +31,7 @@ use ckd_plain::steps::checked;
 use ckd_plain::{HostState, UnitCheck};
 use core_state::looks::host_at;
 use core_state::{Core, TaskList, touch_all};
-use mss_base::{
-    Bytes, CYLINDERS, FrameNo, HEADS, Head, HostNo, NoMemory, Page, Site, VolumeNo, frame_block,
-};
+use mss_base::{Bytes, CYLINDERS, FrameNo, HEADS, Head, HostNo, Page, Site, VolumeNo, frame_block};
 use std::alloc::Global;
 use track_engine::{CylinderPlace, EngineFault, run_command};
 use victim_choice::Choose;
@@ -68,7 +65,8 @@ fn place_in(frame: FrameNo, host: &HostState) -> CylinderPlace
     }
 }
 
-/// The reply of a command that was carried out, without the bytes that a write's reply doesn't have.
+/// The reply of a command that was carried out, without the bytes that a write's reply doesn't
+/// have.
 fn bare(alloc: Global, command: &Command, reply: Reply) -> Reply
     requires { IsDone (reply_of reply) }
     ensures { reply_of result ≡ bare_write command.now (reply_of reply) }
@@ -83,24 +81,8 @@ fn bare(alloc: Global, command: &Command, reply: Reply) -> Reply
     Reply::Done { status, bytes }
 }
 
-/// A copy of the reply of a command that was carried out. Without bytes it takes no memory.
-fn copy_of_done(alloc: Global, reply: &Reply) -> Result<Reply, NoMemory>
-    requires { IsDone (reply_of reply.now) }
-    ensures copy { IfOk result (λ copy. reply_of copy ≡ reply_of reply.now) }
-    ensures none { HasNoBytes (reply_of reply.now) → IsOk result }
-{
-    let Reply::Done { status, bytes } = reply else {
-        unreachable!()
-    };
-    let bytes = Bytes::of(alloc, bytes.as_slice())?;
-    Ok(Reply::Done {
-        status: *status,
-        bytes,
-    })
-}
-
-/// Runs a call's command on the blocks of the host's cylinder in a frame, and gives its reply twice: for the history, and
-/// for the host.
+/// Runs a call's command on the blocks of the host's cylinder in a frame, and gives its reply
+/// twice: for the history, and for the host.
 fn run_in<S: Site>(
     alloc: Global,
     site: &mut S,
@@ -141,7 +123,7 @@ fn run_in<S: Site>(
     let place = place_in(frame, host);
     let reply = run_command(alloc, site, &place, buffer, command, bytes, *chained, host)?;
     let reply = bare(alloc, command, reply);
-    let Ok(copy) = copy_of_done(alloc, &reply) else {
+    let Ok(copy) = copy_of_reply(alloc, &reply) else {
         return Err(EngineFault::Memory);
     };
     Ok((reply, copy))
@@ -187,15 +169,9 @@ pub fn run<S: Site, C: Choose>(
     };
     let index = core.session.history.as_slice().len() as u64;
     let mut now = old;
-    match run_in(
-        alloc,
-        &mut core.site,
-        &mut core.buffer,
-        frame,
-        call,
-        command,
-        &mut now,
-    ) {
+    let site = &mut core.site;
+    let buffer = &mut core.buffer;
+    match run_in(alloc, site, buffer, frame, call, command, &mut now) {
         Ok((reply, told)) => {
             let mark = core.site.writes();
             enter(&mut core.session, host, copy, reply, None, mark);

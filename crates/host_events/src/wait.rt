@@ -15,7 +15,8 @@ use fault_queue::{Request, RequestState};
 use mss_base::{Cylinder, FrameNo, HostNo, NoMemory, Site, VolumeNo};
 use victim_choice::Choose;
 
-/// Waits for a frame that a task takes from the volume to be bound, by whichever call meets this rule.
+/// Waits for a frame that a task takes from the volume to be bound, by whichever call meets this
+/// rule.
 pub fn hold<S: Site, C: Choose>(core: &Core<S, C>, host: HostNo, frame: FrameNo) -> HostAnswer
     requires rule { (call : CallData) × (host_rule core.now host call ≡ IsHeld frame) }
     ensures event { (call : CallData) → host_rule core.now host call ≡ IsHeld frame
@@ -28,7 +29,8 @@ pub fn hold<S: Site, C: Choose>(core: &Core<S, C>, host: HostNo, frame: FrameNo)
     HostAnswer::Wait(Waiting::Held { frame })
 }
 
-/// Puts a request of a host that has none last, and the event. After want of memory all is as it was.
+/// Puts a request of a host that has none last, and the event. After want of memory all is as it
+/// was.
 fn queue<S: Site, C: Choose>(
     core: &mut Core<S, C>,
     host: HostNo,
@@ -46,7 +48,8 @@ fn queue<S: Site, C: Choose>(
     Ok(())
 }
 
-/// Waits for the cylinder, which is asked for unless it is already, by whichever call meets this rule.
+/// Waits for the cylinder, which is asked for unless it is already, by whichever call meets this
+/// rule.
 pub fn ask<S: Site, C: Choose>(
     core: &mut Core<S, C>,
     host: HostNo,

@@ -21,8 +21,7 @@ use Rattle.core_state.specs.IsCore.{IsCore}
 use Rattle.core_state.specs.Pins.{task_at, frame_in, state_in, state_of_row, asked_page, is_changed, changed_in}
 use Rattle.core_state.specs.Tasks.{IsTask, IsTransfer, IsChosen, HasFrame}
 use Rattle.core_state.specs.WorkRules.{cartridge_of, transfer, destaging, staging_kind, staging, next_transfer, transfer_of}
-use Rattle.core_state.proofs.RuleWalks.{some_is, none_some, mapped, chained, either}
-use Rattle.work_events.proofs.RuleSteps.{mapped_at}
+use Rattle.core_state.proofs.RuleWalks.{some_is, none_some, mapped, chained, either, mapped_at}
 
 -- ---- rows
 

@@ -14,9 +14,7 @@ use Rattle.core_state.specs.CoreValue.{CoreValue}
 use Rattle.core_state.specs.Counted.{IsCounted}
 use Rattle.core_state.specs.SessionData.{data_of}
 use Rattle.core_state.specs.TheCore.{IsWhole, IsKept}
-use Rattle.core_state.proofs.BesideFacts.{whole_beside, whole_noted, beside_touched}
-use Rattle.core_state.proofs.CountedFacts.{counted_later}
-use Rattle.core_state.proofs.Moved.{whole_moved}
+use Rattle.core_state.proofs.BesideFacts.{whole_beside, whole_noted, counted_noted, beside_touched}
 
 -- an event more is told
 pub kept_noted : {S C : Type 0} (tells : Type 0) (site : SiteLog) (writes faults room : ℕ) (v : CoreValue S C) (events : List Event)
@@ -24,15 +22,7 @@ pub kept_noted : {S C : Type 0} (tells : Type 0) (site : SiteLog) (writes faults
     → IsKept tells site writes faults room (record v { events = events })
 kept_noted tells site writes faults room v events whole counted buffer = record {
   whole = whole_noted tells site v events whole;
-  counted = record {
-    marks_ = counted.marks_;
-    messages = counted.messages;
-    entries = counted.entries;
-    began = counted.began;
-    faults_ = counted.faults_;
-    going = counted.going;
-    stop = counted.stop;
-  };
+  counted = counted_noted writes faults v.requests (data_of v) events counted;
   buffer = buffer;
 }
 
@@ -40,15 +30,6 @@ kept_noted tells site writes faults room v events whole counted buffer = record 
 pub kept_at : {S C : Type 0} (tells : Type 0) (told : S → SiteLog) (writes faults : S → ℕ) (room : ℕ) (v w : CoreValue S C) → v ≡ w
     → IsKept tells (told v.site) (writes v.site) (faults v.site) room v → IsKept tells (told w.site) (writes w.site) (faults w.site) room w
 kept_at {S} {C} tells told writes faults room v w same kept = subst (λ (z : CoreValue S C). IsKept tells (told z.site) (writes z.site) (faults z.site) room z) same kept
-
--- another site that holds and counts the same
-pub kept_moved : (S : Type 0) {C : Type 0} (tells : Type 0) (s t : SiteLog) (writes faults later_writes later room : ℕ) (v : CoreValue S C) (x : S) → (tells → t ≡ s) → later_writes ≡ writes → later ≡ faults
-    → IsKept tells s writes faults room v → IsKept tells t later_writes later room (record v { site = x })
-kept_moved S tells s t writes faults later_writes later room v x same unwritten sound kept = record {
-  whole = whole_moved S tells s t v x kept.whole same;
-  counted = counted_later writes faults later_writes later v.requests (data_of v) kept.counted (omega (arith, unwritten)) (omega (arith, sound));
-  buffer = kept.buffer;
-}
 
 -- what stands beside the tables changes
 pub kept_beside : {S C : Type 0} (tells : Type 0) (site : SiteLog) (writes faults room : ℕ) (v : CoreValue S C) (recency : List ℕ) (recorders : List (Option ℕ)) (store : List Place) (rail : RailData) (events : List Event)

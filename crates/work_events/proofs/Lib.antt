@@ -2,7 +2,6 @@ pub mod FirstLemmas
 pub mod PickLemmas
 pub mod QueueFacts
 pub mod GoingCore
-pub mod RuleSteps
 pub mod DueFacts
 pub mod PickFacts
 pub mod RuleFacts

@@ -1,10 +1,10 @@
 -- What comes of a recorder's event, whatever its rule.
 use Rattle.std.proofs.Common.{◌≡◌, ◌≢◌, ◌⊎◌, inl, inr, ℕ, true, false, List, Option, Some, None, refl, sym, ◌∙◌, ap, subst}
 use Rattle.std.specs.Prelude.{slice_set, IsSome}
-use Rattle.mss_base.specs.Content.{SiteLog, Adds, Writes, content}
+use Rattle.mss_base.specs.Content.{Content, SiteLog, Adds, Writes, content}
 use Rattle.mss_base.specs.Counts.{IsFaultSince}
 use Rattle.mss_base.specs.declared.place.UnitNo.TheVariants.{Staging, Cartridge}
-use Rattle.mss_base.proofs.Moments.{started, one_write, weaker}
+use Rattle.mss_base.proofs.Moments.{started, ended_with, one_write, weaker}
 use Rattle.shown_volumes.specs.Shown.{block_at}
 use Rattle.volume_table.specs.Listed.{listed}
 use Rattle.volume_table.specs.Row.{RowValue}
@@ -25,6 +25,8 @@ use Rattle.core_state.specs.declared.rule.WorkAnswer.{WorkAnswer}
 use Rattle.core_state.specs.declared.rule.WorkAnswer.TheVariants.{Did, Idle, Stopped, Memory}
 use Rattle.core_state.specs.declared.rule.WorkRule.{WorkRule}
 use Rattle.core_state.specs.declared.rule.WorkRule.TheVariants.{IsStopped, IsIdle, GivesBack, Picks, PicksVictim, Abandons, Fetches, Copies, Ends, Frees, Assigns}
+use Rattle.core_state.specs.Agrees.{creates, message_of}
+use Rattle.core_state.specs.Beginning.{KeepsBeginning}
 use Rattle.core_state.specs.CoreValue.{CoreData}
 use Rattle.core_state.specs.Devices.{StillHold}
 use Rattle.core_state.specs.HostEvents.{IsSame}
@@ -32,6 +34,7 @@ use Rattle.core_state.specs.Rows.{Rewrites}
 use Rattle.core_state.specs.Steps.{with_change, most_recent, with_owner, with_task, picked, task_ended, given_back, fetched}
 use Rattle.core_state.specs.WorkEvents.{Does, ChangesThen, CopiesIt, EndsIt, WithTask, WorkDoes}
 use Rattle.core_state.specs.WorkRules.{task_of}
+use Rattle.core_state.proofs.ChangeLemmas.{created-push}
 use Rattle.work_events.specs.WorkLaws.{LeavesHosts, SameCartridges, AddsTrack}
 
 -- ---- what a step leaves
@@ -43,6 +46,7 @@ Asked c d =
     ⊎ ((h : ℕ) × (state : RequestState) × (d.requests ≡ with_state h state c.requests) × ((fault : ℕ) → state ≢ request.Failed fault))
 
 record Keeps (c d : CoreData) : Type 0 where
+  beginning : KeepsBeginning c d
   hosts : LeavesHosts c d
   stopped : d.stopped ≡ c.stopped
   asked : Asked c d
@@ -50,8 +54,8 @@ record Keeps (c d : CoreData) : Type 0 where
 abbrev IsStep : (CoreData → CoreData) → Type 0
 IsStep after = (c : CoreData) → Keeps c (after c)
 
-kept_all : (c d : CoreData) → d.first_write ≡ c.first_write → d.history ≡ c.history → d.marks ≡ c.marks → d.hosts ≡ c.hosts → d.stopped ≡ c.stopped → Asked c d → Keeps c d
-kept_all c d began history marks hosts stopped asked = record { hosts = record { began = began; history = history; marks = marks; hosts = hosts }; stopped = stopped; asked = asked }
+kept_all : (c d : CoreData) → KeepsBeginning c d → d.first_write ≡ c.first_write → d.history ≡ c.history → d.marks ≡ c.marks → d.hosts ≡ c.hosts → d.stopped ≡ c.stopped → Asked c d → Keeps c d
+kept_all c d beginning began history marks hosts stopped asked = record { beginning = beginning; hosts = record { began = began; history = history; marks = marks; hosts = hosts }; stopped = stopped; asked = asked }
 
 not_moving : (fault : ℕ) → request.Moving ≢ request.Failed fault
 not_moving fault is = cc
@@ -82,6 +86,13 @@ leaves_frame disk block bytes old new adds =
 leaves_frame_most : (disk block : ℕ) (old new : SiteLog) → AddsAtMost (record { unit = Staging disk; block = block }) old new → Leaves old new
 leaves_frame_most disk block old new (inl same) = leaves_same old new same
 leaves_frame_most disk block old new (inr adds) = leaves_frame disk block adds.0 old new adds.2
+
+-- a write on a cartridge leaves each block of a staging disk
+frame_stays : (cartridge block disk other : ℕ) (bytes : List ℕ) (old new : SiteLog) → Adds (copy_of (record { unit = Cartridge cartridge; block = block }) bytes) old new
+    → content new (Staging disk) other ≡ content old (Staging disk) other
+frame_stays cartridge block disk other bytes old new adds =
+    let Stays : Content → Type 0 = λ c. c (Staging disk) other ≡ content old (Staging disk) other in
+    ended_with Stays old new (one_write Stays old new (copy_of (record { unit = Cartridge cartridge; block = block }) bytes) adds refl (λ left long. refl))
 
 -- ---- what comes of an event
 
@@ -123,6 +134,7 @@ Answered tells core rule (Stopped fault) left =
 Answered tells core rule Memory left = IsSame tells core left
 
 pub record Outcome (tells : Type 0) (core : CoreData) (n : ℕ) (rule : WorkRule) (told : WorkAnswer) (left : CoreData) : Type 0 where
+  pub beginning : KeepsBeginning core left
   pub hosts : LeavesHosts core left
   pub cartridges : HasRowBy core rule → tells → Leaves core.site.told left.site.told ⊎ Destages core n rule left
   pub requests : (left.requests ≡ core.requests) ⊎ Restates core rule left
@@ -135,11 +147,15 @@ module _ (tells : Type 0) (may : List Candidate → ℕ → Type 0) (core : Core
   left_by : (d : CoreData) → left ≡ d → LeavesHosts core d → LeavesHosts core left
   left_by d path leaves = subst (λ (c : CoreData). LeavesHosts core c) (sym path) leaves
 
+  begun_by : (d : CoreData) → left ≡ d → KeepsBeginning core d → KeepsBeginning core left
+  begun_by d path keeps = subst (λ (c : CoreData). KeepsBeginning core c) (sym path) keeps
+
   still : StillHold tells core.site left.site → tells → Leaves core.site.told left.site.told
   still holds tl = leaves_same core.site.told left.site.told (holds.told tl)
 
   of_same : (rule : WorkRule) (told : WorkAnswer) → IsSame tells core left → Answered tells core rule told left → Comes rule told
   of_same rule told same answer = record {
+    beginning = begun_by _ same.1 (record { config = refl; first_write = refl; first_faults = refl; created = λ _. refl });
     hosts = left_by _ same.1 (record { began = refl; history = refl; marks = refl; hosts = refl });
     cartridges = λ _ tl. inl (still same.0 tl);
     requests = inl (ap (λ (c : CoreData). c.requests) same.1);
@@ -162,13 +178,14 @@ module _ (tells : Type 0) (may : List Candidate → ℕ → Type 0) (core : Core
     of_does told does =
         let k = keeps before in
         record {
+          beginning = begun_by _ does.2 (record { config = k.beginning.config; first_write = k.beginning.first_write; first_faults = k.beginning.first_faults; created = k.beginning.created });
           hosts = left_by _ does.2 (record { began = k.hosts.began; history = k.hosts.history; marks = k.hosts.marks; hosts = k.hosts.hosts });
           cartridges = λ _ tl. inl (still does.0 tl);
           requests = asked_by before refl (ap (λ (c : CoreData). c.requests) does.2);
           answer = λ _. subst (λ (a : WorkAnswer). Answered tells core rule a left) (sym does.1) (ap (λ (c : CoreData). c.stopped) does.2 ∙ k.stopped);
         }
 
-    module _ (volume : ℕ) (change : Change) (named : row_by rule ≡ Some volume) where
+    module _ (volume : ℕ) (change : Change) (named : row_by rule ≡ Some volume) (no_create : (v : ℕ) → creates v (message_of left.site.writes volume change (listed core.rows)) ≡ false) where
       row_there : HasRowBy core rule → (r : RowValue) × (listed core.rows volume ≡ Some r)
       row_there has = by (listed core.rows volume) (has volume named)
         where
@@ -181,12 +198,15 @@ module _ (tells : Type 0) (may : List Candidate → ℕ → Type 0) (core : Core
           let c = with_change volume change before in
           let k = keeps (with_change volume change before) in
           record {
+            beginning = begun_by _ does.2
+                (record { config = k.beginning.config; first_write = k.beginning.first_write; first_faults = k.beginning.first_faults; created = λ v. k.beginning.created v ∙ created-push v core.console _ (no_create v) });
             hosts = left_by _ does.2 (record { began = k.hosts.began; history = k.hosts.history; marks = k.hosts.marks; hosts = k.hosts.hosts });
             cartridges = λ has tl. let row = row_there has in inl (leaves_row volume _ core.site.told left.site.told ((does.0 row.0 row.1).write.moments tl));
             requests = asked_by (with_change volume change before) refl (ap (λ (c : CoreData). c.requests) does.2);
             answer = λ _. ap (λ (c : CoreData). c.stopped) does.2 ∙ k.stopped;
           }
       of_changes (Stopped fault) does = record {
+        beginning = begun_by _ does.1 (record { config = refl; first_write = refl; first_faults = refl; created = λ _. refl });
         hosts = left_by _ does.1 (record { began = refl; history = refl; marks = refl; hosts = refl });
         cartridges = λ has tl. let row = row_there has in inl (leaves_row volume _ core.site.told left.site.told ((does.0 row.0 row.1).write.moments tl));
         requests = inl (ap (λ (c : CoreData). c.requests) does.1);
@@ -202,11 +222,19 @@ module _ (tells : Type 0) (may : List Candidate → ℕ → Type 0) (core : Core
   -- ---- a copy
 
   module _ (t : Transfer) where
-    copied_on : (kind : TransferKind) → t.kind ≡ kind → AddsCopy t core.site.told left.site.told → Leaves core.site.told left.site.told ⊎ Destages core n (Copies t) left
-    copied_on StageBlank is adds = inl (leaves_frame _ _ _ core.site.told left.site.told (subst (λ (k : TransferKind). Adds (copy_of (target_of k (in_frame t t.next) (in_cartridge t t.next)) (source t t.next (content core.site.told))) core.site.told left.site.told) is adds))
-    copied_on StageCartridge is adds = inl (leaves_frame _ _ _ core.site.told left.site.told (subst (λ (k : TransferKind). Adds (copy_of (target_of k (in_frame t t.next) (in_cartridge t t.next)) (source t t.next (content core.site.told))) core.site.told left.site.told) is adds))
-    copied_on Destage is adds =
-        inr (t, refl, is, inl (subst (λ (k : TransferKind). Adds (copy_of (target_of k (in_frame t t.next) (in_cartridge t t.next)) (source_of k (block_at (content core.site.told) (in_frame t t.next)) (block_at (content core.site.told) (in_cartridge t t.next)))) core.site.told left.site.told) is adds))
+    copied_on : (kind : TransferKind) → t.kind ≡ kind → AddsCopy t core.site.told left.site.told → block_at (content left.site.told) (target t t.next) ≡ source t t.next (content core.site.told)
+        → Leaves core.site.told left.site.told ⊎ Destages core n (Copies t) left
+    copied_on StageBlank is adds copied = inl (leaves_frame _ _ _ core.site.told left.site.told (subst (λ (k : TransferKind). Adds (copy_of (target_of k (in_frame t t.next) (in_cartridge t t.next)) (source t t.next (content core.site.told))) core.site.told left.site.told) is adds))
+    copied_on StageCartridge is adds copied = inl (leaves_frame _ _ _ core.site.told left.site.told (subst (λ (k : TransferKind). Adds (copy_of (target_of k (in_frame t t.next) (in_cartridge t t.next)) (source t t.next (content core.site.told))) core.site.told left.site.told) is adds))
+    copied_on Destage is adds copied =
+        let frame = in_frame t t.next in
+        let cartridge = in_cartridge t t.next in
+        let held = content core.site.told in
+        let added : Adds (copy_of cartridge (block_at held frame)) core.site.told left.site.told =
+        subst (λ (k : TransferKind). Adds (copy_of (target_of k frame cartridge) (source_of k (block_at held frame) (block_at held cartridge))) core.site.told left.site.told) is adds in
+        let there : block_at (content left.site.told) cartridge ≡ block_at held frame =
+        subst (λ (k : TransferKind). block_at (content left.site.told) (target_of k frame cartridge) ≡ source_of k (block_at held frame) (block_at held cartridge)) is copied in
+        inr (t, refl, is, inl (record { added = added; equal = there ∙ sym (frame_stays _ _ _ _ _ core.site.told left.site.told added) }))
 
     left_on : (kind : TransferKind) → t.kind ≡ kind → AddsAtMost (target t t.next) core.site.told left.site.told → left.tasks ≡ slice_set core.tasks n None
         → Leaves core.site.told left.site.told ⊎ Destages core n (Copies t) left
@@ -216,12 +244,14 @@ module _ (tells : Type 0) (may : List Candidate → ℕ → Type 0) (core : Core
 
     of_copies : (told : WorkAnswer) (task : Task) → told ≡ Did kind.Copy → CopiesIt tells core n task t left → Comes (Copies t) told
     of_copies told task is (inl copied) = record {
+      beginning = begun_by _ copied.1 (record { config = refl; first_write = refl; first_faults = refl; created = λ _. refl });
       hosts = left_by _ copied.1 (record { began = refl; history = refl; marks = refl; hosts = refl });
-      cartridges = λ _ tl. copied_on t.kind refl (copied.0.written tl);
+      cartridges = λ _ tl. copied_on t.kind refl (copied.0.written tl) (copied.0.copied tl);
       requests = inl (ap (λ (c : CoreData). c.requests) copied.1);
       answer = λ _. subst (λ (a : WorkAnswer). Answered tells core (Copies t) a left) (sym is) (ap (λ (c : CoreData). c.stopped) copied.1);
     }
     of_copies told task is (inr failed) = record {
+      beginning = begun_by _ failed.1 (record { config = refl; first_write = refl; first_faults = refl; created = λ _. refl });
       hosts = left_by _ failed.1 (record { began = refl; history = refl; marks = refl; hosts = refl });
       cartridges = λ _ tl. left_on t.kind refl (failed.0.left tl) (ap (λ (c : CoreData). c.tasks) failed.1);
       requests = inr (task.host, request.Failed left.site.faults, ap (λ (c : CoreData). c.requests) failed.1, λ fault same. ((t, refl), record { count = the_fault fault same; rises = failed.0.failed }));
@@ -233,11 +263,11 @@ module _ (tells : Type 0) (may : List Candidate → ℕ → Type 0) (core : Core
 
     of_ends : (told : WorkAnswer) (task : Task) (kind : TransferKind) → EndsIt tells core n task kind t told left → Comes (Ends t) told
     of_ends told task Destage does =
-        of_changes (Ends t) kind.End (with_task n (Some (record task { transfer = None }))) (λ c. kept_all c (with_task n (Some (record task { transfer = None })) c) refl refl refl refl refl (inl refl)) t.volume (change.Destaged t.cylinder) refl told does
+        of_changes (Ends t) kind.End (with_task n (Some (record task { transfer = None }))) (λ c. kept_all c (with_task n (Some (record task { transfer = None })) c) (record { config = refl; first_write = refl; first_faults = refl; created = λ _. refl }) refl refl refl refl refl (inl refl)) t.volume (change.Destaged t.cylinder) refl (λ v. refl) told does
     of_ends told task StageBlank does =
-        of_changes (Ends t) kind.End (task_ended n task request.Ready) (λ c. kept_all c (task_ended n task request.Ready c) refl refl refl refl refl (inr (task.host, request.Ready, refl, not_ready))) t.volume (change.Staged t.cylinder) refl told does
+        of_changes (Ends t) kind.End (task_ended n task request.Ready) (λ c. kept_all c (task_ended n task request.Ready c) (record { config = refl; first_write = refl; first_faults = refl; created = λ _. refl }) refl refl refl refl refl (inr (task.host, request.Ready, refl, not_ready))) t.volume (change.Staged t.cylinder) refl (λ v. refl) told does
     of_ends told task StageCartridge does =
-        of_changes (Ends t) kind.End (task_ended n task request.Ready) (λ c. kept_all c (task_ended n task request.Ready c) refl refl refl refl refl (inr (task.host, request.Ready, refl, not_ready))) t.volume (change.Staged t.cylinder) refl told does
+        of_changes (Ends t) kind.End (task_ended n task request.Ready) (λ c. kept_all c (task_ended n task request.Ready c) (record { config = refl; first_write = refl; first_faults = refl; created = λ _. refl }) refl refl refl refl refl (inr (task.host, request.Ready, refl, not_ready))) t.volume (change.Staged t.cylinder) refl (λ v. refl) told does
 
   -- ---- any rule
 
@@ -245,22 +275,22 @@ module _ (tells : Type 0) (may : List Candidate → ℕ → Type 0) (core : Core
   outcome (IsStopped fault) told does = of_same (IsStopped fault) told does.1 (subst (λ (a : WorkAnswer). Answered tells core (IsStopped fault) a left) (sym does.0) (inl (refl, does.1)))
   outcome rule Memory does = of_same rule Memory does does
   outcome IsIdle told does = of_same IsIdle told does.1 (subst (λ (a : WorkAnswer). Answered tells core IsIdle a left) (sym does.0) (refl, does.1))
-  outcome (GivesBack cartridge) told does = of_does (GivesBack cartridge) kind.GiveBack (given_back n cartridge) (λ c. kept_all c (given_back n cartridge c) refl refl refl refl refl (inl refl)) told does
-  outcome (Fetches cartridge) told does = of_does (Fetches cartridge) kind.Fetch (fetched n cartridge) (λ c. kept_all c (fetched n cartridge c) refl refl refl refl refl (inl refl)) told does
-  outcome (Picks h frame) told does = of_does (Picks h frame) kind.Pick (picked n h frame None) (λ c. kept_all c (picked n h frame None c) refl refl refl refl refl (inr (h, request.Moving, refl, not_moving))) told does
+  outcome (GivesBack cartridge) told does = of_does (GivesBack cartridge) kind.GiveBack (given_back n cartridge) (λ c. kept_all c (given_back n cartridge c) (record { config = refl; first_write = refl; first_faults = refl; created = λ _. refl }) refl refl refl refl refl (inl refl)) told does
+  outcome (Fetches cartridge) told does = of_does (Fetches cartridge) kind.Fetch (fetched n cartridge) (λ c. kept_all c (fetched n cartridge c) (record { config = refl; first_write = refl; first_faults = refl; created = λ _. refl }) refl refl refl refl refl (inl refl)) told does
+  outcome (Picks h frame) told does = of_does (Picks h frame) kind.Pick (picked n h frame None) (λ c. kept_all c (picked n h frame None c) (record { config = refl; first_write = refl; first_faults = refl; created = λ _. refl }) refl refl refl refl refl (inr (h, request.Moving, refl, not_moving))) told does
   outcome (PicksVictim h) told does =
       of_does (PicksVictim h) kind.Pick (picked n h does.1.frame (Some (does.1.volume, does.1.page)))
-      (λ c. kept_all c (picked n h does.1.frame (Some (does.1.volume, does.1.page)) c) refl refl refl refl refl (inr (h, request.Moving, refl, not_moving))) told does.4
+      (λ c. kept_all c (picked n h does.1.frame (Some (does.1.volume, does.1.page)) c) (record { config = refl; first_write = refl; first_faults = refl; created = λ _. refl }) refl refl refl refl refl (inr (h, request.Moving, refl, not_moving))) told does.4
   outcome Abandons told does =
       let it = the_task (task_of core n) _ does in
-      of_does Abandons kind.Abandon (task_ended n it.0 request.Queued) (λ c. kept_all c (task_ended n it.0 request.Queued c) refl refl refl refl refl (inr (it.0.host, request.Queued, refl, not_queued))) told it.1
+      of_does Abandons kind.Abandon (task_ended n it.0 request.Queued) (λ c. kept_all c (task_ended n it.0 request.Queued c) (record { config = refl; first_write = refl; first_faults = refl; created = λ _. refl }) refl refl refl refl refl (inr (it.0.host, request.Queued, refl, not_queued))) told it.1
   outcome (Copies t) told does = let it = the_task (task_of core n) _ does in of_copies t told it.0 it.1.0 it.1.1
   outcome (Ends t) told does = let it = the_task (task_of core n) _ does in of_ends t told it.0 t.kind it.1
   outcome (Frees volume page) told does =
       let it = the_task (task_of core n) _ does in
       of_changes (Frees volume page) kind.Free (λ now. with_task n (Some (record it.0 { victim = None })) (with_owner it.0.frame None now))
-      (λ c. kept_all c (with_task n (Some (record it.0 { victim = None })) (with_owner it.0.frame None c)) refl refl refl refl refl (inl refl)) volume (change.Free page) refl told it.1
+      (λ c. kept_all c (with_task n (Some (record it.0 { victim = None })) (with_owner it.0.frame None c)) (record { config = refl; first_write = refl; first_faults = refl; created = λ _. refl }) refl refl refl refl refl (inl refl)) volume (change.Free page) refl (λ v. refl) told it.1
   outcome (Assigns volume page) told does =
       let it = the_task (task_of core n) _ does in
       of_changes (Assigns volume page) kind.Assign (λ now. most_recent it.0.frame (with_owner it.0.frame (Some (volume, page)) now))
-      (λ c. kept_all c (most_recent it.0.frame (with_owner it.0.frame (Some (volume, page)) c)) refl refl refl refl refl (inl refl)) volume (change.Assign page it.0.frame) refl told it.1
+      (λ c. kept_all c (most_recent it.0.frame (with_owner it.0.frame (Some (volume, page)) c)) (record { config = refl; first_write = refl; first_faults = refl; created = λ _. refl }) refl refl refl refl refl (inl refl)) volume (change.Assign page it.0.frame) refl (λ v. refl) told it.1

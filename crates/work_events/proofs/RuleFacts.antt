@@ -35,10 +35,9 @@ use Rattle.core_state.specs.Tasks.{IsTask, IsChosen, HasFrame, IsUnbound}
 use Rattle.core_state.specs.WorkEvents.{WorkDoes, WorkEvent}
 use Rattle.core_state.specs.WorkRules.{task_of, held_in, transfer_of, staging, next_transfer, return_rule, pick_on, pick_for, first_pick, pick_rule, is_within, abandon_rule, needs_cartridge, is_in_cell, carry_for, carry_rule, copy_rule, end_rule, free_rule, assign_rule, task_rule, work_rule}
 use Rattle.core_state.specs.Working.{Serves, MayCopy, MayEndDestage, MayEndStage, MayFree, MayAssign, MayPick}
-use Rattle.core_state.proofs.RuleWalks.{some_is, none_some, nothing, this, either, where_test, found}
+use Rattle.core_state.proofs.RuleWalks.{some_is, none_some, nothing, this, either, where_test, found, either_then, if_so, mapped_at, chained_at, never_begun}
 use Rattle.work_events.proofs.DueFacts.{next_by, own, is_due, is_begun, is_known, row_of_frame}
 use Rattle.work_events.proofs.PickFacts.{asked_at, of_candidates, of_free, candidate_has, candidate_unbound, candidate_unheld}
-use Rattle.work_events.proofs.RuleSteps.{either_then, if_so, mapped_at, chained_at, never_begun}
 
 -- ---- what the rules say
 

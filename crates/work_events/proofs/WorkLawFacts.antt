@@ -33,6 +33,7 @@ use Rattle.core_state.specs.declared.rule.WorkAnswer.{WorkAnswer}
 use Rattle.core_state.specs.declared.rule.WorkAnswer.TheVariants.{Did, Idle, Stopped, Memory}
 use Rattle.core_state.specs.declared.rule.WorkRule.{WorkRule}
 use Rattle.core_state.specs.declared.rule.WorkRule.TheVariants.{IsStopped, IsIdle, GivesBack, Picks, PicksVictim, Abandons, Fetches, Copies, Ends, Frees, Assigns}
+use Rattle.core_state.specs.Beginning.{KeepsBeginning, Continues, IsLater}
 use Rattle.core_state.specs.CoreValue.{CoreData}
 use Rattle.core_state.specs.HostEvents.{IsSame}
 use Rattle.core_state.specs.Pins.{task_at, state_of_row}
@@ -76,6 +77,9 @@ shows_all s es ms n k V no_stop marks long late may_show =
 module _ (tells : Type 0) (may : List Candidate → ℕ → Type 0) (core : CoreData) (n : ℕ) (told : WorkAnswer) (left : CoreData) (event : WorkEvent tells may core n told left) where
   comes : Outcome tells core n (work_rule core n) told left
   comes = outcome tells may core n left (work_rule core n) told event
+
+  pub keeps_beginning : KeepsBeginning core left
+  keeps_beginning = comes.beginning
 
   pub leaves_hosts : LeavesHosts core left
   leaves_hosts = comes.hosts
@@ -124,7 +128,7 @@ module _ (tells : Type 0) (may : List Candidate → ℕ → Type 0) (core : Core
     -- ---- the volumes
 
     abbrev Grows : Type 0
-    Grows = (items : List Write) × (left.site.told ≡ record core.site.told { log = core.site.told.log ++ items })
+    Grows = Continues core.site.told left.site.told
 
     grows : tells → Grows
     grows tl = by (comes.cartridges (has_row (work_rule core n) refl) tl)
@@ -134,9 +138,12 @@ module _ (tells : Type 0) (may : List Candidate → ℕ → Type 0) (core : Core
 
         by : (Writes (SameCartridges (content core.site.told)) core.site.told left.site.told ⊎ Destages core n (work_rule core n) left) → Grows
         by (inl leaves) = (leaves.items, leaves.grown)
-        by (inr (t, rule, kind, inl adds)) = (_, adds)
+        by (inr (t, rule, kind, inl adds)) = (_, adds.added)
         by (inr (t, rule, kind, inr (inl same, ended))) = none_more same
         by (inr (t, rule, kind, inr (inr adds, ended))) = (_, adds.2)
+
+    pub is_later : IsLater tells core left
+    is_later = record { beginning = keeps_beginning; grown = grows }
 
     pub shows_the_same : tells → core.stopped ≡ None → IsWhole tells core.site.told core → IsWhole tells left.site.told left → ShowsTheSame core left
     shows_the_same tl none whole whole_left k tear late early =

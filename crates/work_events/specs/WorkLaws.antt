@@ -47,10 +47,13 @@ abbrev pub SameCartridges : Content → Content → Type 0
 SameCartridges c d =
     (cartridge block : ℕ) → d (Cartridge cartridge) block ≡ c (Cartridge cartridge) block
 
--- the frame's block of the next track is written on the cartridge, in one write
-abbrev pub AddsTrack : Transfer → SiteLog → SiteLog → Type 0
-AddsTrack t old new =
-    Adds (copy_of (in_cartridge t t.next) (block_at (content old) (in_frame t t.next))) old new
+-- the frame's block of the next track is written on the cartridge, in one write, and then the two
+-- blocks are equal
+pub record AddsTrack (t : Transfer) (old new : SiteLog) : Type 0 where
+  pub added : Adds (copy_of (in_cartridge t t.next) (block_at (content old) (in_frame t t.next)))
+      old new
+  pub equal : block_at (content new) (in_cartridge t t.next)
+      ≡ block_at (content new) (in_frame t t.next)
 
 -- a track of a changed cylinder is destaged; or that fails, the task ends, and nothing is written
 -- but some whole block at its place

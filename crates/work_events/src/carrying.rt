@@ -78,7 +78,8 @@ pub fn give_back<S: Site, C: Choose>(
     did(&mut core.session, recorder, WorkKind::GiveBack)
 }
 
-/// Carries a cartridge from its cell to a recorder that holds none. After want of memory all is as it was.
+/// Carries a cartridge from its cell to a recorder that holds none. After want of memory all is as
+/// it was.
 pub fn fetch<S: Site, C: Choose>(
     core: &mut Core<S, C>,
     recorder: RecorderNo,

@@ -127,8 +127,8 @@ fn count_changed(rows: &[Option<VolumeRow>], volume: VolumeNo, page: Page) -> u8
     count
 }
 
-/// The frame, where it may be taken: a page has it, its volume isn't bound, no task uses it, and no Ready request is on
-/// the page.
+/// The frame, where it may be taken: a page has it, its volume isn't bound, no task uses it, and no
+/// Ready request is on the page.
 fn candidate<S: Site, C: Choose>(core: &Core<S, C>, frame: FrameNo) -> Option<Candidate>
     requires going { core.now.stopped ≡ None }
     requires there { frame < length core.now.owners }

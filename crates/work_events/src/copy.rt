@@ -8,15 +8,15 @@ ghost use Rattle.core_state.specs.WorkEvents.{WorkDoes};
 ghost use Rattle.core_state.specs.WorkRules.{work_rule};
 ghost use Rattle.core_state.specs.declared.rule.WorkRule.TheVariants.{Copies};
 
-use crate::parts::{did, end_task, put_task, reserve, served};
-use core_state::{Core, Task, WorkAnswer, WorkKind};
+use crate::parts::{did, end_task, put_task, served};
+use core_state::{Core, Task, WorkAnswer, WorkKind, make_room};
 use fault_queue::RequestState;
 use mss_base::{RecorderNo, Site};
 use transfers::{Transfer, copy_track};
 use victim_choice::Choose;
 
-/// Copies the next track of a transfer. Only where a read or a write fails, the task ends, and its request has failed with
-/// the count of faults. After want of memory all is as it was.
+/// Copies the next track of a transfer. Only where a read or a write fails, the task ends, and its
+/// request has failed with the count of faults. After want of memory all is as it was.
 pub fn copy<S: Site, C: Choose>(
     core: &mut Core<S, C>,
     recorder: RecorderNo,
@@ -34,7 +34,7 @@ pub fn copy<S: Site, C: Choose>(
         → IsReadable but transfer → core.new.requests ≡ core.old.requests }
 {
     let (task, _request) = served(core, recorder);
-    if reserve(&mut core.session, &mut core.site, 1).is_err() {
+    if make_room(&mut core.session, &mut core.site, 1).is_err() {
         return WorkAnswer::Memory;
     }
     let mut next = transfer;

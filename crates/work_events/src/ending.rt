@@ -8,8 +8,8 @@ ghost use Rattle.core_state.specs.WorkEvents.{WorkDoes};
 ghost use Rattle.core_state.specs.WorkRules.{work_rule};
 ghost use Rattle.core_state.specs.declared.rule.WorkRule.TheVariants.{Ends};
 
-use crate::parts::{did, end_task, put_task, reserve, served, stop};
-use core_state::{Core, Task, WorkAnswer, WorkKind, write_change};
+use crate::parts::{did, end_task, put_task, served, stop};
+use core_state::{Core, Task, WorkAnswer, WorkKind, make_room, write_change};
 use fault_queue::RequestState;
 use mss_base::{RecorderNo, Site};
 use table_pair::CHANGE_WRITES;
@@ -36,7 +36,7 @@ fn end_destage<S: Site, C: Choose>(
         → core.new.stopped ≡ core.old.stopped }
 {
     let (task, _request) = served(core, recorder);
-    if reserve(&mut core.session, &mut core.site, CHANGE_WRITES).is_err() {
+    if make_room(&mut core.session, &mut core.site, CHANGE_WRITES).is_err() {
         return WorkAnswer::Memory;
     }
     let volume = transfer.volume;
@@ -81,7 +81,7 @@ fn end_stage<S: Site, C: Choose>(
         → core.new.stopped ≡ core.old.stopped }
 {
     let (task, _request) = served(core, recorder);
-    if reserve(&mut core.session, &mut core.site, CHANGE_WRITES).is_err() {
+    if make_room(&mut core.session, &mut core.site, CHANGE_WRITES).is_err() {
         return WorkAnswer::Memory;
     }
     let volume = transfer.volume;
@@ -111,8 +111,8 @@ fn end_stage<S: Site, C: Choose>(
     }
 }
 
-/// Ends a transfer in the row of its volume, with a message. Only where a write fails the core is stopped; after want of
-/// memory all is as it was.
+/// Ends a transfer in the row of its volume, with a message. Only where a write fails the core is
+/// stopped; after want of memory all is as it was.
 pub fn end<S: Site, C: Choose>(
     core: &mut Core<S, C>,
     recorder: RecorderNo,

@@ -20,11 +20,13 @@ use mss_base::{RecorderNo, Site};
 use table_pair::CHANGE_WRITES;
 use victim_choice::Choose;
 
-/// Does what the first rule that applies to a recorder says, one step of work, and answers what it did.
+/// Does what the first rule that applies to a recorder says, one step of work, and answers what it
+/// did.
 ///
-/// Its memory comes first: after `Memory` all is as it was. It answers `Idle` where no rule applies, and `Stopped` where a
-/// row couldn't be written, in this event or one before; the core does nothing more then. Where no call of the site fails
-/// but reads, no event stops the core; where the next track can be read, its copy doesn't fail its request.
+/// Its memory comes first: after `Memory` all is as it was. It answers `Idle` where no rule
+/// applies, and `Stopped` where a row couldn't be written, in this event or one before; the core
+/// does nothing more then. Where no call of the site fails but reads, no event stops the core;
+/// where the next track can be read, its copy doesn't fail its request.
 pub fn work_event<S: Site, C: Choose>(core: &mut Core<S, C>, recorder: RecorderNo) -> WorkAnswer
     requires recorder { recorder < core.old.config.recorders }
     ensures event { WorkEvent S.tells (C.may core.old.chooser)

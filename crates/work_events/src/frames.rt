@@ -9,8 +9,8 @@ ghost use Rattle.core_state.specs.WorkEvents.{WorkDoes};
 ghost use Rattle.core_state.specs.WorkRules.{work_rule};
 ghost use Rattle.core_state.specs.declared.rule.WorkRule.TheVariants.{Assigns, Frees};
 
-use crate::parts::{did, put_task, reserve, served, stop};
-use core_state::{Core, Task, WorkAnswer, WorkKind, write_change};
+use crate::parts::{did, put_task, served, stop};
+use core_state::{Core, Task, WorkAnswer, WorkKind, make_room, write_change};
 use mss_base::{FrameNo, Page, RecorderNo, Site, VolumeNo};
 use staging_adapter::Frames;
 use table_pair::CHANGE_WRITES;
@@ -34,8 +34,8 @@ fn give_frame(
     recency.touch(frame);
 }
 
-/// Takes the frame from the victim's page, with a message. Only where a write fails the core is stopped; after want of
-/// memory all is as it was.
+/// Takes the frame from the victim's page, with a message. Only where a write fails the core is
+/// stopped; after want of memory all is as it was.
 pub fn free<S: Site, C: Choose>(
     core: &mut Core<S, C>,
     recorder: RecorderNo,
@@ -54,7 +54,7 @@ pub fn free<S: Site, C: Choose>(
         → core.new.stopped ≡ core.old.stopped }
 {
     let (task, _request) = served(core, recorder);
-    if reserve(&mut core.session, &mut core.site, CHANGE_WRITES).is_err() {
+    if make_room(&mut core.session, &mut core.site, CHANGE_WRITES).is_err() {
         return WorkAnswer::Memory;
     }
     let change = Change::Free { page };
@@ -78,8 +78,9 @@ pub fn free<S: Site, C: Choose>(
     }
 }
 
-/// Gives the task's frame to the page that is asked for, with a message, and the frame is the most recently touched. Only
-/// where a write fails the core is stopped; after want of memory all is as it was.
+/// Gives the task's frame to the page that is asked for, with a message, and the frame is the most
+/// recently touched. Only where a write fails the core is stopped; after want of memory all is as
+/// it was.
 pub fn assign<S: Site, C: Choose>(
     core: &mut Core<S, C>,
     recorder: RecorderNo,
@@ -98,7 +99,7 @@ pub fn assign<S: Site, C: Choose>(
         → core.new.stopped ≡ core.old.stopped }
 {
     let (task, _request) = served(core, recorder);
-    if reserve(&mut core.session, &mut core.site, CHANGE_WRITES).is_err() {
+    if make_room(&mut core.session, &mut core.site, CHANGE_WRITES).is_err() {
         return WorkAnswer::Memory;
     }
     let frame = task.frame;

@@ -1,5 +1,6 @@
 //! Laws of recorders' events. A function calls a law to have it in its proof.
 ghost use Rattle.std.specs.Prelude.{◌≡◌, ◌⊎◌, ℕ, Some, None};
+ghost use Rattle.core_state.specs.Beginning.{IsLater};
 ghost use Rattle.core_state.specs.CoreValue.{CoreData};
 ghost use Rattle.core_state.specs.HostEvents.{IsSame};
 ghost use Rattle.core_state.specs.TheCore.{IsWhole};
@@ -20,14 +21,21 @@ ghost use Rattle.work_events.specs.WorkLaws.{
 use mss_base::Site;
 use victim_choice::Choose;
 
+/// An event of a recorder leaves the beginning of the session, and adds to the log alone.
+pub fn work_is_later<S: Site, C: Choose>()
+    ensures { (chooser : C) (core : CoreData) (recorder : ℕ) (told : WorkAnswer) (left : CoreData)
+        → IsRecorder core recorder → WorkEvent S.tells (C.may chooser) core recorder told left
+        → IsLater S.tells core left }
+{}
+
 /// No event of a recorder changes what hosts were told, nor a host.
 pub fn work_leaves_the_history<S: Site, C: Choose>()
     ensures { (chooser : C) (core : CoreData) (recorder : ℕ) (told : WorkAnswer) (left : CoreData)
         → WorkEvent S.tells (C.may chooser) core recorder told left → LeavesHosts core left }
 {}
 
-/// No event of a recorder changes what the volumes show: whatever a stop leaves, in the event or behind it, shows what the
-/// devices showed before.
+/// No event of a recorder changes what the volumes show: whatever a stop leaves, in the event or
+/// behind it, shows what the devices showed before.
 pub fn work_shows_the_same<S: Site, C: Choose>()
     ensures { (chooser : C) (core : CoreData) (recorder : ℕ) (told : WorkAnswer) (left : CoreData)
         → IsRecorder core recorder → S.tells → core.stopped ≡ None
@@ -35,8 +43,9 @@ pub fn work_shows_the_same<S: Site, C: Choose>()
         → WorkEvent S.tells (C.may chooser) core recorder told left → ShowsTheSame core left }
 {}
 
-/// A cartridge is written only where a track of a changed cylinder is destaged: the frame's whole block at once, or, where
-/// that fails, some whole block at its place or nothing.
+/// A cartridge is written only where a track of a changed cylinder is destaged: the frame's whole
+/// block at once, to which the cartridge's is then equal, or, where that fails, some whole block at
+/// its place or nothing.
 pub fn work_writes_whole_blocks_of_changed_cylinders_only<S: Site, C: Choose>()
     ensures { (chooser : C) (core : CoreData) (recorder : ℕ) (told : WorkAnswer) (left : CoreData)
         → IsRecorder core recorder → S.tells
@@ -52,9 +61,10 @@ pub fn stopped_cores_stay<S: Site, C: Choose>()
         → (told ≡ Stopped fault) × IsSame S.tells core left }
 {}
 
-/// An answer says what came of the event: that a recorder is idle, exactly where no rule applies and memory isn't
-/// refused; that the core is stopped, with the fault of the write that failed; that memory was refused, and nothing
-/// changed. A request has failed only where a copy did, with its fault.
+/// An answer says what came of the event: that a recorder is idle, exactly where no rule applies
+/// and memory isn't refused; that the core is stopped, with the fault of the write that failed;
+/// that memory was refused, and nothing changed. A request has failed only where a copy did, with
+/// its fault.
 pub fn answers_have_their_causes<S: Site, C: Choose>()
     ensures answer { (chooser : C) (core : CoreData) (recorder : ℕ) (told : WorkAnswer)
         (left : CoreData) → IsRecorder core recorder

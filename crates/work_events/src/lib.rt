@@ -1,17 +1,22 @@
-//! The events of recorders: a recorder meets the first rule that applies to it, and does one step of work by it.
+//! The events of recorders: a recorder meets the first rule that applies to it, and does one step
+//! of work by it.
 //!
-//! `work_event` is the event. What each rule asks is `core_state/specs/WorkRules.antt`, what it answers and leaves is
-//! `WorkEvents.antt` there; the contract of `work_event` is that definition, for the rule that is met. That the core stays
-//! whole is in its type, so each event function proves it anew.
+//! `work_event` is the event. What each rule asks is `core_state/specs/WorkRules.antt`, what it
+//! answers and leaves is `WorkEvents.antt` there; the contract of `work_event` is that definition,
+//! for the rule that is met. That the core stays whole is in its type, so each event function
+//! proves it anew.
 //!
-//! - `rule` finds the rule without memory, over `transfer`, what a task is to copy next, and `choices`, the frames that a
-//!   task may take.
-//! - `carrying`, `picking`, `copy`, `ending` and `frames` have a function for each rule, over the steps in `parts`.
-//! - `law` has what the layers above rely on besides: `specs/WorkLaws.antt`, in the words of the subject.
+//! - `rule` finds the rule without memory, over `transfer`, what a task is to copy next, and
+//!   `choices`, the frames that a task may take.
+//! - `carrying`, `picking`, `copy`, `ending` and `frames` have a function for each rule, over the
+//!   steps in `parts`.
+//! - `law` has what the layers above rely on besides: `specs/WorkLaws.antt`, in the words of the
+//!   subject.
 //!
-//! The lemma files begin from `proofs/RuleFacts.antt`, which says of each rule what is known of the core that meets it. A
-//! whole core after an event is `CarryWhole`, `PickWhole`, `CopyWhole`, `DestageWhole`, `StageWhole`, `FreeWhole` and
-//! `AssignWhole`, over `OwnTask`; what comes of any event, for the laws, is `Outcomes`.
+//! The lemma files begin from `proofs/RuleFacts.antt`, which says of each rule what is known of the
+//! core that meets it. A whole core after an event is `CarryWhole`, `PickWhole`, `CopyWhole`,
+//! `DestageWhole`, `StageWhole`, `FreeWhole` and `AssignWhole`, over `OwnTask`; what comes of any
+//! event, for the laws, is `Outcomes`.
 #![tactic(auto)]
 
 mod carrying;

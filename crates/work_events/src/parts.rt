@@ -1,6 +1,5 @@
 // Steps on the parts of a core that several events make.
-ghost use Rattle.std.specs.Prelude.{◌≡◌, ◌≤◌, ◌<◌, IsSome, OnOk, None, length, slice_set, false};
-ghost use Rattle.mss_base.specs.Sites.{StaysSound};
+ghost use Rattle.std.specs.Prelude.{◌≡◌, ◌≤◌, ◌<◌, IsSome, None, length, slice_set, false};
 ghost use Rattle.mss_base.specs.declared.numbers.TheConstants.{CYLINDERS};
 ghost use Rattle.core_state.specs.SessionData.{with_last_event};
 ghost use Rattle.core_state.specs.Working.{Serves};
@@ -13,7 +12,7 @@ ghost use Rattle.work_events.specs.Served.{IsServing};
 
 use core_state::{Core, Event, Session, Task, WorkAnswer, WorkKind};
 use fault_queue::{Queue, Request, RequestState};
-use mss_base::{NoMemory, RecorderNo, Site};
+use mss_base::{RecorderNo, Site};
 use staging_adapter::Frames;
 use victim_choice::Choose;
 
@@ -42,22 +41,6 @@ pub fn put_task(tasks: &mut Vec<Option<Task>>, recorder: RecorderNo, task: Optio
     ensures { tasks.new.items ≡ slice_set tasks.old.items recorder task }
 {
     tasks[usize::from(recorder.get())] = task;
-}
-
-/// Makes room for what an event tells, and for so many writes. After want of memory all but the room is as it was.
-pub fn reserve<S: Site>(session: &mut Session, site: &mut S, writes: u32) -> Result<(), NoMemory>
-    ensures same { session_data session.new ≡ session_data session.old }
-    ensures told { S.tells → S.told site.new ≡ S.told site.old }
-    ensures writes { S.writes site.new ≡ S.writes site.old }
-    ensures faults { S.faults site.new ≡ S.faults site.old }
-    ensures spare { S.spare site.old ≤ S.spare site.new }
-    ensures sound { StaysSound S.never_fails_but site.old site.new }
-    ensures room { OnOk result (writes ≤ S.spare site.new) }
-    ensures room_console { OnOk result (1 ≤ session.new.console.spare) }
-    ensures room_events { OnOk result (1 ≤ session.new.events.spare) }
-{
-    session.reserve()?;
-    site.reserve(writes)
 }
 
 /// Ends a recorder's task: its frame moves no more, and its host's request is in this state.

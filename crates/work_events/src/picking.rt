@@ -45,7 +45,8 @@ fn chosen<C: Choose>(chooser: &Chooser<C>, choices: &[Candidate]) -> Candidate
     choices[chooser.choose(choices)]
 }
 
-/// Takes a host's request, with the frame that its page has, or with a free one. After want of memory all is as it was.
+/// Takes a host's request, with the frame that its page has, or with a free one. After want of
+/// memory all is as it was.
 pub fn pick<S: Site, C: Choose>(
     core: &mut Core<S, C>,
     recorder: RecorderNo,
@@ -80,7 +81,8 @@ pub fn pick<S: Site, C: Choose>(
     did(&mut core.session, recorder, WorkKind::Pick)
 }
 
-/// Takes a host's request, with the frame that the chooser takes from another page. After want of memory all is as it was.
+/// Takes a host's request, with the frame that the chooser takes from another page. After want of
+/// memory all is as it was.
 pub fn pick_victim<S: Site, C: Choose>(
     core: &mut Core<S, C>,
     recorder: RecorderNo,
@@ -118,7 +120,8 @@ pub fn pick_victim<S: Site, C: Choose>(
     did(&mut core.session, recorder, WorkKind::Pick)
 }
 
-/// Gives up a task whose victim a host used, and its request waits again. After want of memory all is as it was.
+/// Gives up a task whose victim a host used, and its request waits again. After want of memory all
+/// is as it was.
 pub fn abandon<S: Site, C: Choose>(core: &mut Core<S, C>, recorder: RecorderNo) -> WorkAnswer
     requires rule { work_rule core.old recorder ≡ Abandons }
     requires fits { recorder < core.old.config.recorders }

@@ -209,7 +209,8 @@ const REPLACED: &[(Step, Told)] = &[
     (Step::Ask(1, 0x31, R0), Told::Status(0x4C, 0)),
 ];
 
-// Destaged, freed, assigned and staged: 19 tracks twice, and four changes of a row with six writes each.
+// Destaged, freed, assigned and staged: 19 tracks twice, and four changes of a row with six writes
+// each.
 #[test]
 fn a_stop_at_each_write_of_a_replacement_loses_nothing(rt: HostRuntime) -> Result<(), Fail> {
     let alloc = rt.alloc();

@@ -291,7 +291,8 @@ pub fn play(
     Ok((ended, site))
 }
 
-/// The answers to these steps of a new session on these devices, each made again until it needn't wait; of the last one.
+/// The answers to these steps of a new session on these devices, each made again until it needn't
+/// wait; of the last one.
 pub fn read(alloc: Global, site: MemorySite, job: &str, steps: &[Step]) -> Result<Told, Fail> {
     let mut core = begin(alloc, site, job)?;
     let mut told = Told::Idle;

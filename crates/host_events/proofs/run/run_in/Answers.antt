@@ -37,11 +37,11 @@ returns-clause-comes g c =
       c.in-Ok.ensures.copy,
     )
 
-pub returns-in_default-copy_of_done-clause-comes : goal.returns-in_default-copy_of_done-clause-comes
-returns-in_default-copy_of_done-clause-comes g c =
+pub returns-in_default-copy_of_reply-clause-comes : goal.returns-in_default-copy_of_reply-clause-comes
+returns-in_default-copy_of_reply-clause-comes g c =
     let S = g.S.Site in
     look_still S.tells S.told S.spare S.writes S.faults S.never_fails_but c.args.command.now (call_of c.args.call.now)
     c.as_slice-bytes.result.now (c.as_slice-bytes.ensures ∙ sym (ap (λ (k : Call). argument_of (call_of k)) c.in-Command.is)) c.in-Command.chained (sym (ap (λ (k : Call). is_chained (call_of k)) c.in-Command.is))
     c.place_in-place.result (frame_block c.args.frame c.args.host.now.cylinder 0)
     c.place_in-place.ensures.unit c.place_in-place.ensures.block c.args.host.now c.run_command.new.host c.args.site.now c.run_command.new.site c.in_ok-reply.reply
-    c.in_ok-reply.ensures.runs c.in_ok-reply.ensures.host_ c.in_ok-reply.ensures.site_ _ c.bare-reply.ensures c.copy_of_done.result _ c.in_default-copy_of_done.is c.copy_of_done.ensures.none
+    c.in_ok-reply.ensures.runs c.in_ok-reply.ensures.host_ c.in_ok-reply.ensures.site_ _ c.bare-reply.ensures c.copy_of_reply.result _ c.in_default-copy_of_reply.is c.copy_of_reply.ensures.none

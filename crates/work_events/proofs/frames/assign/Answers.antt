@@ -15,7 +15,8 @@ use Rattle.core_state.specs.Rows.{Rewrites, with_changed}
 use Rattle.core_state.specs.SessionData.{data_of, of_parts, with_last_event, with_last_message, with_stop}
 use Rattle.core_state.specs.Sessions.{session_data}
 use Rattle.core_state.specs.TheCore.{IsKept}
-use Rattle.work_events.proofs.KeptFacts.{kept_at, kept_moved, in_order}
+use Rattle.core_state.proofs.Moved.{kept_moved}
+use Rattle.work_events.proofs.KeptFacts.{kept_at, in_order}
 use Rattle.work_events.proofs.ChangedRows.{rewritten, kept_unchanged}
 use Rattle.work_events.proofs.RuleFacts.{rule_assigns}
 use Rattle.work_events.proofs.AssignWhole.{due_assigned, kept_assigned}
@@ -36,12 +37,12 @@ invariant_of-core g c =
     let is = c.core.view_is in
     let kept = kept_at g.S.Site.tells g.S.Site.told g.S.Site.writes g.S.Site.faults (vec_len c.core.inside.buffer) _ now is c.core.invariant in
     let says = rule_assigns now c.args.recorder c.requires.fits kept.whole.kept c.args.volume c.args.page c.requires.rule in
-    let session : session_data c.reserve.new.session ≡ data_of now = c.reserve.ensures.same ∙ ap (λ (z : CoreValue g.row.S.Denot g.row.C.Denot). data_of z) is in
-    let x = c.reserve.new.site in
-    let path : ◌≡◌ {A = CoreValue g.row.S.Denot g.row.C.Denot} _ (record now { site = c.reserve.new.site }) = λ i. of_parts (is i) x (is i).rows (is i).owners (is i).moving (is i).requests (is i).tasks (is i).hosts (session i) in
+    let session : session_data c.make_room.new.session ≡ data_of now = c.make_room.ensures.session ∙ ap (λ (z : CoreValue g.row.S.Denot g.row.C.Denot). data_of z) is in
+    let x = c.make_room.new.site in
+    let path : ◌≡◌ {A = CoreValue g.row.S.Denot g.row.C.Denot} _ (record now { site = c.make_room.new.site }) = λ i. of_parts (is i) x (is i).rows (is i).owners (is i).moving (is i).requests (is i).tasks (is i).hosts (session i) in
     subst (λ (z : CoreValue g.row.S.Denot g.row.C.Denot). IsKept g.S.Site.tells (g.S.Site.told x) (g.S.Site.writes x) (g.S.Site.faults x) (vec_len c.core.inside.buffer) z) (sym path)
-    (kept_moved g.row.S.Denot g.S.Site.tells (g.S.Site.told now.site) (g.S.Site.told x) (g.S.Site.writes now.site) (g.S.Site.faults now.site) (g.S.Site.writes x) (g.S.Site.faults x) (vec_len c.core.inside.buffer) now x (λ tl. c.reserve.ensures.told tl ∙ ap (λ (z : CoreValue g.row.S.Denot g.row.C.Denot). g.S.Site.told z.site) is)
-    (c.reserve.ensures.writes ∙ ap (λ (z : CoreValue g.row.S.Denot g.row.C.Denot). g.S.Site.writes z.site) is) (c.reserve.ensures.faults ∙ ap (λ (z : CoreValue g.row.S.Denot g.row.C.Denot). g.S.Site.faults z.site) is) kept)
+    (kept_moved g.row.S.Denot g.S.Site.tells (g.S.Site.told now.site) (g.S.Site.told x) (g.S.Site.writes now.site) (g.S.Site.faults now.site) (g.S.Site.writes x) (g.S.Site.faults x) (vec_len c.core.inside.buffer) now x (λ tl. c.make_room.ensures.site.log tl ∙ ap (λ (z : CoreValue g.row.S.Denot g.row.C.Denot). g.S.Site.told z.site) is)
+    (c.make_room.ensures.site.unwritten ∙ ap (λ (z : CoreValue g.row.S.Denot g.row.C.Denot). g.S.Site.writes z.site) is) (c.make_room.ensures.site.same ∙ ap (λ (z : CoreValue g.row.S.Denot g.row.C.Denot). g.S.Site.faults z.site) is) kept)
 
 pub write_change-requires-clause-there : goal.write_change-requires-clause-there
 write_change-requires-clause-there g c =
@@ -59,7 +60,7 @@ write_change-requires-clause-held g c =
     let is = c.core.view_is in
     let kept = kept_at g.S.Site.tells g.S.Site.told g.S.Site.writes g.S.Site.faults (vec_len c.core.inside.buffer) _ now is c.core.invariant in
     let says = rule_assigns now c.args.recorder c.requires.fits kept.whole.kept c.args.volume c.args.page c.requires.rule in
-    let moved : g.S.Site.tells → g.S.Site.told c.reserve.new.site ≡ g.S.Site.told now.site = λ tl. c.reserve.ensures.told tl ∙ ap (λ (z : CoreValue g.row.S.Denot g.row.C.Denot). g.S.Site.told z.site) is in
+    let moved : g.S.Site.tells → g.S.Site.told c.make_room.new.site ≡ g.S.Site.told now.site = λ tl. c.make_room.ensures.site.log tl ∙ ap (λ (z : CoreValue g.row.S.Denot g.row.C.Denot). g.S.Site.told z.site) is in
     λ tl r at. subst (λ (z : SiteLog). HoldsRow r c.args.volume (content z)) (sym (moved tl))
     (((kept.whole.told tl).going says.going).copies c.args.volume r (ap (λ (z : CoreValue g.row.S.Denot g.row.C.Denot). listed z.rows c.args.volume) (sym is) ∙ at))
 
@@ -91,10 +92,10 @@ invariant_of-core-in-Ok g c =
     let is = c.core.view_is in
     let kept = kept_at g.S.Site.tells g.S.Site.told g.S.Site.writes g.S.Site.faults (vec_len c.core.inside.buffer) _ now is c.core.invariant in
     let says = rule_assigns now c.args.recorder c.requires.fits kept.whole.kept c.args.volume c.args.page c.requires.rule in
-    let session : session_data c.reserve.new.session ≡ data_of now = c.reserve.ensures.same ∙ ap (λ (z : CoreValue g.row.S.Denot g.row.C.Denot). data_of z) is in
-    let moved : g.S.Site.tells → g.S.Site.told c.reserve.new.site ≡ g.S.Site.told now.site = λ tl. c.reserve.ensures.told tl ∙ ap (λ (z : CoreValue g.row.S.Denot g.row.C.Denot). g.S.Site.told z.site) is in
-    let unwritten : g.S.Site.writes c.reserve.new.site ≡ g.S.Site.writes now.site = c.reserve.ensures.writes ∙ ap (λ (z : CoreValue g.row.S.Denot g.row.C.Denot). g.S.Site.writes z.site) is in
-    let sound : g.S.Site.faults c.reserve.new.site ≡ g.S.Site.faults now.site = c.reserve.ensures.faults ∙ ap (λ (z : CoreValue g.row.S.Denot g.row.C.Denot). g.S.Site.faults z.site) is in
+    let session : session_data c.make_room.new.session ≡ data_of now = c.make_room.ensures.session ∙ ap (λ (z : CoreValue g.row.S.Denot g.row.C.Denot). data_of z) is in
+    let moved : g.S.Site.tells → g.S.Site.told c.make_room.new.site ≡ g.S.Site.told now.site = λ tl. c.make_room.ensures.site.log tl ∙ ap (λ (z : CoreValue g.row.S.Denot g.row.C.Denot). g.S.Site.told z.site) is in
+    let unwritten : g.S.Site.writes c.make_room.new.site ≡ g.S.Site.writes now.site = c.make_room.ensures.site.unwritten ∙ ap (λ (z : CoreValue g.row.S.Denot g.row.C.Denot). g.S.Site.writes z.site) is in
+    let sound : g.S.Site.faults c.make_room.new.site ≡ g.S.Site.faults now.site = c.make_room.ensures.site.same ∙ ap (λ (z : CoreValue g.row.S.Denot g.row.C.Denot). g.S.Site.faults z.site) is in
     let x = c.write_change.new.site in
     let more : g.S.Site.writes now.site ≤ g.S.Site.writes x = let w = c.write_change.ensures.devices.written in omega (arith, w, unwritten) in
     let le : g.S.Site.faults now.site ≤ g.S.Site.faults x = let f = c.write_change.ensures.devices.later in omega (arith, f, sound) in
@@ -110,7 +111,7 @@ invariant_of-core-in-Ok g c =
     let path : ◌≡◌ {A = CoreValue g.row.S.Denot g.row.C.Denot} _ (record now { site = c.write_change.new.site; rows = with_changed c.args.volume (Assign c.args.page c.served-task.result.0.frame) now.rows; console = now.console ++ message_of (g.S.Site.writes c.write_change.new.site) c.args.volume (Assign c.args.page c.served-task.result.0.frame) (listed now.rows) ∷ []; owners = slice_set now.owners c.served-task.result.0.frame (Some (c.args.volume, c.args.page)); recency = touched c.served-task.result.0.frame now.recency; events = now.events ++ Work c.args.recorder ∷ [] }) = λ i. record (of_parts (is i) x (rows i) (owners i) (moving i) (is i).requests (is i).tasks (is i).hosts (told i)) { recency = recency i } in
     subst (λ (z : CoreValue g.row.S.Denot g.row.C.Denot). IsKept g.S.Site.tells (g.S.Site.told x) (g.S.Site.writes x) (g.S.Site.faults x) (vec_len c.core.inside.buffer) z) (sym path)
     (kept_assigned g.row.S.Denot g.S.Site.tells (g.S.Site.told now.site) (g.S.Site.told x) (g.S.Site.writes now.site) (g.S.Site.faults now.site) (g.S.Site.writes x) (g.S.Site.faults x) (vec_len c.core.inside.buffer) now kept says.going c.args.recorder c.served-task.result.0 c.served-task.result.1 c.served-task.ensures.serves x more le c.args.volume c.args.page may
-    (λ tl r at. rewritten c.args.volume (effect (Assign c.args.page c.served-task.result.0.frame) r) (g.S.Site.told now.site) (g.S.Site.told c.reserve.new.site) (g.S.Site.told x) (g.S.Site.writes x) (moved tl) (c.write_change.ensures.moments tl r (row r at)) (c.in-Ok.ensures.done tl r (row r at)) (g.met.S.Site.counted x tl) (c.in-Ok.ensures.grown tl)))
+    (λ tl r at. rewritten c.args.volume (effect (Assign c.args.page c.served-task.result.0.frame) r) (g.S.Site.told now.site) (g.S.Site.told c.make_room.new.site) (g.S.Site.told x) (g.S.Site.writes x) (moved tl) (c.write_change.ensures.moments tl r (row r at)) (c.in-Ok.ensures.done tl r (row r at)) (g.met.S.Site.counted x tl) (c.in-Ok.ensures.grown tl)))
 
 pub invariant_of-core-in-Err : goal.invariant_of-core-in-Err
 invariant_of-core-in-Err g c =
@@ -118,10 +119,10 @@ invariant_of-core-in-Err g c =
     let is = c.core.view_is in
     let kept = kept_at g.S.Site.tells g.S.Site.told g.S.Site.writes g.S.Site.faults (vec_len c.core.inside.buffer) _ now is c.core.invariant in
     let says = rule_assigns now c.args.recorder c.requires.fits kept.whole.kept c.args.volume c.args.page c.requires.rule in
-    let session : session_data c.reserve.new.session ≡ data_of now = c.reserve.ensures.same ∙ ap (λ (z : CoreValue g.row.S.Denot g.row.C.Denot). data_of z) is in
-    let moved : g.S.Site.tells → g.S.Site.told c.reserve.new.site ≡ g.S.Site.told now.site = λ tl. c.reserve.ensures.told tl ∙ ap (λ (z : CoreValue g.row.S.Denot g.row.C.Denot). g.S.Site.told z.site) is in
-    let unwritten : g.S.Site.writes c.reserve.new.site ≡ g.S.Site.writes now.site = c.reserve.ensures.writes ∙ ap (λ (z : CoreValue g.row.S.Denot g.row.C.Denot). g.S.Site.writes z.site) is in
-    let sound : g.S.Site.faults c.reserve.new.site ≡ g.S.Site.faults now.site = c.reserve.ensures.faults ∙ ap (λ (z : CoreValue g.row.S.Denot g.row.C.Denot). g.S.Site.faults z.site) is in
+    let session : session_data c.make_room.new.session ≡ data_of now = c.make_room.ensures.session ∙ ap (λ (z : CoreValue g.row.S.Denot g.row.C.Denot). data_of z) is in
+    let moved : g.S.Site.tells → g.S.Site.told c.make_room.new.site ≡ g.S.Site.told now.site = λ tl. c.make_room.ensures.site.log tl ∙ ap (λ (z : CoreValue g.row.S.Denot g.row.C.Denot). g.S.Site.told z.site) is in
+    let unwritten : g.S.Site.writes c.make_room.new.site ≡ g.S.Site.writes now.site = c.make_room.ensures.site.unwritten ∙ ap (λ (z : CoreValue g.row.S.Denot g.row.C.Denot). g.S.Site.writes z.site) is in
+    let sound : g.S.Site.faults c.make_room.new.site ≡ g.S.Site.faults now.site = c.make_room.ensures.site.same ∙ ap (λ (z : CoreValue g.row.S.Denot g.row.C.Denot). g.S.Site.faults z.site) is in
     let x = c.write_change.new.site in
     let more : g.S.Site.writes now.site ≤ g.S.Site.writes x = let w = c.write_change.ensures.devices.written in omega (arith, w, unwritten) in
     let le : g.S.Site.faults now.site ≤ g.S.Site.faults x = let f = c.write_change.ensures.devices.later in omega (arith, f, sound) in

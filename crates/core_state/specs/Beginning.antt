@@ -1,0 +1,22 @@
+-- What every later moment of a session keeps: its beginning, and the writes before.
+use Rattle.std.specs.Prelude.{◌≡◌, ◌++◌, ℕ, List}
+use Rattle.mss_base.specs.Content.{SiteLog, Write}
+use Rattle.core_state.specs.Agrees.{has_created}
+use Rattle.core_state.specs.CoreValue.{CoreData}
+
+-- the configuration, the counts of writes and of faults when it began, and which volumes were
+-- created then: no event creates one
+pub record KeepsBeginning (core left : CoreData) : Type 0 where
+  pub config : left.config ≡ core.config
+  pub first_write : left.first_write ≡ core.first_write
+  pub first_faults : left.first_faults ≡ core.first_faults
+  pub created : (volume : ℕ) → has_created volume left.console ≡ has_created volume core.console
+
+-- some writes were added to the log
+abbrev pub Continues : SiteLog → SiteLog → Type 0
+Continues old new = (items : List Write) × (new ≡ record old { log = old.log ++ items })
+
+-- left is the core at a later moment
+pub record IsLater (tells : Type 0) (core left : CoreData) : Type 0 where
+  pub beginning : KeepsBeginning core left
+  pub grown : tells → Continues core.site.told left.site.told
