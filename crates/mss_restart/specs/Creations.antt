@@ -47,6 +47,7 @@ pub record IsCreation (rows after : RowsOf) (v : VolumeData) (made : Creation) (
   pub now : after ≡ with_row v.0 row rows
   pub moments : Writes (ChangesRow v.0 (NoneOrNew v.0 row) (content old)) old new
   pub held : HoldsRow row v.0 (content new)
+  pub named : made.volume ≡ v.0
   pub count : made.writes ≡ length new.log
 
 -- these volumes were created, one after the other, from these rows to the last ones

@@ -1,4 +1,4 @@
-use Rattle.std.proofs.Common.{◌∙◌, sym, ap, Some, None, subst, List, Option, arith, ℕ, set}
+use Rattle.std.proofs.Common.{◌∙◌, refl, sym, ap, Some, None, subst, List, Option, arith, ℕ, set}
 use Rattle.mss_base.specs.Content.{SiteLog, content, Writes}
 use Rattle.volume_table.specs.Row.{RowValue}
 use Rattle.table_pair.specs.Pair.{ChangesRow, NoneOrNew, HoldsRow}
@@ -57,5 +57,6 @@ returns-clause-complete g c = λ tells.
       now = new.now;
       moments = subst (λ (x : SiteLog). Writes (ChangesRow c.args.volume (NoneOrNew c.args.volume c.in_ok-row.row) (content x)) x (g.S.Site.told c.create_row.new.site)) (c.reserve.ensures.told tells) (c.create_row.ensures.moments tells);
       held = on_ok (HoldsRow c.in_ok-row.row c.args.volume (content (g.S.Site.told c.create_row.new.site))) c.create_row.result (sym c.is_err.ensures.value ∙ c.if-is_err.false) (c.create_row.ensures.done tells);
+      named = refl;
       count = c.writes.ensures ∙ g.met.S.Site.counted c.create_row.new.site tells;
     }
