@@ -36,7 +36,7 @@ either_is None b x is = inr is
 either_is (Some y) b x is = inl is
 
 -- the number that is found is below, and passes
-found_below : (test : ℕ → Bool) (n x : ℕ) → first_below n (λ k. where_so (test k) k) ≡ Some x → (x < n) × (test x ≡ true)
+pub found_below : (test : ℕ → Bool) (n x : ℕ) → first_below n (λ k. where_so (test k) k) ≡ Some x → (x < n) × (test x ≡ true)
 unfolding first_below
 found_below test zero x is = absurd (none_some x is)
 found_below test (suc n) x is = elim (either_is (first_below n (λ k. where_so (test k) k)) (where_so (test n) n) x is) [
@@ -44,14 +44,14 @@ found_below test (suc n) x is = elim (either_is (first_below n (λ k. where_so (
   | inr here ↦ let w = tested (test n) n x here in (let e : n ≡ x = w.1 in omega arith, ap test (sym w.1) ∙ w.0)
 ]
 
-mounted_is : (volume : ℕ) (host : HostState) → is_on volume host.mounted ≡ true → volume_under host ≡ Some volume
+pub mounted_is : (volume : ℕ) (host : HostState) → is_on volume host.mounted ≡ true → volume_under host ≡ Some volume
 mounted_is volume host on = by_mounted host.mounted on where
   by_mounted : (m : Option (ℕ × Bool)) → is_on volume m ≡ true → option_map (λ n. n.0) m ≡ Some volume
   by_mounted None is = absurd (false≢true is)
   by_mounted (Some n) is = ap (λ (k : ℕ). Some k) (eqb-true n.0 volume is)
 
 -- the owner that a volume's host finds owns the volume
-owner_owns : (core : CoreData) (host : HostState) (o : ℕ) → option_and_then (owner_of core) (volume_under host) ≡ Some o
+pub owner_owns : (core : CoreData) (host : HostState) (o : ℕ) → option_and_then (owner_of core) (volume_under host) ≡ Some o
     → (volume : ℕ) × (volume_under host ≡ Some volume) × (owns core.hosts core.requests o volume ≡ true)
 owner_owns core host o is = by_volume (volume_under host) is where
   by_volume : (v : Option ℕ) → option_and_then (owner_of core) v ≡ Some o → (volume : ℕ) × (v ≡ Some volume) × (owns core.hosts core.requests o volume ≡ true)
@@ -93,7 +93,7 @@ rest_of core (asked ∷ more) all h r is = elim (cases_Bool (nat_eq h asked.0)) 
   | inr later ↦ rest_of core more all.1 h r (rw later at is)
 ]
 
-none_taken : (volume : ℕ) (tasks : List (Option Task)) → AllNone tasks → taken_from volume tasks ≡ None
+pub none_taken : (volume : ℕ) (tasks : List (Option Task)) → AllNone tasks → taken_from volume tasks ≡ None
 none_taken volume [] all = refl
 none_taken volume (task ∷ tasks) all = rw (all.0) (none_taken volume tasks all.1)
 

@@ -2,6 +2,7 @@
 use Rattle.std.proofs.Common.{◌≡◌, ℕ, Bool, true, false, not, ◌&&◌, [], ◌∷◌, ◌++◌, Option, Some, None, is_some, refl, sym, ◌∙◌, ap}
 use Rattle.std.specs.Prelude.{if◌then◌else◌}
 use Rattle.std.proofs.lemmas.Bool.{false≢true}
+use Rattle.channel_commands.specs.declared.command.Command.{Command}
 use Rattle.channel_commands.specs.Data.{CallData, mount, demount, command as ask, break}
 use Rattle.mss_base.proofs.FirstFacts.{none_is}
 use Rattle.fault_queue.specs.declared.queue.Request.{Request}
@@ -18,6 +19,20 @@ use Rattle.core_state.specs.HostRules.{request_for, host_rule}
 use Rattle.core_state.specs.HostEvents.{HostTold, replied, marked, waits, halts, at_limit, no_memory, RunsIt, HostDoes, HostEvent}
 use Rattle.core_state.specs.Steps.{noted, ends_request, going_on, with_request}
 use Rattle.core_progress.specs.Progress.{keeps_waiting, is_kept_waiting, AsksFirst, GoesOn}
+
+-- a command that runs is told neither to wait nor to go on
+module _ (tells : Type 0) (core : CoreData) (h : ℕ) (core' : CoreData) (c : Command) (volume frame : ℕ) where
+  pub run_never_waits : (call : CallData) (w : Waiting) → RunsIt tells core h call c volume frame (waits w) core' → ⊥
+  run_never_waits (mount v b) w is = is
+  run_never_waits demount w is = is
+  run_never_waits (ask code argument chained) w is = is
+  run_never_waits (break cause) w is = is
+
+  pub run_never_marks : (call : CallData) → RunsIt tells core h call c volume frame marked core' → ⊥
+  run_never_marks (mount v b) is = is
+  run_never_marks demount is = is
+  run_never_marks (ask code argument chained) is = is
+  run_never_marks (break cause) is = is
 
 -- with its request, where it has none
 made_in : (requests : RequestsData) (h : ℕ) (r : Request) → IsOnce requests → request_of requests h ≡ None
@@ -85,12 +100,7 @@ module _ (tells : Type 0) (core : CoreData) (once : IsOnce core.requests) (h : �
   by_rule (HasFailed fault) goes does = absurd (let e = does.1 in cc)
   by_rule HasNoSpace goes does = absurd (let e = does.1 in cc)
   by_rule (Marks volume cylinder) goes does = absurd does
-  by_rule (Runs c volume frame) goes does = absurd (no_run call does) where
-    no_run : (asked : CallData) → RunsIt tells core h asked c volume frame (waits w) core' → ⊥
-    no_run (mount v b) is = is
-    no_run demount is = is
-    no_run (ask code argument chained) is = is
-    no_run (break cause) is = is
+  by_rule (Runs c volume frame) goes does = absurd (run_never_waits tells core h core' c volume frame call w does)
 
 pub goes_on : (tells : Type 0) (core : CoreData) → IsOnce core.requests → (h : ℕ) (call : CallData) (told : HostTold) (core' : CoreData) → HostEvent tells core h call told core'
     → is_kept_waiting core h call ≡ false → GoesOn core h call told core'

@@ -1,5 +1,5 @@
 -- Two hosts and one frame, by computing: the first host's page has the frame and is held for it, so the second waits.
-use Rattle.std.proofs.Common.{◌≡◌, ◌⊎◌, inr, ℕ, zero, suc, ◌<◌, true, false, [], ◌∷◌, Option, Some, None, refl, subst, arith}
+use Rattle.std.proofs.Common.{◌≡◌, ◌⊎◌, inr, ℕ, zero, suc, ◌+◌, ◌*◌, ◌<◌, true, false, [], ◌∷◌, Option, Some, None, refl, subst, arith}
 use Rattle.std.specs.Prelude.{replicate, IsSome}
 use Rattle.std.proofs.lemmas.Bool.{both_ways}
 use Rattle.channel_commands.specs.Data.{CallData, command as ask}
@@ -19,6 +19,7 @@ use Rattle.core_state.specs.Chains.{IsSettled}
 use Rattle.core_state.proofs.RuleRows.{no_devices}
 use Rattle.core_state.proofs.RuleWalks.{some_is, none_some}
 use Rattle.core_progress.specs.Progress.{NextCalls, is_kept_waiting, SomeoneGoesOn}
+use Rattle.core_progress.specs.WorkLeft.{is_marked, run_left, settle_left}
 
 -- a volume whose first page has this frame, or none, and whose first cylinder has this state
 abbrev row : Option ℕ → ℕ → RowValue
@@ -88,3 +89,17 @@ nobody_goes_on (suc zero, call, is, goes) = none_some call is
 nobody_goes_on (suc (suc (suc h)), call, is, goes) = none_some call is
 nobody_goes_on (suc (suc zero), call, is, goes) =
     both_ways (is_kept_waiting (core Ready) 2 call) goes (subst (λ c. is_kept_waiting (core Ready) 2 c ≡ true) (some_is search call is) waits_for_the_first.1)
+
+-- ---- what is left
+
+-- the second host's request, which waits: it may yet be picked, and its task have all to do; no entry is made, no host is
+-- marked, and six hosts haven't asked
+some_left : (settle_left (core Ready) ≡ 3 * 23) × (run_left (core Ready) ≡ 81 * 4096 + 9 * 8 + 6)
+some_left = (refl, refl)
+
+-- where the first host's cylinder is changed, and its request Ready, it is marked
+abbrev marked_core : CoreData
+marked_core = record (core Ready) { rows = Some (row (Some 0) 4) ∷ Some (row None 1) ∷ replicate 30 None }
+
+one_is_marked : (is_marked (core Ready) 1 ≡ false) × (is_marked marked_core 1 ≡ true) × (run_left marked_core + 9 ≡ run_left (core Ready)) × (settle_left marked_core ≡ settle_left (core Ready) + 3 * 20)
+one_is_marked = (refl, refl, refl, refl)

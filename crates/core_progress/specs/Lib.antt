@@ -1,2 +1,4 @@
 pub mod CoreFits
 pub mod Progress
+pub mod Rounds
+pub mod WorkLeft

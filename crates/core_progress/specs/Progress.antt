@@ -1,5 +1,6 @@
 -- Who goes on when the recorders have nothing left to do.
 use Rattle.std.specs.Prelude.{◌≡◌, ◌≤◌, ◌<◌, ℕ, Bool, true, false, Option, Some, None, is_some}
+use Rattle.std.specs.Option.{option_map}
 use Rattle.channel_commands.specs.Data.{CallData}
 use Rattle.fault_queue.specs.declared.queue.Request.{Request}
 use Rattle.fault_queue.specs.declared.queue.RequestState.TheVariants.{Queued}
@@ -12,8 +13,9 @@ use Rattle.core_state.specs.declared.rule.WorkRule.TheVariants.{IsIdle}
 use Rattle.core_state.specs.CoreValue.{CoreData}
 use Rattle.core_state.specs.Pins.{owns}
 use Rattle.core_state.specs.HostRules.{request_for, host_rule}
-use Rattle.core_state.specs.HostEvents.{HostTold, waits}
+use Rattle.core_state.specs.HostEvents.{HostTold, replied, waits, no_memory}
 use Rattle.core_state.specs.WorkRules.{work_rule}
+use Rattle.core_progress.specs.WorkLeft.{is_marked, run_left}
 
 -- ---- recorders
 
@@ -71,3 +73,37 @@ pub record AsksFirst (core : CoreData) (h : ℕ) (call : CallData) (w : Waiting)
 abbrev pub GoesOn : CoreData → ℕ → CallData → HostTold → CoreData → Type 0
 GoesOn core h call (waits w) core' = AsksFirst core h call w core'
 GoesOn core h call _ core' = Unit {0}
+
+-- ---- what work leaves of a run
+
+-- the volume and the cylinder that a host asks for
+abbrev pub place_asked : Request → ℕ × ℕ
+place_asked r = (r.volume, r.cylinder)
+
+abbrev pub asked_by : CoreData → ℕ → Option (ℕ × ℕ)
+asked_by core h = option_map place_asked (request_of core.requests h)
+
+-- no entry comes, the hosts stay, and each asks for what it asked for before
+pub record StillAsk (core left : CoreData) : Type 0 where
+  pub history_ : left.history ≡ core.history
+  pub hosts_ : left.hosts ≡ core.hosts
+  pub asked_ : (h : ℕ) → asked_by left h ≡ asked_by core h
+
+-- who is marked stays so, who owns a volume had a call before, and the run has no more left
+pub record LeavesRun (core left : CoreData) : Type 0 where
+  pub asks : StillAsk core left
+  pub marks_ : (h : ℕ) → is_marked core h ≡ true → is_marked left h ≡ true
+  pub owners_ : (calls : NextCalls) → OwnersCall core calls → OwnersCall left calls
+  pub less : run_left left ≤ run_left core
+
+-- ---- what a host is told
+
+abbrev pub is_reply : HostTold → Bool
+is_reply (replied index reply) = true
+is_reply _ = false
+
+-- the host is told to wait, or memory is refused
+abbrev pub IsKeptOff : HostTold → Type 0
+IsKeptOff (waits w) = Unit {0}
+IsKeptOff no_memory = Unit {0}
+IsKeptOff _ = ⊥
