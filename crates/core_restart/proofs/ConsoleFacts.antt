@@ -33,7 +33,7 @@ abbrev pub AreApart : List VolumeData → Type 0
 AreApart [] = Unit {0}
 AreApart (v ∷ vs) = AllByRecursion (λ w. v.0 < w.0) vs × AreApart vs
 
-all_missing : (P : VolumeData → Type 0) (rows : RowsOf) (vs : List VolumeData) → AllByRecursion P vs → AllByRecursion P (missing rows vs)
+pub all_missing : (P : VolumeData → Type 0) (rows : RowsOf) (vs : List VolumeData) → AllByRecursion P vs → AllByRecursion P (missing rows vs)
 all_missing P rows [] all = tt
 all_missing P rows (v ∷ vs) all = elim (cases_Bool (is_some (rows v.0))) [
   | inl has ↦ subst (AllByRecursion P) (sym (cond-true _ _ _ has)) (all_missing P rows vs all.1)

@@ -2,3 +2,5 @@ pub mod OwnerFacts
 pub mod ConsoleFacts
 pub mod Beginning
 pub mod Answering
+pub mod TakenUp
+pub mod OneCopy

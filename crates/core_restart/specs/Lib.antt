@@ -3,3 +3,5 @@ pub mod Console
 pub mod Opening
 pub mod Parts
 pub mod Begins
+pub mod TakingUp
+pub mod OneCopy

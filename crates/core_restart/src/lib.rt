@@ -2,15 +2,21 @@
 //!
 //! The layers above rely on `restart`: it opens the rows of a site, and makes a core of them in which nothing has happened
 //! yet (`specs/Begins.antt`). What it makes of the site, and what it refuses, is that of `open_rows` of `mss_restart`, said
-//! of a core in `specs/Opening.antt`.
+//! of a core in `specs/Opening.antt`; with which volumes its session begins is in `specs/TakingUp.antt`.
+//!
+//! They rely on `law` too: whatever a stop leaves, of a session or of a restart, is taken up; and it changes nothing which
+//! copies of rows can't be read, where each copy tells its row alone (`specs/OneCopy.antt`).
 #![tactic(auto)]
 
 mod console;
+pub mod law;
 mod numbers;
 mod owners;
 mod parts;
 mod restarting;
 mod rows;
+#[cfg(test)]
+mod survey_tests;
 #[cfg(test)]
 mod tests;
 

@@ -8,6 +8,7 @@ ghost use Rattle.core_restart.specs.Begins.{Begins};
 ghost use Rattle.core_restart.specs.Console.{creations_of};
 ghost use Rattle.core_restart.specs.Opening.{OpensAny, OpensTold, answer_of, seen_of, site_of};
 ghost use Rattle.core_restart.specs.Parts.{AreParts, MayBegin};
+ghost use Rattle.core_restart.specs.TakingUp.{TakesUp};
 
 use crate::console::tell_creations;
 use crate::owners::own_frames;
@@ -81,8 +82,8 @@ fn begin<S: Site, C: Choose>(
     }
 }
 
-/// Opens a site and makes the core of a session on it, in which nothing has happened yet. Its console tells the volumes
-/// of the configuration that had no row and were created, blank.
+/// Opens a site and makes the core of a session on it, in which nothing has happened yet. The session begins with the
+/// volumes that the site showed and the further ones of the configuration, blank; its console tells which were created.
 ///
 /// A content with a fault is refused by its first fault, and nothing is written. `RowUnread` and `Stopped` come only where
 /// a call of the site failed, and keep its count of faults. After want of memory each repair and creation that was begun
@@ -99,6 +100,8 @@ pub fn restart<S: Site, C: Choose + Drop>(
     requires able { C.can_choose chooser }
     ensures told { S.tells → OpensTold config.now (seen_of S.told S.writes S.faults site)
         (seen_of S.told S.writes S.faults (site_of result)) (answer_of result) }
+    ensures takes_up { S.tells → TakesUp config.now (seen_of S.told S.writes S.faults site)
+        (seen_of S.told S.writes S.faults (site_of result)) result }
     ensures any { OpensAny config.now (seen_of S.told S.writes S.faults site)
         (seen_of S.told S.writes S.faults (site_of result)) (answer_of result) }
     ensures works { NeverFails S.never_fails_but site → TellsNoFailure (answer_of result) }

@@ -3,8 +3,10 @@ use Rattle.mss_base.specs.Configs.{ConfigData}
 use Rattle.mss_restart.specs.declared.creations.Creation.{Creation}
 use Rattle.core_restart.specs.Parts.{MayBegin}
 use Rattle.core_restart.proofs.Beginning.{may_begin}
+use Rattle.shown_volumes.specs.declared.refused.Refused.TheVariants.{Memory}
 use Rattle.core_restart.specs.Opening.{seen_of}
 use Rattle.core_restart.proofs.Answering.{none_told, then_none_told}
+use Rattle.core_restart.proofs.TakenUp.{refusal_taken, begun_taken}
 use Rattle.core_restart.proofs.restarting.restart.Goals as goal
 
 pub returns-in_default-clause-told : goal.returns-in_default-clause-told
@@ -35,3 +37,25 @@ pub returns-in-Err-clause-told : goal.returns-in-Err-clause-told
 returns-in-Err-clause-told g c = λ tells.
     let are = c.in-Err.ensures in
     record { opens = are.opens tells; exact = are.exact tells; moments = are.moments tells; complete = are.complete tells; untouched = are.untouched tells }
+
+pub returns-in_default-clause-takes_up : goal.returns-in_default-clause-takes_up
+returns-in_default-clause-takes_up g c = λ tells.
+    let old = seen_of g.S.Site.told g.S.Site.writes g.S.Site.faults c.args.site in
+    refusal_taken c.args.config.now old old (c.args.site, Memory) (λ same low. tt)
+
+pub returns-in_default-copies_of-clause-takes_up : goal.returns-in_default-copies_of-clause-takes_up
+returns-in_default-copies_of-clause-takes_up g c = λ tells.
+    let old = seen_of g.S.Site.told g.S.Site.writes g.S.Site.faults c.args.site in
+    let new = seen_of g.S.Site.told g.S.Site.writes g.S.Site.faults c.in-Ok-open_rows.site in
+    refusal_taken c.args.config.now old new (c.in-Ok-open_rows.site, Memory) (λ same low. tt)
+
+pub returns-in-Err-clause-takes_up : goal.returns-in-Err-clause-takes_up
+returns-in-Err-clause-takes_up g c = λ tells.
+    let old = seen_of g.S.Site.told g.S.Site.writes g.S.Site.faults c.args.site in
+    let new = seen_of g.S.Site.told g.S.Site.writes g.S.Site.faults c.in-Err.refusal.0 in
+    refusal_taken c.args.config.now old new c.in-Err.refusal (c.in-Err.ensures.exact tells)
+
+pub returns-in-Ok-copies_of-clause-takes_up : goal.returns-in-Ok-copies_of-clause-takes_up
+returns-in-Ok-copies_of-clause-takes_up g c = λ tells.
+    begun_taken g.S.Site.told g.S.Site.writes g.S.Site.faults c.args.config.now c.in-Ok.parts.config c.args.chooser (seen_of g.S.Site.told g.S.Site.writes g.S.Site.faults c.args.site) c.in-Ok-open_rows.site c.begin.result
+    c.in-Ok-open_rows.opened.rows.items c.begin.ensures.site c.in-Ok.ensures.config_ c.begin.ensures.begins (c.in-Ok-open_rows.ensures.opens tells) (g.met.S.Site.counted c.in-Ok-open_rows.site tells)

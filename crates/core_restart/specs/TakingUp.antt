@@ -1,0 +1,122 @@
+-- What a restart takes up: content in which its configuration finds no fault, as a stop leaves it.
+use Rattle.std.specs.Prelude.{◌≡◌, ◌≤◌, ◌<◌, ℕ, List, [], ◌++◌, length, Option, Some, None, Result, Ok, Err, IfOk}
+use Rattle.mss_base.specs.Configs.{ConfigData, VolumeData, IsConfig}
+use Rattle.mss_base.specs.Content.{Content, SiteLog, Write, content, image}
+use Rattle.ckd_track.specs.Data.{Volumes}
+use Rattle.ckd_plain.specs.Plain.{serial_in, start_of}
+use Rattle.shown_volumes.specs.declared.refused.Refused.{Refused}
+use Rattle.shown_volumes.specs.declared.refused.Refused.TheVariants.{Memory}
+use Rattle.shown_volumes.specs.Shown.{rows_of, shown}
+use Rattle.shown_volumes.specs.Sound.{SoundAs}
+use Rattle.shown_volumes.specs.Faults.{first_fault}
+use Rattle.mss_restart.specs.declared.opening.Opened.{Opened}
+use Rattle.mss_restart.specs.Opening.{ShowsFront, missing, with_blanks}
+use Rattle.core_state.specs.CoreValue.{CoreValue, DevicesSeen}
+use Rattle.core_state.specs.IsCore.{IsTold, opening_of}
+use Rattle.core_restart.specs.Opening.{OpensTold}
+
+-- what `restart` answers
+abbrev pub Answer : Type 0 → Type 0 → Type 0
+Answer S C = Result (CoreValue S C) (S × Refused)
+
+-- each of these volumes is there, with its serial
+abbrev pub AreThere : List VolumeData → Volumes → Type 0
+AreThere asked volumes =
+    (volume : ℕ) (serial : List ℕ) → serial_in asked volume ≡ Some serial
+    → volumes.serial volume ≡ Some serial
+
+-- a configuration finds no fault in a content
+abbrev pub IsFaultless : ConfigData → Content → Type 0
+IsFaultless config c = first_fault config.frames (serial_in config.volumes) c ≡ None
+
+-- the volumes that a content shows, with the further ones of a configuration, blank
+abbrev pub shown_for : ConfigData → Content → Volumes
+shown_for config c = with_blanks (missing (rows_of c) config.volumes) (shown c)
+
+-- no call failed, and the count of faults could tell
+pub record NoneFailed (before now : ℕ) : Type 0 where
+  pub same : now ≡ before
+  pub could_rise : before < 18446744073709551615
+
+-- ---- a core that begins
+
+-- nothing has happened in a core whose session begins with these volumes: its devices are sound and
+-- show them, and each volume of the configuration is among them
+pub record BeginsWith {S C : Type 0} (config : ConfigData) (volumes : Volumes) (site : SiteLog)
+    (core : CoreValue S C) : Type 0 where
+  pub opening_ : opening_of site core ≡ start_of volumes
+  pub shows : SoundAs config.frames volumes (content site)
+  pub there : AreThere config.volumes volumes
+  pub no_entries : core.history ≡ []
+
+-- such a core, or that memory ran out
+abbrev pub IsTakenUp : {S C : Type 0} → ConfigData → Volumes → SiteLog → Answer S C → Type 0
+IsTakenUp config volumes site (Ok core) = BeginsWith config volumes site core
+IsTakenUp config volumes site (Err refused) = refused.1 ≡ Memory
+
+-- a core, or that memory ran out
+abbrev pub IsNoRefusal : {S C : Type 0} → Answer S C → Type 0
+IsNoRefusal (Ok core) = Unit {0}
+IsNoRefusal (Err refused) = refused.1 ≡ Memory
+
+-- of a site that tells: content without a fault isn't refused where no call fails, and a core
+-- begins with the volumes that were shown, and the further ones, blank
+pub record TakesUp {S C : Type 0} (config : ConfigData) (old new : DevicesSeen)
+    (answer : Answer S C) : Type 0 where
+  pub faultless : IsFaultless config (content old.told) → NoneFailed old.faults new.faults
+      → IsNoRefusal answer
+  pub begins : IfOk answer (BeginsWith config (shown_for config (content old.told)) new.told)
+
+-- a restart over this content, of which no call failed
+pub record RestartsOver {S C : Type 0} (config : ConfigData) (c : Content)
+    (old new : DevicesSeen) (answer : Answer S C) : Type 0 where
+  pub from : content old.told ≡ c
+  pub takes_up : TakesUp config old new answer
+  pub none_failed : NoneFailed old.faults new.faults
+
+-- ---- stops
+
+-- a moment from so many writes of a site on, and what a stop there leaves in the range of the next
+-- write, if anything
+pub record Stop (first : ℕ) (site : SiteLog) : Type 0 where
+  pub moment : ℕ
+  pub since : first ≤ moment
+  pub until : moment ≤ length site.log
+  pub tear : Option (List ℕ)
+
+-- what the devices hold after it
+abbrev pub left_by : {first : ℕ} {site : SiteLog} → Stop first site → Content
+left_by {first} {site} stop = image site stop.moment stop.tear
+
+-- a session of a configuration, each of whose volumes was there when it began
+pub record IsSession {S C : Type 0} (site : SiteLog) (core : CoreValue S C) : Type 0 where
+  pub told : IsTold site core
+  pub there : AreThere core.config.volumes (opening_of site core).volumes
+
+-- a core later in a session: writes were added to the log, and configuration and beginning stayed
+pub record IsLater {S C : Type 0} (old : SiteLog) (core : CoreValue S C) (new : SiteLog)
+    (left : CoreValue S C) : Type 0 where
+  pub config_ : left.config ≡ core.config
+  pub first_write_ : left.first_write ≡ core.first_write
+  pub items : List Write
+  pub grown : new ≡ record old { log = old.log ++ items }
+
+-- what a stop within a session leaves: content without a fault, in which no volume is missing
+pub record LeavesAll (config : ConfigData) (c : Content) : Type 0 where
+  pub faultless : IsFaultless config c
+  pub all_there : AreThere config.volumes (shown c)
+  pub none_missing : missing (rows_of c) config.volumes ≡ []
+
+-- a restart over content without a fault, whatever it answered
+pub record OpensFaultless (config : ConfigData) (old new : DevicesSeen)
+    (answer : Result Opened Refused) : Type 0 where
+  pub whole : IsConfig config
+  pub faultless : IsFaultless config (content old.told)
+  pub opens : OpensTold config old new answer
+
+-- what a stop within a restart leaves: content without a fault, which shows the volumes of before
+-- with a front of the further ones, and of which the same volumes come in the end
+pub record LeavesFront (config : ConfigData) (old c : Content) : Type 0 where
+  pub faultless : IsFaultless config c
+  pub front : ShowsFront config.frames (missing (rows_of old) config.volumes) (shown old) c
+  pub in_the_end : shown_for config c ≡ shown_for config old
