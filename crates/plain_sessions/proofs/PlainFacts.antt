@@ -1,0 +1,127 @@
+-- A session at a later moment, in plain volumes.
+use Rattle.std.proofs.Common.{◌≡◌, ◌≤◌, ◌<◌, ◌↔◌, ℕ, suc, Bool, List, [], ◌∷◌, ◌++◌, length, take, Option, None, Ok, refl, sym, ◌∙◌, ap, subst, arith}
+use Rattle.std.specs.Prelude.{if◌then◌else◌}
+use Rattle.std.proofs.lemmas.List.{take_all, take-append-le, length-append}
+use Rattle.mss_base.specs.Configs.{ConfigData, VolumeData}
+use Rattle.mss_base.specs.Content.{Content, SiteLog, Write, content, image, after as written_after}
+use Rattle.mss_base.proofs.ContentLemmas.{image_front}
+use Rattle.channel_commands.specs.Data.{CallData}
+use Rattle.ckd_track.specs.Data.{Volumes}
+use Rattle.ckd_plain.specs.Data.{State}
+use Rattle.ckd_plain.specs.History.{IsLegal, after}
+use Rattle.ckd_plain.specs.Plain.{plain, serial_in, start_of}
+use Rattle.volume_table.specs.Listed.{listed}
+use Rattle.shown_volumes.specs.Faults.{first_fault}
+use Rattle.shown_volumes.specs.Shown.{RowsOf, rows_of, shown}
+use Rattle.shown_volumes.specs.Sound.{IsSound, HasSerialsAsked}
+use Rattle.mss_restart.specs.Creations.{AreCounted, AreCreations}
+use Rattle.mss_restart.specs.Opening.{Creates, missing}
+use Rattle.mss_restart.specs.declared.creations.Creation.{Creation}
+use Rattle.core_state.specs.Agrees.{Agrees, handed_rows, has_created, rows_after}
+use Rattle.core_state.specs.Beginning.{IsLater}
+use Rattle.core_state.specs.CoreValue.{CoreData, DevicesSeen}
+use Rattle.core_state.specs.IsCore.{IsTold, handed_to, opening_of}
+use Rattle.core_state.specs.SessionData.{data_of}
+use Rattle.core_state.specs.StopRule.{StopsWell, opening}
+use Rattle.core_state.proofs.EntryLemmas.{opening_same, start_same}
+use Rattle.core_restart.specs.Console.{creations_of}
+use Rattle.core_restart.specs.Opening.{opened_in}
+use Rattle.core_restart.specs.TakingUp.{IsSession, LeavesFront, OpensFaultless, Stop, left_by, shown_for}
+use Rattle.core_restart.specs.TakingUp as taking
+use Rattle.core_restart.proofs.ConsoleFacts.{handed_are, missing_none}
+use Rattle.core_restart.proofs.TakenUp.{leaves_all, leaves_front, session_begun, session_later}
+use Rattle.plain_sessions.specs.Sessions.{BeganOver, IsPlainSession, StopsAnywhere, plain_start}
+
+-- creations that are counted, and are of these volumes
+counted_of : (vs ws : List VolumeData) (made : List Creation) (rows last : RowsOf) (old new : SiteLog) (from now : ℕ) → AreCreations vs made rows last old new → AreCounted from now ws made → AreCounted from now vs made
+counted_of [] [] [] rows last old new from now each counted = counted
+counted_of (v ∷ vs) (w ∷ ws) (one ∷ more) rows last old new from now (mid, (next, is, rest)) counted =
+    (is.named, counted.1, counted_of vs ws more next last mid new one.writes now rest counted.2)
+counted_of [] (w ∷ ws) [] rows last old new from now each counted = absurd counted
+counted_of (v ∷ vs) [] (one ∷ more) rows last old new from now each counted = absurd counted
+counted_of [] ws (one ∷ more) rows last old new from now each counted = absurd each
+counted_of (v ∷ vs) ws [] rows last old new from now each counted = absurd each
+
+abbrev Decides : Type 0
+Decides = (frames : ℕ) (asked : ℕ → Option (List ℕ)) (c : Content) → (first_fault frames asked c ≡ None) ↔ (IsSound frames c × HasSerialsAsked asked (rows_of c))
+
+module _ (config : ConfigData) (was : DevicesSeen) (began : CoreData) (b : BeganOver config was began) where
+  abbrev asked_new : List VolumeData
+  asked_new = missing (rows_of (content was.told)) config.volumes
+
+  rows_now : listed began.rows ≡ rows_of (content began.site.told)
+  rows_now = b.opened.opens.rows_are
+
+  -- the rows before the creations that the console tells are those that were handed in
+  handed_in : handed_rows (listed began.rows) began.console ≡ rows_of (content was.told)
+  handed_in =
+      let counted = b.any.counted in
+      handed_are asked_new (rows_of (content was.told)) (listed began.rows) began.console was.writes began.site.writes
+      (subst (λ (r : RowsOf). Creates asked_new (rows_of (content was.told)) r) (sym rows_now) b.opened.opens.created)
+      (counted_of asked_new (missing counted.before config.volumes) (creations_of began.console) (rows_of (content was.told)) (rows_of (content began.site.told)) b.opened.complete.0 began.site.told was.writes began.site.writes b.opened.complete.2 counted.counted)
+      b.begins.created (missing_none (rows_of (content was.told)) config.volumes)
+
+  module _ (tells : Type 0) (t : tells) (left : CoreData) (l : IsLater tells began left) (told : IsTold left.site.told left) where
+    abbrev items : List Write
+    items = (l.grown t).0
+
+    grown : left.site.told ≡ record began.site.told { log = began.site.told.log ++ items }
+    grown = (l.grown t).1
+
+    later : taking.IsLater began.site.told began left.site.told left
+    later = record { config_ = l.beginning.config; first_write_ = l.beginning.first_write; items = items; grown = grown }
+
+    config_is : left.config ≡ config
+    config_is = l.beginning.config ∙ b.begins.config_
+
+    first_is : left.first_write ≡ length began.site.told.log
+    first_is = l.beginning.first_write ∙ b.begins.first_write_ ∙ b.counted
+
+    opening_is : opening_of left.site.told left ≡ plain_start config (content was.told)
+    opening_is =
+        ap (λ (n : ℕ). opening n left.site.told) l.beginning.first_write
+        ∙ opening_same began.first_write began.site.told left.site.told items grown b.told.began ∙ b.with_.opening_
+
+    -- the content when the session began
+    start_is : written_after left.site.told.start (take left.first_write left.site.told.log) ≡ content began.site.told
+    start_is =
+        ap (λ (n : ℕ). written_after left.site.told.start (take n left.site.told.log)) first_is
+        ∙ start_same (length began.site.told.log) began.site.told left.site.told items grown (omega arith)
+        ∙ ap (written_after began.site.told.start) (take_all (length began.site.told.log) began.site.told.log (omega arith))
+
+    handed_is : handed_to left.site.told left ≡ rows_of (content was.told)
+    handed_is =
+        (λ i volume. if l.beginning.created volume i then None else rows_of (start_is i) volume)
+        ∙ ap (λ (r : RowsOf). handed_rows r began.console) (sym rows_now)
+        ∙ handed_in
+
+    pub plain_at : IsPlainSession config was.told left.site.told (data_of left)
+    plain_at = record {
+      legal = subst (λ (s : State). IsLegal s left.history) opening_is told.legal;
+      shows = λ none. (told.going none).shows ∙ ap (λ (s : State). (after s left.history).volumes) opening_is;
+      agrees = subst (λ (x : ℕ × RowsOf × State). Agrees x.0 x.1 x.2 left.history left.marks left.console) (λ i. ((config_is i).frames, handed_is i, opening_is i)) told.agrees;
+      rows_ = λ none. (told.going none).rows_ ∙ sym (told.going none).told ∙ ap (λ (r : RowsOf). rows_after r left.console) handed_is;
+    }
+
+    module _ (serials : (s : State) (h : ℕ) (call : CallData) → (plain s h call).1.volumes.serial ≡ s.volumes.serial) (decides : Decides) where
+      opened_faultless : OpensFaultless config was began.site (Ok (opened_in began))
+      opened_faultless = record { whole = b.whole; faultless = b.opened.opens.faultless; opens = b.opened }
+
+      session : IsSession left.site.told left
+      session = session_later began.site.told left.site.told began left (session_begun config (shown_for config (content was.told)) began.site.told began b.with_ b.begins.config_ b.told) later told
+
+      opening_stop : (k : ℕ) → length was.told.log ≤ k → k < left.first_write → (tear : Option (List ℕ)) → LeavesFront config (content was.told) (image left.site.told k tear)
+      opening_stop k since before tear =
+          let within : suc k ≤ length began.site.told.log = omega (arith, before, first_is) in
+          let same : image left.site.told k tear ≡ image began.site.told k tear =
+          image_front left.site.told began.site.told k tear (ap (λ (s : SiteLog). s.start) grown)
+          (ap (λ (s : SiteLog). take (suc k) s.log) grown ∙ take-append-le (suc k) began.site.told.log items within) in
+          subst (λ (c : Content). LeavesFront config (content was.told) c) (sym same)
+          (leaves_front decides config was began.site (Ok (opened_in began)) opened_faultless (record { moment = k; since = since; until = omega (arith, within); tear = tear }))
+
+      pub stops_at : StopsAnywhere config was.told left.site.told (data_of left)
+      stops_at = record {
+        opening_ = opening_stop;
+        session_ = subst (λ (x : ℕ × State). StopsWell x.0 left.first_write x.1 left.history left.marks left.site.told) (λ i. ((config_is i).frames, opening_is i)) told.stops;
+        restarts = λ stop. subst (λ (k : ConfigData). taking.LeavesAll k (left_by stop)) config_is (leaves_all serials decides left.site.told left session stop);
+      }

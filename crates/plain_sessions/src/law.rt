@@ -1,0 +1,25 @@
+//! The law of sessions. A function calls a law to have it in its proof.
+ghost use Rattle.mss_base.specs.Configs.{ConfigData};
+ghost use Rattle.core_state.specs.Beginning.{IsLater};
+ghost use Rattle.core_state.specs.CoreValue.{CoreData, DevicesSeen};
+ghost use Rattle.core_state.specs.IsCore.{IsTold};
+ghost use Rattle.core_state.specs.SessionData.{data_of};
+ghost use Rattle.plain_sessions.specs.Sessions.{BeganOver, IsPlainSession, StopsAnywhere};
+
+use mss_base::Site;
+
+/// A session that a restart began is, at every later moment, one of plain volumes; and so is what a stop leaves at any
+/// moment until then.
+pub fn sessions_are_plain<S: Site>()
+    ensures plain { (config : ConfigData) (was : DevicesSeen) (began left : CoreData)
+        → S.tells → BeganOver config was began → IsLater S.tells began left
+        → IsTold left.site.told left
+        → IsPlainSession config was.told left.site.told (data_of left) }
+    ensures stops { (config : ConfigData) (was : DevicesSeen) (began left : CoreData)
+        → S.tells → BeganOver config was began → IsLater S.tells began left
+        → IsTold left.site.told left
+        → StopsAnywhere config was.told left.site.told (data_of left) }
+{
+    ckd_plain::laws::only_the_track_under_a_write_changes();
+    shown_volumes::law::first_fault_is_of_unsound_content();
+}
