@@ -6,6 +6,7 @@ use Rattle.mss_base.specs.Counts.{Rises}
 use Rattle.job_text.specs.Jobs.{ScriptData, JobData}
 use Rattle.report_text.specs.declared.one_line.OneLine.{OneLine}
 use Rattle.report_text.specs.declared.one_line.OneLine.TheVariants as line
+use Rattle.shown_volumes.specs.declared.refused.Refused.TheVariants as refused
 use Rattle.mss_top.specs.declared.script.RunEnd.{RunEnd}
 use Rattle.mss_top.specs.declared.script.RunEnd.TheVariants as run_end
 use Rattle.mss_top.specs.declared.session.Session.{Session}
@@ -43,8 +44,7 @@ module _ (words : List (List ℕ)) (input : Stream) (site : Devices) (sink : Str
       let later = cause.text_ well.can_read in
       let same : later.job ≡ job = same_read later.job later.read in
       absurd (omega (arith, later.hosts, well.asks.hosts, ap (λ (j : JobData). length j.hosts) same))
-  unread_complete (line.TornTrack volume cylinder head) cause = absurd cause
-  unread_complete (line.RestartStopped fault) cause = absurd cause
+  unread_complete (line.RestartRefused why) cause = absurd cause
   unread_complete line.WantOfMemory cause = tt
 
   -- a torn track isn't one
@@ -58,8 +58,9 @@ module _ (words : List (List ℕ)) (input : Stream) (site : Devices) (sink : Str
   unbegun_complete line.InputFault cause = absurd cause
   unbegun_complete (line.JobRefused n kind) cause = absurd cause
   unbegun_complete line.JobRefusedLater cause = absurd cause
-  unbegun_complete (line.TornTrack volume cylinder head) cause = absurd (not_torn volume cylinder head (cause well.can_see))
-  unbegun_complete (line.RestartStopped fault) cause = absurd (no_rise site well.site_none cause.rises)
+  unbegun_complete (line.RestartRefused (refused.TornTrack volume cylinder head)) cause = absurd (not_torn volume cylinder head (cause well.can_see))
+  unbegun_complete (line.RestartRefused (refused.Stopped fault)) cause = absurd (no_rise site well.site_none cause.rises)
+  unbegun_complete (line.RestartRefused why) cause = absurd cause
   unbegun_complete line.WantOfMemory cause = tt
 
   same_job : (other : JobData) → IsAdmitted words input other → other ≡ job

@@ -49,8 +49,7 @@ taken_alike front text (Err line.JobRefusedLater) same is = record { job = is.jo
 taken_alike front text (Err line.WantOfMemory) same is = tt
 taken_alike front text (Err line.WordsRefused) same is = absurd is
 taken_alike front text (Err line.InputFault) same is = absurd is
-taken_alike front text (Err (line.TornTrack volume cylinder head)) same is = absurd is
-taken_alike front text (Err (line.RestartStopped fault)) same is = absurd is
+taken_alike front text (Err (line.RestartRefused why)) same is = absurd is
 
 -- the input's text is taken as what was read of it is
 pub admits : (words : List (List ℕ)) (input : Stream) (front : List ℕ) (r : Result JobData OneLine) → are_serial words ≡ true → (input.tells → front ≡ take READ_LIMIT input.was)
@@ -64,8 +63,7 @@ admits words input front r command fronts rest is = by_result r (λ t. taken_ali
     by_result (Err line.WantOfMemory) whole is = command
     by_result (Err line.WordsRefused) whole is = absurd is
     by_result (Err line.InputFault) whole is = absurd is
-    by_result (Err (line.TornTrack volume cylinder head)) whole is = absurd is
-    by_result (Err (line.RestartStopped fault)) whole is = absurd is
+    by_result (Err (line.RestartRefused why)) whole is = absurd is
 
 -- a job that is taken has at most one host
 pub few_hosts : (text : List ℕ) (r : Result JobData OneLine) → IsTaken text r → IfOk r (λ job. length job.hosts ≤ 1)

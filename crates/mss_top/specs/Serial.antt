@@ -12,6 +12,7 @@ use Rattle.job_text.specs.Jobs.{ScriptData, JobData}
 use Rattle.report_text.specs.declared.one_line.OneLine.{OneLine}
 use Rattle.report_text.specs.declared.one_line.OneLine.TheVariants as line
 use Rattle.report_text.specs.OneLines.{one_line_text}
+use Rattle.shown_volumes.specs.declared.refused.Refused.TheVariants as refused
 use Rattle.mss_top.specs.declared.start.StartFault.{StartFault}
 use Rattle.mss_top.specs.declared.start.StartFault.TheVariants.{TornTrack, Stopped}
 use Rattle.mss_top.specs.declared.start.VolumeFault.{VolumeFault}
@@ -72,9 +73,9 @@ torn volume cylinder head = record { volume = volume; fault = TornTrack cylinder
 -- Why no session begins on these volumes: the first block that is no track, or a failed read with
 -- the count of faults after it.
 abbrev pub IsUnbegun : List (ℕ × List ℕ) → Devices → OneLine → Type 0
-IsUnbegun volumes site (line.TornTrack volume cylinder head) =
+IsUnbegun volumes site (line.RestartRefused (refused.TornTrack volume cylinder head)) =
     site.tells → IsFirstFault (content site.was) volumes (torn volume cylinder head)
-IsUnbegun volumes site (line.RestartStopped fault) =
+IsUnbegun volumes site (line.RestartRefused (refused.Stopped fault)) =
     IsFaultSince site.faults_was site.faults_now fault
 IsUnbegun volumes site line.WantOfMemory = Unit {0}
 IsUnbegun volumes site _ = ⊥
@@ -91,8 +92,9 @@ Begins volumes site (Err said) = IsUnbegun volumes site said
 
 -- the line of volumes that weren't taken on
 abbrev pub refusal_by : ℕ → StartFault → OneLine
-refusal_by volume (TornTrack cylinder head) = line.TornTrack volume cylinder head
-refusal_by volume (Stopped fault) = line.RestartStopped fault
+refusal_by volume (TornTrack cylinder head) =
+    line.RestartRefused (refused.TornTrack volume cylinder head)
+refusal_by volume (Stopped fault) = line.RestartRefused (refused.Stopped fault)
 
 abbrev pub refusal_of : VolumeFault → OneLine
 refusal_of refused = refusal_by refused.volume refused.fault
@@ -103,8 +105,7 @@ line_status line.WordsRefused = status.WordsRefused
 line_status line.InputFault = status.InputFault
 line_status (line.JobRefused n kind) = status.JobRefused
 line_status line.JobRefusedLater = status.JobRefused
-line_status (line.TornTrack volume cylinder head) = status.RestartRefused
-line_status (line.RestartStopped fault) = status.RestartRefused
+line_status (line.RestartRefused why) = status.RestartRefused
 line_status line.WantOfMemory = status.Memory
 
 -- the plain state of these volumes as a content shows them

@@ -28,6 +28,7 @@ use crate::words::are_serial;
 use job_text::{HostScript, Job};
 use mss_base::{BLOCK_BYTES, HostNo, Serial, Sink, Site, Source, VolumeList, VolumeNo};
 use report_text::{OneLine, put_line};
+use shown_volumes::Refused;
 use std::alloc::Global;
 
 /// The input is read to its end, or to one byte past the longest job text.
@@ -64,12 +65,14 @@ fn refusal(refused: &VolumeFault) -> OneLine
     ensures { result ≡ refusal_of refused.now }
 {
     match &refused.fault {
-        StartFault::TornTrack { cylinder, head } => OneLine::TornTrack {
+        StartFault::TornTrack { cylinder, head } => OneLine::RestartRefused(Refused::TornTrack {
             volume: refused.volume,
             cylinder: *cylinder,
             head: *head,
-        },
-        StartFault::Stopped { fault } => OneLine::RestartStopped { fault: *fault },
+        }),
+        StartFault::Stopped { fault } => {
+            OneLine::RestartRefused(Refused::Stopped { fault: *fault })
+        }
     }
 }
 
@@ -104,7 +107,7 @@ fn line_status(line: OneLine) -> Status
         OneLine::WordsRefused => Status::WordsRefused,
         OneLine::InputFault => Status::InputFault,
         OneLine::JobRefused { .. } | OneLine::JobRefusedLater => Status::JobRefused,
-        OneLine::TornTrack { .. } | OneLine::RestartStopped { .. } => Status::RestartRefused,
+        OneLine::RestartRefused(_) => Status::RestartRefused,
         OneLine::WantOfMemory => Status::Memory,
     }
 }

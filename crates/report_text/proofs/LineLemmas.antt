@@ -1,8 +1,9 @@
 -- Lines put one behind the other.
-use Rattle.std.proofs.Common.{◌≡◌, ℕ, suc, ◌+◌, ◌<◌, List, [], ◌∷◌, ◌++◌, length, drop, get_or, drop-cons, add-one, subst, sym, ap, ◌∙◌, Result, Ok, Err}
+use Rattle.std.proofs.Common.{◌≡◌, ℕ, suc, ◌+◌, ◌<◌, List, [], ◌∷◌, ◌++◌, length, drop, get_or, drop-cons, add-one, subst, sym, ap, ◌∙◌, append_assoc, Result, Ok, Err}
 use Rattle.std.specs.Prelude.{IsErrAnd}
 use Rattle.std.specs.List.{flat_map}
 use Rattle.std.proofs.lemmas.List.{append-nil}
+use Rattle.std.proofs.lemmas.List.Concat.{flat_map-append}
 use Rattle.ckd_track.specs.Data.{RecordData}
 use Rattle.mss_base.specs.Puts.{PutsFront, Puts}
 use Rattle.mss_base.proofs.Putting.{Part, part_goes_on, part_stops}
@@ -43,3 +44,39 @@ pieces_stop text old now new i pieces other lt part front =
 pub no_track_text : (old : List ℕ) (cylinder head : ℕ) (rs : List RecordData) → rs ≡ [] → old ≡ old ++ track_text cylinder head rs
 unfolding track_text
 no_track_text old cylinder head rs none = sym (ap (λ (l : List RecordData). old ++ track_text cylinder head l) none ∙ append-nil old)
+
+-- ---- pieces of refusals
+
+abbrev flat : List (List ℕ) → List ℕ
+flat pieces = flat_map (λ piece. piece) pieces
+
+-- pieces joined one after the other
+abbrev pub joined : List ℕ → List (List ℕ) → List ℕ
+joined first [] = first
+joined first (piece ∷ pieces) = joined (first ++ piece) pieces
+
+pieces_joined : (first : List ℕ) (pieces : List (List ℕ)) → first ++ flat pieces ≡ joined first pieces
+pieces_joined first [] = append-nil first
+pieces_joined first (piece ∷ pieces) = sym (append_assoc first piece (flat pieces)) ∙ pieces_joined (first ++ piece) pieces
+
+-- the first pieces as one
+grouped : (first : List ℕ) (pieces rest : List (List ℕ)) → first ++ flat (pieces ++ rest) ≡ joined first pieces ++ flat rest
+grouped first pieces rest =
+    ap (λ l. first ++ l) (flat_map-append (λ (piece : List ℕ). piece) pieces rest) ∙ sym (append_assoc first (flat pieces) (flat rest)) ∙ ap (λ l. l ++ flat rest) (pieces_joined first pieces)
+
+-- a field is named by two pieces
+pub damaged_pieces : (text volume copy_is copy row kind place value_is value end : List ℕ)
+    → flat_map (λ piece. piece) (text ∷ volume ∷ copy_is ∷ copy ∷ row ∷ kind ∷ place ∷ value_is ∷ value ∷ end ∷ [])
+    ≡ text ++ volume ++ copy_is ++ copy ++ row ++ (kind ++ place) ++ value_is ++ value ++ end
+damaged_pieces text volume copy_is copy row kind place value_is value end =
+    ap (λ l. text ++ (volume ++ (copy_is ++ (copy ++ (row ++ l))))) (grouped kind (place ∷ []) (value_is ∷ value ∷ end ∷ []))
+    ∙ pieces_joined text (volume ∷ copy_is ∷ copy ∷ row ∷ (kind ++ place) ∷ value_is ∷ value ∷ end ∷ [])
+
+-- a part of a volume is named by four
+pub twice_pieces : (text number twice volume a word b c d end : List ℕ)
+    → flat_map (λ piece. piece) (text ∷ number ∷ twice ∷ volume ∷ a ∷ word ∷ b ∷ volume ∷ c ∷ word ∷ d ∷ end ∷ [])
+    ≡ text ++ number ++ twice ++ (volume ++ a ++ word ++ b) ++ (volume ++ c ++ word ++ d) ++ end
+twice_pieces text number twice volume a word b c d end =
+    ap (λ l. text ++ (number ++ (twice ++ l)))
+    (grouped volume (a ∷ word ∷ b ∷ []) (volume ∷ c ∷ word ∷ d ∷ end ∷ []) ∙ ap (λ l. (volume ++ a ++ word ++ b) ++ l) (grouped volume (c ∷ word ∷ d ∷ []) (end ∷ [])))
+    ∙ pieces_joined text (number ∷ twice ∷ (volume ++ a ++ word ++ b) ∷ (volume ++ c ++ word ++ d) ∷ end ∷ [])

@@ -5,8 +5,14 @@ use Rattle.std.specs.Fmt.{digits}
 use Rattle.channel_commands.specs.Data.{mount, demount, command, done, mounted, demounted, equipment_check}
 use Rattle.ckd_track.specs.Data.{RecordData}
 use Rattle.ckd_plain.specs.History.{EntryData}
-use Rattle.report_text.specs.declared.one_line.OneLine.TheVariants.{TornTrack}
-use Rattle.report_text.specs.Texts.{entry_text, history_text, record_text, track_line, track_text, heading_text, stopped_text}
+use Rattle.report_text.specs.declared.one_line.OneLine.TheVariants.{RestartRefused}
+use Rattle.report_text.specs.Refusals.{refusal_text}
+use Rattle.shown_volumes.specs.declared.refused.Refused.{Refused}
+use Rattle.shown_volumes.specs.declared.refused.Refused.TheVariants as refused
+use Rattle.table_pair.specs.declared.copy.TableCopy.TheVariants.{A}
+use Rattle.volume_table.specs.declared.fault.RowField.TheVariants as field
+use Rattle.volume_table.specs.declared.changes.Change.TheVariants as change
+use Rattle.report_text.specs.Texts.{entry_text, history_text, record_text, track_line, track_text, heading_text, stopped_text, change_line}
 use Rattle.report_text.specs.OneLines.{one_line_text}
 
 lines : List (List ℕ) → List ℕ
@@ -56,6 +62,36 @@ stopped_line : stopped_text 4 ≡ codes "STOPPED 4\n"
 unfolding digits stopped_text
 stopped_line = refl
 
-torn_line : one_line_text (TornTrack 0 5 3) ≡ codes "restart refused torn track volume 0 cylinder 5 head 3\n"
-unfolding digits one_line_text
+-- ---- lines of refusals
+refused_line : Refused → List ℕ
+refused_line r = one_line_text (RestartRefused r)
+
+torn_line : refused_line (refused.TornTrack 0 5 3) ≡ codes "restart refused torn track volume 0 cylinder 5 head 3\n"
+unfolding digits one_line_text refusal_text refused_line
 torn_line = refl
+
+-- a state that no cylinder has
+damaged_line : refused_line (refused.RowDamaged 0 A (record { field = field.State 0; value = 9 })) ≡ codes "restart refused volume 0 copy A row state 0 value 9\n"
+unfolding digits one_line_text refusal_text refused_line
+damaged_line = refl
+
+frame_line : refused_line (refused.FrameTwice 7 (0, 0) (1, 3)) ≡ codes "restart refused frame 7 twice volume 0 page 0 volume 1 page 3\n"
+unfolding digits one_line_text refusal_text refused_line
+frame_line = refl
+
+serial_line : refused_line (refused.SerialDiffers 0 (codes "VOL001") (codes "VOL009")) ≡ codes "restart refused volume 0 serial VOL001 asked VOL009\n"
+unfolding digits one_line_text refusal_text refused_line
+serial_line = refl
+
+-- ---- lines of changes
+create_line : change_line 1 0 (change.Create (codes "VOL001") 0 1) None ≡ codes "change 1 volume 0 create VOL001 0 1\n"
+unfolding digits change_line
+create_line = refl
+
+free_line : change_line 6 0 (change.Free 0) (Some 0) ≡ codes "change 6 volume 0 free page 0 frame 0\n"
+unfolding digits change_line
+free_line = refl
+
+destaged_line : change_line 5 0 (change.Destaged 0) None ≡ codes "change 5 volume 0 destaged cylinder 0\n"
+unfolding digits change_line
+destaged_line = refl

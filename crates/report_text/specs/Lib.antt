@@ -1,3 +1,4 @@
 pub mod Texts
 pub mod OneLines
 pub mod Causes
+pub mod Refusals

@@ -5,6 +5,8 @@ use Rattle.std.specs.Fmt.{digit_glyph}
 use Rattle.channel_commands.specs.Data.{CallData, mount, demount, command, break, ReplyData, done, mounted, demounted, already_mounted, not_mounted, no_volume, in_chain, program_check, chain_limit, equipment_check, no_space, stopped}
 use Rattle.ckd_track.specs.Data.{RecordData}
 use Rattle.ckd_plain.specs.History.{EntryData}
+use Rattle.volume_table.specs.declared.changes.Change.{Change}
+use Rattle.volume_table.specs.declared.changes.Change.TheVariants.{Create, Assign, Free, Staged, Changed, Destaged}
 
 -- ---- bytes
 
@@ -72,6 +74,26 @@ numbered text n (x ∷ xs) = text n x ++ numbered text (n + 1) xs
 unfoldable pub history_text : List EntryData → List ℕ
 history_text entries = codes "MSS REPORT 1\n" ++ numbered entry_text 1 entries
 
+-- ---- the changes of rows
+
+-- the frame that a page gave back, `-` where none is told
+abbrev pub frame_text : Option ℕ → List ℕ
+frame_text (Some frame) = decimal frame
+frame_text None = codes "-"
+
+-- what happened to a row; `freed` is the frame that a page gave back
+abbrev pub change_text : Change → Option ℕ → List ℕ
+change_text (Create serial first second) freed = codes "create " ++ serial ++ codes " " ++ decimal first ++ codes " " ++ decimal second
+change_text (Assign page frame) freed = codes "assign page " ++ decimal page ++ codes " frame " ++ decimal frame
+change_text (Free page) freed = codes "free page " ++ decimal page ++ codes " frame " ++ frame_text freed
+change_text (Staged cylinder) freed = codes "staged cylinder " ++ decimal cylinder
+change_text (Changed cylinder) freed = codes "changed cylinder " ++ decimal cylinder
+change_text (Destaged cylinder) freed = codes "destaged cylinder " ++ decimal cylinder
+
+-- the line of the change at place n of the console, from 1
+unfoldable pub change_line : ℕ → ℕ → Change → Option ℕ → List ℕ
+change_line n volume change freed = codes "change " ++ decimal n ++ codes " volume " ++ decimal volume ++ codes " " ++ change_text change freed ++ codes "\n"
+
 -- ---- the volumes
 
 -- a record's ID, key and data
@@ -103,6 +125,10 @@ heading_text number serial = codes "volume " ++ decimal number ++ codes " " ++ s
 -- a volume and its tracks by cylinder and head: 404 cylinders of 19
 unfoldable pub volume_text : ℕ → List ℕ → (ℕ → ℕ → List RecordData) → List ℕ
 volume_text number serial track = heading_text number serial ++ tracks_text track 7676
+
+-- the first line of a listing of volumes
+unfoldable pub listing_title : List ℕ
+listing_title = codes "MSS VOLUMES 1\n"
 
 -- ---- the last line
 

@@ -7,8 +7,10 @@
 //! behind the other, by the lemmas of `mss_base`'s proofs/Putting.antt and of proofs/TrackTexts.antt here.
 #![tactic(auto)]
 
+mod changes;
 mod one_line;
 mod pieces;
+mod refusal;
 mod report;
 #[cfg(test)]
 mod tests;
@@ -16,5 +18,6 @@ mod text;
 
 pub use one_line::{OneLine, put_line};
 pub use report::{
-    ReportFault, put_end, put_heading, put_history, put_limit, put_stopped, put_track,
+    ReportFault, put_change, put_end, put_heading, put_history, put_limit, put_stopped, put_title,
+    put_track,
 };

@@ -4,9 +4,11 @@ ghost use Rattle.mss_base.specs.Counts.{HasCause};
 ghost use Rattle.mss_base.specs.Puts.{Puts};
 ghost use Rattle.report_text.specs.OneLines.{kind_name, one_line_text};
 
-use crate::pieces::{put_numbered, put_numbered_word, put_place, put_text};
+use crate::pieces::{put_numbered_word, put_text};
+use crate::refusal::put_refusal;
 use job_text::JobKind;
-use mss_base::{Cylinder, Failed, Head, Sink, VolumeNo};
+use mss_base::{Failed, Sink};
+use shown_volumes::Refused;
 
 /// An output of one line in place of a report.
 #[derive(Clone, Copy, Debug)]
@@ -14,22 +16,11 @@ pub enum OneLine {
     WordsRefused,
     InputFault,
     /// A bad line of the job text, counted from 1, and why it is bad; line 0 where the text is too big.
-    JobRefused {
-        line: u32,
-        kind: JobKind,
-    },
+    JobRefused { line: u32, kind: JobKind },
     /// The input is of a form that isn't built yet.
     JobRefusedLater,
-    /// Restart found a block that is no track.
-    TornTrack {
-        volume: VolumeNo,
-        cylinder: Cylinder,
-        head: Head,
-    },
-    /// A read failed at restart; the count of faults then.
-    RestartStopped {
-        fault: u64,
-    },
+    /// The site was refused.
+    RestartRefused(Refused),
     WantOfMemory,
 }
 
@@ -51,7 +42,7 @@ fn kind_name(kind: JobKind) -> &'static str
     }
 }
 
-/// Puts an output of one line, by at most seven calls. It wants no memory, since it tells want of memory too.
+/// Puts an output of one line, by at most eleven calls. It wants no memory, since it tells want of memory too.
 #[tactic(auto, unfolding(crate::specs::OneLines::one_line_text))]
 pub fn put_line<O: Sink>(output: &mut O, line: &OneLine) -> Result<(), Failed>
     ensures bytes { O.tells → Puts result (O.told output.old) (O.told output.new) (one_line_text line.now) }
@@ -64,20 +55,7 @@ pub fn put_line<O: Sink>(output: &mut O, line: &OneLine) -> Result<(), Failed>
             put_numbered_word(output, "job refused line ", line, kind_name(kind))
         }
         OneLine::JobRefusedLater => put_text(output, "job refused line 0 Later\n"),
-        OneLine::TornTrack {
-            volume,
-            cylinder,
-            head,
-        } => put_place(
-            output,
-            "restart refused torn track volume ",
-            volume,
-            cylinder,
-            head,
-        ),
-        OneLine::RestartStopped { fault } => {
-            put_numbered(output, "restart refused stopped fault ", fault)
-        }
+        OneLine::RestartRefused(refused) => put_refusal(output, &refused),
         OneLine::WantOfMemory => put_text(output, "want of memory\n"),
     }
 }

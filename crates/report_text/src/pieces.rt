@@ -16,13 +16,25 @@ pub fn put_text<O: Sink>(output: &mut O, text: &str) -> Result<(), Failed>
 }
 
 /// Puts the pieces of a line one behind the other, each by a call of its own.
-fn put_pieces<O: Sink>(output: &mut O, pieces: &[&str]) -> Result<(), Failed>
+pub fn put_pieces<O: Sink>(output: &mut O, pieces: &[&str]) -> Result<(), Failed>
     ensures bytes { O.tells → Puts result (O.told output.old) (O.told output.new)
         (flat_map (λ piece. piece.now) pieces.now) }
     ensures cause { HasCause (O.faults output.old) (O.faults output.new) result }
 {
     for piece in pieces {
         put_text(output, piece)?;
+    }
+    Ok(())
+}
+
+/// Puts the pieces of a line, as bytes, one behind the other.
+pub fn put_byte_pieces<O: Sink>(output: &mut O, pieces: &[&[u8]]) -> Result<(), Failed>
+    ensures bytes { O.tells → Puts result (O.told output.old) (O.told output.new)
+        (flat_map (λ piece. piece.now) pieces.now) }
+    ensures cause { HasCause (O.faults output.old) (O.faults output.new) result }
+{
+    for piece in pieces {
+        output.put(piece)?;
     }
     Ok(())
 }

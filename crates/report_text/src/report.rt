@@ -4,13 +4,15 @@ ghost use Rattle.mss_base.specs.Counts.{HasCause};
 ghost use Rattle.mss_base.specs.Puts.{Puts};
 ghost use Rattle.ckd_track.specs.Track.{reading};
 ghost use Rattle.report_text.specs.Causes.{HasOutputCause};
-ghost use Rattle.report_text.specs.Texts.{numbered, entry_text, history_text, track_text, heading_text, end_text, limit_text, stopped_text};
+ghost use Rattle.report_text.specs.Texts.{numbered, entry_text, history_text, change_line, track_text, heading_text, end_text, limit_text, stopped_text, listing_title};
 
+use crate::changes::push_change_line;
 use crate::pieces::{put_numbered, put_text};
 use crate::text::{push_entry, push_heading, push_track};
 use ckd_plain::Entry;
 use ckd_track::stored_records;
-use mss_base::{Bytes, Cylinder, Failed, Head, NoMemory, Serial, Sink, VolumeNo};
+use mss_base::{Bytes, Cylinder, Failed, FrameNo, Head, NoMemory, Serial, Sink, VolumeNo};
+use volume_table::Change;
 
 /// Why a part of a report wasn't put whole. A front of it was.
 #[derive(Clone, Copy, Debug, PartialEq, Eq)]
@@ -101,6 +103,27 @@ pub fn put_history<O: Sink>(
     put_entries(output, buffer, entries)
 }
 
+/// Puts the line of the change at this place of the console, from 1, by one call.
+///
+/// `freed` is the frame that the page of a `Free` had before it, and None for every other change. The content of the
+/// buffer means nothing afterwards.
+pub fn put_change<O: Sink>(
+    output: &mut O,
+    buffer: &mut Bytes,
+    number: u64,
+    volume: VolumeNo,
+    change: &Change,
+    freed: Option<FrameNo>,
+) -> Result<(), ReportFault>
+    ensures bytes { O.tells → Puts result (O.told output.old) (O.told output.new)
+        (change_line number volume change.now freed) }
+    ensures cause { HasOutputCause (O.faults output.old) (O.faults output.new) result }
+{
+    buffer.truncate(0);
+    push_change_line(buffer, number, volume, change, freed)?;
+    put_bytes(output, buffer.as_slice())
+}
+
 /// Puts the heading of a volume.
 ///
 /// The content of the buffer means nothing afterwards.
@@ -142,6 +165,15 @@ pub fn put_track<O: Sink>(
     buffer.truncate(0);
     push_track(buffer, cylinder, head, &first, records)?;
     put_bytes(output, buffer.as_slice())
+}
+
+/// Puts the first line of a listing of volumes. It wants no memory.
+#[tactic(auto, unfolding(crate::specs::Texts::listing_title))]
+pub fn put_title<O: Sink>(output: &mut O) -> Result<(), Failed>
+    ensures bytes { O.tells → Puts result (O.told output.old) (O.told output.new) listing_title }
+    ensures cause { HasCause (O.faults output.old) (O.faults output.new) result }
+{
+    put_text(output, "MSS VOLUMES 1\n")
 }
 
 /// Puts the last line of a whole report. It wants no memory.

@@ -1,0 +1,4 @@
+pub mod VolumeTexts
+pub mod SiteReads
+pub mod Told
+pub mod Listings

@@ -1,0 +1,99 @@
+-- How a walk that puts the volumes of a report goes on.
+use Rattle.std.proofs.Common.{◌≡◌, ◌<◌, ℕ, suc, ◌+◌, ◌*◌, List, [], ◌∷◌, ◌++◌, length, take, drop, get_or, Some, Err, refl, sym, ◌∙◌, ap, subst, arith, append_assoc, add-one, drop-cons}
+use Rattle.std.proofs.lemmas.List.{append-nil, take-append-drop, take_more, flat_map_more}
+use Rattle.std.proofs.lemmas.List.Concat.{flat_map-append}
+use Rattle.std.proofs.lemmas.Option.{slice_get_read}
+use Rattle.mss_base.specs.Content.{Content, SiteLog, content}
+use Rattle.mss_base.specs.Puts.{PutsFront}
+use Rattle.mss_base.specs.Sites.{FailingReads, OnlyReads}
+use Rattle.mss_base.proofs.Putting.{part_stops}
+use Rattle.ckd_track.specs.Data.{Volumes}
+use Rattle.report_text.specs.Texts.{track_text, tracks_text, heading_text, volume_text}
+use Rattle.report_text.proofs.TrackTexts.{Tracks, volume_text_is, no_tracks, tracks_go_on, tracks_stop}
+use Rattle.session_report.specs.Parts.{PutsTrack, PutsTracks, PutsVolumes}
+use Rattle.session_report.specs.Reports.{volumes_text, begun_text}
+use Rattle.session_report.specs.declared.fault.VolumesFault.{VolumesFault}
+use Rattle.session_report.specs.declared.fault.VolumesFault.TheVariants as volumes_fault
+
+-- what such a walk keeps of its site and its sink, of which no call failed, and of its buffer, and what it has put so far
+pub record IsPutting {S : Type 0} (tells sink_tells : Type 0) (site_told : S → SiteLog) (spare writes faults : S → ℕ) (never_fails_but : FailingReads S) (begun now : S)
+    (old new : List ℕ) (sink_begun sink_now long : ℕ) (so_far : Content → List ℕ) : Type 0 where
+  pub site : OnlyReads tells site_told spare writes faults never_fails_but begun now
+  pub same : faults now ≡ faults begun
+  pub put : tells → sink_tells → new ≡ old ++ so_far (content (site_told begun))
+  pub output_same : sink_now ≡ sink_begun
+  pub whole : long ≡ 16384
+
+-- ---- the tracks of a volume
+
+-- a track put with an equal text
+pub track_put_same : (tells : Type 0) (a b old new : List ℕ) (e : VolumesFault) → (tells → a ≡ b) → PutsTrack tells a old new (Err e) → PutsTrack tells b old new (Err e)
+track_put_same tells a b old new (volumes_fault.Read fault) same put = put
+track_put_same tells a b old new (volumes_fault.Put fault) same put = λ t. subst (λ (l : List ℕ). PutsFront old new l) (same t) (put t)
+
+-- a volume put with equal tracks
+pub tracks_put_same : (tells : Type 0) (heading : List ℕ) (a b : Tracks) (old new : List ℕ) (e : VolumesFault) → (tells → a ≡ b) → PutsTracks tells heading a old new (Err e) → PutsTracks tells heading b old new (Err e)
+tracks_put_same tells heading a b old new (volumes_fault.Read fault) same put =
+    record { tracks = put.tracks; few = put.few; put = λ t. put.put t ∙ ap (λ (x : Tracks). old ++ (heading ++ tracks_text x put.tracks)) (same t) }
+tracks_put_same tells heading a b old new (volumes_fault.Put fault) same put = λ t. subst (λ (x : Tracks). PutsFront old new (heading ++ tracks_text x 7676)) (same t) (put t)
+
+-- no track was put yet
+pub tracks_begin : (track : Tracks) (old : List ℕ) → old ≡ old ++ tracks_text track (0 * 19)
+tracks_begin track old = sym (ap (λ (l : List ℕ). old ++ l) (no_tracks track) ∙ append-nil old)
+
+module _ (tells : Type 0) (track : Tracks) (old now new : List ℕ) (cylinder number head : ℕ) (low_head : head < 19) (is : head ≡ number) (so_far : tells → now ≡ old ++ tracks_text track (cylinder * 19 + number)) where
+  at_head : tells → now ≡ old ++ tracks_text track (cylinder * 19 + head)
+  at_head t = so_far t ∙ ap (λ (n : ℕ). old ++ tracks_text track (cylinder * 19 + n)) (sym is)
+
+  -- the track was put
+  pub tracks_more : (tells → new ≡ now ++ track_text cylinder head (track cylinder head)) → tells → new ≡ old ++ tracks_text track (cylinder * 19 + (number + 1))
+  tracks_more put t =
+      let next : cylinder * 19 + head + 1 ≡ cylinder * 19 + (number + 1) = omega arith in
+      tracks_go_on track old now new cylinder head low_head (at_head t) (put t) ∙ ap (λ (n : ℕ). old ++ tracks_text track n) next
+
+  -- the walk was left at the track
+  pub tracks_left : cylinder < 404 → (e : VolumesFault) → PutsTrack tells (track_text cylinder head (track cylinder head)) now new (Err e) → PutsTracks tells [] track old new (Err e)
+  tracks_left low (volumes_fault.Read fault) put = record { tracks = cylinder * 19 + head; few = omega arith; put = λ t. put t ∙ at_head t }
+  tracks_left low (volumes_fault.Put fault) put = λ t. tracks_stop track old now new cylinder head 7676 low_head (omega arith) (at_head t) (put t)
+
+-- ---- the listed volumes
+
+module _ (tells : Type 0) (shown : Volumes) (volumes : List (ℕ × List ℕ)) (i : ℕ) (x : ℕ × List ℕ) (below : i < length volumes) (is : x ≡ get_or volumes i x) (track : Tracks) (same : shown.track x.0 ≡ track) where
+  volume_is : volume_text x.0 x.1 (shown.track x.0) ≡ heading_text x.0 x.1 ++ tracks_text track 7676
+  volume_is = volume_text_is x.0 x.1 (shown.track x.0) ∙ ap (λ (t : Tracks). heading_text x.0 x.1 ++ tracks_text t 7676) same
+
+  volumes_front : take (i + 1) volumes ≡ take i volumes ++ x ∷ []
+  volumes_front = take_more volumes i x below ∙ ap (λ (y : ℕ × List ℕ). take i volumes ++ y ∷ []) (sym is)
+
+  volumes_whole : volumes ≡ take i volumes ++ x ∷ drop (i + 1) volumes
+  volumes_whole =
+      let rest : drop i volumes ≡ x ∷ drop (i + 1) volumes = drop-cons volumes i x below ∙ ap (λ (y : ℕ × List ℕ). y ∷ drop (suc i) volumes) (sym is) ∙ ap (λ (j : ℕ). x ∷ drop j volumes) (sym (add-one i)) in
+      sym (take-append-drop i volumes) ∙ ap (λ (l : List (ℕ × List ℕ)). take i volumes ++ l) rest
+
+  module _ (old now new : List ℕ) (so_far : tells → now ≡ old ++ volumes_text shown (take i volumes)) where
+    -- the volume was put
+    pub volumes_go_on : (tells → new ≡ now ++ (heading_text x.0 x.1 ++ tracks_text track 7676)) → tells → new ≡ old ++ volumes_text shown (take (i + 1) volumes)
+    volumes_go_on put t =
+        put t ∙ ap (λ (l : List ℕ). now ++ l) (sym volume_is) ∙ ap (λ (l : List ℕ). l ++ volume_text x.0 x.1 (shown.track x.0)) (so_far t)
+        ∙ flat_map_more (λ (v : ℕ × List ℕ). volume_text v.0 v.1 (shown.track v.0)) old (take i volumes) x ∙ ap (λ (l : List (ℕ × List ℕ)). old ++ volumes_text shown l) (sym volumes_front)
+
+    begun_is : (n : ℕ) → heading_text x.0 x.1 ++ tracks_text track n ≡ begun_text shown n (Some x)
+    begun_is n = ap (λ (t : Tracks). heading_text x.0 x.1 ++ tracks_text t n) (sym same)
+
+    -- the walk was left within the volume
+    pub volumes_left : (e : VolumesFault) → PutsTracks tells (heading_text x.0 x.1) track now new (Err e) → PutsVolumes tells shown volumes (volumes_text shown volumes) old new (Err e)
+    volumes_left (volumes_fault.Read fault) put = record {
+      place = i;
+      tracks = put.tracks;
+      there = below;
+      few = put.few;
+      put = λ t. put.put t ∙ ap (λ (l : List ℕ). l ++ (heading_text x.0 x.1 ++ tracks_text track put.tracks)) (so_far t)
+          ∙ append_assoc old (volumes_text shown (take i volumes)) (heading_text x.0 x.1 ++ tracks_text track put.tracks)
+          ∙ ap (λ (l : List ℕ). old ++ (volumes_text shown (take i volumes) ++ l)) (begun_is put.tracks ∙ ap (begun_text shown put.tracks) (sym (slice_get_read volumes (length volumes) i x refl below is)));
+    }
+    volumes_left (volumes_fault.Put fault) put = λ t.
+        let rest : List ℕ = volumes_text shown (drop (i + 1) volumes) in
+        let split : volumes_text shown volumes ≡ volumes_text shown (take i volumes) ++ (volume_text x.0 x.1 (shown.track x.0) ++ rest) =
+        ap (volumes_text shown) volumes_whole ∙ flat_map-append (λ (v : ℕ × List ℕ). volume_text v.0 v.1 (shown.track v.0)) (take i volumes) (x ∷ drop (i + 1) volumes) in
+        part_stops old now new (volume_text x.0 x.1 (shown.track x.0)) rest (volumes_text shown volumes) (record { done = volumes_text shown (take i volumes); split = split; put = so_far t })
+        (subst (λ (l : List ℕ). PutsFront now new l) (sym volume_is) (put t))

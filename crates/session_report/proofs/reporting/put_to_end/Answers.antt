@@ -1,0 +1,31 @@
+use Rattle.std.proofs.Common.{Ok, Err}
+use Rattle.mss_base.specs.Content.{content}
+use Rattle.mss_base.proofs.Putting.{puts_after}
+use Rattle.std.proofs.lemmas.Result.{err_from_is_err_and}
+use Rattle.volume_table.specs.Listed.{listed}
+use Rattle.shown_volumes.specs.Shown.{shown_by}
+use Rattle.ckd_track.specs.Data.{Volumes}
+use Rattle.session_report.specs.Reports.{volumes_text, last_text}
+use Rattle.session_report.proofs.Told.{volumes_fail}
+use Rattle.session_report.proofs.reporting.put_to_end.Goals as goal
+
+pub returns-in_err-put_volumes-clause-bytes : goal.returns-in_err-put_volumes-clause-bytes
+returns-in_err-put_volumes-clause-bytes g c =
+    let p = err_from_is_err_and c.from_residual.result c.from_residual.ensures.1 in
+    rw (p.1, p.2)
+    (volumes_fail (g.S.Site.tells × g.O.Sink.tells) (shown_by (listed c.args.rows.now) (content (g.S.Site.told c.args.site.now))) c.args.volumes.now (last_text c.args.last) (g.O.Sink.told c.args.output.now) (g.O.Sink.told c.put_volumes.new.output)
+    c.in_err-put_volumes.field-0.0 c.in_err-put_volumes.ensures.bytes)
+
+pub returns-in_err-put_last-clause-bytes : goal.returns-in_err-put_last-clause-bytes
+returns-in_err-put_last-clause-bytes g c =
+    let p = err_from_is_err_and c.from_residual-in_err-put_last.result c.from_residual-in_err-put_last.ensures.1 in
+    let shown : Volumes = shown_by (listed c.args.rows.now) (content (g.S.Site.told c.args.site.now)) in
+    rw (p.1, p.2)
+    (λ t. puts_after {T = Unit {0}} {E = Unit {0}} (Err tt) (g.O.Sink.told c.args.output.now) (g.O.Sink.told c.put_volumes.new.output) (g.O.Sink.told c.put_last.new.output) (volumes_text shown c.args.volumes.now) (last_text c.args.last)
+    (c.in_ok-put_volumes.ensures.bytes t) (c.in_err-put_last.ensures.bytes t.1))
+
+pub returns-clause-bytes : goal.returns-clause-bytes
+returns-clause-bytes g c = λ t.
+    let shown : Volumes = shown_by (listed c.args.rows.now) (content (g.S.Site.told c.args.site.now)) in
+    puts_after {T = Unit {0}} {E = Unit {0}} (Ok tt) (g.O.Sink.told c.args.output.now) (g.O.Sink.told c.put_volumes.new.output) (g.O.Sink.told c.put_last.new.output) (volumes_text shown c.args.volumes.now) (last_text c.args.last)
+    (c.in_ok-put_volumes.ensures.bytes t) (c.in_ok-put_last.ensures.bytes t.1)

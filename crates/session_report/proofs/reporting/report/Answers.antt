@@ -1,0 +1,41 @@
+use Rattle.std.proofs.Common.{ℕ, Option, Err, refl, sym, ◌∙◌, ap, subst}
+use Rattle.std.proofs.lemmas.Result.{err_from_is_err_and}
+use Rattle.mss_base.specs.Content.{content}
+use Rattle.ckd_track.specs.Data.{Volumes}
+use Rattle.volume_table.specs.Listed.{listed}
+use Rattle.shown_volumes.specs.Shown.{shown_by}
+use Rattle.core_state.specs.Sessions.{session_data}
+use Rattle.session_report.specs.Parties.{between}
+use Rattle.session_report.specs.Reports.{IsReported, ending_of, finished, stopped, opening_text, report_matter}
+use Rattle.session_report.proofs.Told.{unopened, opened, stop_told, stop_unput}
+use Rattle.session_report.proofs.reporting.report.Goals as goal
+
+pub returns-in_err-put_opening-clause-report : goal.returns-in_err-put_opening-clause-report
+returns-in_err-put_opening-clause-report g c =
+    let p = err_from_is_err_and c.from_residual.result c.from_residual.ensures.1 in
+    unopened (opening_text (session_data c.args.session.now)) _ c.args.volumes.now (ending_of c.args.session.now.stopped c.args.last) _ _ c.from_residual.result c.in_err-put_opening.field-0.0 (p.1 ∙ ap Err p.2)
+    (λ output. c.in_err-put_opening.ensures.cause.output (ap Err output)) c.in_err-put_opening.ensures.bytes
+
+pub returns-in_err-put_stopped-in-Some-clause-report : goal.returns-in_err-put_stopped-in-Some-clause-report
+returns-in_err-put_stopped-in-Some-clause-report g c =
+    let p = err_from_is_err_and c.from_residual-in_err-put_stopped-in-Some.result c.from_residual-in_err-put_stopped-in-Some.ensures.1 in
+    let shown : Volumes = shown_by (listed c.args.rows.now) (content (g.S.Site.told c.args.site.now)) in
+    subst (λ (stop : Option ℕ). IsReported (report_matter (session_data c.args.session.now) c.args.volumes.now shown) (ending_of stop c.args.last) (between g.S.Site.tells g.S.Site.told g.S.Site.faults c.args.site.now c.args.site.now) (between g.O.Sink.tells g.O.Sink.told g.O.Sink.faults c.args.output.now c.put_stopped.new.output) c.from_residual-in_err-put_stopped-in-Some.result)
+    (sym c.in-Some.is)
+    (opened (opening_text (session_data c.args.session.now)) shown c.args.volumes.now (stopped c.in-Some.kept) _ _ _ (g.O.Sink.told c.put_opening.new.output) (g.O.Sink.faults c.put_opening.new.output) c.in_ok-put_opening.ensures.bytes c.in_ok-put_opening.ensures.cause.same
+    (stop_unput shown c.args.volumes.now c.in-Some.kept _ _ _ (p.1 ∙ ap Err p.2) c.in_err-put_stopped-in-Some.ensures.cause.failed c.in_err-put_stopped-in-Some.ensures.bytes))
+
+pub returns-in-Some-clause-report : goal.returns-in-Some-clause-report
+returns-in-Some-clause-report g c =
+    let shown : Volumes = shown_by (listed c.args.rows.now) (content (g.S.Site.told c.args.site.now)) in
+    subst (λ (stop : Option ℕ). IsReported (report_matter (session_data c.args.session.now) c.args.volumes.now shown) (ending_of stop c.args.last) (between g.S.Site.tells g.S.Site.told g.S.Site.faults c.args.site.now c.args.site.now) (between g.O.Sink.tells g.O.Sink.told g.O.Sink.faults c.args.output.now c.put_stopped.new.output) _)
+    (sym c.in-Some.is)
+    (opened (opening_text (session_data c.args.session.now)) shown c.args.volumes.now (stopped c.in-Some.kept) _ _ _ (g.O.Sink.told c.put_opening.new.output) (g.O.Sink.faults c.put_opening.new.output) c.in_ok-put_opening.ensures.bytes c.in_ok-put_opening.ensures.cause.same
+    (stop_told shown c.args.volumes.now c.in-Some.kept _ _ _ refl c.in_ok-put_stopped-in-Some.ensures.bytes))
+
+pub returns-clause-report : goal.returns-clause-report
+returns-clause-report g c =
+    let shown : Volumes = shown_by (listed c.args.rows.now) (content (g.S.Site.told c.args.site.now)) in
+    subst (λ (stop : Option ℕ). IsReported (report_matter (session_data c.args.session.now) c.args.volumes.now shown) (ending_of stop c.args.last) (between g.S.Site.tells g.S.Site.told g.S.Site.faults c.args.site.now c.put_ending.new.site) (between g.O.Sink.tells g.O.Sink.told g.O.Sink.faults c.args.output.now c.put_ending.new.output) c.put_ending.result)
+    (sym c.in-None.is)
+    (opened (opening_text (session_data c.args.session.now)) shown c.args.volumes.now (finished c.args.last) _ _ c.put_ending.result (g.O.Sink.told c.put_opening.new.output) (g.O.Sink.faults c.put_opening.new.output) c.in_ok-put_opening.ensures.bytes c.in_ok-put_opening.ensures.cause.same c.put_ending.ensures.report)

@@ -1,0 +1,13 @@
+use Rattle.std.proofs.Common.{List, ℕ, ◌++◌, sym, ap, ◌∙◌}
+use Rattle.std.specs.Option.{option_and_then}
+use Rattle.std.proofs.lemmas.List.{append-nil}
+use Rattle.mss_base.specs.Content.{content}
+use Rattle.shown_volumes.specs.Shown.{source, track_at}
+use Rattle.session_report.proofs.Told.{blank_tracks}
+use Rattle.session_report.proofs.volumes.put_row.Goals as goal
+
+pub returns-in_default-clause-bytes : goal.returns-in_default-clause-bytes
+returns-in_default-clause-bytes g c = λ tells.
+    sym (ap (λ (text : List ℕ). g.O.Sink.told c.args.output.now ++ text)
+    (blank_tracks _ (λ cylinder head. ap (λ row. track_at (content (g.S.Site.told c.args.site.now)) (option_and_then (λ r. source r cylinder head) row)) c.in_default.is) 7676)
+    ∙ append-nil (g.O.Sink.told c.args.output.now))

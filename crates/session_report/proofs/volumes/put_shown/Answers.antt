@@ -1,0 +1,10 @@
+use Rattle.std.proofs.Common.{sym, ap, ◌∙◌}
+use Rattle.mss_base.specs.Content.{content}
+use Rattle.shown_volumes.specs.Shown.{track_at}
+use Rattle.report_text.proofs.LineLemmas.{no_track_text}
+use Rattle.session_report.proofs.volumes.put_shown.Goals as goal
+
+pub returns-in_default-clause-bytes : goal.returns-in_default-clause-bytes
+returns-in_default-clause-bytes g c = λ tells.
+    no_track_text (g.O.Sink.told c.args.output.now) c.args.cylinder c.args.head _
+    (ap (track_at (content (g.S.Site.told c.args.site.now))) (sym c.shown_place.ensures ∙ c.in_default.is))

@@ -1,0 +1,40 @@
+use Rattle.std.proofs.Common.{◌≡◌, ◌++◌, Some, refl, ◌∙◌, ap, subst, arith}
+use Rattle.std.proofs.lemmas.Result.{err_from_is_err_and}
+use Rattle.mss_base.specs.Content.{SiteLog, content}
+use Rattle.report_text.specs.Texts.{track_text}
+use Rattle.session_report.specs.Parts.{row_tracks}
+use Rattle.session_report.proofs.SiteReads.{reads_none, reads_then}
+use Rattle.session_report.proofs.VolumeTexts.{tracks_begin, tracks_more, tracks_left, track_put_same}
+use Rattle.session_report.proofs.volumes.put_tracks.Goals as goal
+
+pub loop-cylinder-init : goal.loop-cylinder-init
+loop-cylinder-init g c = record {
+  site = reads_none _ _ _ _ _ _ _;
+  same = refl;
+  put = λ tells sink_tells. tracks_begin (row_tracks (content (g.S.Site.told c.args.site.now)) (Some c.args.row.now)) (g.O.Sink.told c.args.output.now);
+  output_same = refl;
+  whole = c.requires;
+}
+
+pub returns-in_err-put_shown-clause-bytes : goal.returns-in_err-put_shown-clause-bytes
+returns-in_err-put_shown-clause-bytes g c =
+    let p = err_from_is_err_and c.from_residual.result c.from_residual.ensures.1 in
+    rw (p.1, p.2)
+    (tracks_left (g.S.Site.tells × g.O.Sink.tells) (row_tracks (content (g.S.Site.told c.args.site.now)) (Some c.args.row.now)) (g.O.Sink.told c.args.output.now) (g.O.Sink.told c.loop-head.output) (g.O.Sink.told c.put_shown.new.output)
+    c.in-Some.cylinder c.loop-head.head c.in-Some-of.head (omega arith) c.in-Some-of.ensures.value (λ t. c.loop-head.invariant.put t.0 t.1) (omega arith) c.in_err-put_shown.field-0.0
+    (track_put_same (g.S.Site.tells × g.O.Sink.tells) _ _ (g.O.Sink.told c.loop-head.output) (g.O.Sink.told c.put_shown.new.output) c.in_err-put_shown.field-0.0
+    (λ t. ap (λ (s : SiteLog). track_text c.in-Some.cylinder c.in-Some-of.head (row_tracks (content s) (Some c.args.row.now) c.in-Some.cylinder c.in-Some-of.head)) (c.loop-head.invariant.site.log t.0))
+    c.in_err-put_shown.ensures.bytes))
+
+pub loop-head-preserved : goal.loop-head-preserved
+loop-head-preserved g c = record {
+  site = reads_then _ _ _ _ _ _ _ _ _ c.loop-head.invariant.site c.in_ok-put_shown.ensures.site;
+  same = c.in_ok-put_shown.ensures.counted ∙ c.loop-head.invariant.same;
+  put = λ tells sink_tells.
+      tracks_more (g.S.Site.tells × g.O.Sink.tells) (row_tracks (content (g.S.Site.told c.args.site.now)) (Some c.args.row.now)) (g.O.Sink.told c.args.output.now) (g.O.Sink.told c.loop-head.output) (g.O.Sink.told c.put_shown.new.output)
+      c.in-Some.cylinder c.loop-head.head c.in-Some-of.head (omega arith) c.in-Some-of.ensures.value (λ t. c.loop-head.invariant.put t.0 t.1)
+      (λ t. subst (λ (s : SiteLog). g.O.Sink.told c.put_shown.new.output ≡ g.O.Sink.told c.loop-head.output ++ track_text c.in-Some.cylinder c.in-Some-of.head (row_tracks (content s) (Some c.args.row.now) c.in-Some.cylinder c.in-Some-of.head))
+      (c.loop-head.invariant.site.log t.0) (c.in_ok-put_shown.ensures.bytes t)) (tells, sink_tells);
+  output_same = c.in_ok-put_shown.ensures.output.same (λ x. x) ∙ c.loop-head.invariant.output_same;
+  whole = omega (arith, c.loop-head.invariant.whole, c.put_shown.auto.block);
+}

@@ -1,0 +1,14 @@
+use Rattle.std.proofs.Common.{Option, subst}
+use Rattle.mss_base.specs.Content.{content}
+use Rattle.volume_table.specs.Row.{RowValue}
+use Rattle.report_text.specs.Texts.{heading_text}
+use Rattle.session_report.specs.Parts.{row_tracks, PutsTracks}
+use Rattle.session_report.proofs.Told.{volume_put}
+use Rattle.session_report.proofs.volumes.put_volume.Goals as goal
+
+pub returns-clause-bytes : goal.returns-clause-bytes
+returns-clause-bytes g c =
+    subst (λ (row : Option RowValue). PutsTracks (g.S.Site.tells × g.O.Sink.tells) (heading_text c.args.volume c.args.serial.now) (row_tracks (content (g.S.Site.told c.args.site.now)) row) (g.O.Sink.told c.args.output.now) (g.O.Sink.told c.put_row.new.output) c.put_row.result)
+    c.row_of.ensures
+    (volume_put (g.S.Site.tells × g.O.Sink.tells) (heading_text c.args.volume c.args.serial.now) _ (g.O.Sink.told c.args.output.now) (g.O.Sink.told c.put_heading.new.output) (g.O.Sink.told c.put_row.new.output) c.put_row.result
+    (λ t. c.in_ok-put_heading.ensures.bytes t.1) c.put_row.ensures.bytes)

@@ -1,0 +1,4 @@
+pub mod Parties
+pub mod Answers
+pub mod Reports
+pub mod Parts

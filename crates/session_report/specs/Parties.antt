@@ -1,0 +1,33 @@
+-- The parties of a report, each from one moment to a later one.
+use Rattle.std.specs.Prelude.{ℕ, List}
+use Rattle.mss_base.specs.Content.{SiteLog}
+
+-- what a party tells at both moments, where clauses may speak of that, and its counts of faults
+pub record Party (T : Type 0) : Type 1 where
+  pub tells : Type 0
+  pub was : T
+  pub now : T
+  pub faults_was : ℕ
+  pub faults_now : ℕ
+
+-- a sink, by the bytes that were put
+abbrev pub Stream : Type 1
+Stream = Party (List ℕ)
+
+-- a site, by its log
+abbrev pub Devices : Type 1
+Devices = Party SiteLog
+
+-- the party of a trait's members, between two of its states
+abbrev pub between : {P T : Type 0} → Type 0 → (P → T) → (P → ℕ) → P → P → Party T
+between tells told faults old new = record {
+  tells = tells;
+  was = told old;
+  now = told new;
+  faults_was = faults old;
+  faults_now = faults new;
+}
+
+-- the sink, of which clauses speak where the site tells as well
+abbrev pub seen_with : Devices → Stream → Stream
+seen_with site sink = record sink { tells = site.tells × sink.tells }

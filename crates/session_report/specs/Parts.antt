@@ -1,0 +1,96 @@
+-- What putting the volumes of a report says, or a part of them.
+use Rattle.std.specs.Prelude.{◌≡◌, ◌<◌, ◌≤◌, ℕ, List, ◌++◌, length, Option, Result, Ok, Err}
+use Rattle.std.specs.Option.{option_and_then}
+use Rattle.mss_base.specs.Content.{Content}
+use Rattle.mss_base.specs.Counts.{Rises, IsFaultSince}
+use Rattle.mss_base.specs.Puts.{PutsFront}
+use Rattle.ckd_track.specs.Data.{RecordData, Volumes}
+use Rattle.volume_table.specs.Row.{RowValue}
+use Rattle.shown_volumes.specs.Shown.{source, track_at}
+use Rattle.report_text.specs.Texts.{tracks_text}
+use Rattle.report_text.specs.declared.report.ReportFault.TheVariants as part
+use Rattle.session_report.specs.declared.fault.VolumesFault.{VolumesFault}
+use Rattle.session_report.specs.declared.fault.VolumesFault.TheVariants as volumes_fault
+use Rattle.session_report.specs.Reports.{Heading, TRACKS_OF_VOLUME, front_text}
+
+-- the tracks of a volume, by cylinder and head
+abbrev pub TracksOfVolume : Type 0
+TracksOfVolume = ℕ → ℕ → List RecordData
+
+-- the tracks that a row shows over a content; without a row each is blank
+abbrev pub row_tracks : Content → Option RowValue → TracksOfVolume
+row_tracks c row cylinder head = track_at c (option_and_then (λ r. source r cylinder head) row)
+
+-- what is answered when volumes were put
+abbrev pub Told : Type 0
+Told = Result (Unit {0}) VolumesFault
+
+-- ---- one track
+
+-- a track's text was put, or nothing of one that couldn't be read, or after another fault a front
+abbrev pub PutsTrack : Type 0 → List ℕ → List ℕ → List ℕ → Told → Type 0
+PutsTrack tells text old new (Ok _) = tells → new ≡ old ++ text
+PutsTrack tells text old new (Err (volumes_fault.Read fault)) = tells → new ≡ old
+PutsTrack tells text old new (Err (volumes_fault.Put fault)) = tells → PutsFront old new text
+
+-- ---- one volume
+
+-- what was put of a volume, behind its heading, before a track that couldn't be read
+pub record PutsTracksBefore (tells : Type 0) (heading : List ℕ) (track : TracksOfVolume)
+    (old new : List ℕ) : Type 0 where
+  pub tracks : ℕ
+  pub few : tracks < TRACKS_OF_VOLUME
+  pub put : tells → new ≡ old ++ (heading ++ tracks_text track tracks)
+
+-- the heading and the tracks of a whole volume
+abbrev pub whole_volume : List ℕ → TracksOfVolume → List ℕ
+whole_volume heading track = heading ++ tracks_text track TRACKS_OF_VOLUME
+
+-- a volume's tracks were put behind its heading, or those before one that couldn't be read, or else
+-- a front
+abbrev pub PutsTracks : Type 0 → List ℕ → TracksOfVolume → List ℕ → List ℕ → Told → Type 0
+PutsTracks tells heading track old new (Ok _) = tells → new ≡ old ++ whole_volume heading track
+PutsTracks tells heading track old new (Err (volumes_fault.Read fault)) =
+    PutsTracksBefore tells heading track old new
+PutsTracks tells heading track old new (Err (volumes_fault.Put fault)) =
+    tells → PutsFront old new (whole_volume heading track)
+
+-- ---- the listed volumes
+
+-- what was put of the listed volumes, before a track that couldn't be read
+pub record PutsBefore (tells : Type 0) (shown : Volumes) (volumes : List Heading)
+    (old new : List ℕ) : Type 0 where
+  pub place : ℕ
+  pub tracks : ℕ
+  pub there : place < length volumes
+  pub few : tracks < TRACKS_OF_VOLUME
+  pub put : tells → new ≡ old ++ front_text shown volumes place tracks
+
+-- a text of the volumes was put, or what stands before a track that couldn't be read, or else a
+-- front
+abbrev pub PutsVolumes : Type 0 → Volumes → List Heading → List ℕ → List ℕ → List ℕ → Told
+    → Type 0
+PutsVolumes tells shown volumes text old new (Ok _) = tells → new ≡ old ++ text
+PutsVolumes tells shown volumes text old new (Err (volumes_fault.Read fault)) =
+    PutsBefore tells shown volumes old new
+PutsVolumes tells shown volumes text old new (Err (volumes_fault.Put fault)) =
+    tells → PutsFront old new text
+
+-- ---- causes
+
+-- a failed read is told with the count of faults behind it, and where none failed the count stays
+abbrev pub CountsReads : ℕ → ℕ → Told → Type 0
+CountsReads before now (Err (volumes_fault.Read fault)) = IsFaultSince before now fault
+CountsReads before now _ = now ≡ before
+
+-- it is told that a part wasn't put
+abbrev pub IsUnput : Told → Type 0
+IsUnput (Err (volumes_fault.Put fault)) = Unit {0}
+IsUnput _ = ⊥
+
+-- the sink is told to have failed only where its count rose, and where each part was put the count
+-- stays
+pub record CountsPuts (before now : ℕ) (told : Told) : Type 0 where
+  pub later : before ≤ now
+  pub failed : told ≡ Err (volumes_fault.Put part.Output) → Rises before now
+  pub same : (IsUnput told → ⊥) → now ≡ before

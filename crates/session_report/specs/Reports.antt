@@ -1,0 +1,151 @@
+-- What a report says, and a listing.
+use Rattle.std.specs.Prelude.{◌≡◌, ◌≤◌, ℕ, zero, suc, ◌<◌, ◌*◌, List, [], ◌∷◌, ◌++◌, length, take}
+use Rattle.std.specs.Prelude.{slice_get, Option, Some, None, Ok, Err}
+use Rattle.std.specs.List.{flat_map}
+use Rattle.mss_base.specs.Counts.{IsFaultSince}
+use Rattle.mss_base.specs.declared.numbers.TheConstants.{CYLINDERS, HEADS}
+use Rattle.ckd_track.specs.Data.{Volumes}
+use Rattle.core_state.specs.declared.session.Message.{Message}
+use Rattle.core_state.specs.SessionData.{SessionData}
+use Rattle.report_text.specs.Texts.{numbered, change_line, history_text}
+use Rattle.report_text.specs.Texts.{heading_text, tracks_text, volume_text}
+use Rattle.report_text.specs.Texts.{end_text, limit_text, stopped_text, listing_title}
+use Rattle.session_report.specs.declared.fault.ReportFault.TheVariants as report_fault
+use Rattle.session_report.specs.declared.reporting.Last.{Last}
+use Rattle.session_report.specs.declared.reporting.Last.TheVariants as last
+use Rattle.session_report.specs.Answers.{Answer, IsPut}
+use Rattle.session_report.specs.Parties.{Stream, Devices, seen_with}
+
+-- ---- the volumes
+
+-- a volume's number and its serial
+abbrev pub Heading : Type 0
+Heading = ℕ × List ℕ
+
+-- how many tracks a volume has
+abbrev pub TRACKS_OF_VOLUME : ℕ
+TRACKS_OF_VOLUME = CYLINDERS * HEADS
+
+-- volumes that are listed: each its heading and its tracks
+abbrev pub volumes_text : Volumes → List Heading → List ℕ
+volumes_text shown volumes = flat_map (λ v. volume_text v.0 v.1 (shown.track v.0)) volumes
+
+-- a volume's heading and its first tracks
+abbrev pub begun_text : Volumes → ℕ → Option Heading → List ℕ
+begun_text shown tracks (Some v) = heading_text v.0 v.1 ++ tracks_text (shown.track v.0) tracks
+begun_text shown tracks None = []
+
+-- the listed volumes before one, and of that one the heading and the first tracks
+abbrev pub front_text : Volumes → List Heading → ℕ → ℕ → List ℕ
+front_text shown volumes place tracks =
+    volumes_text shown (take place volumes) ++ begun_text shown tracks (slice_get volumes place)
+
+-- ---- what is told
+
+-- what a text with volumes is about: what stands before them, all volumes, and those to be listed
+pub record Matter : Type 0 where
+  pub opening : List ℕ
+  pub shown : Volumes
+  pub volumes : List Heading
+
+-- volumes alone, with nothing before them
+abbrev pub untitled : List Heading → Volumes → Matter
+untitled volumes shown = record { opening = []; shown = shown; volumes = volumes }
+
+-- the line of a change of a row, at its place of the console
+abbrev pub message_line : ℕ → Message → List ℕ
+message_line n m = change_line n m.volume m.change m.freed
+
+-- the changes of rows, a line each
+unfoldable pub changes_text : List Message → List ℕ
+changes_text console = numbered message_line 1 console
+
+-- the history of a session, and its changes of rows
+abbrev pub opening_text : SessionData → List ℕ
+opening_text s = history_text s.history ++ changes_text s.console
+
+-- a report is about a session, and the volumes of its job
+abbrev pub report_matter : SessionData → List Heading → Volumes → Matter
+report_matter s volumes shown = record {
+  opening = opening_text s;
+  shown = shown;
+  volumes = volumes;
+}
+
+-- a volume that is there
+abbrev pub heading_of : ℕ → Option (List ℕ) → List Heading
+heading_of n (Some serial) = (n, serial) ∷ []
+heading_of n None = []
+
+-- the volumes below a number that are there, by number
+unfoldable pub volumes_below : ℕ → (ℕ → Option (List ℕ)) → List Heading
+volumes_below zero serials = []
+volumes_below (suc n) serials = volumes_below n serials ++ heading_of n (serials n)
+
+-- a listing is about all volumes that are there
+abbrev pub listing_matter : Volumes → Matter
+listing_matter shown = record {
+  opening = listing_title;
+  shown = shown;
+  volumes = volumes_below 32 shown.serial;
+}
+
+-- ---- how it ends
+
+-- with the volumes and a last line, or stopped by a fault without them
+pub data Ending : Type 0 where
+  finished : Last → Ending
+  stopped : ℕ → Ending
+
+-- the ending of a session: a stop that it keeps, or else this one
+abbrev pub ending_of : Option ℕ → Last → Ending
+ending_of None l = finished l
+ending_of (Some fault) l = stopped fault
+
+-- what is told: all to the end, or the volumes before a track that couldn't be read, with the
+-- count of faults then
+pub data Telling : Type 0 where
+  whole : Ending → Telling
+  unread : ℕ → ℕ → ℕ → Telling
+
+-- the last line behind the volumes
+abbrev pub last_text : Last → List ℕ
+last_text last.End = end_text
+last_text last.Limit = limit_text
+
+-- the text of it
+abbrev pub told_text : Matter → Telling → List ℕ
+told_text m (whole (finished l)) = m.opening ++ volumes_text m.shown m.volumes ++ last_text l
+told_text m (whole (stopped fault)) = m.opening ++ stopped_text fault
+told_text m (unread place tracks fault) =
+    m.opening ++ front_text m.shown m.volumes place tracks ++ stopped_text fault
+
+-- what is answered when that was put
+abbrev pub told_answer : Telling → Answer
+told_answer (whole ending) = Ok tt
+told_answer (unread place tracks fault) = Err (report_fault.Read fault)
+
+-- the volumes are told
+abbrev pub TellsVolumes : Ending → Type 0
+TellsVolumes (finished l) = Unit {0}
+TellsVolumes (stopped fault) = ⊥
+
+-- what is told is the ending, or that a read for the volumes failed, with the count behind it
+abbrev pub HasReason : Ending → List Heading → ℕ → ℕ → Telling → Type 0
+HasReason ending volumes before now (whole e) = e ≡ ending
+HasReason ending volumes before now (unread place tracks fault) =
+    TellsVolumes ending × (place < length volumes) × (tracks < TRACKS_OF_VOLUME)
+    × IsFaultSince before now fault
+
+-- it was told over this site, with the answer that goes with it
+pub record IsReported (m : Matter) (ending : Ending) (site : Devices) (sink : Stream)
+    (answer : Answer) : Type 0 where
+  pub telling : Telling
+  pub reason : HasReason ending m.volumes site.faults_was site.faults_now telling
+  pub put : IsPut (told_answer telling) (told_text m telling) (seen_with site sink) answer
+
+-- a failed read is told with the count of faults behind it, and where none failed the count stays
+abbrev pub SiteCounts : ℕ → ℕ → Answer → Type 0
+SiteCounts before now (Err (report_fault.Read fault)) = IsFaultSince before now fault
+SiteCounts before now (Err report_fault.Output) = before ≤ now
+SiteCounts before now _ = now ≡ before

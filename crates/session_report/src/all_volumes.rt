@@ -1,0 +1,78 @@
+// The listing of all volumes.
+ghost use Rattle.std.specs.Prelude.{◌≡◌, ◌≤◌, ◌+◌, ◌++◌, IfOk, length};
+ghost use Rattle.std.specs.Option.{option_map};
+ghost use Rattle.mss_base.specs.Content.{content};
+ghost use Rattle.mss_base.specs.Sites.{OnlyReads};
+ghost use Rattle.volume_table.specs.Listed.{listed};
+ghost use Rattle.shown_volumes.specs.Shown.{shown_by};
+ghost use Rattle.session_report.specs.Answers.{SinkCounts};
+ghost use Rattle.session_report.specs.Parties.{between};
+ghost use Rattle.session_report.specs.Reports.{IsReported, SiteCounts, finished, listing_matter};
+ghost use Rattle.session_report.specs.Reports.{heading_of, volumes_below};
+ghost use Rattle.session_report.specs.declared.reporting.Last.TheVariants.{End};
+
+use crate::fault::ReportFault;
+use crate::place::row_of;
+use crate::reporting::{Last, put_ending};
+use mss_base::{NoMemory, Sink, Site, VolumeList, VolumeNo};
+use report_text::put_title;
+use std::alloc::Global;
+use volume_table::VolumeRow;
+
+/// How many volumes there may be.
+const VOLUMES: u8 = 32;
+
+/// Puts a volume last, with its serial, if it has a row.
+fn push_volume(volumes: &mut VolumeList, rows: &[Option<VolumeRow>], volume: VolumeNo)
+    requires rows { length rows.now ≡ 32 }
+    requires room { 1 ≤ volumes.old.spare }
+    ensures items { volumes.new.items ≡ volumes.old.items
+        ++ heading_of volume (option_map (λ r. r.serial) (listed rows.now volume)) }
+    ensures spare { volumes.old.spare ≤ volumes.new.spare + 1 }
+{
+    if let Some(row) = row_of(rows, volume) {
+        volumes.push((volume, row.serial));
+    }
+}
+
+/// The volumes that have a row, by number, each with its serial.
+fn listed_volumes(alloc: Global, rows: &[Option<VolumeRow>]) -> Result<VolumeList, NoMemory>
+    requires { length rows.now ≡ 32 }
+    ensures { IfOk result (λ volumes. volumes.items
+        ≡ volumes_below 32 (λ volume. option_map (λ r. r.serial) (listed rows.now volume))) }
+{
+    let mut volumes = VolumeList::new(alloc);
+    volumes.reserve(rows.len())?;
+    for number in 0..VOLUMES {
+        let Some(volume) = VolumeNo::of(number) else {
+            unreachable!()
+        };
+        push_volume(&mut volumes, rows, volume);
+    }
+    Ok(volumes)
+}
+
+/// Puts the listing of a site: every volume that has a row, as the rows show it over the devices.
+///
+/// Where a read for a track fails, the listing ends before that track, with a line that tells the count of faults.
+/// `rows` has 32 items.
+pub fn listing<S: Site, O: Sink>(
+    alloc: Global,
+    site: &mut S,
+    rows: &[Option<VolumeRow>],
+    output: &mut O,
+) -> Result<(), ReportFault>
+    requires rows { length rows.now ≡ 32 }
+    ensures report { let shown = shown_by (listed rows.now) (content (S.told site.old)) in
+        IsReported (listing_matter shown) (finished End)
+        (between S.tells S.told S.faults site.old site.new)
+        (between O.tells O.told O.faults output.old output.new) result }
+    ensures counted { SiteCounts (S.faults site.old) (S.faults site.new) result }
+    ensures site { OnlyReads S.tells S.told S.spare S.writes S.faults S.never_fails_but
+        site.old site.new }
+    ensures output { SinkCounts (O.faults output.old) (O.faults output.new) result }
+{
+    let volumes = listed_volumes(alloc, rows)?;
+    put_title(output)?;
+    put_ending(alloc, site, rows, volumes.as_slice(), Last::End, output)
+}

@@ -1,0 +1,24 @@
+//! The report of a session, and the listing of a site's volumes.
+//!
+//! `report` puts the history of a session, its changes of rows, and the volumes of its job as the devices show them;
+//! `listing` puts every volume that has a row. What each says is `told_text` of `specs/Reports.antt`, which is made of
+//! the texts of `report_text`. Both read the block of a track only where its cylinder isn't blank, write nothing, and
+//! answer over every site and every sink: a failed read and a failing sink each have a count that rose.
+//!
+//! The volumes are those that the rows handed in show over the devices (`shown_by` of `shown_volumes`). Where these are
+//! the rows of the devices' content, they are the volumes that it shows (`law::rows_of_a_content_show_its_volumes`).
+#![tactic(auto)]
+
+mod all_volumes;
+mod changes;
+mod fault;
+pub mod law;
+mod place;
+mod reporting;
+#[cfg(test)]
+mod tests;
+mod volumes;
+
+pub use all_volumes::listing;
+pub use fault::ReportFault;
+pub use reporting::{Last, report};

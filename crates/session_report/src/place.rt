@@ -1,0 +1,56 @@
+// Where the track lies that a row shows.
+ghost use Rattle.std.specs.Prelude.{◌≡◌, length};
+ghost use Rattle.volume_table.specs.Listed.{listed};
+ghost use Rattle.shown_volumes.specs.Shown.{in_page, on_cartridge, source};
+
+use mss_base::{BlockPlace, Cylinder, Head, UnitNo, VolumeNo, cartridge_block, frame_block};
+use volume_table::{CylinderState, VolumeRow};
+
+/// The cylinders of a volume's first cartridge.
+const CYLINDERS_OF_CARTRIDGE: u16 = 202;
+
+/// The row of a volume, if the list has one.
+pub fn row_of(rows: &[Option<VolumeRow>], volume: VolumeNo) -> &Option<VolumeRow>
+    requires { length rows.now ≡ 32 }
+    ensures { result.now ≡ listed rows.now volume }
+{
+    &rows[usize::from(volume.get())]
+}
+
+/// The place of a track on its cartridge.
+fn on_cartridge(row: &VolumeRow, cylinder: Cylinder, head: Head) -> BlockPlace
+    ensures { result ≡ on_cartridge row.now cylinder head }
+{
+    let cartridge = if cylinder.get() < CYLINDERS_OF_CARTRIDGE {
+        row.first
+    } else {
+        row.second
+    };
+    BlockPlace {
+        unit: UnitNo::Cartridge(cartridge),
+        block: cartridge_block(cylinder, head),
+    }
+}
+
+/// The place of a track in the frame of its page, if the page has one.
+fn in_page(row: &VolumeRow, cylinder: Cylinder, head: Head) -> Option<BlockPlace>
+    ensures { result ≡ in_page row.now cylinder head }
+{
+    let Some(frame) = row.frame(cylinder.page()) else {
+        return None;
+    };
+    Some(frame_block(frame, cylinder, head))
+}
+
+/// The place of the track that a row shows. There is none where the cylinder is blank.
+pub fn shown_place(row: &VolumeRow, cylinder: Cylinder, head: Head) -> Option<BlockPlace>
+    ensures { result ≡ source row.now cylinder head }
+{
+    match row.state(cylinder) {
+        CylinderState::Blank | CylinderState::StagedBlank => None,
+        CylinderState::OnCartridge | CylinderState::Staged => {
+            Some(on_cartridge(row, cylinder, head))
+        }
+        CylinderState::Changed => in_page(row, cylinder, head),
+    }
+}

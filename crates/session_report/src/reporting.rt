@@ -1,0 +1,161 @@
+// The report of a session.
+ghost use Rattle.std.specs.Prelude.{◌≡◌, ◌++◌, IfOk, length, vec_len};
+ghost use Rattle.mss_base.specs.Content.{content};
+ghost use Rattle.mss_base.specs.Counts.{HasCause};
+ghost use Rattle.mss_base.specs.Puts.{Puts};
+ghost use Rattle.mss_base.specs.Sites.{OnlyReads};
+ghost use Rattle.volume_table.specs.Listed.{listed};
+ghost use Rattle.shown_volumes.specs.Shown.{shown_by};
+ghost use Rattle.core_state.specs.Sessions.{session_data};
+ghost use Rattle.report_text.specs.Causes.{HasOutputCause};
+ghost use Rattle.session_report.specs.Answers.{SinkCounts};
+ghost use Rattle.session_report.specs.Parties.{between};
+ghost use Rattle.session_report.specs.Parts.{PutsVolumes, CountsReads, CountsPuts};
+ghost use Rattle.session_report.specs.Reports.{IsReported, SiteCounts, ending_of, finished};
+ghost use Rattle.session_report.specs.Reports.{last_text, opening_text, report_matter};
+ghost use Rattle.session_report.specs.Reports.{untitled, volumes_text};
+
+use crate::changes::put_changes;
+use crate::fault::{ReportFault, VolumesFault};
+use crate::volumes::put_volumes;
+use core_state::Session;
+use mss_base::{BLOCK_BYTES, Bytes, Failed, NoMemory, Serial, Sink, Site, VolumeNo};
+use report_text::{ReportFault as PartFault, put_end, put_history, put_limit, put_stopped};
+use std::alloc::Global;
+use volume_table::VolumeRow;
+
+/// The last line of a report whose volumes are told.
+#[derive(Clone, Copy, Debug, PartialEq, Eq)]
+pub enum Last {
+    /// The session came to its end.
+    End,
+    /// It came to the limit of its entries.
+    Limit,
+}
+
+fn put_last<O: Sink>(output: &mut O, last: Last) -> Result<(), Failed>
+    ensures bytes { O.tells → Puts result (O.told output.old) (O.told output.new) (last_text last) }
+    ensures cause { HasCause (O.faults output.old) (O.faults output.new) result }
+{
+    match last {
+        Last::End => put_end(output),
+        Last::Limit => put_limit(output),
+    }
+}
+
+/// Puts the history and the changes of rows.
+fn put_opening<O: Sink>(
+    output: &mut O,
+    line: &mut Bytes,
+    session: &Session,
+) -> Result<(), PartFault>
+    ensures bytes { O.tells → Puts result (O.told output.old) (O.told output.new)
+        (opening_text (session_data session.now)) }
+    ensures cause { HasOutputCause (O.faults output.old) (O.faults output.new) result }
+{
+    put_history(output, line, session.history.as_slice())?;
+    put_changes(output, line, session.console.as_slice())
+}
+
+/// Puts the listed volumes and the last line.
+fn put_to_end<S: Site, O: Sink>(
+    site: &mut S,
+    output: &mut O,
+    rows: &[Option<VolumeRow>],
+    volumes: &[(VolumeNo, Serial)],
+    last: Last,
+    block: &mut [u8],
+    line: &mut Bytes,
+) -> Result<(), VolumesFault>
+    requires rows { length rows.now ≡ 32 }
+    requires block { length block.old ≡ BLOCK_BYTES }
+    ensures bytes { let shown = shown_by (listed rows.now) (content (S.told site.old)) in
+        PutsVolumes (S.tells × O.tells) shown volumes.now
+        (volumes_text shown volumes.now ++ last_text last)
+        (O.told output.old) (O.told output.new) result }
+    ensures counted { CountsReads (S.faults site.old) (S.faults site.new) result }
+    ensures site { OnlyReads S.tells S.told S.spare S.writes S.faults S.never_fails_but
+        site.old site.new }
+    ensures output { CountsPuts (O.faults output.old) (O.faults output.new) result }
+{
+    put_volumes(site, output, rows, volumes, block, line)?;
+    put_last(output, last)?;
+    Ok(())
+}
+
+/// Room for a block.
+fn block_room(alloc: Global) -> Result<Vec<u8>, NoMemory>
+    ensures { IfOk result (λ block. vec_len block ≡ BLOCK_BYTES) }
+{
+    let Ok(block) = vec![in alloc; 0u8; BLOCK_BYTES] else {
+        return Err(NoMemory);
+    };
+    Ok(block)
+}
+
+/// Puts the listed volumes and the last line, or where a read fails the volumes before it and the count of faults.
+pub fn put_ending<S: Site, O: Sink>(
+    alloc: Global,
+    site: &mut S,
+    rows: &[Option<VolumeRow>],
+    volumes: &[(VolumeNo, Serial)],
+    last: Last,
+    output: &mut O,
+) -> Result<(), ReportFault>
+    requires rows { length rows.now ≡ 32 }
+    ensures report { let shown = shown_by (listed rows.now) (content (S.told site.old)) in
+        IsReported (untitled volumes.now shown) (finished last)
+        (between S.tells S.told S.faults site.old site.new)
+        (between O.tells O.told O.faults output.old output.new) result }
+    ensures counted { SiteCounts (S.faults site.old) (S.faults site.new) result }
+    ensures site { OnlyReads S.tells S.told S.spare S.writes S.faults S.never_fails_but
+        site.old site.new }
+    ensures output { SinkCounts (O.faults output.old) (O.faults output.new) result }
+{
+    let mut block = block_room(alloc)?;
+    let mut line = Bytes::new(alloc);
+    match put_to_end(site, output, rows, volumes, last, &mut block, &mut line) {
+        Ok(()) => Ok(()),
+        Err(VolumesFault::Read { fault }) => {
+            put_stopped(output, fault)?;
+            Err(ReportFault::Read { fault })
+        }
+        Err(VolumesFault::Put(fault)) => Err(ReportFault::from(fault)),
+    }
+}
+
+/// Puts the report of a session on the volumes of its job: the history, the changes of rows, the volumes as the rows
+/// show them over the devices, and a last line.
+///
+/// A session that was stopped has no volumes, and its last line tells the fault. Where a read for a track fails, the
+/// report ends before that track, with a line that tells the count of faults. `rows` has 32 items.
+pub fn report<S: Site, O: Sink>(
+    alloc: Global,
+    site: &mut S,
+    rows: &[Option<VolumeRow>],
+    volumes: &[(VolumeNo, Serial)],
+    session: &Session,
+    last: Last,
+    output: &mut O,
+) -> Result<(), ReportFault>
+    requires rows { length rows.now ≡ 32 }
+    ensures report { let shown = shown_by (listed rows.now) (content (S.told site.old)) in
+        IsReported (report_matter (session_data session.now) volumes.now shown)
+        (ending_of session.now.stopped last)
+        (between S.tells S.told S.faults site.old site.new)
+        (between O.tells O.told O.faults output.old output.new) result }
+    ensures counted { SiteCounts (S.faults site.old) (S.faults site.new) result }
+    ensures site { OnlyReads S.tells S.told S.spare S.writes S.faults S.never_fails_but
+        site.old site.new }
+    ensures output { SinkCounts (O.faults output.old) (O.faults output.new) result }
+{
+    let mut line = Bytes::new(alloc);
+    put_opening(output, &mut line, session)?;
+    match session.stopped {
+        Some(kept) => {
+            put_stopped(output, kept)?;
+            Ok(())
+        }
+        None => put_ending(alloc, site, rows, volumes, last, output),
+    }
+}

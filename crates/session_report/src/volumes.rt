@@ -1,0 +1,155 @@
+// The volumes of a report, as the devices show them.
+ghost use Rattle.std.specs.Prelude.{◌≡◌, [], Some, length};
+ghost use Rattle.mss_base.specs.Content.{content};
+ghost use Rattle.mss_base.specs.Sites.{OnlyReads};
+ghost use Rattle.volume_table.specs.Listed.{listed};
+ghost use Rattle.shown_volumes.specs.Shown.{shown_by};
+ghost use Rattle.report_text.specs.Texts.{track_text, heading_text};
+ghost use Rattle.session_report.specs.Parts.{row_tracks, PutsTrack, PutsTracks, PutsVolumes};
+ghost use Rattle.session_report.specs.Parts.{CountsReads, CountsPuts};
+ghost use Rattle.session_report.specs.Reports.{volumes_text};
+
+use crate::fault::VolumesFault;
+use crate::place::{row_of, shown_place};
+use mss_base::{
+    BLOCK_BYTES, Bytes, CYLINDERS, Cylinder, HEADS, Head, Serial, Sink, Site, VolumeNo,
+};
+use report_text::{put_heading, put_track};
+use volume_table::VolumeRow;
+
+/// Reads the block of a track that a row shows, and puts the track. A blank cylinder isn't read. Of a track that can't
+/// be read it puts nothing.
+fn put_shown<S: Site, O: Sink>(
+    site: &mut S,
+    output: &mut O,
+    row: &VolumeRow,
+    cylinder: Cylinder,
+    head: Head,
+    block: &mut [u8],
+    line: &mut Bytes,
+) -> Result<(), VolumesFault>
+    requires { length block.old ≡ BLOCK_BYTES }
+    ensures bytes { let tracks = row_tracks (content (S.told site.old)) (Some row.now) in
+        PutsTrack (S.tells × O.tells) (track_text cylinder head (tracks cylinder head))
+        (O.told output.old) (O.told output.new) result }
+    ensures counted { CountsReads (S.faults site.old) (S.faults site.new) result }
+    ensures site { OnlyReads S.tells S.told S.spare S.writes S.faults S.never_fails_but
+        site.old site.new }
+    ensures output { CountsPuts (O.faults output.old) (O.faults output.new) result }
+{
+    let Some(place) = shown_place(row, cylinder, head) else {
+        return Ok(());
+    };
+    if site.read(place.unit, place.block, block).is_err() {
+        return Err(VolumesFault::Read {
+            fault: site.faults(),
+        });
+    }
+    put_track(output, line, cylinder, head, block)?;
+    Ok(())
+}
+
+/// Puts the tracks that a row shows, by cylinder and head.
+fn put_tracks<S: Site, O: Sink>(
+    site: &mut S,
+    output: &mut O,
+    row: &VolumeRow,
+    block: &mut [u8],
+    line: &mut Bytes,
+) -> Result<(), VolumesFault>
+    requires { length block.old ≡ BLOCK_BYTES }
+    ensures bytes { PutsTracks (S.tells × O.tells) []
+        (row_tracks (content (S.told site.old)) (Some row.now))
+        (O.told output.old) (O.told output.new) result }
+    ensures counted { CountsReads (S.faults site.old) (S.faults site.new) result }
+    ensures site { OnlyReads S.tells S.told S.spare S.writes S.faults S.never_fails_but
+        site.old site.new }
+    ensures output { CountsPuts (O.faults output.old) (O.faults output.new) result }
+{
+    for cylinder in 0..CYLINDERS {
+        let Some(cylinder) = Cylinder::of(cylinder) else {
+            unreachable!()
+        };
+        for head in 0..HEADS {
+            let Some(head) = Head::of(head) else {
+                unreachable!()
+            };
+            put_shown(site, output, row, cylinder, head, block, line)?;
+        }
+    }
+    Ok(())
+}
+
+/// Puts the tracks of a volume, by its row. Without a row each is blank.
+fn put_row<S: Site, O: Sink>(
+    site: &mut S,
+    output: &mut O,
+    row: &Option<VolumeRow>,
+    block: &mut [u8],
+    line: &mut Bytes,
+) -> Result<(), VolumesFault>
+    requires { length block.old ≡ BLOCK_BYTES }
+    ensures bytes { PutsTracks (S.tells × O.tells) []
+        (row_tracks (content (S.told site.old)) row.now)
+        (O.told output.old) (O.told output.new) result }
+    ensures counted { CountsReads (S.faults site.old) (S.faults site.new) result }
+    ensures site { OnlyReads S.tells S.told S.spare S.writes S.faults S.never_fails_but
+        site.old site.new }
+    ensures output { CountsPuts (O.faults output.old) (O.faults output.new) result }
+{
+    let Some(row) = row else {
+        return Ok(());
+    };
+    put_tracks(site, output, row, block, line)
+}
+
+/// Puts a volume: its heading, and its tracks.
+fn put_volume<S: Site, O: Sink>(
+    site: &mut S,
+    output: &mut O,
+    rows: &[Option<VolumeRow>],
+    volume: VolumeNo,
+    serial: &Serial,
+    block: &mut [u8],
+    line: &mut Bytes,
+) -> Result<(), VolumesFault>
+    requires rows { length rows.now ≡ 32 }
+    requires block { length block.old ≡ BLOCK_BYTES }
+    ensures bytes { PutsTracks (S.tells × O.tells) (heading_text volume serial.now)
+        (row_tracks (content (S.told site.old)) (listed rows.now volume))
+        (O.told output.old) (O.told output.new) result }
+    ensures counted { CountsReads (S.faults site.old) (S.faults site.new) result }
+    ensures site { OnlyReads S.tells S.told S.spare S.writes S.faults S.never_fails_but
+        site.old site.new }
+    ensures output { CountsPuts (O.faults output.old) (O.faults output.new) result }
+{
+    put_heading(output, line, volume, serial)?;
+    put_row(site, output, row_of(rows, volume), block, line)
+}
+
+/// Puts each listed volume: its heading, and its tracks as the rows show them over the devices.
+///
+/// `block` has 16,384 bytes; what it and `line` hold means nothing afterwards.
+pub fn put_volumes<S: Site, O: Sink>(
+    site: &mut S,
+    output: &mut O,
+    rows: &[Option<VolumeRow>],
+    volumes: &[(VolumeNo, Serial)],
+    block: &mut [u8],
+    line: &mut Bytes,
+) -> Result<(), VolumesFault>
+    requires rows { length rows.now ≡ 32 }
+    requires block { length block.old ≡ BLOCK_BYTES }
+    ensures bytes { let shown = shown_by (listed rows.now) (content (S.told site.old)) in
+        PutsVolumes (S.tells × O.tells) shown volumes.now (volumes_text shown volumes.now)
+        (O.told output.old) (O.told output.new) result }
+    ensures counted { CountsReads (S.faults site.old) (S.faults site.new) result }
+    ensures site { OnlyReads S.tells S.told S.spare S.writes S.faults S.never_fails_but
+        site.old site.new }
+    ensures output { CountsPuts (O.faults output.old) (O.faults output.new) result }
+{
+    for entry in volumes {
+        put_volume(site, output, rows, entry.0, &entry.1, block, line)?;
+    }
+    Ok(())
+}
