@@ -1,0 +1,156 @@
+-- Events of a list, one after the other.
+use Rattle.std.proofs.Common.{◌≡◌, ◌≢◌, ◌<◌, ◌≤◌, ℕ, zero, suc, ◌+◌, List, [], ◌∷◌, length, drop, get_or, Option, Some, None, refl, sym, ◌∙◌, ap, subst, arith}
+use Rattle.std.specs.Prelude.{◌==◌}
+use Rattle.std.proofs.lemmas.Bool.{cond-false, ne_eqb}
+use Rattle.mss_base.specs.Content.{SiteLog}
+use Rattle.mss_base.specs.Sites.{FailingReads}
+use Rattle.victim_choice.specs.declared.choose.Candidate.{Candidate}
+use Rattle.channel_program.specs.Script.{ItemData, Exchange}
+use Rattle.ckd_plain.specs.History.{EntryData}
+use Rattle.job_text.specs.Jobs.{ScriptData}
+use Rattle.core_state.specs.declared.session.Event.{Event}
+use Rattle.core_state.specs.declared.session.Event.TheVariants.{Host, Work}
+use Rattle.core_state.specs.Chains.{Step, worked, EventTurn, Ended}
+use Rattle.core_state.specs.CoreValue.{CoreData, seen}
+use Rattle.serial_driver.specs.declared.answer.DriveAnswer.{DriveAnswer}
+use Rattle.serial_driver.specs.declared.answer.DriveAnswer.TheVariants.{Done}
+use Rattle.serial_driver.specs.Answers.{of_last}
+use Rattle.serial_driver.specs.Scripts.{Left, not_begun, next_of, left_by, left_after, script_of, exchanges_of, calls_of}
+use Rattle.serial_driver.proofs.Later.{later_none, later_then}
+use Rattle.serial_driver.specs.Drives.{DriveValue, EventTakes, Halts, Leaves, RunsEvents}
+use Rattle.serial_driver.proofs.ChainFacts.{of_last-cons, host_goes, host_ends, work_goes, work_last}
+
+-- ---- a host that isn't in the job
+
+pub left_nothing : (left : Left) (xs : List Exchange) → left.items ≡ [] → (left_after left xs).items ≡ []
+left_nothing left [] none = none
+left_nothing left (x ∷ xs) none = left_nothing (left_by left.items left.at x.1) xs (ap (λ (l : List ItemData). (left_by l left.at x.1).items) none)
+
+pub no_call : (scripts : List ScriptData) (history : List EntryData) (h : ℕ) → script_of scripts h ≡ [] → calls_of scripts history h ≡ None
+no_call scripts history h none =
+    let left = left_after (not_begun (script_of scripts h)) (exchanges_of h history) in
+    ap (λ (l : List ItemData). next_of l left.at) (left_nothing (not_begun (script_of scripts h)) (exchanges_of h history) none)
+
+pub not_this : (ss : List ScriptData) (n : ℕ) (h : ℕ) (s : ScriptData) → n < length ss → s ≡ get_or ss n s → s.host ≢ h → script_of (drop n ss) h ≡ script_of (drop (n + 1) ss) h
+not_this [] n h s below is other = absurd (omega (arith, below))
+not_this (x ∷ xs) zero h s below is other = cond-false (x.host == h) x.items (script_of xs h) (ne_eqb x.host h (λ same. other (ap (λ (y : ScriptData). y.host) is ∙ same)))
+not_this (x ∷ xs) (suc n) h s below is other =
+    let e : suc n + 1 ≡ suc (n + 1) = omega arith in
+    not_this xs n h s (omega (arith, below)) is other ∙ ap (λ (k : ℕ). script_of (drop k (x ∷ xs)) h) (sym e)
+
+-- ---- what is left of the devices
+
+pub leaves_then : {S C : Type 0} (tells : Type 0) (told : S → SiteLog) (writes faults : S → ℕ) (never_fails_but : FailingReads S) (old mid new : DriveValue S C) (answer : DriveAnswer)
+    → Leaves tells told writes faults never_fails_but old mid Done → Leaves tells told writes faults never_fails_but mid new answer → Leaves tells told writes faults never_fails_but old new answer
+leaves_then tells told writes faults never_fails_but old mid new answer first then_ = record {
+  session = later_then tells (seen told writes faults old.core) (seen told writes faults mid.core) (seen told writes faults new.core) first.session then_.session;
+  scripts_ = then_.scripts_ ∙ first.scripts_;
+  chooser_ = then_.chooser_ ∙ first.chooser_;
+  config_ = then_.config_ ∙ first.config_;
+  written = omega (arith, first.written, then_.written);
+  later = omega (arith, first.later, then_.later);
+  sound = λ but never. then_.sound but (first.sound but never);
+  halts = subst (λ (o : Option ℕ). Halts answer o new.core.stopped) first.halts then_.halts;
+  cause = λ none fault is.
+      let it = then_.cause (first.halts ∙ none) fault is in
+      record { count = it.count; rises = omega (arith, first.later, it.rises) };
+  only_reads_fail = λ but never none. then_.only_reads_fail but (first.sound but never) (first.only_reads_fail but never none);
+}
+
+pub leaves_none : {S C : Type 0} (tells : Type 0) (told : S → SiteLog) (writes faults : S → ℕ) (never_fails_but : FailingReads S) (d : DriveValue S C) → Leaves tells told writes faults never_fails_but d d Done
+leaves_none tells told writes faults never_fails_but d = record {
+  session = later_none tells (seen told writes faults d.core);
+  scripts_ = refl;
+  chooser_ = refl;
+  config_ = refl;
+  written = omega arith;
+  later = omega arith;
+  sound = λ but never. never;
+  halts = refl;
+  cause = λ none fault is. absurd (let e : None ≡ Some fault = sym none ∙ is in cc);
+  only_reads_fail = λ but never none. none;
+}
+
+-- ---- a list
+
+module _ (tells : Type 0) (may : List Candidate → ℕ → Type 0) (scripts : List ScriptData) (events : List Event) (start : CoreData) where
+  -- the events from now on are those of the whole list, with those before
+  abbrev pub EventsSoFar : List Event → CoreData → Type 0
+  EventsSoFar rest now =
+      (final : CoreData) (more : List Step) → EventTurn tells may (calls_of scripts) rest now more final (Ended final)
+      → (steps : List Step) × EventTurn tells may (calls_of scripts) events start steps final (Ended final) × (of_last steps ≡ of_last more)
+
+  module _ (rest : List Event) (now next : CoreData) where
+    pub events_go : (event : Event) (answer : DriveAnswer) → EventTakes tells may scripts event now answer next → answer ≡ Done → EventsSoFar (event ∷ rest) now → EventsSoFar rest next
+    events_go (Host h) answer takes done so_far final more chain =
+        let one = host_goes tells may h (calls_of scripts now.history h) now next answer takes done more final (λ core steps. EventTurn tells may (calls_of scripts) rest core steps final (Ended final)) chain in
+        let whole = so_far final one.0 one.1 in
+        (whole.0, whole.1, whole.2 ∙ one.2)
+    events_go (Work r) answer takes done so_far final more chain =
+        let last = sym takes.2 ∙ done in
+        let whole = so_far final (worked r takes.0 ∷ more) (work_goes tells may r now next takes.0 takes.1 last more final (λ core steps. EventTurn tells may (calls_of scripts) rest core steps final (Ended final)) chain) in
+        (whole.0, whole.1, whole.2 ∙ of_last-cons (worked r takes.0) more last)
+
+    pub events_halt : (event : Event) (answer : DriveAnswer) → EventTakes tells may scripts event now answer next → answer ≢ Done → EventsSoFar (event ∷ rest) now
+        → RunsEvents tells may scripts events start answer next
+    events_halt (Host h) answer takes halted so_far =
+        let one = host_ends tells may h (calls_of scripts now.history h) now next answer takes halted (λ core steps. EventTurn tells may (calls_of scripts) rest core steps next (Ended next)) in
+        let whole = so_far next one.0 one.1 in
+        record { steps = whole.0; chain = whole.1; last = one.2 ∙ sym whole.2 }
+    events_halt (Work r) answer takes halted so_far =
+        let whole = so_far next (worked r takes.0 ∷ []) (work_last tells may r now next takes.0 takes.1 (λ done. halted (takes.2 ∙ done)) (λ core steps. EventTurn tells may (calls_of scripts) rest core steps next (Ended next))) in
+        record { steps = whole.0; chain = whole.1; last = takes.2 ∙ sym whole.2 }
+
+  pub events_end : (now : CoreData) → EventsSoFar [] now → RunsEvents tells may scripts events start Done now
+  events_end now so_far = let whole = so_far now [] (refl, refl) in record { steps = whole.0; chain = whole.1; last = sym whole.2 }
+
+-- ---- one event more
+
+rest_is : {A : Type 0} (xs : List A) (i : ℕ) (x : A) → i < length xs → x ≡ get_or xs i x → drop i xs ≡ x ∷ drop (i + 1) xs
+rest_is [] i x below is = absurd (omega (arith, below))
+rest_is (y ∷ ys) zero x below is = λ k. sym is k ∷ ys
+rest_is (y ∷ ys) (suc n) x below is =
+    let e : suc n + 1 ≡ suc (n + 1) = omega arith in
+    rest_is ys n x (omega (arith, below)) is ∙ ap (λ (k : ℕ). x ∷ drop k (y ∷ ys)) (sym e)
+
+module _ {S C : Type 0} (tells : Type 0) (may : C → List Candidate → ℕ → Type 0) (told : S → SiteLog) (writes faults : S → ℕ) (never_fails_but : FailingReads S)
+    (events : List Event) (i : ℕ) (event : Event) (init now new : DriveValue S C) (answer : DriveAnswer)
+    (below : i < length events) (is : event ≡ get_or events i event)
+    (so_far : EventsSoFar tells (may init.core.chooser) init.scripts events (seen told writes faults init.core) (drop i events) (seen told writes faults now.core))
+    (leaves : Leaves tells told writes faults never_fails_but init now Done)
+    (takes : EventTakes tells (may now.core.chooser) now.scripts event (seen told writes faults now.core) answer (seen told writes faults new.core))
+    (left : Leaves tells told writes faults never_fails_but now new answer) where
+  takes_so : EventTakes tells (may init.core.chooser) init.scripts event (seen told writes faults now.core) answer (seen told writes faults new.core)
+  takes_so =
+      subst (λ (p : C × List ScriptData). EventTakes tells (may p.0) p.1 event (seen told writes faults now.core) answer (seen told writes faults new.core))
+      (λ k. (leaves.chooser_ k, leaves.scripts_ k)) takes
+
+  from : EventsSoFar tells (may init.core.chooser) init.scripts events (seen told writes faults init.core) (event ∷ drop (i + 1) events) (seen told writes faults now.core)
+  from =
+      subst (λ (l : List Event). EventsSoFar tells (may init.core.chooser) init.scripts events (seen told writes faults init.core) l (seen told writes faults now.core))
+      (rest_is events i event below is) so_far
+
+  pub event_leaves : Leaves tells told writes faults never_fails_but init new answer
+  event_leaves = leaves_then tells told writes faults never_fails_but init now new answer leaves left
+
+  pub leaves_done : answer ≡ Done → Leaves tells told writes faults never_fails_but init new Done
+  leaves_done done = subst (λ (a : DriveAnswer). Leaves tells told writes faults never_fails_but init new a) done event_leaves
+
+  pub event_goes : answer ≡ Done → EventsSoFar tells (may init.core.chooser) init.scripts events (seen told writes faults init.core) (drop (i + 1) events) (seen told writes faults new.core)
+  event_goes done =
+      events_go tells (may init.core.chooser) init.scripts events (seen told writes faults init.core) (drop (i + 1) events) (seen told writes faults now.core) (seen told writes faults new.core) event answer takes_so done from
+
+  pub event_halts : answer ≢ Done → RunsEvents tells (may init.core.chooser) init.scripts events (seen told writes faults init.core) answer (seen told writes faults new.core)
+  event_halts halted =
+      events_halt tells (may init.core.chooser) init.scripts events (seen told writes faults init.core) (drop (i + 1) events) (seen told writes faults now.core) (seen told writes faults new.core) event answer takes_so halted from
+
+nothing_left : (xs : List Event) (k : ℕ) → length xs ≤ k → drop k xs ≡ []
+nothing_left [] zero low = refl
+nothing_left [] (suc n) low = refl
+nothing_left (x ∷ xs) zero low = absurd (omega (arith, low))
+nothing_left (x ∷ xs) (suc n) low = nothing_left xs n (omega (arith, low))
+
+pub events_over : (tells : Type 0) (may : List Candidate → ℕ → Type 0) (scripts : List ScriptData) (events : List Event) (i : ℕ) (start now : CoreData) → length events ≤ i
+    → EventsSoFar tells may scripts events start (drop i events) now → RunsEvents tells may scripts events start Done now
+events_over tells may scripts events i start now past so_far =
+    events_end tells may scripts events start now (subst (λ (l : List Event). EventsSoFar tells may scripts events start l now) (nothing_left events i past) so_far)

@@ -1,0 +1,17 @@
+pub mod ScriptFacts
+pub mod PlaceFacts
+pub mod ChainFacts
+pub mod ScriptPlaces
+pub mod ChainedOn
+pub mod HostFacts
+pub mod DriveFacts
+pub mod WorkFacts
+pub mod Refused
+pub mod DriveBegins
+pub mod HostTurns
+pub mod EventRuns
+pub mod TurnFacts
+pub mod SettleFacts
+pub mod Later
+pub mod OwnerFacts
+pub mod RoundFacts

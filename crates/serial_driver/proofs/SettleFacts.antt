@@ -1,0 +1,140 @@
+-- Turns of the recorders, one after the other.
+use Rattle.std.proofs.Common.{◌≡◌, ◌≢◌, ◌≤◌, ℕ, zero, suc, ◌<◌, Bool, true, false, List, [], ◌++◌, None, refl, sym, ◌∙◌, ap, subst, arith}
+use Rattle.std.proofs.lemmas.Bool.{false≢true}
+use Rattle.mss_base.specs.Content.{SiteLog}
+use Rattle.mss_base.specs.Sites.{FailingReads}
+use Rattle.victim_choice.specs.declared.choose.Candidate.{Candidate}
+use Rattle.core_state.specs.Chains.{Step, OneOf, Onward, WorkTurn, Settles, Ended, IsSettled}
+use Rattle.core_state.specs.CoreValue.{CoreData, seen}
+use Rattle.core_progress.specs.WorkLeft.{run_left}
+use Rattle.serial_driver.specs.declared.answer.DriveAnswer.{DriveAnswer}
+use Rattle.core_state.specs.IsCore.{IsCore}
+use Rattle.core_progress.specs.Progress.{AreIdle}
+use Rattle.work_events.proofs.RuleFacts.{rule_idle}
+use Rattle.host_events.proofs.RuleFacts.{core_seen}
+use Rattle.serial_driver.specs.declared.answer.DriveAnswer.TheVariants.{Done}
+use Rattle.serial_driver.specs.declared.turn.Turn.{Turn}
+use Rattle.serial_driver.specs.Answers.{of_last}
+use Rattle.serial_driver.specs.Drives.{DriveValue, Leaves, recorders_of, SettlesIt}
+use Rattle.serial_driver.specs.Turns.{AtTurnEnd, TurnsTo}
+use Rattle.serial_driver.proofs.ChainFacts.{of_last-append, work_then, work_halted}
+use Rattle.serial_driver.proofs.EventRuns.{leaves_then}
+
+module _ (tells : Type 0) (may : List Candidate → ℕ → Type 0) where
+  -- ---- turns
+
+  module _ (start : CoreData) where
+    -- the turns from now on are those that settle the core, with those before
+    pub record SettlesSoFar (now : CoreData) : Type 0 where
+      pub on : (turns : ℕ) (final : CoreData) (more : List Step) → Settles tells may (recorders_of start.config) turns now more final (Ended final)
+          → (all : ℕ) × (steps : List Step) × Settles tells may (recorders_of start.config) all start steps final (Ended final) × (of_last steps ≡ of_last more)
+      pub config_ : now.config ≡ start.config
+      pub history_ : now.history ≡ start.history
+      pub run : run_left now ≤ run_left start
+
+    pub settle_begins : SettlesSoFar start
+    settle_begins = record { on = λ turns final more chain. (turns, more, chain, refl); config_ = refl; history_ = refl; run = omega arith }
+
+    module _ (now next : CoreData) (so_far : SettlesSoFar now) (turn : Turn) (turns_ : TurnsTo tells may now turn next) where
+      abbrev one_turn : (Bool → Onward) → List Step → CoreData → Type 0
+      one_turn go steps final = WorkTurn tells may (recorders_of start.config) true now steps final go
+
+      chain_ : one_turn (AtTurnEnd turn next) turns_.steps next
+      chain_ = subst (λ c. WorkTurn tells may (recorders_of c) true now turns_.steps next (AtTurnEnd turn next)) so_far.config_ turns_.chain
+
+      abbrev behind : ℕ → CoreData → Bool → Onward
+      behind turns final idle core rest = OneOf idle ((turns ≡ zero) × Ended final core rest) (Settles tells may (recorders_of start.config) turns core rest final (Ended final))
+
+      -- all were idle
+      pub settle_rests : turn.answer ≡ Done → turn.idle ≡ true → IsSettled next → next.stopped ≡ None → SettlesIt tells may start Done next
+      settle_rests done idle settled going =
+          let whole = so_far.on 1 next (turns_.steps ++ [])
+          (work_then tells may next next [] (recorders_of start.config) true now turns_.steps (AtTurnEnd turn next) (behind 0 next) by_end chain_ (sym turns_.last ∙ done)) in
+          record {
+            turns = whole.0;
+            steps = whole.1;
+            chain = whole.2;
+            last = sym (whole.3 ∙ of_last-append turns_.steps [] (sym turns_.last ∙ done));
+            settled = λ _. settled;
+            going = λ _. going;
+            history_ = turns_.history_ ∙ so_far.history_;
+          }
+        where
+          by_end : (b : Bool) (core : CoreData) (rest : List Step) → AtTurnEnd turn next b core rest → of_last rest ≡ Done → behind 0 next b core (rest ++ [])
+          by_end true core rest ended last = (refl, (ap (λ (l : List Step). l ++ []) ended.0.0, ended.0.1))
+          by_end false core rest ended last = absurd (false≢true (sym ended.1 ∙ idle))
+
+      pub settle_goes : turn.answer ≡ Done → turn.idle ≡ false → next.config ≡ now.config → SettlesSoFar next
+      settle_goes done busy config_ = record {
+        on = λ turns final more chain.
+            let whole = so_far.on (suc turns) final (turns_.steps ++ more)
+            (work_then tells may next final more (recorders_of start.config) true now turns_.steps (AtTurnEnd turn next) (behind turns final) (by_end turns final more chain) chain_ (sym turns_.last ∙ done)) in
+            (whole.0, whole.1, whole.2, whole.3 ∙ of_last-append turns_.steps more (sym turns_.last ∙ done));
+        config_ = config_ ∙ so_far.config_;
+        history_ = turns_.history_ ∙ so_far.history_;
+        run = (let less = (turns_.leaves done).run in omega (arith, less, so_far.run));
+      }
+        where
+          by_end : (turns : ℕ) (final : CoreData) (more : List Step) → Settles tells may (recorders_of start.config) turns next more final (Ended final)
+              → (b : Bool) (core : CoreData) (rest : List Step) → AtTurnEnd turn next b core rest → of_last rest ≡ Done → behind turns final b core (rest ++ more)
+          by_end turns final more chain true core rest ended last = absurd (false≢true (sym busy ∙ ended.1))
+          by_end turns final more chain false core rest ended last =
+              subst (λ (l : List Step). Settles tells may (recorders_of start.config) turns core (l ++ more) final (Ended final)) (sym ended.0.0)
+              (subst (λ (c : CoreData). Settles tells may (recorders_of start.config) turns c more final (Ended final)) ended.0.1 chain)
+
+      pub settle_halts : turn.answer ≢ Done → SettlesIt tells may start turn.answer next
+      settle_halts halted =
+          let last : of_last turns_.steps ≢ Done = λ is. halted (turns_.last ∙ is) in
+          let whole = so_far.on 1 next turns_.steps
+          (work_halted tells may next (recorders_of start.config) true now turns_.steps (AtTurnEnd turn next) (behind 0 next) by_end chain_ last) in
+          record {
+            turns = whole.0;
+            steps = whole.1;
+            chain = whole.2;
+            last = turns_.last ∙ sym whole.3;
+            settled = λ is. absurd (halted is);
+            going = λ is. absurd (halted is);
+            history_ = turns_.history_ ∙ so_far.history_;
+          }
+        where
+          by_end : (b : Bool) (core : CoreData) (rest : List Step) → AtTurnEnd turn next b core rest → of_last rest ≢ Done → behind 0 next b core rest
+          by_end b core rest ended last = absurd (last (ap of_last ended.0.0))
+
+-- ---- one turn more
+
+module _ {S C : Type 0} (tells : Type 0) (may : C → List Candidate → ℕ → Type 0) (told_by : S → SiteLog) (writes faults : S → ℕ) (never_fails_but : FailingReads S) (init now new : DriveValue S C)
+    (so_far : SettlesSoFar tells (may init.core.chooser) (seen told_by writes faults init.core) (seen told_by writes faults now.core))
+    (leaves : Leaves tells told_by writes faults never_fails_but init now Done) (turn : Turn)
+    (turns : TurnsTo tells (may now.core.chooser) (seen told_by writes faults now.core) turn (seen told_by writes faults new.core))
+    (left : Leaves tells told_by writes faults never_fails_but now new turn.answer) where
+  turns_so : TurnsTo tells (may init.core.chooser) (seen told_by writes faults now.core) turn (seen told_by writes faults new.core)
+  turns_so = subst (λ (c : C). TurnsTo tells (may c) (seen told_by writes faults now.core) turn (seen told_by writes faults new.core)) leaves.chooser_ turns
+
+  pub turn_leaves : Leaves tells told_by writes faults never_fails_but init new turn.answer
+  turn_leaves = leaves_then tells told_by writes faults never_fails_but init now new turn.answer leaves left
+
+  pub turn_done : turn.answer ≡ Done → Leaves tells told_by writes faults never_fails_but init new Done
+  turn_done done = subst (λ (a : DriveAnswer). Leaves tells told_by writes faults never_fails_but init new a) done turn_leaves
+
+  pub turn_on : turn.answer ≡ Done → turn.idle ≡ false → SettlesSoFar tells (may init.core.chooser) (seen told_by writes faults init.core) (seen told_by writes faults new.core)
+  turn_on done busy =
+      settle_goes tells (may init.core.chooser) (seen told_by writes faults init.core) (seen told_by writes faults now.core) (seen told_by writes faults new.core) so_far turn turns_so done busy left.config_
+
+  pub turn_ends : turn.answer ≢ Done → SettlesIt tells (may init.core.chooser) (seen told_by writes faults init.core) turn.answer (seen told_by writes faults new.core)
+  turn_ends halted =
+      settle_halts tells (may init.core.chooser) (seen told_by writes faults init.core) (seen told_by writes faults now.core) (seen told_by writes faults new.core) so_far turn turns_so halted
+
+  pub turn_run : turn.answer ≡ Done → run_left (seen told_by writes faults new.core) ≤ run_left (seen told_by writes faults init.core)
+  turn_run done = let less = (turns.leaves done).run in omega (arith, less, so_far.run)
+
+  -- all were idle
+  pub turn_rests : (new.core.stopped ≡ None → IsCore new.core) → ((core : CoreData) → IsCore core → AreIdle core → IsSettled core) → turn.answer ≡ Done → turn.idle ≡ true
+      → SettlesIt tells (may init.core.chooser) (seen told_by writes faults init.core) Done (seen told_by writes faults new.core)
+  turn_rests kept law done idle =
+      let idle_ = (turns.leaves done).idle_ idle in
+      let kept_ : new.core.stopped ≡ None → IsCore (seen told_by writes faults new.core) = λ going. core_seen told_by writes faults new.core (kept going) in
+      let some = idle_.some in
+      let low : 0 < new.core.config.recorders = omega (arith, some) in
+      let going : new.core.stopped ≡ None = rule_idle (seen told_by writes faults new.core) 0 low kept_ (idle_.each 0 low) in
+      settle_rests tells (may init.core.chooser) (seen told_by writes faults init.core) (seen told_by writes faults now.core) (seen told_by writes faults new.core) so_far turn turns_so done idle
+      (law (seen told_by writes faults new.core) (kept_ going) idle_) going

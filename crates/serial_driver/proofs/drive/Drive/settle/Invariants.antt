@@ -1,0 +1,15 @@
+use Rattle.core_state.specs.CoreValue.{seen}
+use Rattle.core_progress.specs.WorkLeft.{settle_left}
+use Rattle.serial_driver.specs.declared.answer.DriveAnswer.TheVariants.{Done}
+use Rattle.serial_driver.specs.Drives.{Leaves}
+use Rattle.serial_driver.proofs.SettleFacts.{SettlesSoFar}
+use Rattle.serial_driver.proofs.drive.Drive.settle.Given as goal
+
+abbrev pub invariant-loop-halted : goal.invariant-loop-halted
+invariant-loop-halted g l = record {
+  so_far : SettlesSoFar g.S.Site.tells (g.C.Choose.may l.initial.self.core.chooser) (seen g.S.Site.told g.S.Site.writes g.S.Site.faults l.initial.self.core) (seen g.S.Site.told g.S.Site.writes g.S.Site.faults l.self.core);
+  leaves : Leaves g.S.Site.tells g.S.Site.told g.S.Site.writes g.S.Site.faults g.S.Site.never_fails_but l.initial.self l.self Done;
+}
+
+abbrev pub decreases-loop-halted : goal.decreases-loop-halted
+decreases-loop-halted g l = settle_left (seen g.S.Site.told g.S.Site.writes g.S.Site.faults l.self.core)

@@ -1,0 +1,11 @@
+use Rattle.std.proofs.Common.{◌≡◌, drop}
+use Rattle.core_state.specs.Chains.{has_call}
+use Rattle.core_state.specs.CoreValue.{seen}
+use Rattle.serial_driver.specs.Scripts.{calls_of}
+use Rattle.serial_driver.specs.Drives.{hosts_of}
+use Rattle.serial_driver.proofs.drive.Drive.some_host_calls.Given as goal
+
+abbrev pub invariant-loop-number : goal.invariant-loop-number
+invariant-loop-number g l =
+    has_call g.S.Site.tells (g.C.Choose.may l.self.core.chooser) (calls_of l.self.scripts) (hosts_of l.self.scripts) (seen g.S.Site.told g.S.Site.writes g.S.Site.faults l.self.core)
+    ≡ has_call g.S.Site.tells (g.C.Choose.may l.self.core.chooser) (calls_of l.self.scripts) (drop l.number (hosts_of l.self.scripts)) (seen g.S.Site.told g.S.Site.writes g.S.Site.faults l.self.core)

@@ -1,0 +1,32 @@
+use Rattle.std.proofs.lemmas.List.{length-map}
+use Rattle.std.proofs.Common.{map, arith}
+use Rattle.channel_commands.specs.Views.{ccw_of}
+use Rattle.channel_program.specs.Items.{IsRunnable}
+use Rattle.job_text.specs.Views.{item_of}
+use Rattle.serial_driver.proofs.PlaceFacts.{found, all_there, passed_program, passed_mount, passed_demount}
+use Rattle.serial_driver.proofs.place.passed.Goals as goal
+
+pub passed_in-requires-clause-some : goal.passed_in-requires-clause-some
+passed_in-requires-clause-some c =
+    let is = found item_of c.args.items.now c.args.place.now.item _ _ c.in-Some-Run.ensures.lookup.0 c.in-Some-Run.ensures.lookup.1 c.in-Some-Run.field-0-is in
+    omega (arith, (all_there IsRunnable (map item_of c.args.items.now) c.args.place.now.item _ _ c.requires.runnable is).0, length-map c.in-Some-Run.program.items ccw_of)
+
+pub passed_in-requires-clause-few : goal.passed_in-requires-clause-few
+passed_in-requires-clause-few c =
+    let is = found item_of c.args.items.now c.args.place.now.item _ _ c.in-Some-Run.ensures.lookup.0 c.in-Some-Run.ensures.lookup.1 c.in-Some-Run.field-0-is in
+    omega (arith, (all_there IsRunnable (map item_of c.args.items.now) c.args.place.now.item _ _ c.requires.runnable is).1, length-map c.in-Some-Run.program.items ccw_of)
+
+pub returns-in-Some-Run : goal.returns-in-Some-Run
+returns-in-Some-Run c = λ left stands.
+    let is = found item_of c.args.items.now c.args.place.now.item _ _ c.in-Some-Run.ensures.lookup.0 c.in-Some-Run.ensures.lookup.1 c.in-Some-Run.field-0-is in
+    passed_program (map item_of c.args.items.now) c.args.place.now _ _ _ _ left is stands.items stands.knows c.passed_in.ensures
+
+pub returns-in-Some-Mount : goal.returns-in-Some-Mount
+returns-in-Some-Mount c = λ left stands.
+    let is = found item_of c.args.items.now c.args.place.now.item _ _ c.in-Some-Mount.ensures.lookup.0 c.in-Some-Mount.ensures.lookup.1 c.in-Some-Mount.field-0-is in
+    passed_mount (map item_of c.args.items.now) c.args.place.now _ _ _ _ _ left is stands.items c.entered.ensures
+
+pub returns-in-Some-Demount : goal.returns-in-Some-Demount
+returns-in-Some-Demount c = λ left stands.
+    let is = found item_of c.args.items.now c.args.place.now.item _ _ c.in-Some-Demount.ensures.lookup.0 c.in-Some-Demount.ensures.lookup.1 c.in-Some-Demount.field-0-is in
+    passed_demount (map item_of c.args.items.now) c.args.place.now _ _ _ left is stands.items c.entered-in-Some-Demount.ensures

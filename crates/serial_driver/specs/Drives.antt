@@ -1,0 +1,199 @@
+-- A serial run as plain data, what it keeps, and what its calls do.
+use Rattle.std.specs.Prelude.{◌≡◌, ◌≤◌, ◌<◌, ℕ, slice_index_or, ◌==◌, Bool, true, false, List, [], ◌∷◌, length, map, Option, Some, None}
+use Rattle.std.specs.List.{IsDistinct, AllByRecursion, range_with_len}
+use Rattle.mss_base.specs.Configs.{ConfigData}
+use Rattle.mss_base.specs.Content.{SiteLog}
+use Rattle.mss_base.specs.Counts.{IsFaultSince}
+use Rattle.mss_base.specs.Sites.{FailingReads, StaysSound}
+use Rattle.mss_base.specs.declared.place.UnitNo.{UnitNo}
+use Rattle.channel_commands.specs.Data.{CallData}
+use Rattle.channel_program.specs.Items.{AreRunnable}
+use Rattle.channel_program.specs.Script.{ItemData, program}
+use Rattle.ckd_plain.specs.History.{EntryData}
+use Rattle.job_text.specs.Jobs.{ScriptData, JobData}
+use Rattle.victim_choice.specs.declared.choose.Candidate.{Candidate}
+use Rattle.fault_queue.specs.declared.queue.Request.{Request}
+use Rattle.fault_queue.specs.Requests.{request_of}
+use Rattle.core_state.specs.Beginning.{IsLater}
+use Rattle.core_state.specs.Chains.{Step, EventTurn, Settles, HostTurn, Rounds, Onward, Ended, has_call, IsSettled}
+use Rattle.core_state.specs.CoreValue.{CoreValue, CoreData, seen}
+use Rattle.core_state.specs.Pins.{host_at}
+use Rattle.core_state.specs.HostEvents.{HostTold, HostEvent}
+use Rattle.core_state.specs.WorkEvents.{WorkEvent}
+use Rattle.core_state.specs.declared.session.Event.{Event}
+use Rattle.core_state.specs.declared.session.Event.TheVariants.{Host, Work}
+use Rattle.core_state.specs.declared.rule.WorkAnswer.{WorkAnswer}
+use Rattle.serial_driver.specs.Answers.{of_host, of_work, of_last}
+use Rattle.serial_driver.specs.declared.answer.DriveAnswer.{DriveAnswer}
+use Rattle.serial_driver.specs.declared.answer.DriveAnswer.TheVariants.{Done, Stopped}
+use Rattle.serial_driver.specs.declared.place.Place.{Place}
+use Rattle.serial_driver.specs.Places.{StandsAt}
+use Rattle.serial_driver.specs.Scripts.{Left, not_begun, next_of, left_after, Plays, script_of, exchanges_of, left_of, calls_of}
+
+-- a core, and what each host of the job is to do
+pub record DriveValue (S C : Type 0) : Type 0 where
+  pub core : CoreValue S C
+  pub scripts : List ScriptData
+
+-- the hosts of the job, in order
+abbrev pub hosts_of : List ScriptData → List ℕ
+hosts_of scripts = map (λ (script : ScriptData). script.host) scripts
+
+-- the recorders of a configuration, in order
+abbrev pub recorders_of : ConfigData → List ℕ
+recorders_of config = range_with_len 0 config.recorders
+
+-- ---- with what it begins
+
+-- nothing has happened, and the core is configured as the job asks
+pub record IsUnused {S C : Type 0} (core : CoreValue S C) (job : JobData) : Type 0 where
+  pub config : core.config ≡ job.config
+  pub no_entries : core.history ≡ []
+  pub no_requests : core.requests ≡ []
+  pub no_chains : (h : ℕ) → (host_at core.hosts h).chain_open ≡ false
+
+-- ---- what it keeps
+
+pub record IsScript (script : ScriptData) : Type 0 where
+  pub low : 1 ≤ script.host
+  pub high : script.host ≤ 8
+  pub runnable : AreRunnable script.items
+
+pub record AreScripts (scripts : List ScriptData) : Type 0 where
+  pub differ : IsDistinct ◌==◌ (hosts_of scripts)
+  pub each : AllByRecursion IsScript scripts
+
+-- each script's place is where so much of it is left
+abbrev pub AllStand : List EntryData → List ScriptData → List Place → Type 0
+AllStand history [] [] = Unit {0}
+AllStand history (script ∷ scripts) (place ∷ places) =
+    StandsAt script.items
+    (left_after (not_begun script.items) (exchanges_of script.host history)) place
+    × AllStand history scripts places
+AllStand history _ _ = ⊥
+
+-- a program is under way, or comes next
+abbrev pub IsInProgram : List ItemData → Type 0
+IsInProgram (program words ∷ more) = Unit {0}
+IsInProgram _ = ⊥
+
+-- a host with an open chain goes on with a program, and one with a request has a call
+pub record HasMore {S C : Type 0} (core : CoreValue S C) (left : Left) (h : ℕ) : Type 0 where
+  pub chained : (host_at core.hosts h).chain_open ≡ true → IsInProgram left.items
+  pub asked : (r : Request) → request_of core.requests h ≡ Some r
+      → (call : CallData) × (next_of left.items left.at ≡ Some call)
+
+pub record IsDriven {S C : Type 0} (core : CoreValue S C) (scripts : List ScriptData)
+    (places : List Place) : Type 0 where
+  pub scripts_ : AreScripts scripts
+  pub stand : AllStand core.history scripts places
+  -- each host's entries, in order, are the calls of its script
+  pub plays : (h : ℕ) → Plays (not_begun (script_of scripts h)) (exchanges_of h core.history)
+  pub more : core.stopped ≡ None → (h : ℕ) → HasMore core (left_of scripts core.history h) h
+
+-- ---- what an event does
+
+-- a host's turn: one event of its next call, or, without a call, nothing
+abbrev pub HostTakes : Type 0 → ℕ → Option CallData → CoreData → DriveAnswer → CoreData → Type 0
+HostTakes tells h None core answer left = (left ≡ core) × (answer ≡ Done)
+HostTakes tells h (Some call) core answer left =
+    (told : HostTold) × HostEvent tells core h call told left × (answer ≡ of_host told)
+
+-- a recorder's turn
+abbrev pub WorkTakes : Type 0 → (List Candidate → ℕ → Type 0) → ℕ → CoreData → DriveAnswer
+    → CoreData → Type 0
+WorkTakes tells may recorder core answer left =
+    (told : WorkAnswer) × WorkEvent tells may core recorder told left × (answer ≡ of_work told)
+
+-- an event of a list, of a host or a recorder
+abbrev pub EventTakes : Type 0 → (List Candidate → ℕ → Type 0) → List ScriptData → Event → CoreData
+    → DriveAnswer → CoreData → Type 0
+EventTakes tells may scripts (Host h) core answer left =
+    HostTakes tells h (calls_of scripts core.history h) core answer left
+EventTakes tells may scripts (Work recorder) core answer left =
+    WorkTakes tells may recorder core answer left
+
+-- a recorder of a list is one of those configured
+abbrev pub IsConfigured : ConfigData → Event → Type 0
+IsConfigured config (Host h) = Unit {0}
+IsConfigured config (Work recorder) = recorder < config.recorders
+
+-- which script is a host's, if one is
+abbrev pub IsNumberOf : List ScriptData → ℕ → Option ℕ → Type 0
+IsNumberOf scripts h None = script_of scripts h ≡ []
+IsNumberOf scripts h (Some n) =
+    (n < length scripts)
+    × ((unknown : ScriptData) → (slice_index_or scripts n unknown).host ≡ h)
+
+-- ---- what a call leaves
+
+-- whether the core is stopped, by the answer
+abbrev pub Halts : DriveAnswer → Option ℕ → Option ℕ → Type 0
+Halts (Stopped fault) was is = is ≡ Some fault
+Halts _ was is = is ≡ was
+
+-- The job and the chooser stay, and no count falls. A fault stopped the core only by a write that
+-- failed since, and none did where reads alone may fail.
+pub record Leaves {S C : Type 0} (tells : Type 0) (told : S → SiteLog) (writes faults : S → ℕ)
+    (never_fails_but : FailingReads S) (old new : DriveValue S C) (answer : DriveAnswer)
+    : Type 0 where
+  pub session : IsLater tells (seen told writes faults old.core) (seen told writes faults new.core)
+  pub scripts_ : new.scripts ≡ old.scripts
+  pub chooser_ : new.core.chooser ≡ old.core.chooser
+  pub config_ : new.core.config ≡ old.core.config
+  pub written : writes old.core.site ≤ writes new.core.site
+  pub later : faults old.core.site ≤ faults new.core.site
+  pub sound : StaysSound never_fails_but old.core.site new.core.site
+  pub halts : Halts answer old.core.stopped new.core.stopped
+  pub cause : old.core.stopped ≡ None → (fault : ℕ) → new.core.stopped ≡ Some fault
+      → IsFaultSince (faults old.core.site) (faults new.core.site) fault
+  pub only_reads_fail : (but : UnitNo → Bool) → never_fails_but old.core.site but
+      → old.core.stopped ≡ None → new.core.stopped ≡ None
+
+-- ---- a list of events
+
+module _ (tells : Type 0) (may : List Candidate → ℕ → Type 0) (scripts : List ScriptData) where
+  -- the events of a list, each once and in order, until one ends them
+  pub record RunsEvents (events : List Event) (core : CoreData) (answer : DriveAnswer)
+      (left : CoreData) : Type 0 where
+    pub steps : List Step
+    pub chain : EventTurn tells may (calls_of scripts) events core steps left (Ended left)
+    pub last : answer ≡ of_last steps
+
+-- ---- until nothing is left to do
+
+module _ (tells : Type 0) (may : List Candidate → ℕ → Type 0) where
+  -- turns of the recorders, of which the last is idle as a whole, unless an event ends them before
+  pub record SettlesIt (core : CoreData) (answer : DriveAnswer) (left : CoreData) : Type 0 where
+    pub turns : ℕ
+    pub steps : List Step
+    pub chain : Settles tells may (recorders_of core.config) turns core steps left (Ended left)
+    pub last : answer ≡ of_last steps
+    pub settled : answer ≡ Done → IsSettled left
+    pub going : answer ≡ Done → left.stopped ≡ None
+    -- it adds no entry
+    pub history_ : left.history ≡ core.history
+
+-- ---- until no host has a call
+
+module _ (tells : Type 0) (may : List Candidate → ℕ → Type 0) (scripts : List ScriptData) where
+  -- one event of each host that has a call, in order, unless one ends them before
+  pub record HostsTurn (core : CoreData) (answer : DriveAnswer) (left : CoreData) : Type 0 where
+    pub steps : List Step
+    pub chain : HostTurn tells may (calls_of scripts) (hosts_of scripts) core steps left (Ended left)
+    pub last : answer ≡ of_last steps
+
+  abbrev pub NoneCalls : CoreData → Onward
+  NoneCalls left core steps =
+      Ended left core steps
+      × (has_call tells may (calls_of scripts) (hosts_of scripts) core ≡ false)
+
+  -- rounds until no host has a call, unless an event ends them before
+  pub record RunsToEnd (core : CoreData) (answer : DriveAnswer) (left : CoreData) : Type 0 where
+    pub rounds : ℕ
+    pub steps : List Step
+    pub chain : Rounds tells may (calls_of scripts) (hosts_of scripts) (recorders_of core.config)
+        rounds core steps left (NoneCalls left)
+    pub last : answer ≡ of_last steps
+    pub none_calls : answer ≡ Done
+        → has_call tells may (calls_of scripts) (hosts_of scripts) left ≡ false

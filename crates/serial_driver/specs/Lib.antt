@@ -1,0 +1,5 @@
+pub mod Answers
+pub mod Drives
+pub mod Places
+pub mod Scripts
+pub mod Turns

@@ -1,0 +1,150 @@
+// A host's turn: its next call is made, and behind a reply its script goes on.
+ghost use Rattle.std.specs.Prelude.{◌≡◌, ℕ, Bool, Some, None, map, length, slice_get};
+ghost use Rattle.mss_base.specs.Sites.{MayWrite};
+ghost use Rattle.mss_base.specs.declared.place.UnitNo.{UnitNo};
+ghost use Rattle.channel_commands.specs.Data.{CallData};
+ghost use Rattle.channel_commands.specs.Views.{call_of};
+ghost use Rattle.channel_program.specs.Items.{AreRunnable};
+ghost use Rattle.core_state.specs.CoreValue.{seen};
+ghost use Rattle.core_state.specs.HostEvents.{HostTold, HostEvent};
+ghost use Rattle.core_state.specs.IsCore.{IsCore};
+ghost use Rattle.host_events.specs.Answers.{told_of};
+ghost use Rattle.job_text.specs.Views.{item_of};
+ghost use Rattle.serial_driver.specs.Answers.{of_host, IsUnstopped};
+ghost use Rattle.serial_driver.specs.Drives.{HostTakes};
+ghost use Rattle.serial_driver.specs.Places.{StandsAt, IsPlace};
+ghost use Rattle.serial_driver.specs.Scripts.{Left, left_behind, next_of};
+
+use crate::answer::DriveAnswer;
+use crate::place::{Place, next_call, passed};
+use channel_commands::Call;
+use ckd_plain::Entry;
+use core_state::Core;
+use host_events::{HostAnswer, host_event};
+use job_text::{HostScript, Item};
+use mss_base::{HostNo, Site};
+use std::alloc::Global;
+use table_pair::CHANGE_WRITES;
+use victim_choice::Choose;
+
+/// How a host's event ended.
+fn answer_of(told: &HostAnswer) -> DriveAnswer
+    ensures { result ≡ of_host (told_of told.now) }
+{
+    match told {
+        HostAnswer::Replied { .. } => DriveAnswer::Done,
+        HostAnswer::Marked => DriveAnswer::Done,
+        HostAnswer::Wait(_) => DriveAnswer::Done,
+        HostAnswer::Stopped { fault } => DriveAnswer::Stopped { fault: *fault },
+        HostAnswer::CommandLimit => DriveAnswer::CommandLimit,
+        HostAnswer::Memory => DriveAnswer::Memory,
+    }
+}
+
+/// The place behind the entry with a number, if there is one.
+fn moved_on(items: &[Item], place: &Place, history: &[Entry], number: usize) -> Place
+    requires runnable { AreRunnable (map item_of items.now) }
+    ensures { (left : Left) → StandsAt (map item_of items.now) left place.now
+        → StandsAt (map item_of items.now) (left_behind left (slice_get history.now number))
+        result }
+{
+    match history.get(number) {
+        Some(entry) => passed(items, place, &entry.reply),
+        None => *place,
+    }
+}
+
+/// Makes a call. Behind a reply the place in the script goes on.
+fn make_call<S: Site, C: Choose>(
+    core: &mut Core<S, C>,
+    host: HostNo,
+    call: &Call,
+    items: &[Item],
+    place: &mut Place,
+) -> DriveAnswer
+    requires runnable { AreRunnable (map item_of items.now) }
+    ensures event { HostTakes S.tells host (Some (call_of call.now))
+        (seen S.told S.writes S.faults core.old) result
+        (seen S.told S.writes S.faults core.new) }
+    ensures place { (left : Left) → StandsAt (map item_of items.now) left place.old
+        → StandsAt (map item_of items.now)
+        (left_behind left (slice_get core.new.history (length core.old.history))) place.new }
+    ensures chooser { core.new.chooser ≡ core.old.chooser }
+    ensures devices { MayWrite CHANGE_WRITES S.spare S.writes S.faults S.never_fails_but
+        core.old.site core.new.site }
+    ensures only_reads_fail { (but : UnitNo → Bool) → S.never_fails_but core.old.site but
+        → core.old.stopped ≡ None → IsUnstopped result }
+{
+    let number = core.history().as_slice().len();
+    let told = host_event(core, host, call);
+    *place = moved_on(items, place, core.history().as_slice(), number);
+    answer_of(&told)
+}
+
+/// What every core keeps while it isn't stopped, for the proofs of callers that hold one.
+pub fn look<S: Site, C: Choose>(core: &Core<S, C>)
+    ensures kept { core.now.stopped ≡ None → IsCore core.now }
+{
+    let _site = &core.site;
+}
+
+/// What the call of a host is answered for which memory is wanting.
+fn refused<S: Site, C: Choose>(core: &Core<S, C>) -> DriveAnswer
+    ensures event { (h : ℕ) (call : CallData) → HostTakes S.tells h (Some call)
+        (seen S.told S.writes S.faults core.now) result
+        (seen S.told S.writes S.faults core.now) }
+    ensures only_reads_fail { core.now.stopped ≡ None → IsUnstopped result }
+{
+    match core.stopped() {
+        Some(fault) => DriveAnswer::Stopped { fault },
+        None => lacking(core),
+    }
+}
+
+/// The same of a core that isn't stopped.
+fn lacking<S: Site, C: Choose>(core: &Core<S, C>) -> DriveAnswer
+    requires going { core.now.stopped ≡ None }
+    ensures event { (h : ℕ) (call : CallData) → HostTakes S.tells h (Some call)
+        (seen S.told S.writes S.faults core.now) result
+        (seen S.told S.writes S.faults core.now) }
+    ensures unstopped { IsUnstopped result }
+{
+    look(core);
+    if core.history().as_slice().len() >= ENTRY_LIMIT {
+        return DriveAnswer::CommandLimit;
+    }
+    DriveAnswer::Memory
+}
+
+/// The most entries of a session.
+const ENTRY_LIMIT: usize = 4096;
+
+/// Makes a host's next call, if it has one, and goes on in its script.
+pub fn call_host<S: Site, C: Choose>(
+    core: &mut Core<S, C>,
+    alloc: Global,
+    script: &HostScript,
+    place: &mut Place,
+) -> DriveAnswer
+    requires runnable { AreRunnable script.now.items }
+    requires stands { IsPlace script.now.items place.old }
+    ensures event { (left : Left) → StandsAt script.now.items left place.old
+        → HostTakes S.tells script.now.host (next_of left.items left.at)
+        (seen S.told S.writes S.faults core.old) result
+        (seen S.told S.writes S.faults core.new) }
+    ensures place { (left : Left) → StandsAt script.now.items left place.old
+        → StandsAt script.now.items
+        (left_behind left (slice_get core.new.history (length core.old.history))) place.new }
+    ensures chooser { core.new.chooser ≡ core.old.chooser }
+    ensures devices { MayWrite CHANGE_WRITES S.spare S.writes S.faults S.never_fails_but
+        core.old.site core.new.site }
+    ensures only_reads_fail { (but : UnitNo → Bool) → S.never_fails_but core.old.site but
+        → core.old.stopped ≡ None → IsUnstopped result }
+{
+    let items = script.items.as_slice();
+    match next_call(alloc, items, place) {
+        Ok(Some(call)) => make_call(core, script.host, &call, items, place),
+        Ok(None) => DriveAnswer::Done,
+        Err(_) => refused(core),
+    }
+}

@@ -1,0 +1,172 @@
+//! Where a host stands in its script.
+ghost use Rattle.std.specs.Prelude.{◌≡◌, ◌≢◌, ◌≤◌, ◌<◌, List, IfOk, OnErr, length, map, drop, is_some, IsTrue};
+ghost use Rattle.std.specs.Option.{option_map};
+ghost use Rattle.channel_commands.specs.Views.{call_of, ccw_of, reply_of};
+ghost use Rattle.channel_program.specs.Items.{AreRunnable};
+ghost use Rattle.channel_program.specs.Script.{ItemData, Standing, at_start, next_call};
+ghost use Rattle.channel_program.specs.Views.{Says};
+ghost use Rattle.channel_program.specs.declared.cursor.NextCall.TheVariants.{Ended};
+ghost use Rattle.job_text.specs.Views.{item_of};
+ghost use Rattle.serial_driver.specs.Places.{StandsAt, KnowsNext, HoldsNext, IsPlace, IsWithin, IsAt, IsPassed};
+ghost use Rattle.serial_driver.specs.Scripts.{Left, not_begun, next_of, left_by};
+
+use channel_commands::{BreakCause, Call, Reply};
+use channel_program::{Cursor, NextCall, Program, command_call, next};
+use job_text::Item;
+use mss_base::NoMemory;
+use std::alloc::Global;
+
+/// A place in a script: its item, and what comes next in it, if it is a program.
+#[derive(Clone, Copy, Debug, PartialEq, Eq)]
+pub struct Place {
+    /// The number of the item. Behind the last one nothing is left.
+    pub item: usize,
+    /// The next call of the item's program.
+    pub next: NextCall,
+    /// Where the program stands, once this call is made.
+    pub cursor: Cursor,
+}
+
+impl Place {
+    /// At an item that is no program, or behind the last one.
+    fn at(item: usize) -> Place
+        ensures item { result.item ≡ item }
+    {
+        Place {
+            item,
+            next: NextCall::Ended,
+            cursor: Cursor::start(),
+        }
+    }
+}
+
+/// The place at the start of an item, or behind the last one.
+pub fn entered(items: &[Item], item: usize) -> Place
+    requires runnable { AreRunnable (map item_of items.now) }
+    requires within { item ≤ length items.now }
+    ensures { StandsAt (map item_of items.now) (not_begun (drop item (map item_of items.now)))
+        result }
+{
+    match items.get(item) {
+        Some(Item::Run(program)) => begun(program, item),
+        Some(Item::Mount { .. }) => Place::at(item),
+        Some(Item::Demount) => Place::at(item),
+        None => Place::at(item),
+    }
+}
+
+/// The place at the start of a program.
+fn begun(program: &Program, item: usize) -> Place
+    requires some { 1 ≤ length program.now.items }
+    requires few { length program.now.items ≤ 256 }
+    ensures item { result.item ≡ item }
+    ensures knows { KnowsNext (map ccw_of program.now.items) at_start result }
+{
+    let mut cursor = Cursor::start();
+    let next = next(program, &mut cursor, None);
+    Place { item, next, cursor }
+}
+
+/// The place behind the reply to the call that came next.
+pub fn passed(items: &[Item], place: &Place, reply: &Reply) -> Place
+    requires runnable { AreRunnable (map item_of items.now) }
+    ensures { let script = map item_of items.now in
+        (left : Left) → StandsAt script left place.now
+        → StandsAt script (left_by left.items left.at (reply_of reply.now)) result }
+{
+    match items.get(place.item) {
+        Some(Item::Run(program)) => passed_in(items, program, place, reply),
+        Some(Item::Mount { .. }) => entered(items, place.item + 1),
+        Some(Item::Demount) => entered(items, place.item + 1),
+        None => *place,
+    }
+}
+
+/// The place within a program, or behind it, after the reply to its call.
+fn passed_in(items: &[Item], program: &Program, place: &Place, reply: &Reply) -> Place
+    requires runnable { AreRunnable (map item_of items.now) }
+    requires within { place.now.item < length items.now }
+    requires some { 1 ≤ length program.now.items }
+    requires few { length program.now.items ≤ 256 }
+    ensures { (at : Standing) (more : List ItemData)
+        → IsWithin (map item_of items.now) (map ccw_of program.now.items) at more place.now
+        → IsPassed (map item_of items.now) (map ccw_of program.now.items) at more
+        (reply_of reply.now) result }
+{
+    match place.next {
+        NextCall::Command { .. } => went_on(items, program, place, reply),
+        NextCall::ProgramCheck => entered(items, place.item + 1),
+        NextCall::ChainLimit => entered(items, place.item + 1),
+        NextCall::Ended => entered(items, place.item + 1),
+    }
+}
+
+/// The place within a program, or behind it, after the reply to its command.
+fn went_on(items: &[Item], program: &Program, place: &Place, reply: &Reply) -> Place
+    requires runnable { AreRunnable (map item_of items.now) }
+    requires within { place.now.item < length items.now }
+    requires some { 1 ≤ length program.now.items }
+    requires few { length program.now.items ≤ 256 }
+    ensures { (at : Standing) (more : List ItemData)
+        → IsWithin (map item_of items.now) (map ccw_of program.now.items) at more place.now
+        → IsAt (map ccw_of program.now.items) at place.now.cursor (reply_of reply.now)
+        → IsPassed (map item_of items.now) (map ccw_of program.now.items) at more
+        (reply_of reply.now) result }
+{
+    let mut cursor = place.cursor;
+    match next(program, &mut cursor, Some(reply)) {
+        NextCall::Ended => entered(items, place.item + 1),
+        next => Place {
+            item: place.item,
+            next,
+            cursor,
+        },
+    }
+}
+
+/// The call that comes next in a program.
+fn program_call(alloc: Global, program: &Program, next: NextCall) -> Result<Call, NoMemory>
+    requires some { next ≢ Ended }
+    requires held { HoldsNext (map ccw_of program.now.items) next }
+    ensures { let words = map ccw_of program.now.items in
+        (at : Standing) → Says words at next
+        → IfOk result (λ call. next_call words at ≡ Some (call_of call)) }
+{
+    match next {
+        NextCall::Command { word, chained } => command_call(alloc, program, word, chained),
+        NextCall::ProgramCheck => Ok(Call::Break {
+            cause: BreakCause::Program,
+        }),
+        NextCall::ChainLimit => Ok(Call::Break {
+            cause: BreakCause::Limit,
+        }),
+        NextCall::Ended => unreachable!(),
+    }
+}
+
+/// The call that comes next in a script, if one does.
+pub fn next_call(alloc: Global, items: &[Item], place: &Place) -> Result<Option<Call>, NoMemory>
+    requires stands { IsPlace (map item_of items.now) place.now }
+    ensures call { (left : Left) → StandsAt (map item_of items.now) left place.now
+        → IfOk result (λ call. option_map call_of call ≡ next_of left.items left.at) }
+    ensures memory { (left : Left) → StandsAt (map item_of items.now) left place.now
+        → OnErr result (IsTrue (is_some (next_of left.items left.at))) }
+{
+    match items.get(place.item) {
+        Some(Item::Mount { volume, bind }) => Ok(Some(Call::Mount {
+            volume: *volume,
+            bind: *bind,
+        })),
+        Some(Item::Demount) => Ok(Some(Call::Demount)),
+        Some(Item::Run(program)) => Ok(Some(program_call(alloc, program, place.next)?)),
+        None => Ok(None),
+    }
+}
+
+/// Whether a call is left in a script.
+pub fn has_call(items: &[Item], place: &Place) -> bool
+    ensures { (left : Left) → StandsAt (map item_of items.now) left place.now
+        → result ≡ is_some (next_of left.items left.at) }
+{
+    place.item < items.len()
+}

@@ -1,0 +1,89 @@
+// Rounds: the recorders work, and then each host calls.
+ghost use Rattle.std.specs.Prelude.{◌≡◌, ℕ};
+ghost use Rattle.channel_program.specs.Script.{FollowsToEnd};
+ghost use Rattle.core_state.specs.Chains.{has_call};
+ghost use Rattle.core_state.specs.CoreValue.{seen};
+ghost use Rattle.serial_driver.specs.declared.answer.DriveAnswer.TheVariants.{Done};
+ghost use Rattle.serial_driver.specs.Scripts.{script_of, exchanges_of, calls_of};
+
+use crate::answer::DriveAnswer;
+use crate::drive::Drive;
+use crate::host::look;
+use core_progress::law::{calls_leave_less, kept_waiting_changes_nothing, settled_cores_go_on};
+use mss_base::Site;
+use victim_choice::Choose;
+
+impl<'a, S: Site, C: Choose> Drive<'a, S, C> {
+    ghost use Rattle.serial_driver.specs.Drives.{Leaves, HostsTurn, RunsToEnd, hosts_of};
+    ghost use Rattle.serial_driver.specs.Turns.{RunFalls};
+
+    /// Whether some host has a call.
+    fn some_host_calls(&self) -> bool
+        ensures { result ≡ has_call S.tells (C.may self.now.core.chooser)
+            (calls_of self.now.scripts) (hosts_of self.now.scripts)
+            (seen S.told S.writes S.faults self.now.core) }
+    {
+        let count = self.host_count();
+        for number in 0..count {
+            if self.can_call(number) {
+                return true;
+            }
+        }
+        false
+    }
+
+    /// One event of each host that has a call, in the order of the job, until one ends them. Where nothing was left to do
+    /// before, less of the run is left.
+    fn hosts_turn(&mut self) -> DriveAnswer
+        ensures turns { HostsTurn S.tells (C.may self.old.core.chooser) self.old.scripts
+            (seen S.told S.writes S.faults self.old.core) result
+            (seen S.told S.writes S.faults self.new.core) }
+        ensures falls { result ≡ Done → RunFalls S.tells (C.may self.old.core.chooser)
+            self.old.scripts (seen S.told S.writes S.faults self.old.core)
+            (seen S.told S.writes S.faults self.new.core) }
+        ensures leaves { Leaves S.tells S.told S.writes S.faults S.never_fails_but self.old self.new result }
+    {
+        self.look_at_hosts();
+        calls_leave_less::<S>();
+        kept_waiting_changes_nothing::<S>();
+        look(self.core());
+        settled_cores_go_on();
+        let hosts = self.host_count();
+        for number in 0..hosts {
+            look(self.core());
+            match self.host(number) {
+                DriveAnswer::Done => {}
+                halted => return halted,
+            }
+        }
+        DriveAnswer::Done
+    }
+
+    /// Goes on by rounds while some host has a call: the recorders work until nothing is left to do, and then each host that
+    /// has a call makes it, in the order of the job. An event that finds the core stopped, or stops it, that finds the
+    /// history full, or that is refused memory, ends it before. Where none does, each host has followed its script to the
+    /// end.
+    pub fn run_to_end(&mut self) -> DriveAnswer
+        ensures runs { RunsToEnd S.tells (C.may self.old.core.chooser) self.old.scripts
+            (seen S.told S.writes S.faults self.old.core) result
+            (seen S.told S.writes S.faults self.new.core) }
+        ensures ended { result ≡ Done → (h : ℕ) → FollowsToEnd (script_of self.new.scripts h)
+            (exchanges_of h self.new.core.history) }
+        ensures leaves { Leaves S.tells S.told S.writes S.faults S.never_fails_but self.old self.new result }
+    {
+        loop {
+            if !self.some_host_calls() {
+                self.look_at_hosts();
+                return DriveAnswer::Done;
+            }
+            match self.settle() {
+                DriveAnswer::Done => {}
+                halted => return halted,
+            }
+            match self.hosts_turn() {
+                DriveAnswer::Done => {}
+                halted => return halted,
+            }
+        }
+    }
+}
