@@ -1,0 +1,3 @@
+pub mod Seen
+pub mod Reporting
+pub mod SessionFacts

@@ -1,0 +1,51 @@
+-- A core, where only so much of its devices is seen.
+use Rattle.std.proofs.Common.{◌≡◌, ℕ, refl}
+use Rattle.mss_base.specs.Configs.{ConfigData}
+use Rattle.mss_base.specs.Content.{SiteLog}
+use Rattle.ckd_track.specs.Data.{Volumes}
+use Rattle.core_state.specs.CoreValue.{CoreValue, CoreData, seen}
+use Rattle.core_state.specs.IsCore.{IsTold}
+use Rattle.core_restart.specs.Begins.{Begins}
+use Rattle.core_restart.specs.TakingUp.{BeginsWith}
+
+module _ {S C : Type 0} (told : S → SiteLog) (writes faults : S → ℕ) (v : CoreValue S C) where
+  abbrev there : CoreData
+  there = seen told writes faults v
+
+  pub told_seen : IsTold (told v.site) v → IsTold (told v.site) there
+  told_seen is = record {
+    began = is.began;
+    entries = is.entries;
+    messages = is.messages;
+    legal = is.legal;
+    stops = is.stops;
+    agrees = is.agrees;
+    going = λ none.
+        let g = is.going none in
+        record { no_stop = g.no_stop; hosts_ = g.hosts_; shows = g.shows; rows_ = g.rows_; copies = g.copies; told = g.told; served = g.served };
+  }
+
+  pub begins_seen : (config : ConfigData) (chooser : C) → Begins config chooser (writes v.site) (faults v.site) v → Begins config tt (writes v.site) (faults v.site) there
+  begins_seen config chooser is = record {
+    config_ = is.config_;
+    chooser_ = refl;
+    owners_ = is.owners_;
+    moving_ = is.moving_;
+    recency_ = is.recency_;
+    no_requests = is.no_requests;
+    no_tasks = is.no_tasks;
+    empty = is.empty;
+    at_home = is.at_home;
+    rail_ = is.rail_;
+    fresh = is.fresh;
+    no_entries = is.no_entries;
+    no_marks = is.no_marks;
+    created = is.created;
+    no_events = is.no_events;
+    first_write_ = is.first_write_;
+    first_faults_ = is.first_faults_;
+    going = is.going;
+  }
+
+  pub with_seen : (config : ConfigData) (volumes : Volumes) → BeginsWith config volumes (told v.site) v → BeginsWith config volumes (told v.site) there
+  with_seen config volumes is = record { opening_ = is.opening_; shows = is.shows; there = is.there; no_entries = is.no_entries }

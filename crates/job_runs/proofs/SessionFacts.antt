@@ -1,0 +1,120 @@
+-- A session of a job, from its parts.
+use Rattle.std.proofs.Common.{◌≡◌, ◌≤◌, ◌⊎◌, inl, inr, ℕ, List, [], ◌∷◌, length, Option, Some, None, Result, Ok, Err, refl, sym, ◌∙◌, ap, subst}
+use Rattle.mss_base.specs.Configs.{ConfigData, IsConfig}
+use Rattle.mss_base.specs.Content.{SiteLog, content}
+use Rattle.mss_base.specs.Sites.{FailingReads, OnlyReads}
+use Rattle.channel_program.specs.Script.{ItemData, mounting, demounting, program, Follows, at_start}
+use Rattle.ckd_track.specs.Data.{Volumes}
+use Rattle.victim_choice.specs.declared.choose.Candidate.{Candidate}
+use Rattle.job_text.specs.Jobs.{JobData, ScriptData}
+use Rattle.volume_table.specs.Listed.{listed}
+use Rattle.volume_table.specs.Row.{RowValue}
+use Rattle.shown_volumes.specs.Shown.{rows_of, shown, shown_by}
+use Rattle.core_state.specs.Counted.{IsCounted}
+use Rattle.core_state.specs.CoreValue.{CoreValue, CoreData, DevicesSeen, seen}
+use Rattle.core_state.specs.IsCore.{IsTold as IsToldCore}
+use Rattle.core_state.specs.SessionData.{SessionData, data_of}
+use Rattle.core_restart.specs.Begins.{Begins}
+use Rattle.core_restart.specs.Opening.{OpensAny, OpensTold, opened_in}
+use Rattle.core_restart.specs.TakingUp.{BeginsWith, shown_for}
+use Rattle.plain_sessions.specs.Sessions.{BeganOver, IsPlainSession, StopsAnywhere, plain_volumes}
+use Rattle.core_state.specs.Beginning.{IsLater}
+use Rattle.serial_driver.specs.Drives.{DriveValue, Leaves, RunsToEnd, Halts}
+use Rattle.serial_driver.specs.Scripts.{exchanges_of, script_of}
+use Rattle.serial_driver.specs.declared.answer.DriveAnswer.{DriveAnswer}
+use Rattle.serial_driver.specs.declared.answer.DriveAnswer.TheVariants as ended
+use Rattle.session_report.specs.Answers.{Answer}
+use Rattle.session_report.specs.Parties.{Stream, Devices as ToldDevices, between}
+use Rattle.session_report.specs.Reports.{report_matter, opening_text}
+use Rattle.job_runs.specs.Parties.{seen_site, since, reported}
+use Rattle.job_runs.specs.Runs.{FollowScripts, FollowToEnd, Goes, IsBegun, IsHalted, IsSessionOf, IsTold, matter_of}
+use Rattle.job_runs.proofs.Reporting.{told_alike}
+use Rattle.job_runs.proofs.Seen.{begins_seen, told_seen, with_seen}
+
+-- ---- scripts
+
+-- no call is the beginning of every script
+pub follows_none : (items : List ItemData) → Follows items []
+follows_none [] = refl
+follows_none (mounting volume bind ∷ more) = inl refl
+follows_none (demounting ∷ more) = inl refl
+follows_none (program words ∷ more) = inl (at_start, refl, refl)
+
+-- ---- how it went
+
+pub goes_by : (tells : Type 0) (may : List Candidate → ℕ → Type 0) (scripts : List ScriptData) (began : CoreData) (end : DriveAnswer) (left : CoreData) → RunsToEnd tells may scripts began end left → Goes tells may scripts began end left
+goes_by tells may scripts began ended.Done left runs = runs
+goes_by tells may scripts began ended.CommandLimit left runs = runs
+goes_by tells may scripts began (ended.Stopped fault) left runs = runs
+goes_by tells may scripts began ended.Memory left runs = inr runs
+
+pub halted_by : (end : DriveAnswer) (was is : Option ℕ) → was ≡ None → Halts end was is → IsHalted end is
+halted_by ended.Done was is none halts = halts ∙ none
+halted_by ended.CommandLimit was is none halts = halts ∙ none
+halted_by (ended.Stopped fault) was is none halts = halts
+halted_by ended.Memory was is none halts = halts ∙ none
+
+-- ---- the session
+
+module _ {S C : Type 0} (tells : Type 0) (may : List Candidate → ℕ → Type 0) (told : S → SiteLog) (spare writes faults : S → ℕ) (never_fails_but : FailingReads S) (job : JobData)
+    (core left : CoreValue S C) (end : DriveAnswer)
+    (goes : Goes tells may job.hosts (seen told writes faults core) end (seen told writes faults left))
+    (follow : FollowScripts job.hosts left.history) (reach : end ≡ ended.Done → FollowToEnd job.hosts left.history)
+    (leaves : Leaves tells told writes faults never_fails_but (record { core = core; scripts = job.hosts }) (record { core = left; scripts = job.hosts }) end)
+    (told_left : tells → IsToldCore (told left.site) left)
+    (counted : IsCounted (writes left.site) (faults left.site) left.requests (data_of left))
+    (was : DevicesSeen) (begun : IsBegun tells job.config was (seen told writes faults core)) where
+  abbrev from : CoreData
+  from = seen told writes faults core
+
+  abbrev to : CoreData
+  to = seen told writes faults left
+
+  halts : IsHalted end left.stopped
+  halts = halted_by end core.stopped left.stopped begun.begins.going leaves.halts
+
+  module _ (plain_law : (t : tells) → BeganOver job.config was from → IsLater tells from to → IsToldCore to.site.told to → IsPlainSession job.config was.told to.site.told (data_of to))
+      (stops_law : (t : tells) → BeganOver job.config was from → IsLater tells from to → IsToldCore to.site.told to → StopsAnywhere job.config was.told to.site.told (data_of to))
+      (same_volumes : listed left.rows ≡ rows_of (content (told left.site)) → shown_by (listed left.rows) (content (told left.site)) ≡ shown (content (told left.site))) where
+    plain_at : tells → IsPlainSession job.config was.told (told left.site) (data_of left)
+    plain_at t = plain_law t (begun.over t) leaves.session (told_seen told writes faults left (told_left t))
+
+    module _ (site : S) (sink : Stream) (answer : Answer)
+        (read : OnlyReads tells told spare writes faults never_fails_but left.site site)
+        (report : IsTold (report_matter (data_of left) job.config.volumes (shown_by (listed left.rows) (content (told left.site)))) end (between tells told faults left.site site) sink answer) where
+      pub session_of : IsSessionOf may job (record { tells = tells; was = was; now = seen_site told writes faults site }) sink end answer (data_of left)
+      session_of = record {
+        mid = seen_site told writes faults left.site;
+        driven = record { began = from; begun = begun; left = to; goes = goes; devices_ = refl; session = refl };
+        follow = follow;
+        reach = reach;
+        halts = halts;
+        requests = left.requests;
+        counted = counted;
+        plain = plain_at;
+        stops = λ t. stops_law t (begun.over t) leaves.session (told_seen told writes faults left (told_left t));
+        read = record { told_ = read.log; writes_ = read.unwritten; later = read.later };
+        report = told_alike (opening_text (data_of left)) job.config.volumes (between tells told faults left.site site) sink answer
+            (shown_by (listed left.rows) (content (told left.site))) (plain_volumes job.config (content was.told) left.history) end left.stopped halts
+            (λ t none. same_volumes (sym ((told_left t).going none).rows_) ∙ (plain_at t).shows none) report;
+      }
+
+-- ---- what a restart made
+
+pub begun_of : {S C : Type 0} (tells : Type 0) (told : S → SiteLog) (writes faults : S → ℕ) (config : ConfigData) (chooser : C) (was : DevicesSeen) (core : CoreValue S C)
+    → IsConfig config → (tells → OpensTold config was (seen_site told writes faults core.site) (Ok (opened_in core))) → OpensAny config was (seen_site told writes faults core.site) (Ok (opened_in core))
+    → Begins config chooser (writes core.site) (faults core.site) core → (tells → BeginsWith config (shown_for config (content was.told)) (told core.site) core) → (tells → IsToldCore (told core.site) core)
+    → (tells → writes core.site ≡ length (told core.site).log) → IsBegun tells config was (seen told writes faults core)
+begun_of tells told writes faults config chooser was core whole opens any begins with_ kept counted = record {
+  begins = begins_seen told writes faults core config chooser begins;
+  opened = record { told = opens; any = any };
+  over = λ t. record {
+    whole = whole;
+    opened = opens t;
+    any = any;
+    begins = begins_seen told writes faults core config chooser begins;
+    with_ = with_seen told writes faults core config (shown_for config (content was.told)) (with_ t);
+    told = told_seen told writes faults core (kept t);
+    counted = counted t;
+  };
+}

@@ -1,0 +1,41 @@
+-- The devices of a run, from one moment to a later one.
+use Rattle.std.specs.Prelude.{ℕ}
+use Rattle.mss_base.specs.Content.{SiteLog}
+use Rattle.core_state.specs.CoreValue.{DevicesSeen}
+use Rattle.session_report.specs.Parties.{Devices as ToldDevices}
+
+-- what is seen of a site at both moments, and whether clauses may speak of what it holds
+pub record Devices : Type 1 where
+  pub tells : Type 0
+  pub was : DevicesSeen
+  pub now : DevicesSeen
+
+-- what is seen of a site
+abbrev pub seen_site : {S : Type 0} → (S → SiteLog) → (S → ℕ) → (S → ℕ) → S → DevicesSeen
+seen_site told writes faults site =
+    record { told = told site; writes = writes site; faults = faults site }
+
+-- the devices of a site, between two of its states
+abbrev pub devices : {S : Type 0} → Type 0 → (S → SiteLog) → (S → ℕ) → (S → ℕ) → S → S → Devices
+devices tells told writes faults old new = record {
+  tells = tells;
+  was = seen_site told writes faults old;
+  now = seen_site told writes faults new;
+}
+
+-- the same up to a moment, and from a moment on
+abbrev pub until : Devices → DevicesSeen → Devices
+until site mid = record site { now = mid }
+
+abbrev pub since : Devices → DevicesSeen → Devices
+since site mid = record site { was = mid }
+
+-- as a report sees them
+abbrev pub reported : Devices → ToldDevices
+reported site = record {
+  tells = site.tells;
+  was = site.was.told;
+  now = site.now.told;
+  faults_was = site.was.faults;
+  faults_now = site.now.faults;
+}

@@ -1,0 +1,44 @@
+// What is put of a session.
+ghost use Rattle.std.specs.Prelude.{◌≡◌, length};
+ghost use Rattle.mss_base.specs.Content.{content};
+ghost use Rattle.mss_base.specs.Sites.{OnlyReads};
+ghost use Rattle.volume_table.specs.Listed.{listed};
+ghost use Rattle.shown_volumes.specs.Shown.{shown_by};
+ghost use Rattle.core_state.specs.Sessions.{session_data};
+ghost use Rattle.session_report.specs.Parties.{between};
+ghost use Rattle.session_report.specs.Reports.{report_matter};
+ghost use Rattle.job_runs.specs.Runs.{IsHalted, IsTold};
+
+use core_state::Session;
+use mss_base::{Serial, Sink, Site, VolumeNo};
+use serial_driver::DriveAnswer;
+use session_report::{Last, ReportFault, report};
+use std::alloc::Global;
+use volume_table::VolumeRow;
+
+/// Puts the report of a session that ended so. Where memory ran out in it, nothing is put.
+pub fn tell<S: Site, O: Sink>(
+    alloc: Global,
+    site: &mut S,
+    rows: &[Option<VolumeRow>],
+    volumes: &[(VolumeNo, Serial)],
+    session: &Session,
+    end: DriveAnswer,
+    output: &mut O,
+) -> Result<(), ReportFault>
+    requires rows { length rows.now ≡ 32 }
+    requires halts { IsHalted end session.now.stopped }
+    ensures told { let shown = shown_by (listed rows.now) (content (S.told site.old)) in
+        IsTold (report_matter (session_data session.now) volumes.now shown) end
+        (between S.tells S.told S.faults site.old site.new)
+        (between O.tells O.told O.faults output.old output.new) result }
+    ensures site { OnlyReads S.tells S.told S.spare S.writes S.faults S.never_fails_but
+        site.old site.new }
+{
+    let last = match end {
+        DriveAnswer::Done | DriveAnswer::Stopped { .. } => Last::End,
+        DriveAnswer::CommandLimit => Last::Limit,
+        DriveAnswer::Memory => return Err(ReportFault::Memory),
+    };
+    report(alloc, site, rows, volumes, session, last, output)
+}
