@@ -1,0 +1,116 @@
+-- What an event leaves of a pass and of the lock, from what it did to the history.
+use Rattle.std.proofs.Common.{◌≡◌, ℕ, List, [], ◌∷◌, ◌++◌, length, Option, Some, None, inl, inr, refl, sym, ◌∙◌, ap, subst}
+use Rattle.std.specs.Prelude.{slice_get}
+use mathlib.Core.List.{IsPrefix}
+use Rattle.channel_commands.specs.Data.{CallData, ReplyData, stopped}
+use Rattle.ckd_plain.specs.Data.{State}
+use Rattle.ckd_plain.specs.History.{EntryData, IsLegal}
+use Rattle.seen_book.specs.Openings.{OpeningData, IsLegalFrom}
+use Rattle.seen_book.specs.Books.{BookData, PassData}
+use Rattle.core_state.specs.CoreValue.{CoreData}
+use Rattle.core_state.specs.HostEvents.{halts}
+use Rattle.core_state.specs.IsCore.{opening_of}
+use Rattle.mss_run.specs.Answers.{Grows, IsFull}
+use Rattle.mss_run.specs.Beginning.{SetupData, SameBeginning, OpensWith, held_then}
+use Rattle.mss_run.specs.Happens.{Enters, Happens}
+use Rattle.mss_run.specs.Held.{IsHeld}
+
+-- ---- passes
+
+last_there : (log : List EntryData) (e : EntryData) → slice_get (log ++ e ∷ []) (length log) ≡ Some e
+last_there [] e = refl
+last_there (x ∷ xs) e = last_there xs e
+
+past_end : (log : List EntryData) (e : EntryData) → slice_get log (length log) ≡ Some e → ⊥
+past_end [] e is = absurd cc
+past_end (x ∷ xs) e is = past_end xs e is
+
+-- the entry at the old length is the one that was entered
+entered_is : (host : ℕ) (call : CallData) (reply : ReplyData) (index : ℕ) (old new : List EntryData) (before : ℕ) (e : EntryData) → (n : Enters host call reply index old new)
+    → before ≡ length old → slice_get new before ≡ Some e → e ≡ n.entry
+entered_is host call reply index old new before e n at got =
+    let there : slice_get new before ≡ Some n.entry = (λ i. slice_get (n.history i) (at i)) ∙ last_there old n.entry in
+    let same : Some e ≡ Some n.entry = sym got ∙ there in
+    cc
+
+module _ (call : CallData) (p q : PassData) (old new : List EntryData) (before : ℕ) (e : EntryData) (at : before ≡ length old) (got : slice_get new before ≡ Some e) (pre : IsPrefix p.seen old)
+    (is : q ≡ record { host = p.host; seen = old ++ e ∷ []; mine = p.mine ++ e ∷ [] }) where
+  pub grows : (reply : ReplyData) (index : ℕ) → Enters p.host call reply index old new → Grows call reply index p q
+  grows reply index n =
+      let same = entered_is p.host call reply index old new before e n at got in
+      record {
+        between = pre.0;
+        entry = e;
+        host_ = (ap (λ (x : EntryData). x.host) same ∙ n.host_, ap (λ (x : PassData). x.host) is);
+        call_ = ap (λ (x : EntryData). x.call) same ∙ n.call_;
+        reply_ = ap (λ (x : EntryData). x.reply) same ∙ n.reply_;
+        seen_ = ap (λ (x : PassData). x.seen) is ∙ ap (λ (l : List EntryData). l ++ e ∷ []) (sym pre.1);
+        index_ = n.index_ ∙ ap length (sym pre.1);
+        mine_ = ap (λ (x : PassData). x.mine) is;
+      }
+
+  -- where a stop was entered
+  pub stop_grows : (fault : ℕ) → Happens p.host call (halts fault) old new → (index : ℕ) × Grows call stopped index p q
+  stop_grows fault (inl same) = absurd (past_end old e (sym (λ i. slice_get (same i) (at i)) ∙ got))
+  stop_grows fault (inr n) = (length old, grows stopped (length old) n)
+
+pub is_full : (p q : PassData) (log : List EntryData) → length log ≡ 4096 → IsPrefix p.seen log → q ≡ record { host = p.host; seen = log; mine = p.mine } → IsFull p q
+is_full p q log long pre is = record {
+  host_ = ap (λ (x : PassData). x.host) is;
+  mine_ = ap (λ (x : PassData). x.mine) is;
+  seen_ = subst (IsPrefix p.seen) (sym (ap (λ (x : PassData). x.seen) is)) pre;
+  length_ = ap (λ (x : PassData). length x.seen) is ∙ long;
+}
+
+-- ---- the lock
+
+module _ (opening : OpeningData) (setup : SetupData) (tells : Type 0) where
+  -- an event keeps the opening
+  pub opens_still : (core core' : CoreData) → OpensWith opening setup tells core → SameBeginning tells core core' → OpensWith opening setup tells core'
+  opens_still core core' opens same = record {
+    to = opens.to;
+    from = opens.from;
+    config_ = same.config_ ∙ opens.config_;
+    writes_ = same.writes_ ∙ opens.writes_;
+    faults_ = same.faults_ ∙ opens.faults_;
+    site_ = λ tl. same.site_ tl ∙ opens.site_ tl;
+    state_ = λ tl. same.state_ tl ∙ opens.state_ tl;
+  }
+
+  pub legal_from : (core : CoreData) → OpensWith opening setup tells core → (tells → IsLegal (opening_of core.site.told core) core.history) → IsLegalFrom opening core.history
+  legal_from core opens legal = λ tl. let here = opens.to tl in subst (λ (s : State). IsLegal s core.history) (opens.state_ here) (legal here)
+
+-- the book that is there has the list that is kept
+pub list_is : (b : Option BookData) (x : BookData) (log : List EntryData) (made : List ℕ) → b ≡ Some x → b ≡ Some record { list = log; made = made } → x.list ≡ log
+list_is b x log made is kept = let same : Some x ≡ Some record { list = log; made = made } = sym is ∙ kept in ap book_list same
+  where
+    book_list : Option BookData → List EntryData
+    book_list None = []
+    book_list (Some y) = y.list
+
+pub book_there : (b : Option BookData) (x : BookData) → b ≡ None → b ≡ Some x → ⊥
+book_there b x none some = absurd (let e : None ≡ Some x = sym none ∙ some in cc)
+
+-- ---- the whole session
+
+pub begins_itself : (tells : Type 0) (core : CoreData) → SameBeginning tells core core
+begins_itself tells core = record { config_ = refl; faults_ = refl; writes_ = refl; site_ = λ _. refl; state_ = λ _. refl }
+
+-- the opening that a core's own session has
+pub opens_itself : (tells : Type 0) (core : CoreData)
+    → OpensWith (record { tells = tells; site = held_then core; faults = core.first_faults; state = opening_of core.site.told core }) (record { config = core.config; first_write = core.first_write }) tells core
+opens_itself tells core = record { to = λ t. t; from = λ t. t; config_ = refl; writes_ = refl; faults_ = refl; site_ = λ _. refl; state_ = λ _. refl }
+
+module _ (opening : OpeningData) (setup : SetupData) (tells : Type 0) (core : CoreData) (opens : OpensWith opening setup tells core) where
+  -- two cores of one name began alike
+  pub begins_by : (core' : CoreData) → OpensWith opening setup tells core' → SameBeginning tells core core'
+  begins_by core' after = record {
+    config_ = after.config_ ∙ sym opens.config_;
+    faults_ = after.faults_ ∙ sym opens.faults_;
+    writes_ = after.writes_ ∙ sym opens.writes_;
+    site_ = λ tl. after.site_ tl ∙ sym (opens.site_ tl);
+    state_ = λ tl. after.state_ tl ∙ sym (opens.state_ tl);
+  }
+
+  pub legal_since : (log : List EntryData) → IsLegalFrom opening log → tells → IsLegal (opening_of core.site.told core) log
+  legal_since log legal tl = subst (λ (s : State). IsLegal s log) (sym (opens.state_ tl)) (legal (opens.from tl))

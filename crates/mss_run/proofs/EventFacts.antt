@@ -1,0 +1,67 @@
+-- What an event leaves of a session, from its laws.
+use Rattle.std.proofs.Common.{◌≡◌, ◌⊎◌, inl, inr, ℕ, ◌≤◌, Bool, true, false, List, [], ◌∷◌, ◌++◌, length, take, Option, Some, None, refl, sym, ◌∙◌, ap, subst, arith}
+use Rattle.std.specs.Prelude.{is_some}
+use Rattle.std.proofs.lemmas.List.{append-nil, take-append-le}
+use Rattle.mss_base.specs.Content.{Content, SiteLog, Write, Writes, content}
+use Rattle.channel_commands.specs.Data.{CallData, ReplyData, stopped}
+use Rattle.ckd_plain.specs.History.{IsStopped}
+use Rattle.transfers.specs.Copies.{AddsAtMost, in_cartridge}
+use Rattle.mss_base.specs.declared.place.BlockPlace.{BlockPlace}
+use Rattle.core_state.specs.Beginning.{IsLater}
+use Rattle.core_state.specs.Chains.{OneOf}
+use Rattle.core_state.specs.CoreValue.{CoreData}
+use Rattle.core_state.specs.HostEvents.{HostTold, replied, marked, waits, halts, at_limit, no_memory}
+use Rattle.core_state.specs.Steps.{entry_of}
+use Rattle.core_state.specs.StopRule.{opening}
+use Rattle.core_state.proofs.EntryLemmas.{opening_same}
+use Rattle.host_events.specs.Leaves.{KeepsHistory, AddsEntry, EntersAsTold, LeavesCartridges}
+use Rattle.host_events.specs.Causes.{CauseOf, CauseOfReply}
+use Rattle.work_events.specs.WorkLaws.{AddsTrack, WritesCartridges}
+use Rattle.core_state.specs.WorkRules.{task_of}
+use Rattle.mss_run.specs.Beginning.{SameBeginning, held_then}
+use Rattle.mss_run.specs.Happens.{Enters, Happens}
+
+-- ---- the history
+
+module _ (core : CoreData) (h : ℕ) (call : CallData) (core' : CoreData) where
+  entered : (reply : ReplyData) (fault : Option ℕ) (index : ℕ) → index ≡ length core.history → AddsEntry core h call reply fault core' → Enters h call reply index core.history core'.history
+  entered reply fault index at adds =
+      record { entry = entry_of core.history h call reply fault; host_ = refl; call_ = refl; reply_ = refl; index_ = at; history = adds.history }
+
+  no_stop : (reply : ReplyData) → CauseOfReply core h call reply core' → IsStopped reply → ⊥
+  no_stop stopped cause is = cause
+  no_stop _ cause is = is
+
+  stopped_by : (b : Bool) (fault : ℕ) → OneOf b (KeepsHistory core core') (AddsEntry core h call stopped (Some fault) core')
+      → (core'.history ≡ core.history) ⊎ Enters h call stopped (length core.history) core.history core'.history
+  stopped_by true fault keeps = inl keeps.history
+  stopped_by false fault adds = inr (entered stopped (Some fault) (length core.history) refl adds)
+
+  pub happens : (told : HostTold) → length core.history ≤ 4096 → EntersAsTold core h call told core' → CauseOf core h call told core' → Happens h call told core.history core'.history
+  happens (replied index reply) few enters cause = (entered reply enters.1 index enters.0 enters.2, no_stop reply cause)
+  happens (halts fault) few enters cause = stopped_by (is_some core.stopped) fault enters
+  happens at_limit few enters cause = (enters.history, omega (arith, few, cause.1))
+  happens marked few enters cause = enters.history
+  happens (waits why) few enters cause = enters.history
+  happens no_memory few enters cause = enters.history
+
+-- ---- the beginning
+
+abbrev then_of : SiteLog → ℕ → SiteLog
+then_of site first = record { start = site.start; log = take first site.log }
+
+pub same_beginning : (tells : Type 0) (core core' : CoreData) → IsLater tells core core' → (tells → core.first_write ≤ length core.site.told.log) → SameBeginning tells core core'
+same_beginning tells core core' later before =
+    let writes : core'.first_write ≡ core.first_write = later.beginning.first_write in
+    record {
+      config_ = later.beginning.config;
+      faults_ = later.beginning.first_faults;
+      writes_ = writes;
+      site_ = λ tl.
+          let grown = later.grown tl in
+          ap (then_of core'.site.told) writes ∙ ap (λ (s : SiteLog). then_of s core.first_write) grown.1
+          ∙ ap (λ (l : List Write). record { start = core.site.told.start; log = l }) (take-append-le core.first_write core.site.told.log grown.0 (before tl));
+      state_ = λ tl.
+          let grown = later.grown tl in
+          ap (λ (n : ℕ). opening n core'.site.told) writes ∙ opening_same core.first_write core.site.told core'.site.told grown.0 grown.1 (before tl);
+    }

@@ -1,0 +1,4 @@
+pub mod EventFacts
+pub mod AnswerFacts
+pub mod OwnPlaces
+pub mod RunFacts

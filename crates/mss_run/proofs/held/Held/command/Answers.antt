@@ -1,0 +1,26 @@
+use Rattle.std.proofs.Common.{List, Some, sym, ◌∙◌, ap, subst}
+use Rattle.ckd_plain.specs.History.{EntryData}
+use Rattle.core_state.specs.CoreValue.{CoreData, seen}
+use Rattle.seen_book.specs.Openings.{IsLegalFrom}
+use Rattle.mss_run.proofs.AnswerFacts.{opens_still, legal_from}
+use Rattle.mss_run.proofs.held.Held.command.Goals as goal
+
+pub told-book-requires-clause-legal : goal.told-book-requires-clause-legal
+told-book-requires-clause-legal g c =
+    let opening = g.N.Opening.opening in
+    let old : CoreData = seen g.S.Site.told g.S.Site.writes g.S.Site.faults c.self.inside.core in
+    let new : CoreData = seen g.S.Site.told g.S.Site.writes g.S.Site.faults c.host_step-answer.new.core in
+    let opens = opens_still opening g.N.Setup.setup g.S.Site.tells old new c.self.invariant.opens c.host_step-answer.ensures.begins in
+    subst (IsLegalFrom opening) (sym (c.as_slice-history.ensures ∙ c.history.ensures))
+    (legal_from opening g.N.Setup.setup g.S.Site.tells new opens c.entries_of-after.ensures.legal)
+
+pub invariant_of-self : goal.invariant_of-self
+invariant_of-self g c =
+    let opening = g.N.Opening.opening in
+    let old : CoreData = seen g.S.Site.told g.S.Site.writes g.S.Site.faults c.self.inside.core in
+    let new : CoreData = seen g.S.Site.told g.S.Site.writes g.S.Site.faults c.host_step-answer.new.core in
+    record {
+      made = c.in-Some.book.made;
+      book_ = ap Some (c.told-book.ensures.book ∙ ap (λ (l : List EntryData). record { list = l; made = c.in-Some.book.made }) (c.as_slice-history.ensures ∙ c.history.ensures));
+      opens = opens_still opening g.N.Setup.setup g.S.Site.tells old new c.self.invariant.opens c.host_step-answer.ensures.begins;
+    }

@@ -1,0 +1,15 @@
+use Rattle.std.proofs.Common.{List, Some, sym, ◌∙◌, ap}
+use Rattle.ckd_plain.specs.History.{EntryData}
+use Rattle.core_state.specs.CoreValue.{CoreData, seen}
+use Rattle.mss_run.proofs.AnswerFacts.{opens_still}
+use Rattle.mss_run.proofs.held.Held.work.Goals as goal
+
+pub invariant_of-self : goal.invariant_of-self
+invariant_of-self g c =
+    let old : CoreData = seen g.S.Site.told g.S.Site.writes g.S.Site.faults c.self.inside.core in
+    let new : CoreData = seen g.S.Site.told g.S.Site.writes g.S.Site.faults c.work_step.new.core in
+    record {
+      made = c.self.invariant.made;
+      book_ = c.self.invariant.book_ ∙ ap (λ (l : List EntryData). Some record { list = l; made = c.self.invariant.made }) (sym c.work_step.ensures.history);
+      opens = opens_still g.N.Opening.opening g.N.Setup.setup g.S.Site.tells old new c.self.invariant.opens c.work_step.ensures.begins;
+    }

@@ -1,0 +1,36 @@
+use Rattle.std.proofs.Common.{ℕ, List, inl, inr, sym, ◌∙◌, ap, subst}
+use Rattle.ckd_plain.specs.History.{EntryData, IsLegal}
+use Rattle.core_state.specs.CoreValue.{CoreValue, CoreData, seen}
+use Rattle.core_state.specs.IsCore.{opening_of}
+use Rattle.job_text.specs.Jobs.{ScriptData, JobData, AreRunnableScripts}
+use Rattle.seen_book.specs.Books.{AreOfThese}
+use Rattle.mss_run.specs.Beginning.{SameBeginning}
+use Rattle.mss_run.specs.Runs.{AreEndsIn}
+use Rattle.mss_run.proofs.AnswerFacts.{begins_itself, begins_by, legal_since}
+use Rattle.mss_run.proofs.RunFacts.{ends_whole}
+use Rattle.mss_run.proofs.run.run_named.Goals as goal
+
+pub make_passes-book-requires-clause-runnable : goal.make_passes-book-requires-clause-runnable
+make_passes-book-requires-clause-runnable g c =
+    subst AreRunnableScripts (sym c.as_slice-scripts.ensures) (c.programs_can_be_run.ensures.job (record { config = c.job.inside.config; hosts = c.job.inside.hosts.items }) c.job.invariant)
+
+pub returns-clause-begins : goal.returns-clause-begins
+returns-clause-begins g c =
+    let old : CoreData = seen g.S.Site.told g.S.Site.writes g.S.Site.faults c.args.core in
+    let new : CoreData = seen g.S.Site.told g.S.Site.writes g.S.Site.faults c.close-core.result in
+    begins_by g.N.Opening.opening g.N.Setup.setup g.S.Site.tells old c.requires.opening new c.close-core.ensures.opening
+
+pub returns-clause-legal : goal.returns-clause-legal
+returns-clause-legal g c =
+    let old : CoreData = seen g.S.Site.told g.S.Site.writes g.S.Site.faults c.args.core in
+    legal_since g.N.Opening.opening g.N.Setup.setup g.S.Site.tells old c.requires.opening c.close-core.result.history c.close-core.ensures.legal
+
+pub returns-clause-ends : goal.returns-clause-ends
+returns-clause-ends g c =
+    let log = c.close-core.result.history in
+    let ended = c.run_all-passes.result in
+    inl (subst (λ (ss : List ScriptData). AreEndsIn log ss ended.1.items) (c.as_slice-scripts.ensures ∙ ap (λ (j : JobData). j.hosts) c.job.view_is)
+    (ends_whole log c.as_slice-scripts.result.now ended.0.items ended.1.items c.run_all-passes.ensures c.close-core.ensures.passes))
+
+pub returns-clause-hosts : goal.returns-clause-hosts
+returns-clause-hosts g c = subst (λ (hosts : List ℕ). AreOfThese hosts c.close-core.result.history) c.requires.hosts c.close-core.ensures.hosts

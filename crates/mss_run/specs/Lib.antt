@@ -1,0 +1,6 @@
+pub mod Beginning
+pub mod Happens
+pub mod Held
+pub mod Answers
+pub mod Owns
+pub mod Runs

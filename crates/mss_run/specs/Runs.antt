@@ -1,0 +1,78 @@
+-- How hosts ended, and what ended a run.
+use Rattle.std.specs.Prelude.{◌≡◌, ◌⊎◌, ℕ, ◌==◌, Bool, ◌&&◌, List, [], ◌∷◌, length, map, Option, Some, None, if◌then◌else◌}
+use Rattle.std.specs.List.{list_all}
+use Rattle.ckd_plain.specs.History.{EntryData}
+use Rattle.channel_program.specs.Items.{AreRunnable, EndsScript}
+use Rattle.job_text.specs.Jobs.{ScriptData}
+use Rattle.seen_book.specs.Entries.{entries_of}
+use Rattle.seen_book.specs.Books.{PassData}
+use Rattle.mss_run.specs.declared.ends.RunAnswer.{RunAnswer}
+use Rattle.mss_run.specs.declared.ends.RunAnswer.TheVariants as answer
+use Rattle.mss_run.specs.Owns.{places_of, exchanges_of}
+
+-- ---- how hosts ended
+
+-- a host's end: whether it came to the end of its script, and its places in the history
+pub record EndData : Type 0 where
+  pub host : ℕ
+  pub finished : Bool
+  pub own : List ℕ
+
+-- the end of a script in a history: its places are all that its host was told of, and what it was
+-- told follows the script, to its end or not
+pub record IsEndIn (log : List EntryData) (script : ScriptData) (e : EndData) : Type 0 where
+  pub host_ : e.host ≡ script.host
+  pub own_ : e.own ≡ places_of script.host log
+  pub follows : EndsScript script.items (exchanges_of script.host log) e.finished
+
+-- the ends of scripts, in order
+abbrev pub AreEndsIn : List EntryData → List ScriptData → List EndData → Type 0
+AreEndsIn log [] [] = Unit {0}
+AreEndsIn log (s ∷ ss) (e ∷ es) = IsEndIn log s e × AreEndsIn log ss es
+AreEndsIn log _ _ = ⊥
+
+-- a run leaves the ends of all hosts, or for want of memory of none
+abbrev pub Leaves : List EntryData → List ScriptData → List EndData → Type 0
+Leaves log scripts ends = AreEndsIn log scripts ends ⊎ (ends ≡ [])
+
+abbrev pub hosts_of : List ScriptData → List ℕ
+hosts_of scripts = map (λ (s : ScriptData). s.host) scripts
+
+-- ---- a host while others go on
+
+-- its pass and its end
+pub record IsRun (script : ScriptData) (p : PassData) (e : EndData) : Type 0 where
+  pub host_ : p.host ≡ script.host
+  pub own : entries_of p.host p.seen ≡ p.mine
+  pub ended : IsEndIn p.seen script e
+
+abbrev pub AreRuns : List ScriptData → List PassData → List EndData → Type 0
+AreRuns [] [] [] = Unit {0}
+AreRuns (s ∷ ss) (p ∷ ps) (e ∷ es) = IsRun s p e × AreRuns ss ps es
+AreRuns _ _ _ = ⊥
+
+-- its pass before its first call
+pub record IsStart (script : ScriptData) (p : PassData) : Type 0 where
+  pub host_ : p.host ≡ script.host
+  pub fresh : p.seen ≡ []
+  pub runnable : AreRunnable script.items
+
+abbrev pub AreStarts : List ScriptData → List PassData → Type 0
+AreStarts [] [] = Unit {0}
+AreStarts (s ∷ ss) (p ∷ ps) = IsStart s p × AreStarts ss ps
+AreStarts _ _ = ⊥
+
+-- ---- what ended a run
+
+-- every host of the job came to an end, and was finished
+abbrev pub are_finished : ℕ → List EndData → Bool
+are_finished hosts ends = (length ends == hosts) && list_all (λ (e : EndData). e.finished) ends
+
+-- the first that applies: the core is stopped; every host is finished; the history is full, and each
+-- host came to an end
+abbrev pub run_answer : Option ℕ → ℕ → ℕ → List EndData → RunAnswer
+run_answer (Some fault) entries hosts ends = answer.Stopped fault
+run_answer None entries hosts ends =
+    if are_finished hosts ends then answer.Done
+    else (if (entries == 4096) && (length ends == hosts) then answer.CommandLimit
+    else answer.Memory)

@@ -1,0 +1,49 @@
+// Actors, the gate that they pass between events, and what they share.
+use crate::setup::Setup;
+use crate::shared::Shared;
+use core_state::WorkKind;
+use mss_base::{HostNo, RecorderNo, Site};
+use std::alloc::Global;
+use victim_choice::Choose;
+
+/// Who acts.
+#[derive(Clone, Copy, Debug, PartialEq, Eq)]
+pub enum Actor {
+    Host(HostNo),
+    Recorder(RecorderNo),
+}
+
+/// Where an actor is when it passes a gate.
+#[derive(Clone, Copy, Debug, PartialEq, Eq)]
+pub enum Point {
+    /// Before it is counted in.
+    Enter,
+    /// After an event of this host's own call that was replied or marked.
+    Host(HostNo),
+    /// After a work event that did something, by whichever actor did it.
+    Work(WorkKind),
+    /// After it was counted out.
+    Leave,
+}
+
+/// What actors pass between events, with the lock free. It may hold them.
+pub trait Gate {
+    fn pass(&self, actor: Actor, point: Point);
+}
+
+/// A gate that holds nobody.
+#[derive(Clone, Copy, Debug)]
+pub struct OpenGate;
+
+impl Gate for OpenGate {
+    fn pass(&self, _actor: Actor, _point: Point) {}
+}
+
+/// What the actors of a run share. Its methods are what an actor does.
+#[derive(Drop)]
+pub(crate) struct Run<'a, N: Setup, S: Site, C: Choose, G: Gate, R> {
+    pub rt: &'a R,
+    pub alloc: Global,
+    pub shared: &'a Shared<N, S, C>,
+    pub gate: &'a G,
+}

@@ -1,0 +1,76 @@
+// Events of a core, as what they leave of its session.
+ghost use Rattle.std.specs.Prelude.{◌≡◌, ◌≤◌, ◌<◌, length};
+ghost use Rattle.channel_commands.specs.Views.{call_of};
+ghost use Rattle.ckd_plain.specs.History.{IsLegal};
+ghost use Rattle.core_state.specs.CoreValue.{seen};
+ghost use Rattle.core_state.specs.IsCore.{IsCore, opening_of};
+ghost use Rattle.host_events.specs.Answers.{told_of};
+ghost use Rattle.mss_run.specs.Beginning.{SameBeginning};
+ghost use Rattle.mss_run.specs.Happens.{Happens};
+
+use channel_commands::Call;
+use core_state::{Core, WorkAnswer};
+use host_events::law::{
+    answers_have_their_causes, events_add_one_entry_at_most, events_are_later,
+};
+use host_events::{HostAnswer, host_event};
+use mss_base::{HostNo, RecorderNo, Site};
+use victim_choice::Choose;
+use work_events::law::{
+    work_leaves_the_history, work_is_later,
+};
+use work_events::work_event;
+
+/// How many recorders are configured.
+pub(crate) fn recorders_of<S: Site, C: Choose>(core: &Core<S, C>) -> u8
+    ensures { result ≡ core.now.config.recorders }
+{
+    core.config.recorders
+}
+
+/// How many entries the history has, 4,096 at most. It is legal.
+pub(crate) fn entries_of<S: Site, C: Choose>(core: &Core<S, C>) -> usize
+    ensures count { result ≡ length core.now.history }
+    ensures few { length core.now.history ≤ 4096 }
+    ensures kept { core.now.stopped ≡ None → IsCore core.now }
+    ensures began { S.tells → core.now.first_write ≤ length (S.told core.now.site).log }
+    ensures legal { S.tells
+        → IsLegal (opening_of (S.told core.now.site) core.now) core.now.history }
+{
+    let _config = &core.config;
+    core.history().as_slice().len()
+}
+
+/// One event of a host: what it adds to the history, and that the session has the same beginning.
+pub(crate) fn host_step<S: Site, C: Choose>(
+    core: &mut Core<S, C>,
+    host: HostNo,
+    call: &Call,
+) -> HostAnswer
+    ensures history { Happens host (call_of call.now) (told_of result)
+        core.old.history core.new.history }
+    ensures begins { SameBeginning S.tells (seen S.told S.writes S.faults core.old)
+        (seen S.told S.writes S.faults core.new) }
+{
+    events_add_one_entry_at_most::<S>();
+    answers_have_their_causes::<S>();
+    events_are_later::<S>();
+    let _before = entries_of(core);
+    host_event(core, host, call)
+}
+
+/// One event of a recorder: the history stays, and the session has the same beginning.
+pub(crate) fn work_step<S: Site, C: Choose>(
+    core: &mut Core<S, C>,
+    recorder: RecorderNo,
+) -> WorkAnswer
+    requires { recorder < core.old.config.recorders }
+    ensures history { core.new.history ≡ core.old.history }
+    ensures begins { SameBeginning S.tells (seen S.told S.writes S.faults core.old)
+        (seen S.told S.writes S.faults core.new) }
+{
+    work_leaves_the_history::<S, C>();
+    work_is_later::<S, C>();
+    let _before = entries_of(core);
+    work_event(core, recorder)
+}

@@ -1,0 +1,169 @@
+// A host's calls.
+ghost use Rattle.std.specs.Prelude.{◌≡◌, []};
+ghost use Rattle.channel_commands.specs.Views.{call_of};
+ghost use Rattle.mss_run.specs.Owns.{Attempted, Called, Makes, places_of};
+
+use crate::actor::{Actor, Gate, Point, Run};
+use crate::ends::Places;
+use crate::setup::Setup;
+use channel_commands::{Call, Reply};
+use core_state::WorkAnswer;
+use host_events::HostAnswer;
+use mss_base::{HostNo, RecorderNo, Site};
+use seen_book::{HostPass, Name};
+use std::alloc::Global;
+use std::marker::Model;
+use std::sync::Wait;
+use std::thread;
+use victim_choice::Choose;
+
+/// A reply, and its place in the history.
+#[derive(Drop)]
+pub(crate) struct Told {
+    pub index: u64,
+    pub reply: Reply,
+}
+
+/// What one attempt of a call came to.
+#[derive(Drop)]
+pub(crate) enum Attempt {
+    /// It has to be tried again.
+    Again,
+    Replied(Told),
+    /// The run has ended.
+    Halted,
+}
+
+/// A host under way: its pass, and the places of all that it was told.
+#[derive(Drop)]
+pub(crate) struct Running<N: Name> {
+    pass: HostPass<N>,
+    own: Places,
+}
+
+impl<N: Name> Model for Running<N> {
+    ghost use Rattle.std.specs.Prelude.{◌≡◌};
+    ghost use Rattle.seen_book.specs.Books.{PassData};
+    ghost use Rattle.mss_run.specs.Owns.{places_of};
+
+    ghost Value = { PassData };
+
+    ghost view = { λ r. r.pass };
+
+    ghost invariant = { λ r. r.own.items ≡ places_of r.pass.host r.pass.seen };
+}
+
+impl<N: Name> Running<N> {
+    fn over(pass: HostPass<N>, own: Places) -> Self
+        requires { own.items ≡ places_of pass.host pass.seen }
+        ensures { result ≡ pass }
+    {
+        Running { pass, own }
+    }
+
+    /// Before its first call, in a history without entries.
+    pub fn start(alloc: Global, pass: HostPass<N>) -> Self
+        requires { pass.seen ≡ [] }
+        ensures { result ≡ pass }
+    {
+        let own = Places::new(alloc);
+        Running::over(pass, own)
+    }
+
+    pub fn into_parts(self) -> (HostPass<N>, Places)
+        ensures pass { result.0 ≡ self }
+        ensures own { result.1.items ≡ places_of self.host self.seen }
+    {
+        let Running { pass, own } = self;
+        (pass, own)
+    }
+}
+
+impl<N: Setup, S: Site, C: Choose, G: Gate, R: Wait> Run<'_, N, S, C, G, R> {
+    /// A host that waits works for each recorder whose own worker isn't in, once in turn. False where the run has to end.
+    fn help(&self, host: HostNo) -> bool {
+        for number in 0..self.shared.recorders() {
+            let Some(recorder) = RecorderNo::of(number) else {
+                break;
+            };
+            match self.shared.help(self.rt, recorder) {
+                Some(WorkAnswer::Did(kind)) => {
+                    self.gate.pass(Actor::Host(host), Point::Work(kind));
+                }
+                Some(WorkAnswer::Stopped { .. } | WorkAnswer::Memory) => return false,
+                Some(WorkAnswer::Idle) | None => {}
+            }
+        }
+        true
+    }
+
+    /// Tries a call once. A host that is told to wait works for the recorders that nobody works for.
+    fn try_call(&self, pass: HostPass<N>, call: &Call) -> (HostPass<N>, Attempt)
+        ensures { Attempted (call_of call.now) pass result.1 result.0 }
+    {
+        let host = pass.host();
+        let (pass, answer) = self.shared.step(self.rt, pass, call);
+        let Some(answer) = answer else {
+            return (pass, Attempt::Halted);
+        };
+        match answer {
+            HostAnswer::Replied { index, reply } => {
+                self.gate.pass(Actor::Host(host), Point::Host(host));
+                (pass, Attempt::Replied(Told { index, reply }))
+            }
+            HostAnswer::Marked => {
+                self.gate.pass(Actor::Host(host), Point::Host(host));
+                (pass, Attempt::Again)
+            }
+            HostAnswer::Wait(_) => {
+                if !self.help(host) {
+                    self.shared.end(self.rt);
+                    return (pass, Attempt::Halted);
+                }
+                thread::yield_now();
+                (pass, Attempt::Again)
+            }
+            HostAnswer::Stopped { .. } | HostAnswer::CommandLimit | HostAnswer::Memory => {
+                self.shared.end(self.rt);
+                (pass, Attempt::Halted)
+            }
+        }
+    }
+
+    /// Makes a call until it is replied. None where the run has ended.
+    fn call_until_replied(&self, mut pass: HostPass<N>, call: &Call) -> (HostPass<N>, Option<Told>)
+        ensures { Called (call_of call.now) pass result.1 result.0 }
+    {
+        for _ in self.rt.forever() {
+            let (next, attempt) = self.try_call(pass, call);
+            match attempt {
+                Attempt::Again => pass = next,
+                Attempt::Replied(told) => return (next, Some(told)),
+                Attempt::Halted => return (next, None),
+            }
+        }
+        unreachable!()
+    }
+
+    /// Makes a host's call, for whose place it takes room first. None where the run has ended.
+    pub fn make_call(&self, running: Running<N>, call: &Call) -> (Running<N>, Option<Reply>)
+        ensures { Makes (call_of call.now) running result.1 result.0 }
+    {
+        let Running { pass, mut own } = running;
+        if own.reserve(1).is_err() {
+            self.shared.end(self.rt);
+            return (Running::over(pass, own), None);
+        }
+        let _before = pass.host();
+        let (pass, told) = self.call_until_replied(pass, call);
+        let _after = pass.host();
+        match told {
+            Some(told) => {
+                let Told { index, reply } = told;
+                own.push(index);
+                (Running::over(pass, own), Some(reply))
+            }
+            None => (Running::over(pass, own), None),
+        }
+    }
+}

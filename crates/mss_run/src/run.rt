@@ -1,0 +1,340 @@
+// The actors of a job, each in a thread of its own.
+ghost use Rattle.std.specs.Prelude.{◌≡◌, ◌≤◌, ◌+◌, ◌++◌, ◌∷◌, [], length, nat_eq};
+ghost use Rattle.std.specs.List.{IsDistinct, list_all};
+ghost use Rattle.std.specs.Thread.{IsSend, IsSync};
+ghost use Rattle.ckd_plain.specs.History.{IsLegal};
+ghost use Rattle.job_text.specs.Jobs.{AreRunnableScripts};
+ghost use Rattle.seen_book.specs.Books.{AreOfThese};
+ghost use Rattle.core_state.specs.CoreValue.{seen};
+ghost use Rattle.core_state.specs.IsCore.{opening_of};
+ghost use Rattle.mss_run.specs.Beginning.{OpensWith, SameBeginning};
+ghost use Rattle.mss_run.specs.Runs.{
+  AreRuns,
+  AreStarts,
+  IsRun,
+  IsStart,
+  Leaves,
+  hosts_of,
+  run_answer,
+};
+
+use crate::actor::{Actor, Gate, Point, Run};
+use crate::ends::{HostEnd, HostEnds, RunAnswer, RunEnd};
+use crate::host::Running;
+use crate::setup::Setup;
+use crate::shared::Shared;
+use core_state::Core;
+use job_text::{HostScript, Job, programs_can_be_run};
+use mss_base::{RecorderNo, Site};
+use seen_book::{Blank, Book, HostPass, Name, PassList, Word, host_pass, make, start_book};
+use std::alloc::Global;
+use std::marker::Brand;
+use std::sync::Wait;
+use std::thread::{Threads, join};
+use victim_choice::Choose;
+
+impl<N: Setup, S: Site, C: Choose, G: Gate, R: Wait> Run<'_, N, S, C, G, R> {
+    /// A host as an actor: it is counted in, makes the calls of its script, and is counted out.
+    fn run_host(&self, script: &HostScript, pass: HostPass<N>) -> (HostPass<N>, HostEnd)
+        requires { IsStart script.now pass }
+        ensures { IsRun script.now result.0 result.1 }
+    {
+        let host = pass.host();
+        self.gate.pass(Actor::Host(host), Point::Enter);
+        self.shared.enter_host(self.rt, host);
+        let running = Running::start(self.alloc, pass);
+        let (running, finished) = self.run_script(running, script.items.as_slice());
+        let (pass, own) = running.into_parts();
+        let _after = pass.host();
+        self.shared.leave_host(self.rt, host);
+        self.gate.pass(Actor::Host(host), Point::Leave);
+        let end = HostEnd {
+            host,
+            finished,
+            own,
+        };
+        (pass, end)
+    }
+}
+
+/// The pass of the last script.
+fn take_pass<N: Name>(
+    script: &HostScript,
+    rest: &[HostScript],
+    passes: &mut PassList<N>,
+) -> HostPass<N>
+    requires { AreStarts (rest.now ++ script.now ∷ []) passes.old.items }
+    ensures start { IsStart script.now result }
+    ensures starts { AreStarts rest.now passes.new.items }
+    ensures count { length passes.new.items + 1 ≡ length passes.old.items }
+    ensures spare { passes.new.spare ≡ passes.old.spare + 1 }
+{
+    // The clauses speak of the scripts; no code does.
+    let _ = script;
+    let _ = rest;
+    let Some(pass) = passes.pop() else {
+        unreachable!()
+    };
+    pass
+}
+
+/// The lists with the pass and the end of one script more, for which they have room.
+fn with_run<N: Name>(
+    script: &HostScript,
+    rest: &[HostScript],
+    mut passes: PassList<N>,
+    mut ends: HostEnds,
+    pass: HostPass<N>,
+    end: HostEnd,
+) -> (PassList<N>, HostEnds)
+    requires runs { AreRuns rest.now passes.items ends.items }
+    requires run { IsRun script.now pass end }
+    requires room { 1 ≤ passes.spare }
+    requires room_ends { 1 ≤ ends.spare }
+    ensures runs { AreRuns (rest.now ++ script.now ∷ []) result.0.items result.1.items }
+    ensures spare { result.0.spare + 1 ≡ passes.spare }
+    ensures spare_ends { result.1.spare + 1 ≡ ends.spare }
+{
+    // The clauses speak of the scripts; no code does.
+    let _ = script;
+    let _ = rest;
+    passes.push(pass);
+    ends.push(end);
+    (passes, ends)
+}
+
+impl<
+    N: Setup + Send + Sync,
+    S: Site + Send,
+    C: Choose + Send,
+    G: Gate + Sync,
+    R: Threads + Wait + Sync,
+> Run<'_, N, S, C, G, R> {
+    /// Each host of these scripts in a thread of its own. The list of ends has room for all of them.
+    fn run_hosts(
+        &self,
+        scripts: &[HostScript],
+        mut passes: PassList<N>,
+        ends: HostEnds,
+    ) -> (PassList<N>, HostEnds)
+        requires starts { AreStarts scripts.now passes.items }
+        requires room { length passes.items ≤ ends.spare }
+        requires empty { ends.items ≡ [] }
+        ensures runs { AreRuns scripts.now result.0.items result.1.items }
+        ensures spare { result.0.spare ≡ passes.spare }
+        ensures room { ends.spare ≤ result.1.spare + length passes.items }
+    {
+        let Some((script, rest)) = scripts.split_last() else {
+            return (passes, ends);
+        };
+        let pass = take_pass(script, rest, &mut passes);
+        let (first, others) = join(
+            self.rt,
+            || -> (HostPass<N>, HostEnd)
+                requires { IsStart script.now pass }
+                ensures { IsRun script.entry.now result.0 result.1 }
+            { self.run_host(script, pass) },
+            || -> (PassList<N>, HostEnds)
+                requires { IsSync R.row × IsSend N.row × IsSync N.row × IsSend S.row × IsSend C.row
+                    × IsSync G.row × AreStarts rest.now passes.items
+                    × (length passes.items ≤ ends.spare) × (ends.items ≡ []) }
+                ensures { AreRuns rest.entry.now result.0.items result.1.items
+                    × (result.0.spare ≡ passes.spare)
+                    × (ends.spare ≤ result.1.spare + length passes.items) }
+            { self.run_hosts(rest, passes, ends) },
+        );
+        let (pass, end) = first;
+        let (passes, ends) = others;
+        with_run(script, rest, passes, ends, pass, end)
+    }
+
+    /// Each of the first so many recorders in a thread of its own.
+    fn run_workers(&self, count: u8) {
+        if count == 0 {
+            return;
+        }
+        let below = count - 1;
+        let Some(recorder) = RecorderNo::of(below) else {
+            return;
+        };
+        join(
+            self.rt,
+            || self.work_for(recorder),
+            ||
+                requires { IsSync R.row × IsSend N.row × IsSync N.row × IsSend S.row × IsSend C.row
+                    × IsSync G.row }
+            { self.run_workers(below) },
+        );
+    }
+
+    /// Hosts and recorders side by side.
+    fn run_all(
+        &self,
+        scripts: &[HostScript],
+        passes: PassList<N>,
+        ends: HostEnds,
+    ) -> (PassList<N>, HostEnds)
+        requires starts { AreStarts scripts.now passes.items }
+        requires room { length passes.items ≤ ends.spare }
+        requires empty { ends.items ≡ [] }
+        ensures { AreRuns scripts.now result.0.items result.1.items }
+    {
+        let recorders = self.shared.recorders();
+        let (ended, _) = join(
+            self.rt,
+            || -> (PassList<N>, HostEnds)
+                requires { IsSync R.row × IsSend N.row × IsSync N.row × IsSend S.row × IsSend C.row
+                    × IsSync G.row × AreStarts scripts.now passes.items
+                    × (length passes.items ≤ ends.spare) × (ends.items ≡ []) }
+                ensures { AreRuns scripts.entry.now result.0.items result.1.items }
+            { self.run_hosts(scripts, passes, ends) },
+            ||
+                requires { IsSync R.row × IsSend N.row × IsSync N.row × IsSend S.row × IsSend C.row
+                    × IsSync G.row }
+            { self.run_workers(recorders) },
+        );
+        ended
+    }
+}
+
+/// A pass of each host, in order.
+fn make_passes<N: Name>(
+    word: &Word<N>,
+    mut book: Book<N>,
+    scripts: &[HostScript],
+    mut passes: PassList<N>,
+) -> (Book<N>, PassList<N>)
+    requires book { book ≡ record { list = []; made = [] } }
+    requires hosts { N.hosts ≡ hosts_of scripts.now }
+    requires differ { IsDistinct nat_eq N.hosts }
+    requires runnable { AreRunnableScripts scripts.now }
+    requires empty { passes.items ≡ [] }
+    requires room { length scripts.now ≤ passes.spare }
+    ensures book { result.0.list ≡ [] }
+    ensures starts { AreStarts scripts.now result.1.items }
+    ensures count { length result.1.items ≡ length scripts.now }
+{
+    for script in scripts {
+        let (grown, pass) = host_pass(word, book, script.host);
+        book = grown;
+        passes.push(pass);
+    }
+    (book, passes)
+}
+
+fn are_all_finished(ends: &[HostEnd]) -> bool
+    ensures { result ≡ list_all (λ e. e.finished) ends.now }
+{
+    ends.iter().all(|end| end.finished)
+}
+
+/// What ended a run of so many hosts.
+fn answer_of<S: Site, C: Choose>(core: &Core<S, C>, hosts: usize, ends: &[HostEnd]) -> RunAnswer
+    ensures { result ≡ run_answer core.now.stopped (length core.now.history) hosts ends.now }
+{
+    if let Some(fault) = core.stopped() {
+        return RunAnswer::Stopped { fault };
+    }
+    let all_there = ends.len() == hosts;
+    let finished = are_all_finished(ends);
+    let full = core.history().as_slice().len() == 4096;
+    if all_there && finished {
+        return RunAnswer::Done;
+    }
+    if full && all_there {
+        return RunAnswer::CommandLimit;
+    }
+    RunAnswer::Memory
+}
+
+/// The core as it is, without the end of any host.
+fn without_ends<S: Site, C: Choose>(alloc: Global, core: Core<S, C>, hosts: usize) -> RunEnd<S, C>
+    ensures core { result.core ≡ core }
+    ensures hosts { result.hosts.items ≡ [] }
+    ensures answer { result.answer ≡ run_answer core.stopped (length core.history) hosts [] }
+{
+    let ends = HostEnds::new(alloc);
+    let answer = answer_of(&core, hosts, ends.as_slice());
+    RunEnd {
+        core,
+        hosts: ends,
+        answer,
+    }
+}
+
+/// Runs a job under a name that names the blank, the core's session and the job's hosts.
+fn run_named<
+    N: Setup + Send + Sync,
+    S: Site + Send,
+    C: Choose + Send,
+    G: Gate + Sync,
+    R: Threads + Wait + Sync,
+>(rt: &R, alloc: Global, blank: Blank, core: Core<S, C>, job: &Job, gate: &G) -> RunEnd<S, C>
+    requires word { blank ≡ N.table }
+    requires opening { OpensWith N.opening N.setup S.tells
+        (seen S.told S.writes S.faults core) }
+    requires hosts { N.hosts ≡ hosts_of job.now.hosts }
+    requires empty { core.history ≡ [] }
+    ensures begins { SameBeginning S.tells (seen S.told S.writes S.faults core)
+        (seen S.told S.writes S.faults result.core) }
+    ensures legal { S.tells → IsLegal (opening_of (S.told core.site) core) result.core.history }
+    ensures hosts { AreOfThese (hosts_of job.now.hosts) result.core.history }
+    ensures ends { Leaves result.core.history job.now.hosts result.hosts.items }
+    ensures answer { result.answer ≡ run_answer result.core.stopped (length result.core.history)
+        (length job.now.hosts) result.hosts.items }
+{
+    programs_can_be_run();
+    let scripts = job.hosts.as_slice();
+    let mut passes = PassList::new(alloc);
+    let mut ends = HostEnds::new(alloc);
+    if passes.reserve(scripts.len()).is_err() || ends.reserve(scripts.len()).is_err() {
+        return without_ends(alloc, core, scripts.len());
+    }
+    let (word, book) = start_book::<N>(blank);
+    let (book, passes) = make_passes(&word, book, scripts, passes);
+    let shared = Shared::new(word, book, core);
+    let run = Run {
+        rt,
+        alloc,
+        shared: &shared,
+        gate,
+    };
+    let (passes, ends) = run.run_all(scripts, passes, ends);
+    let core = shared.close(passes);
+    let answer = answer_of(&core, scripts.len(), ends.as_slice());
+    RunEnd {
+        core,
+        hosts: ends,
+        answer,
+    }
+}
+
+/// Runs each host and each recorder of a job as an actor in a thread of its own, and gives back the core when all have
+/// left.
+///
+/// The session has the beginning that it had. Its history is legal from there, whatever the order in which the actors
+/// came, and each entry is of a host of the job. Of each host there is its end: the places of all entries that it was
+/// told of, in rising order, and whether what it was told follows its script to the end; for want of memory at the start
+/// there is none. All memory that is common to them is taken before the first actor starts.
+pub fn run_actors<S: Site + Send, C: Choose + Send, G: Gate + Sync, R: Threads + Wait + Sync>(
+    rt: &R,
+    alloc: Global,
+    core: Core<S, C>,
+    job: &Job,
+    gate: &G,
+) -> RunEnd<S, C>
+    requires empty { core.history ≡ [] }
+    requires config { core.config ≡ job.now.config }
+    ensures begins { SameBeginning S.tells (seen S.told S.writes S.faults core)
+        (seen S.told S.writes S.faults result.core) }
+    ensures legal { S.tells → IsLegal (opening_of (S.told core.site) core) result.core.history }
+    ensures hosts { AreOfThese (hosts_of job.now.hosts) result.core.history }
+    ensures ends { Leaves result.core.history job.now.hosts result.hosts.items }
+    ensures answer { result.answer ≡ run_answer result.core.stopped (length result.core.history)
+        (length job.now.hosts) result.hosts.items }
+{
+    let Ok(blank) = make::<Brand>(alloc) else {
+        return without_ends(alloc, core, job.hosts.as_slice().len());
+    };
+    run_named::<Brand, S, C, G, R>(rt, alloc, blank, core, job, gate)
+}

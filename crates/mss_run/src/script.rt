@@ -1,0 +1,118 @@
+// A host's script, call after call.
+ghost use Rattle.std.specs.Prelude.{◌≡◌, ◌≤◌, [], length, map, option_map};
+ghost use Rattle.channel_commands.specs.Views.{call_of, reply_of, ccw_of};
+ghost use Rattle.channel_program.specs.Items.{
+  AreRunnable,
+  Asks,
+  EndsScript,
+  GivesSince,
+  IsRunnable,
+};
+ghost use Rattle.channel_program.specs.Script.{ItemData, program as running_program};
+ghost use Rattle.job_text.specs.Views.{item_of};
+ghost use Rattle.mss_run.specs.Owns.{exchanges_by};
+
+use crate::actor::{Gate, Run};
+use crate::host::Running;
+use crate::setup::Setup;
+use channel_commands::{Call, Reply};
+use channel_program::{Cursor, Program, is_command, next_call};
+use job_text::Item;
+use mss_base::Site;
+use std::sync::Wait;
+use victim_choice::Choose;
+
+/// The last reply, where there is one.
+fn last_of(last: &Option<Reply>) -> Option<&Reply>
+    ensures { option_map (λ reply. reply_of reply.now) result ≡ option_map reply_of last.now }
+{
+    match last {
+        Some(reply) => Some(reply),
+        None => None,
+    }
+}
+
+impl<N: Setup, S: Site, C: Choose, G: Gate, R: Wait> Run<'_, N, S, C, G, R> {
+    /// Runs a channel program, call after call. False where the run ended before the program.
+    fn run_program(&self, mut running: Running<N>, program: &Program) -> (Running<N>, bool)
+        requires some { 1 ≤ length program.now.items }
+        requires few { length program.now.items ≤ 256 }
+        ensures gives { GivesSince (running_program (map ccw_of program.now.items))
+            (exchanges_by running) (exchanges_by result.0) result.1 }
+        ensures host { result.0.host ≡ running.host }
+    {
+        let mut cursor = Cursor::start();
+        let mut last: Option<Reply> = None;
+        for _ in self.rt.forever() {
+            let before = last_of(&last);
+            let Ok(next) = next_call(self.alloc, program, &mut cursor, before) else {
+                self.shared.end(self.rt);
+                return (running, false);
+            };
+            let Some(call) = next else {
+                return (running, true);
+            };
+            let goes_on = is_command(&call);
+            let (now, reply) = self.make_call(running, &call);
+            let Some(reply) = reply else {
+                return (now, false);
+            };
+            if !goes_on {
+                return (now, true);
+            }
+            running = now;
+            last = Some(reply);
+        }
+        unreachable!()
+    }
+
+    /// Makes the one call of an item that is no program.
+    fn run_call(&self, running: Running<N>, call: &Call) -> (Running<N>, bool)
+        ensures gives { (item : ItemData) → Asks item (call_of call.now)
+            → GivesSince item (exchanges_by running) (exchanges_by result.0) result.1 }
+        ensures host { result.0.host ≡ running.host }
+    {
+        let (now, reply) = self.make_call(running, call);
+        match reply {
+            Some(_) => (now, true),
+            None => (now, false),
+        }
+    }
+
+    /// Does what the host's script has next: a mount, a demount, or a channel program to its end.
+    fn run_item(&self, running: Running<N>, item: &Item) -> (Running<N>, bool)
+        requires { IsRunnable (item_of item.now) }
+        ensures gives { GivesSince (item_of item.now)
+            (exchanges_by running) (exchanges_by result.0) result.1 }
+        ensures host { result.0.host ≡ running.host }
+    {
+        match item {
+            Item::Mount { volume, bind } => {
+                let call = Call::Mount {
+                    volume: *volume,
+                    bind: *bind,
+                };
+                self.run_call(running, &call)
+            }
+            Item::Demount => self.run_call(running, &Call::Demount),
+            Item::Run(program) => self.run_program(running, program),
+        }
+    }
+
+    /// Runs a host's script from its first item. False where the run ended before the script.
+    pub fn run_script(&self, mut running: Running<N>, items: &[Item]) -> (Running<N>, bool)
+        requires runnable { AreRunnable (map item_of items.now) }
+        requires begins { exchanges_by running ≡ [] }
+        ensures ends { EndsScript (map item_of items.now) (exchanges_by result.0) result.1 }
+        ensures host { result.0.host ≡ running.host }
+    {
+        for item in items {
+            let (now, finished) = self.run_item(running, item);
+            if !finished {
+                return (now, false);
+            }
+            running = now;
+        }
+        (running, true)
+    }
+}

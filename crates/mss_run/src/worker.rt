@@ -1,0 +1,31 @@
+// A recorder's worker.
+use crate::actor::{Actor, Gate, Point, Run};
+use crate::setup::Setup;
+use core_state::WorkAnswer;
+use mss_base::{RecorderNo, Site};
+use std::sync::Wait;
+use std::thread;
+use victim_choice::Choose;
+
+impl<N: Setup, S: Site, C: Choose, G: Gate, R: Wait> Run<'_, N, S, C, G, R> {
+    /// Works for a recorder, until that is idle and no host is in, or the run has ended.
+    pub fn work_for(&self, recorder: RecorderNo) {
+        self.gate.pass(Actor::Recorder(recorder), Point::Enter);
+        self.shared.enter_worker(self.rt, recorder);
+        for _ in self.rt.forever() {
+            match self.shared.turn(self.rt, recorder) {
+                Some(WorkAnswer::Did(kind)) => {
+                    self.gate.pass(Actor::Recorder(recorder), Point::Work(kind));
+                    continue;
+                }
+                Some(WorkAnswer::Stopped { .. } | WorkAnswer::Memory) => self.shared.end(self.rt),
+                Some(WorkAnswer::Idle) | None => {}
+            }
+            if self.shared.leave_worker(self.rt, recorder) {
+                break;
+            }
+            thread::yield_now();
+        }
+        self.gate.pass(Actor::Recorder(recorder), Point::Leave);
+    }
+}
