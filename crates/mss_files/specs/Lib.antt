@@ -1,0 +1,4 @@
+pub mod Files
+pub mod FileSites
+pub mod Paths
+pub mod Output

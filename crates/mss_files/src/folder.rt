@@ -1,0 +1,235 @@
+// The files of the units in a folder of the system.
+ghost use Rattle.std.specs.Prelude.{◌≡◌, ◌<◌, false, vec_len};
+
+use crate::site_file::{SiteFile, guard_standard_descriptors};
+use crate::{UnitFiles, unit_path};
+use mss_base::{NoMemory, UnitNo};
+use std::fs::{File, OpenOptions};
+use std::io::ErrorKind;
+use std::rt::Files;
+use std::{fs, io};
+
+/// How many files of units are open at most: the tables, the staging disks, and a cartridge for
+/// each remainder of its number by 64.
+const SLOTS: usize = 70;
+
+/// How far the folder is known.
+#[derive(Drop)]
+enum Access {
+    /// It wasn't looked for yet.
+    Untouched,
+    /// It wasn't there when it was looked for. So all units are empty until the first write makes
+    /// it.
+    Absent,
+    /// It is there, and this handle holds its lock.
+    Held(SiteFile),
+    /// It couldn't be opened, made or locked. It isn't tried again, so that no run begins in the
+    /// midst of another one.
+    Refused,
+}
+
+/// The file of a unit that was used lately: none where there is no such file.
+#[derive(Drop)]
+struct UnitFile {
+    unit: UnitNo,
+    file: Option<SiteFile>,
+}
+
+/// The files of the units in one folder. What they hold no clause can say.
+///
+/// A missing folder or file is empty, and a write makes it. From its first use on the folder is
+/// locked, so that no two sites work in it at once: where another has the lock, each call fails.
+#[derive(Drop)]
+pub struct Folder<R: Files<File = File> + AllocGlobal + Drop> {
+    rt: R,
+    path: String,
+    guards: Vec<File>,
+    access: Access,
+    folder_synced: bool,
+    names_synced: bool,
+    slots: Vec<Option<UnitFile>>,
+    ghost whole: { vec_len slots ≡ 70 },
+}
+
+/// The one place in the list of open files where a unit's file may stand.
+fn slot_of(unit: &UnitNo) -> usize
+    ensures { result < 70 }
+{
+    match unit {
+        UnitNo::TableA => 0,
+        UnitNo::TableB => 1,
+        UnitNo::Staging(number) => 2 + (*number % 4) as usize,
+        UnitNo::Cartridge(number) => 6 + (number.get() % 64) as usize,
+    }
+}
+
+/// Opens a file that is there.
+fn open_there<R: Files<File = File>>(rt: &R, path: &str) -> io::Result<Option<SiteFile>> {
+    match SiteFile::open(rt, OpenOptions::new().read(true).write(true), path) {
+        Ok(file) => Ok(Some(file)),
+        Err(error) if error.kind() == ErrorKind::NotFound => Ok(None),
+        Err(error) => Err(error),
+    }
+}
+
+/// Makes a file that isn't there.
+fn make_file<R: Files<File = File>>(rt: &R, path: &str) -> io::Result<SiteFile> {
+    SiteFile::open(
+        rt,
+        OpenOptions::new().read(true).write(true).create_new(true),
+        path,
+    )
+}
+
+/// Opens and locks a folder that is there.
+fn hold_folder<R: Files<File = File>>(rt: &R, path: &str) -> io::Result<SiteFile> {
+    let folder = SiteFile::open(rt, OpenOptions::new().read(true), path)?;
+    folder.lock()?;
+    Ok(folder)
+}
+
+/// Makes a folder that isn't there, and locks it.
+fn make_folder<R: Files<File = File>>(rt: &R, path: &str) -> io::Result<SiteFile> {
+    fs::create_dir(rt, path)?;
+    hold_folder(rt, path)
+}
+
+/// Opens and locks a folder, if it is there.
+fn enter_folder<R: Files<File = File>>(rt: &R, path: &str) -> io::Result<Access> {
+    match hold_folder(rt, path) {
+        Ok(folder) => Ok(Access::Held(folder)),
+        Err(error) if error.kind() == ErrorKind::NotFound => Ok(Access::Absent),
+        Err(error) => Err(error),
+    }
+}
+
+impl<R: Files<File = File> + AllocGlobal + Drop> Folder<R> {
+    /// The folder of this path. It touches no file before the first read or write.
+    pub fn at(rt: R, path: &str) -> Result<Self, NoMemory> {
+        let path = String::from_str(rt.alloc(), path)?;
+        let mut slots = Vec::new(rt.alloc());
+        for _ in 0..SLOTS {
+            slots.push(None)?;
+        }
+        Ok(Folder {
+            guards: Vec::new(rt.alloc()),
+            rt,
+            path,
+            access: Access::Untouched,
+            folder_synced: false,
+            names_synced: false,
+            slots,
+        })
+    }
+
+    /// Looks for the folder at the first use, and makes it where that is wanted.
+    fn enter(&mut self, make: bool) -> io::Result<()> {
+        if matches!(self.access, Access::Untouched) {
+            self.access = Access::Refused;
+            guard_standard_descriptors(&self.rt, &mut self.guards)?;
+            self.access = enter_folder(&self.rt, self.path.as_str())?;
+        }
+        if make && matches!(self.access, Access::Absent) {
+            self.access = Access::Refused;
+            self.access = Access::Held(make_folder(&self.rt, self.path.as_str())?);
+        }
+        Ok(())
+    }
+
+    /// Whether the slot has the file of this unit, or, where none is wanted, knows that there is
+    /// none.
+    fn is_known(&self, unit: &UnitNo, make: bool) -> bool {
+        match &self.slots[slot_of(unit)] {
+            Some(known) => known.unit == *unit && (known.file.is_some() || !make),
+            None => false,
+        }
+    }
+
+    /// The file of this unit, where it is open.
+    fn file(&self, unit: &UnitNo) -> Option<&SiteFile> {
+        match &self.slots[slot_of(unit)] {
+            Some(known) if known.unit == *unit => known.file.as_ref(),
+            _ => None,
+        }
+    }
+
+    /// Opens the file of this unit, if it is there; a file that isn't there is made where that is
+    /// wanted. A folder that was moved away is an error: none of its files is missing.
+    fn open_unit(&mut self, unit: &UnitNo, make: bool) -> io::Result<()> {
+        if self.is_known(unit, make) {
+            return Ok(());
+        }
+        self.enter(make)?;
+        let folder = match &self.access {
+            Access::Held(folder) => folder,
+            Access::Absent => return Ok(()),
+            Access::Untouched | Access::Refused => {
+                return Err(io::Error::from(ErrorKind::WouldBlock));
+            }
+        };
+        if !folder.is_at(&self.rt, self.path.as_str())? {
+            return Err(io::Error::from(ErrorKind::NotFound));
+        }
+        let path = unit_path(self.rt.alloc(), self.path.as_str(), unit)?;
+        let mut file = open_there(&self.rt, path.as_str())?;
+        if make && file.is_none() {
+            self.names_synced = false;
+            file = Some(make_file(&self.rt, path.as_str())?);
+        }
+        let slot = slot_of(unit);
+        self.slots[slot] = Some(UnitFile { unit: *unit, file });
+        Ok(())
+    }
+
+    /// Makes the names of the folder and of its files last, where that isn't known: at the first
+    /// write, since an earlier run may have ended before it did so, and where a file was made.
+    fn keep_names(&mut self) -> io::Result<()> {
+        let Access::Held(folder) = &self.access else {
+            return Ok(());
+        };
+        if !self.names_synced {
+            folder.sync_all()?;
+            self.names_synced = true;
+        }
+        if !self.folder_synced {
+            let parent = format!(in self.rt.alloc(); "{}/..", self.path)?;
+            File::open(&self.rt, parent)?.sync_all()?;
+            self.folder_synced = true;
+        }
+        Ok(())
+    }
+}
+
+impl<R: Files<File = File> + AllocGlobal + Drop> UnitFiles for Folder<R> {
+    ghost use Rattle.std.specs.Prelude.{false};
+
+    ghost tells = { ⊥ };
+
+    ghost byte = { λ _ _ _. 0 };
+
+    ghost lasts = { λ _ _. false };
+
+    fn read_some(&mut self, unit: &UnitNo, at: u64, into: &mut [u8]) -> io::Result<usize> {
+        self.open_unit(unit, false)?;
+        match self.file(unit) {
+            Some(file) => file.read_at(into, at),
+            None => Ok(0),
+        }
+    }
+
+    fn write_some(&mut self, unit: &UnitNo, at: u64, bytes: &[u8]) -> io::Result<usize> {
+        self.open_unit(unit, true)?;
+        self.keep_names()?;
+        match self.file(unit) {
+            Some(file) => file.write_at(bytes, at),
+            None => Ok(0),
+        }
+    }
+
+    fn sync(&mut self, unit: &UnitNo) -> io::Result<()> {
+        match self.file(unit) {
+            Some(file) => file.sync_data(),
+            None => Err(io::Error::from(ErrorKind::NotFound)),
+        }
+    }
+}
