@@ -1,0 +1,6 @@
+pub mod Walks
+pub mod Leafs
+pub mod Tops
+pub mod Spelled
+pub mod Parsing
+pub mod Meanings

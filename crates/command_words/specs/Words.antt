@@ -1,0 +1,74 @@
+-- What the words after the program's name ask for.
+use Rattle.std.specs.Prelude.{ℕ, ◌+◌, ◌-◌, ◌*◌, ◌≤◌, ⊤, Bool, ◌&&◌, nat_le, List, [], ◌∷◌}
+use Rattle.std.specs.Prelude.{fold, length, Option, Some, None, IfSome, codes, if◌then◌else◌}
+use Rattle.std.specs.List.{find, list_all}
+use Rattle.std.specs.Option.{option_map, option_and_then}
+use Rattle.std.specs.Str.{bytes_eq}
+use Rattle.clap.specs.Lexer.{is_digit}
+use Rattle.command_words.specs.declared.command.Command.{Command}
+use Rattle.command_words.specs.declared.command.Command.TheVariants.{Serial, Threads, Show}
+use Rattle.command_words.specs.Options.{Given, Text, given_in}
+
+-- one to twenty digits
+abbrev pub is_number : Text → Bool
+is_number text = nat_le 1 (length text) && (nat_le (length text) 20 && list_all is_digit text)
+
+-- the number that digits write
+abbrev pub number_of : Text → ℕ
+number_of text = fold (λ n b. 10 * n + (b - 48)) 0 text
+
+-- the number of a text, where it is spelled so and lies within the range
+abbrev pub number_in : ℕ → ℕ → Text → Option ℕ
+number_in least most text =
+    if is_number text && (nat_le least (number_of text) && nat_le (number_of text) most)
+    then Some (number_of text) else None
+
+-- the text that an option was given
+abbrev pub text_of : Text → List Given → Option Text
+text_of name givens = option_map (λ g. g.1) (find (λ g. bytes_eq g.0 name) givens)
+
+-- up to a most, and 0 where it is left out
+abbrev pub setting : ℕ → Option Text → Option ℕ
+setting most None = Some 0
+setting most (Some text) = number_in 0 most text
+
+-- 1 to 1,000 programs, or no load where it is left out
+abbrev pub load_setting : Option Text → Option (Option ℕ)
+load_setting None = Some None
+load_setting (Some text) = option_map (λ n. Some n) (number_in 1 1000 text)
+
+-- `serial`, where each of its settings is in order
+abbrev pub serial_by : Option ℕ → Option ℕ → Option (Option ℕ) → Option Command
+serial_by (Some order) (Some turns) (Some load) = Some (Serial order turns load)
+serial_by _ _ _ = None
+
+abbrev pub serial_options : List Text
+serial_options = codes "order" ∷ codes "turns" ∷ codes "load" ∷ []
+
+-- what the options of `serial` mean
+abbrev pub serial_of : List Given → Option Command
+serial_of givens = serial_by
+    (setting 18446744073709551615 (text_of (codes "order") givens))
+    (setting 100000 (text_of (codes "turns") givens))
+    (load_setting (text_of (codes "load") givens))
+
+-- what a command with its options means
+abbrev pub command_by : Text → List Given → Option Command
+command_by name givens =
+    if bytes_eq name (codes "serial") then serial_of givens
+    else (if bytes_eq name (codes "threads") then Some Threads else Some Show)
+
+-- what the words mean, if anything: a command's name, and then its options
+abbrev pub meaning : List Text → Option Command
+meaning [] = None
+meaning (name ∷ words) =
+    if bytes_eq (codes "serial") name then option_and_then serial_of (given_in serial_options words)
+    else (if bytes_eq (codes "threads") name then option_map (λ _. Threads) (given_in [] words)
+    else (if bytes_eq (codes "show") name then option_map (λ _. Show) (given_in [] words)
+    else None))
+
+-- the numbers that whoever runs a command relies on
+abbrev pub IsWithin : Command → Type 0
+IsWithin (Serial order turns load) = (turns ≤ 100000) × IfSome load (λ n. (1 ≤ n) × (n ≤ 1000))
+IsWithin Threads = ⊤
+IsWithin Show = ⊤

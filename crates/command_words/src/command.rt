@@ -1,0 +1,40 @@
+//! What the words ask for.
+use std::alloc::AllocError;
+
+/// What the words of the command ask for.
+#[derive(Clone, Copy, Debug, PartialEq, Eq)]
+pub enum Command {
+    /// A run in one thread.
+    Serial {
+        /// The number from which turns and load are drawn.
+        order: u64,
+        /// How many turns are drawn at the start of the run, 0 to 100,000.
+        turns: u32,
+        /// Of how many programs, 1 to 1,000, a load stands in for the input's job, if one does.
+        load: Option<u32>,
+    },
+    /// A run in threads.
+    Threads,
+    /// A look at the volumes.
+    Show,
+}
+
+/// Why words ask for nothing.
+#[derive(Clone, Copy, Debug, PartialEq, Eq)]
+pub enum CommandFault {
+    /// They are no command with its options.
+    Refused,
+    /// Memory ran out.
+    Memory,
+}
+
+impl From<AllocError> for CommandFault {
+    ghost use Rattle.std.specs.Prelude.{◌≡◌};
+    ghost use Rattle.command_words.specs.declared.command.CommandFault.TheVariants.{Memory};
+
+    ghost from_gives = { λ _ fault. fault ≡ Memory };
+
+    fn from(_error: AllocError) -> CommandFault {
+        CommandFault::Memory
+    }
+}

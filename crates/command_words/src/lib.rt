@@ -1,0 +1,18 @@
+//! The words of the command: which are accepted, and what they ask for.
+//!
+//! `read_command` takes the words behind the program's name and answers the `Command` that they
+//! mean, or refuses them, exactly by the definition `meaning` of `specs/Words.antt`, over the
+//! options of `specs/Options.antt`. clap parses the words: `specs/Parser.antt` has what it is told,
+//! and `proofs/Walks.antt` the two laws on its walk. Digits are checked here, since clap's own
+//! number parsers take a sign, and any count of zeros.
+#![tactic(auto)]
+
+mod command;
+mod digits;
+mod parser;
+mod read;
+#[cfg(test)]
+mod tests;
+
+pub use command::{Command, CommandFault};
+pub use read::read_command;

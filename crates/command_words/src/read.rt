@@ -1,0 +1,128 @@
+//! What the parsed words mean.
+ghost use Rattle.std.specs.Prelude.{◌≡◌, ◌≤◌, ℕ, List, Some, map, string_bytes, IfOk, IfSome};
+ghost use Rattle.std.specs.Option.{option_map};
+ghost use Rattle.clap.specs.Matches.{found_of};
+ghost use Rattle.clap.specs.Simple.{subcommand_rows_of};
+ghost use Rattle.clap.specs.Walk.{rows_of};
+ghost use Rattle.command_words.specs.Options.{Given};
+ghost use Rattle.command_words.specs.Outcomes.{Reads};
+ghost use Rattle.command_words.specs.Parser.{expected_top, row_for};
+ghost use Rattle.command_words.specs.Words.{IsWithin, command_by, load_setting, meaning};
+ghost use Rattle.command_words.specs.Words.{serial_by, serial_of, setting};
+
+use crate::command::{Command, CommandFault};
+use crate::digits::number_in;
+use crate::parser::parse;
+use clap::ArgMatches;
+use std::alloc::Global;
+
+/// The most turns that are drawn at the start of a run.
+const TURN_LIMIT: u64 = 100_000;
+
+/// The most programs of a load.
+const PROGRAM_LIMIT: u64 = 1000;
+
+/// A number up to a most, and 0 where it is left out.
+fn setting(most: u64, text: Option<&str>) -> Option<u64>
+    ensures value { result ≡ setting most (option_map (λ t. t.now) text.entry) }
+    ensures within { IfSome result (λ n. n ≤ most) }
+{
+    match text {
+        Some(text) => number_in(0, most, text),
+        None => Some(0),
+    }
+}
+
+/// How many programs a load has, or that there is none where it is left out.
+fn load_setting(text: Option<&str>) -> Option<Option<u32>>
+    ensures value { result ≡ load_setting (option_map (λ t. t.now) text.entry) }
+    ensures within { IfSome result (λ load. IfSome load (λ n. (1 ≤ n) × (n ≤ 1000))) }
+{
+    match text {
+        Some(text) => match number_in(1, PROGRAM_LIMIT, text) {
+            Some(programs) => Some(Some(programs as u32)),
+            None => None,
+        },
+        None => Some(None),
+    }
+}
+
+/// `serial`, where each of its settings is in order.
+fn serial_by(order: Option<u64>, turns: Option<u64>, load: Option<Option<u32>>) -> Option<Command>
+    requires turns { IfSome turns (λ n. n ≤ 100000) }
+    requires load { IfSome load (λ load. IfSome load (λ n. (1 ≤ n) × (n ≤ 1000))) }
+    ensures value { result ≡ serial_by order turns load }
+    ensures within { IfSome result IsWithin }
+{
+    let Some(order) = order else {
+        return None;
+    };
+    let Some(turns) = turns else {
+        return None;
+    };
+    let Some(load) = load else {
+        return None;
+    };
+    let turns = turns as u32;
+    Some(Command::Serial { order, turns, load })
+}
+
+/// What the options of `serial` mean.
+fn serial_of(options: &ArgMatches<'_>) -> Option<Command>
+    ensures value { (givens : List Given) → rows_of (found_of options.now) ≡ map row_for givens
+        → result ≡ serial_of givens }
+    ensures within { IfSome result IsWithin }
+{
+    let order = setting(u64::MAX, options.get_str("order"));
+    let turns = setting(TURN_LIMIT, options.get_str("turns"));
+    let load = load_setting(options.get_str("load"));
+    serial_by(order, turns, load)
+}
+
+/// What a command with its options means.
+fn command_by(name: &str, options: &ArgMatches<'_>) -> Option<Command>
+    ensures value { (givens : List Given) → rows_of (found_of options.now) ≡ map row_for givens
+        → result ≡ command_by name.now givens }
+    ensures within { IfSome result IsWithin }
+{
+    if name == "serial" {
+        return serial_of(options);
+    }
+    if name == "threads" {
+        return Some(Command::Threads);
+    }
+    Some(Command::Show)
+}
+
+/// What the parsed words mean.
+fn meaning(matches: &ArgMatches<'_>) -> Option<Command>
+    ensures value { (words : List (List ℕ))
+        → expected_top words ≡ Some (subcommand_rows_of matches.now) → result ≡ meaning words }
+    ensures within { IfSome result IsWithin }
+{
+    match matches.subcommand() {
+        Some((name, options)) => command_by(name, options),
+        None => None,
+    }
+}
+
+/// The command that the words behind the program's name ask for.
+///
+/// They are `serial`, `threads` or `show`, and behind `serial` its options: `--order` of 0 to
+/// 18,446,744,073,709,551,615, `--turns` of 0 to 100,000 and `--load` of 1 to 1,000, each at most
+/// once, in any order, as two words or with `=`. Order and turns are 0 where they are left out. A
+/// number is one to twenty digits. A last word `--` means nothing. All other words are `Refused`,
+/// `help`, `--help` and `--version` too. `Memory` may come at any words.
+pub fn read_command(alloc: Global, words: &[String]) -> Result<Command, CommandFault>
+    ensures meaning { Reads result (meaning (map string_bytes words.now)) }
+    ensures within { IfOk result IsWithin }
+{
+    let matches = match parse(alloc, words) {
+        Ok(matches) => matches,
+        Err(fault) => return Err(fault),
+    };
+    match meaning(&matches) {
+        Some(command) => Ok(command),
+        None => Err(CommandFault::Refused),
+    }
+}
