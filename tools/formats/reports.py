@@ -1,0 +1,188 @@
+"""The report of a session: its entries, its changes of the table, its volumes."""
+
+import re
+from dataclasses import dataclass, field
+
+from .files import lines_of
+
+NUMBER = r"(0|[1-9][0-9]*)"
+
+ENTRY = re.compile(rf"entry {NUMBER} host {NUMBER} (.*)")
+CALLS = re.compile(
+    rf"(?:mount (?P<volume>{NUMBER})(?P<bind> bind)?|ccw (?P<code>[0-9A-F]{{2}})|(?P<other>demount|break))"
+    r" (?P<reply>.*)"
+)
+STATUS = re.compile(r"status ([0-9A-F]{2})(?: data ((?:[0-9A-F]{2})+))?")
+FAULT = re.compile(rf"(equipment check|stopped) fault {NUMBER}")
+REPLIES = [
+    "mounted",
+    "demounted",
+    "already mounted",
+    "not mounted",
+    "no volume",
+    "in chain",
+    "program check",
+    "chain limit",
+    "no space",
+]
+
+CHANGE = re.compile(rf"change {NUMBER} volume {NUMBER} (.*)")
+CREATE = re.compile(rf"create ([A-Z0-9]{{6}}) {NUMBER} {NUMBER}")
+ASSIGN = re.compile(rf"assign page {NUMBER} frame {NUMBER}")
+FREE = re.compile(rf"free page {NUMBER} frame (?:{NUMBER}|-)")
+CYLINDER = re.compile(rf"(staged|changed|destaged) cylinder {NUMBER}")
+
+VOLUME = re.compile(rf"volume {NUMBER} ([A-Z0-9]{{6}})")
+TRACK = re.compile(rf"track {NUMBER} {NUMBER}")
+RECORD = re.compile(r"record ([0-9A-F]{10}) (-|(?:[0-9A-F]{2})+) (-|(?:[0-9A-F]{2})+)")
+LAST = re.compile(rf"END|LIMIT|STOPPED {NUMBER}")
+
+CYLINDERS_OF_PAGE = 8
+
+
+class ReportFault(Exception):
+    """A line that no report has, by its number."""
+
+
+@dataclass
+class Entry:
+    number: int
+    host: int
+    text: str  # the call and its reply, as they stand in the report
+    call: str  # mount, demount, ccw or break
+    volume: int = None  # of a mount
+    bind: bool = False
+    code: int = None  # of a command
+    reply: str = ""
+    status: int = None  # where the reply is `status`
+    data: bytes = b""
+    fault: int = None
+
+    def has_unit_check(self):
+        """Whether the reply sets the sense."""
+        return self.reply in ("equipment check", "no space") or (self.status or 0) & 0x02 != 0
+
+
+@dataclass
+class Change:
+    number: int
+    volume: int
+    text: str
+    kind: str  # create, assign, free, staged, changed or destaged
+    serial: str = ""
+    cartridges: tuple = ()
+    page: int = None
+    frame: int = None  # of assign and free, where it is told
+    cylinder: int = None
+
+    def page_of_cylinder(self):
+        return self.cylinder // CYLINDERS_OF_PAGE
+
+
+@dataclass
+class Track:
+    cylinder: int
+    head: int
+    records: list = field(default_factory=list)  # each an ID, a key and data
+
+
+@dataclass
+class Volume:
+    number: int
+    serial: str
+    tracks: list = field(default_factory=list)
+
+
+@dataclass
+class Report:
+    entries: list = field(default_factory=list)
+    changes: list = field(default_factory=list)
+    volumes: list = field(default_factory=list)
+    last: str = ""
+
+
+def read_report(text):
+    """The report of a text. The first line that isn't as the format says is told as a ReportFault."""
+    lines = [line.decode("latin-1") for line in lines_of(text)]
+    if not lines or lines[0] != "MSS REPORT 1":
+        raise ReportFault("line 1: a report begins with MSS REPORT 1")
+    report = Report()
+    for number, line in enumerate(lines[1:], 2):
+        if report.last or not take_line(report, line):
+            raise ReportFault(f"line {number}: {line[:80]}")
+    if not report.last:
+        raise ReportFault("the report has no last line: END, LIMIT or STOPPED")
+    return report
+
+
+def take_line(report, line):
+    """Takes a line that stands where it may."""
+    if match := ENTRY.fullmatch(line):
+        entry = entry_of(int(match[1]), int(match[2]), match[3])
+        return not report.changes and not report.volumes and put(report.entries, entry)
+    if match := CHANGE.fullmatch(line):
+        return not report.volumes and put(report.changes, change_of(int(match[1]), int(match[2]), match[3]))
+    if match := VOLUME.fullmatch(line):
+        report.volumes.append(Volume(int(match[1]), match[2]))
+        return True
+    if (match := TRACK.fullmatch(line)) and report.volumes:
+        report.volumes[-1].tracks.append(Track(int(match[1]), int(match[2])))
+        return True
+    if (match := RECORD.fullmatch(line)) and report.volumes and report.volumes[-1].tracks:
+        report.volumes[-1].tracks[-1].records.append(tuple(bytes_of(match[place]) for place in (1, 2, 3)))
+        return True
+    if LAST.fullmatch(line):
+        report.last = line
+        return True
+    return False
+
+
+def put(numbered, item):
+    """Puts an entry or a change, if it is one, whose number is the next."""
+    if item is None or item.number != len(numbered) + 1:
+        return False
+    numbered.append(item)
+    return True
+
+
+def bytes_of(word):
+    return b"" if word == "-" else bytes.fromhex(word)
+
+
+def entry_of(number, host, text):
+    match = CALLS.fullmatch(text)
+    if not match:
+        return None
+    entry = Entry(number, host, text, "ccw")
+    if match["volume"]:
+        entry.call, entry.volume, entry.bind = "mount", int(match["volume"]), bool(match["bind"])
+    elif match["code"]:
+        entry.code = int(match["code"], 16)
+    else:
+        entry.call = match["other"]
+    return entry if take_reply(entry, match["reply"]) else None
+
+
+def take_reply(entry, reply):
+    if match := STATUS.fullmatch(reply):
+        entry.reply, entry.status, entry.data = "status", int(match[1], 16), bytes_of(match[2] or "-")
+    elif match := FAULT.fullmatch(reply):
+        entry.reply, entry.fault = match[1], int(match[2])
+    elif reply in REPLIES:
+        entry.reply = reply
+    return entry.reply != ""
+
+
+def change_of(number, volume, text):
+    change = Change(number, volume, text, text.split(" ")[0])
+    if match := CREATE.fullmatch(text):
+        change.serial, change.cartridges = match[1], (int(match[2]), int(match[3]))
+    elif match := ASSIGN.fullmatch(text):
+        change.page, change.frame = int(match[1]), int(match[2])
+    elif match := FREE.fullmatch(text):
+        change.page, change.frame = int(match[1]), int(match[2]) if match[2] else None
+    elif match := CYLINDER.fullmatch(text):
+        change.cylinder = int(match[2])
+    else:
+        return None
+    return change
