@@ -10,15 +10,11 @@ ghost use Rattle.mss_run.specs.Happens.{Happens};
 
 use channel_commands::Call;
 use core_state::{Core, WorkAnswer};
-use host_events::law::{
-    answers_have_their_causes, events_add_one_entry_at_most, events_are_later,
-};
+use host_events::law::{answers_have_their_causes, events_add_one_entry_at_most, events_are_later};
 use host_events::{HostAnswer, host_event};
 use mss_base::{HostNo, RecorderNo, Site};
 use victim_choice::Choose;
-use work_events::law::{
-    work_leaves_the_history, work_is_later,
-};
+use work_events::law::{work_is_later, work_leaves_the_history};
 use work_events::work_event;
 
 /// How many recorders are configured.

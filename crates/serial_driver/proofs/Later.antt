@@ -13,9 +13,11 @@ later_none tells core = record {
 }
 
 continues_then : (old mid new : SiteLog) → Continues old mid → Continues mid new → Continues old new
-continues_then old mid new first then_ =
-    (first.0 ++ then_.0, then_.1 ∙ ap (λ (s : SiteLog). record s { log = s.log ++ then_.0 }) first.1
-    ∙ (λ i. record { start = old.start; log = append_assoc old.log first.0 then_.0 i }))
+continues_then old mid new first then_ = (
+  first.0 ++ then_.0,
+  then_.1 ∙ ap (λ (s : SiteLog). record s { log = s.log ++ then_.0 }) first.1
+      ∙ (λ i. record { start = old.start; log = append_assoc old.log first.0 then_.0 i }),
+)
 
 pub later_then : (tells : Type 0) (old mid new : CoreData) → IsLater tells old mid → IsLater tells mid new → IsLater tells old new
 later_then tells old mid new first then_ = record {
