@@ -16,6 +16,7 @@ pub mod law;
 mod mark;
 mod prepare;
 mod reply;
+mod requests;
 mod respond;
 mod rule;
 mod run;

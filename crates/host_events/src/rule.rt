@@ -1,5 +1,5 @@
 // Which rule a host's call meets.
-ghost use Rattle.std.specs.Prelude.{◌≡◌, ◌≤◌};
+ghost use Rattle.std.specs.Prelude.{◌≡◌, ◌≤◌, length, true};
 ghost use Rattle.std.specs.Option.{option_and_then};
 ghost use Rattle.channel_commands.specs.Data.{is_command};
 ghost use Rattle.channel_commands.specs.Views.{call_of};
@@ -25,25 +25,27 @@ ghost use Rattle.core_state.specs.HostRules.{
   volume_of,
   would_bind,
 };
-ghost use Rattle.host_events.specs.Asking.{IsAsked};
+ghost use Rattle.host_events.specs.Asking.{IsAlone, IsAsked};
 
+use crate::requests::request_of;
 use channel_commands::{Call, Command};
 use ckd_plain::steps::{is_data, opened};
 use ckd_plain::{HostState, admitted};
-use core_state::looks::{are_all_bound, frame_in, host_at, owner_of, state_in};
+use core_state::looks::{are_all_bound, frame_in, host_at, is_on, owner_of, state_in};
 use core_state::{Core, ENTRY_LIMIT, HostRule, Task};
 use fault_queue::{Request, RequestState};
 use mss_base::{Config, FrameNo, HostNo, Site, VolumeNo};
 use victim_choice::Choose;
 
-/// A host's call, with the state of the host.
+/// A host's call, with the state of the host and its request.
 #[derive(Clone, Copy)]
 struct Asked<'a> {
     host: HostNo,
-    state: HostState,
+    state: &'a HostState,
     call: &'a Call,
     /// The search, read or write that it is.
     command: Option<Command>,
+    request: Option<Request>,
 }
 
 fn is_command(call: &Call) -> bool
@@ -67,8 +69,8 @@ fn data_command(host: &HostState, call: &Call) -> Option<Command>
 
 /// Whether a call is for a request.
 fn is_for(asked: &Asked, request: &Request) -> bool
-    requires { asked.now.command ≡ data_command asked.now.state (call_of asked.now.call.now) }
-    ensures { result ≡ is_for asked.now.state (call_of asked.now.call.now) request.now }
+    requires { asked.now.command ≡ data_command asked.now.state.now (call_of asked.now.call.now) }
+    ensures { result ≡ is_for asked.now.state.now (call_of asked.now.call.now) request.now }
 {
     asked.command.is_some() && asked.state.cylinder == request.cylinder
 }
@@ -89,11 +91,29 @@ fn full_rule<S: Site, C: Choose>(core: &Core<S, C>) -> Option<HostRule>
     None
 }
 
+/// Whether no other host has the volume mounted.
+fn is_alone(hosts: &[HostState], host: HostNo, volume: VolumeNo) -> bool
+    requires { length hosts.now ≡ 8 }
+    ensures { result ≡ true → IsAlone hosts.now host volume }
+{
+    for number in 1..9 {
+        let other = HostNo::of(number).unwrap();
+        if other != host && is_on(&host_at(hosts, other), volume) {
+            return false;
+        }
+    }
+    true
+}
+
 fn busy_rule<S: Site, C: Choose>(core: &Core<S, C>, asked: &Asked) -> Option<HostRule>
     requires { IsAsked core.now asked.now }
     ensures { result ≡ busy_rule core.now asked.now.host (call_of asked.now.call.now) }
 {
     let (volume, _) = asked.state.mounted?;
+    // Only another host keeps a command off, and mostly there is none.
+    if is_alone(core.hosts.as_slice(), asked.host, volume) {
+        return None;
+    }
     let owner = owner_of(core.hosts.as_slice(), &core.requests, volume)?;
     if is_command(asked.call) && owner != asked.host {
         return Some(HostRule::IsBusy { owner });
@@ -105,7 +125,7 @@ fn moving_rule<S: Site, C: Choose>(core: &Core<S, C>, asked: &Asked) -> Option<H
     requires { IsAsked core.now asked.now }
     ensures { result ≡ moving_rule core.now asked.now.host (call_of asked.now.call.now) }
 {
-    let request = core.requests.of(asked.host)?;
+    let request = asked.request?;
     if request.state == RequestState::Moving && !is_for(asked, &request) {
         let cylinder = request.cylinder;
         return Some(HostRule::IsMoving { cylinder });
@@ -160,7 +180,7 @@ fn held_rule<S: Site, C: Choose>(core: &Core<S, C>, asked: &Asked) -> Option<Hos
     requires { IsAsked core.now asked.now }
     ensures { result ≡ held_rule core.now asked.now.host (call_of asked.now.call.now) }
 {
-    let volume = would_bind(core, &asked.state, asked.call)?;
+    let volume = would_bind(core, asked.state, asked.call)?;
     let frame = taken_from(&core.tasks, volume)?;
     Some(HostRule::IsHeld { frame })
 }
@@ -169,7 +189,7 @@ fn failed_rule<S: Site, C: Choose>(core: &Core<S, C>, asked: &Asked) -> Option<H
     requires { IsAsked core.now asked.now }
     ensures { result ≡ failed_rule core.now asked.now.host (call_of asked.now.call.now) }
 {
-    let request = core.requests.of(asked.host)?;
+    let request = asked.request?;
     let RequestState::Failed { fault } = request.state else {
         return None;
     };
@@ -268,11 +288,11 @@ fn run_rule<S: Site, C: Choose>(
 }
 
 fn data_rule<S: Site, C: Choose>(core: &Core<S, C>, asked: &Asked) -> Option<HostRule>
-    requires { asked.now.command ≡ data_command asked.now.state (call_of asked.now.call.now) }
-    ensures { result ≡ option_and_then (data_rule core.now asked.now.state) asked.now.command }
+    requires { asked.now.command ≡ data_command asked.now.state.now (call_of asked.now.call.now) }
+    ensures { result ≡ option_and_then (data_rule core.now asked.now.state.now) asked.now.command }
 {
     let command = asked.command?;
-    let host = &asked.state;
+    let host = asked.state;
     let Some((volume, _)) = host.mounted else {
         unreachable!()
     };
@@ -296,13 +316,15 @@ pub fn host_rule<S: Site, C: Choose>(core: &Core<S, C>, host: HostNo, call: &Cal
     if let Some(rule) = full_rule(core) {
         return rule;
     }
-    let state = host_at(core.hosts.as_slice(), host);
-    let command = data_command(&state, call);
+    let state = &host_at(core.hosts.as_slice(), host);
+    let command = data_command(state, call);
+    let request = request_of(&core.requests, host);
     let asked = Asked {
         host,
         state,
         call,
         command,
+        request,
     };
     if let Some(rule) = busy_rule(core, &asked) {
         return rule;

@@ -26,6 +26,7 @@ use crate::answer::HostAnswer;
 use crate::copies::copy_of_reply;
 use crate::prepare::prepare;
 use crate::reply::enter;
+use crate::requests::end_request;
 use channel_commands::{Call, Command, Reply};
 use ckd_plain::steps::checked;
 use ckd_plain::{HostState, UnitCheck};
@@ -176,7 +177,7 @@ pub fn run<S: Site, C: Choose>(
             let mark = core.site.writes();
             enter(&mut core.session, host, copy, reply, None, mark);
             core.hosts.set(at, now);
-            core.requests.end(host);
+            end_request(&mut core.requests, host);
             touch_after(command, &mut core.tasks, volume, old.cylinder.page());
             core.recency.touch(frame);
             HostAnswer::Replied { index, reply: told }

@@ -1,12 +1,13 @@
 -- The order that a cache shows, once a key is put or promoted, and along a walk from its end.
-use Rattle.std.proofs.Common.{◌≡◌, ◌<◌, ◌-◌, ◌+◌, ℕ, Bool, true, false, not, nat_eq, List, [], ◌∷◌, ◌++◌, length, take, reverse, get_or, Contains, Option, Some, None, refl, sym, ◌∙◌, ap, subst, arith}
+use Rattle.std.proofs.Common.{◌≡◌, ◌<◌, ◌-◌, ◌+◌, ℕ, Bool, true, false, not, nat_eq, List, [], ◌∷◌, ◌++◌, length, take, reverse, slice_get, get_or, Contains, Option, Some, None, refl, sym, ◌∙◌, ap, subst, arith}
 use Rattle.std.specs.Prelude.{filter}
 use Rattle.std.specs.List.{All, AllByRecursion, IsDistinct}
 use Rattle.std.specs.List.Sorted.{IsPermutation}
 use Rattle.std.specs.Option.{option_map_or}
 use Rattle.std.specs.Map.{keys_of, lookup_entry, remove_entry}
 use Rattle.std.specs.Cmp.{nat_eq_equiv}
-use Rattle.std.proofs.lemmas.Bool.{eqb-true, ne_eqb}
+use Rattle.std.proofs.lemmas.Bool.{eqb-true, eq-eqb, ne_eqb}
+use Rattle.std.proofs.lemmas.Option.{none-some}
 use Rattle.std.proofs.lemmas.List.{reverse-append, length-reverse, append-nil, append_assoc, map-append, take_all}
 use Rattle.std.proofs.lemmas.List.Elements.{filter-append, recursion_from_All}
 use Rattle.std.proofs.lemmas.List.Sorted.{IsPermutation-reverse, IsPermutation-sym, All-permutation, Contains-permutation}
@@ -73,6 +74,14 @@ order_of_promoted frame es is below =
     ∙ ap (λ (f : ℕ). reverse (keys_of (remove_entry (nat_eq frame) es)) ++ f ∷ []) (sym first.2)
     ∙ ap (λ (l : List ℕ). reverse l ++ frame ∷ []) (removed frame es once)
     ∙ ap (λ (l : List ℕ). l ++ frame ∷ []) (sym (filter_reverse (λ other. not (nat_eq frame other)) keys))
+
+-- the first of all stays where it is
+pub first_stays : (frame : ℕ) (first : ℕ × Unit {0}) (es : Entries) → Some first ≡ slice_get es 0 → nat_eq first.0 frame ≡ true → promoted (nat_eq frame) es ≡ es
+first_stays frame first [] is same = absurd (none-some first (sym is))
+first_stays frame first (e ∷ es) is same =
+    let other : first ≡ e = ap (λ (o : Option (ℕ × Unit {0})). option_map_or (λ k. k) o first) is in
+    let alike : nat_eq frame e.0 ≡ true = subst (λ (k : ℕ × Unit {0}). nat_eq frame k.0 ≡ true) other (eq-eqb frame first.0 (sym (eqb-true first.0 frame same))) in
+    rw alike refl
 
 -- ---- a key that is put, the next in number
 

@@ -1,5 +1,5 @@
 // When frames were last touched.
-ghost use Rattle.std.specs.Prelude.{◌≡◌, ◌≤◌, ◌<◌, nat_eq, length, OnOk, OnErr, IfOk};
+ghost use Rattle.std.specs.Prelude.{◌≡◌, ◌≤◌, ◌<◌, nat_eq, true, length, OnOk, OnErr, IfOk};
 ghost use Rattle.lru.specs.LruCache.{lru_cache, promoted};
 ghost use Rattle.victim_choice.specs.Order.{untouched, touched, IsOrder};
 
@@ -29,11 +29,24 @@ impl Model for Recency {
     ghost invariant = { λ r. IsOrder (order_of r.touches.entries) };
 }
 
+// Whether a frame is the first of a cache, so that it would stay so.
+fn is_first(cache: &LruCache<FrameNo, ()>, frame: FrameNo) -> bool
+    ensures { result ≡ true → promoted (nat_eq frame) cache.now.entries ≡ cache.now.entries }
+{
+    match cache.peek_mru() {
+        Some((first, _)) => *first == frame,
+        None => false,
+    }
+}
+
 // Makes a frame the first of a cache, where it stands in it.
 fn promote(cache: &mut LruCache<FrameNo, ()>, frame: FrameNo)
     ensures { cache.new ≡ lru_cache (promoted (nat_eq frame) cache.old.entries) cache.old.cap }
 {
-    cache.promote(&frame);
+    // Mostly it is the first already, and then it needn't be looked up.
+    if !is_first(cache, frame) {
+        cache.promote(&frame);
+    }
 }
 
 impl Recency {

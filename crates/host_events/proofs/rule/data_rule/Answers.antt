@@ -6,4 +6,4 @@ use Rattle.host_events.proofs.rule.data_rule.Goals as goal
 -- a search, read or write that passes the checks is on a volume
 pub unreachable-requires : goal.unreachable-requires
 unreachable-requires g c =
-    data_stands c.args.asked.now.state (call_of c.args.asked.now.call.now) c.in_ok-command.command (sym c.requires ∙ c.in_ok-command.was) c.in_default.is
+    data_stands c.args.asked.now.state.now (call_of c.args.asked.now.call.now) c.in_ok-command.command (sym c.requires ∙ c.in_ok-command.was) c.in_default.is

@@ -61,7 +61,7 @@ invariant_of-core-in-Ok-run_in g c =
     c.args.volume c.args.frame c.requires.rule c.standing-old.result (c.standing-old.ensures.state ∙ ap (λ l. host_at l c.args.host) c.as_slice.ensures) c.standing-old.ensures.cylinder c.standing-old.ensures.head
     c.prepare.new.site c.prepare.ensures.site c.run_in.new.site c.run_in.ensures.site_ (λ tl. g.met.S.Site.counted c.run_in.new.site tl)
     (reply_of c.in-Ok-run_in.reply) c.run_in.new.host c.in-Ok-run_in.ensures.comes.0
-    c.end.new.self c.end.ensures c.touch_after.new.tasks.items (c.touch_after.ensures ∙ ap (λ n. tasks_after c.args.command.now c.args.volume n c.core.inside.tasks.items) c.page.ensures)
+    c.end_request.new.requests c.end_request.ensures c.touch_after.new.tasks.items (c.touch_after.ensures ∙ ap (λ n. tasks_after c.args.command.now c.args.volume n c.core.inside.tasks.items) c.page.ensures)
     c.set.new.self.items (c.set.ensures.items ∙ (λ i. slice_set c.core.inside.hosts.items ((c.from-at.ensures ∙ c.get.ensures.value) i - 1) c.run_in.new.host)) c.touch.new.self c.touch.ensures
     (session_data c.enter.new.session) (c.enter.ensures ∙ (λ i. with_reply c.args.host (c.in-Ok.ensures.copy i) (reply_of c.in-Ok-run_in.reply) None (c.writes-mark.ensures i) (c.prepare.ensures.session i)))
 
@@ -75,7 +75,7 @@ invariant_of-core-in-Err-ReadFailed g c =
     check_kept g.row.S.Denot S.tells S.told S.spare S.writes S.faults S.never_fails_but c.args.core.now c.core.view_is (vec_len c.core.inside.buffer) c.core.invariant c.args.host (call_of c.args.call.now) c.args.command.now
     c.args.volume c.args.frame c.requires.rule c.standing-old.result (c.standing-old.ensures.state ∙ ap (λ l. host_at l c.args.host) c.as_slice.ensures) c.standing-old.ensures.cylinder c.standing-old.ensures.head
     c.prepare.new.site c.prepare.ensures.site c.run_in.new.site c.run_in.ensures.site_ (λ tl. g.met.S.Site.counted c.run_in.new.site tl)
-    comes.0 c.end-in-Err-ReadFailed.new.self c.end-in-Err-ReadFailed.ensures c.set-in-Err-ReadFailed.new.self.items (c.set-in-Err-ReadFailed.ensures.items ∙ (λ i. slice_set c.core.inside.hosts.items ((c.from-at.ensures ∙ c.get.ensures.value) i - 1) (c.checked.ensures i)))
+    comes.0 c.end.new.self c.end.ensures c.set-in-Err-ReadFailed.new.self.items (c.set-in-Err-ReadFailed.ensures.items ∙ (λ i. slice_set c.core.inside.hosts.items ((c.from-at.ensures ∙ c.get.ensures.value) i - 1) (c.checked.ensures i)))
     (session_data c.enter-in-Err-ReadFailed.new.session) (c.enter-in-Err-ReadFailed.ensures ∙ (λ i. with_reply c.args.host (c.in-Ok.ensures.copy i) equipment_check (Some ((c.in-Err-ReadFailed.fault-is ∙ comes.1) i)) (c.writes-mark-in-Err-ReadFailed.ensures i) (c.prepare.ensures.session i)))
 
 pub invariant_of-core-in-Err-WriteFailed : goal.invariant_of-core-in-Err-WriteFailed
@@ -107,7 +107,7 @@ returns-in-Ok-run_in-clause-event g c =
     c.args.volume c.args.frame c.requires.rule c.standing-old.result (c.standing-old.ensures.state ∙ ap (λ l. host_at l c.args.host) c.as_slice.ensures) c.standing-old.ensures.cylinder c.standing-old.ensures.head
     c.prepare.new.site c.prepare.ensures.site c.run_in.new.site c.run_in.ensures.site_ (λ tl. g.met.S.Site.counted c.run_in.new.site tl)
     (reply_of c.in-Ok-run_in.reply) c.run_in.new.host c.in-Ok-run_in.ensures.comes.0
-    c.end.new.self c.end.ensures c.touch_after.new.tasks.items (c.touch_after.ensures ∙ ap (λ n. tasks_after c.args.command.now c.args.volume n c.core.inside.tasks.items) c.page.ensures)
+    c.end_request.new.requests c.end_request.ensures c.touch_after.new.tasks.items (c.touch_after.ensures ∙ ap (λ n. tasks_after c.args.command.now c.args.volume n c.core.inside.tasks.items) c.page.ensures)
     c.set.new.self.items (c.set.ensures.items ∙ (λ i. slice_set c.core.inside.hosts.items ((c.from-at.ensures ∙ c.get.ensures.value) i - 1) c.run_in.new.host)) c.touch.new.self c.touch.ensures
     (session_data c.enter.new.session) (c.enter.ensures ∙ (λ i. with_reply c.args.host (c.in-Ok.ensures.copy i) (reply_of c.in-Ok-run_in.reply) None (c.writes-mark.ensures i) (c.prepare.ensures.session i)))
     (reply_of c.in-Ok-run_in.told) c.in-Ok-run_in.ensures.comes.1 (length c.as_slice-2.result.now) (ap length c.as_slice-2.ensures ∙ ap (λ (d : SessionData). length d.history) c.prepare.ensures.session)
