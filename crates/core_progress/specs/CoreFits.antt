@@ -7,14 +7,16 @@ use Rattle.fault_queue.specs.declared.queue.Request.{Request}
 use Rattle.fault_queue.specs.declared.queue.RequestState.TheVariants.{Queued, Moving, Ready}
 use Rattle.fault_queue.specs.Requests.{request_of, IsOnce}
 use Rattle.transfers.specs.declared.transfer.Transfer.{Transfer}
-use Rattle.transfers.specs.declared.transfer.TransferKind.TheVariants.{StageBlank, StageCartridge, Destage}
+use Rattle.transfers.specs.declared.transfer.TransferKind.TheVariants.{StageBlank, StageCartridge}
+use Rattle.transfers.specs.declared.transfer.TransferKind.TheVariants.{Destage}
 use Rattle.transfers.specs.Dues.{due_state}
 use Rattle.cartridge_store.specs.declared.store.Place.TheVariants.{Recorder}
 use Rattle.cartridge_store.specs.Places.{place_of, home_of}
 use Rattle.core_state.specs.declared.task.Task.{Task}
 use Rattle.core_state.specs.CoreValue.{CoreValue}
 use Rattle.core_state.specs.IsCore.{IsPlaced}
-use Rattle.core_state.specs.Pins.{host_at, page_of, asked_page, frame_in, owner_at, state_in, owns, is_moving, is_volume_bound}
+use Rattle.core_state.specs.Pins.{host_at, page_of, asked_page, frame_in, owner_at, state_in, owns}
+use Rattle.core_state.specs.Pins.{is_moving, is_volume_bound}
 use Rattle.core_state.specs.WorkRules.{task_of, held_in, cartridge_of}
 
 module _ {S C : Type 0} (core : CoreValue S C) where
@@ -83,8 +85,8 @@ module _ {S C : Type 0} (core : CoreValue S C) where
         → (task.frame < core.config.frames) × (is_moving core task.frame ≡ true)
     pub used : (frame : ℕ) → is_moving core frame ≡ true
         → (i : ℕ) × (task : Task) × HasTask i task × (task.frame ≡ frame)
-    -- one that takes a frame: it is its victim's, whose volume isn't bound; the asked page has none;
-    -- and the task is touched where a Ready request is on the victim
+    -- one that takes a frame: it is its victim's, whose volume isn't bound; the asked page has
+    -- none; and the task is touched where a Ready request is on the victim
     pub takes : (i : ℕ) (task : Task) (page : ℕ × ℕ) → HasTask i task → task.victim ≡ Some page
         → (owner_at core.owners task.frame ≡ Some page)
         × (is_volume_bound core.hosts page.0 ≡ false)

@@ -1,12 +1,14 @@
 -- Rounds: of a core in which nothing is left to do, one event of each host that has a call.
-use Rattle.std.specs.Prelude.{◌≡◌, ◌≢◌, ◌≤◌, ◌<◌, ℕ, ◌+◌, ◌==◌, Bool, true, false, if◌then◌else◌, List, [], ◌∷◌, Contains, None, IsSome}
+use Rattle.std.specs.Prelude.{◌≡◌, ◌≢◌, ◌≤◌, ◌<◌, ℕ, ◌+◌, ◌==◌, Bool, true, false, if◌then◌else◌}
+use Rattle.std.specs.Prelude.{List, [], ◌∷◌, Contains, None, IsSome}
 use Rattle.channel_commands.specs.Data.{CallData}
 use Rattle.ckd_plain.specs.History.{EntryData}
 use Rattle.fault_queue.specs.Requests.{request_of}
 use Rattle.victim_choice.specs.declared.choose.Candidate.{Candidate}
 use Rattle.core_state.specs.CoreValue.{CoreData}
 use Rattle.core_state.specs.declared.rule.WorkAnswer.TheVariants.{Did}
-use Rattle.core_state.specs.Chains.{Step, called, worked, is_end, OneOf, IsEvent, HostTurn, Ended, IsSettled}
+use Rattle.core_state.specs.Chains.{Step, called, worked, is_end, OneOf, IsEvent, HostTurn, Ended}
+use Rattle.core_state.specs.Chains.{IsSettled}
 use Rattle.core_state.specs.HostEvents.{HostTold, replied, marked, waits}
 use Rattle.core_state.specs.IsCore.{IsCore}
 use Rattle.core_state.specs.WorkEvents.{WorkEvent}

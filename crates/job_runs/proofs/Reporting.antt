@@ -1,12 +1,12 @@
 -- What is told of a session, over the volumes that are shown.
-use Rattle.std.proofs.Common.{◌≡◌, ◌⊎◌, inl, inr, ℕ, List, ◌++◌, Option, Some, None, Result, Ok, Err, refl, sym, ◌∙◌, ap, subst}
+use Rattle.std.proofs.Common.{◌≡◌, ℕ, List, ◌++◌, Option, None, ◌∙◌, ap, subst}
 use Rattle.mss_base.specs.Puts.{PutsFront}
 use Rattle.ckd_track.specs.Data.{Volumes}
 use Rattle.serial_driver.specs.declared.answer.DriveAnswer.{DriveAnswer}
 use Rattle.serial_driver.specs.declared.answer.DriveAnswer.TheVariants as ended
 use Rattle.session_report.specs.Answers.{Answer, IsPut, whole as put_whole, broken, cut}
 use Rattle.session_report.specs.Parties.{Stream, Devices, seen_with}
-use Rattle.session_report.specs.Reports.{Ending, Heading, Matter, IsReported, Telling, TellsVolumes, HasReason, finished, stopped, told_answer, told_text, whole, unread}
+use Rattle.session_report.specs.Reports.{Heading, Matter, IsReported, Telling, HasReason, finished, stopped, told_answer, told_text, whole, unread}
 use Rattle.session_report.specs.declared.reporting.Last.{Last}
 use Rattle.job_runs.specs.Runs.{IsHalted, IsTold}
 

@@ -1,5 +1,5 @@
 -- A core, where only so much of its devices is seen.
-use Rattle.std.proofs.Common.{◌≡◌, ℕ, refl}
+use Rattle.std.proofs.Common.{ℕ, refl}
 use Rattle.mss_base.specs.Configs.{ConfigData}
 use Rattle.mss_base.specs.Content.{SiteLog}
 use Rattle.ckd_track.specs.Data.{Volumes}

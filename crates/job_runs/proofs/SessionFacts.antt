@@ -1,33 +1,30 @@
 -- A session of a job, from its parts.
-use Rattle.std.proofs.Common.{◌≡◌, ◌≤◌, ◌⊎◌, inl, inr, ℕ, List, [], ◌∷◌, length, Option, Some, None, Result, Ok, Err, refl, sym, ◌∙◌, ap, subst}
+use Rattle.std.proofs.Common.{◌≡◌, inl, inr, ℕ, List, [], ◌∷◌, length, Option, None, Ok, refl, sym, ◌∙◌}
 use Rattle.mss_base.specs.Configs.{ConfigData, IsConfig}
 use Rattle.mss_base.specs.Content.{SiteLog, content}
 use Rattle.mss_base.specs.Sites.{FailingReads, OnlyReads}
 use Rattle.channel_program.specs.Script.{ItemData, mounting, demounting, program, Follows, at_start}
-use Rattle.ckd_track.specs.Data.{Volumes}
 use Rattle.victim_choice.specs.declared.choose.Candidate.{Candidate}
 use Rattle.job_text.specs.Jobs.{JobData, ScriptData}
 use Rattle.volume_table.specs.Listed.{listed}
-use Rattle.volume_table.specs.Row.{RowValue}
 use Rattle.shown_volumes.specs.Shown.{rows_of, shown, shown_by}
 use Rattle.core_state.specs.Counted.{IsCounted}
 use Rattle.core_state.specs.CoreValue.{CoreValue, CoreData, DevicesSeen, seen}
 use Rattle.core_state.specs.IsCore.{IsTold as IsToldCore}
-use Rattle.core_state.specs.SessionData.{SessionData, data_of}
+use Rattle.core_state.specs.SessionData.{data_of}
 use Rattle.core_restart.specs.Begins.{Begins}
 use Rattle.core_restart.specs.Opening.{OpensAny, OpensTold, opened_in}
 use Rattle.core_restart.specs.TakingUp.{BeginsWith, shown_for}
 use Rattle.plain_sessions.specs.Sessions.{BeganOver, IsPlainSession, StopsAnywhere, plain_volumes}
 use Rattle.core_state.specs.Beginning.{IsLater}
-use Rattle.serial_driver.specs.Drives.{DriveValue, Leaves, RunsToEnd, Halts}
-use Rattle.serial_driver.specs.Scripts.{exchanges_of, script_of}
+use Rattle.serial_driver.specs.Drives.{Leaves, RunsToEnd, Halts}
 use Rattle.serial_driver.specs.declared.answer.DriveAnswer.{DriveAnswer}
 use Rattle.serial_driver.specs.declared.answer.DriveAnswer.TheVariants as ended
 use Rattle.session_report.specs.Answers.{Answer}
-use Rattle.session_report.specs.Parties.{Stream, Devices as ToldDevices, between}
+use Rattle.session_report.specs.Parties.{Stream, between}
 use Rattle.session_report.specs.Reports.{report_matter, opening_text}
-use Rattle.job_runs.specs.Parties.{seen_site, since, reported}
-use Rattle.job_runs.specs.Runs.{FollowScripts, FollowToEnd, Goes, IsBegun, IsHalted, IsSessionOf, IsTold, matter_of}
+use Rattle.job_runs.specs.Parties.{seen_site}
+use Rattle.job_runs.specs.Runs.{FollowScripts, FollowToEnd, Goes, IsBegun, IsHalted, IsSessionOf, IsTold}
 use Rattle.job_runs.proofs.Reporting.{told_alike}
 use Rattle.job_runs.proofs.Seen.{begins_seen, told_seen, with_seen}
 
@@ -86,8 +83,10 @@ module _ {S C : Type 0} (tells : Type 0) (may : List Candidate → ℕ → Type 
       session_of = record {
         mid = seen_site told writes faults left.site;
         driven = record { began = from; begun = begun; left = to; goes = goes; devices_ = refl; session = refl };
+        began = leaves.session.beginning.first_faults ∙ begun.begins.first_faults_ ∙ begun.opened.any.kept;
         follow = follow;
         reach = reach;
+        full = leaves.full;
         halts = halts;
         requests = left.requests;
         counted = counted;

@@ -16,16 +16,16 @@ use Rattle.core_state.specs.Sessions.{session_data}
 use Rattle.core_restart.specs.Begins.{Begins}
 use Rattle.core_restart.specs.Opening.{OpensAny, OpensTold, opened_in}
 use Rattle.plain_sessions.specs.Sessions.{BeganOver, IsPlainSession, StopsAnywhere, plain_volumes}
-use Rattle.serial_driver.specs.Drives.{RunsToEnd}
+use Rattle.serial_driver.specs.Drives.{IsFull, RunsToEnd}
 use Rattle.serial_driver.specs.Scripts.{exchanges_of, script_of}
 use Rattle.serial_driver.specs.declared.answer.DriveAnswer.{DriveAnswer}
 use Rattle.serial_driver.specs.declared.answer.DriveAnswer.TheVariants as ended
 use Rattle.session_report.specs.Answers.{Answer}
-use Rattle.session_report.specs.Parties.{Stream, Devices as ToldDevices}
+use Rattle.session_report.specs.Parties.{Stream, IsUntouched, Devices as ToldDevices}
 use Rattle.session_report.specs.Reports.{Matter, IsReported, finished, report_matter, stopped}
 use Rattle.session_report.specs.declared.fault.ReportFault.TheVariants as report_fault
 use Rattle.session_report.specs.declared.reporting.Last.TheVariants.{End, Limit}
-use Rattle.job_runs.specs.Parties.{Devices, until, since, reported}
+use Rattle.job_runs.specs.Parties.{Devices, since, reported}
 use Rattle.job_runs.specs.declared.run.Outcome.{Outcome}
 use Rattle.job_runs.specs.declared.run.Outcome.TheVariants.{Untaken, Ran}
 
@@ -76,7 +76,7 @@ IsTold m ended.Done site sink told = IsReported m (finished End) site sink told
 IsTold m ended.CommandLimit site sink told = IsReported m (finished Limit) site sink told
 IsTold m (ended.Stopped fault) site sink told = IsReported m (stopped fault) site sink told
 IsTold m ended.Memory site sink told =
-    (told ≡ Err report_fault.Memory) × (sink.now ≡ sink.was)
+    (told ≡ Err report_fault.Memory) × IsUntouched sink
 
 -- the session, its changes of rows, and the plain volumes of the job after its history
 abbrev pub matter_of : JobData → Content → SessionData → Matter
@@ -105,8 +105,11 @@ pub record IsSessionOf (may : List Candidate → ℕ → Type 0) (job : JobData)
   -- the devices when it ended
   pub mid : DevicesSeen
   pub driven : IsDriven site.tells may job site.was mid end s
+  -- no call had failed when it began
+  pub began : s.first_faults ≡ site.was.faults
   pub follow : FollowScripts job.hosts s.history
   pub reach : end ≡ ended.Done → FollowToEnd job.hosts s.history
+  pub full : end ≡ ended.CommandLimit → IsFull job.hosts s.history
   pub halts : IsHalted end s.stopped
   -- marks, numbers and kept faults, with the requests that were left
   pub requests : RequestsData
@@ -119,6 +122,6 @@ pub record IsSessionOf (may : List Candidate → ℕ → Type 0) (job : JobData)
 
 -- the site isn't taken up, and nothing was put; or a session was run, and told
 abbrev pub Ends : (List Candidate → ℕ → Type 0) → JobData → Devices → Stream → Outcome → Type 0
-Ends may job site sink (Untaken why) = Opens job.config site (Err why) × (sink.now ≡ sink.was)
+Ends may job site sink (Untaken why) = Opens job.config site (Err why) × IsUntouched sink
 Ends may job site sink (Ran session end told) =
     IsSessionOf may job site sink end told (session_data session)

@@ -4,6 +4,7 @@ ghost use Rattle.core_state.specs.Counted.{IsCounted};
 ghost use Rattle.core_state.specs.CoreValue.{DevicesSeen, seen};
 ghost use Rattle.core_state.specs.IsCore.{IsTold};
 ghost use Rattle.core_state.specs.SessionData.{data_of};
+ghost use Rattle.mss_restart.specs.Creations.{WritesOn};
 ghost use Rattle.session_report.specs.Parties.{between};
 ghost use Rattle.serial_driver.specs.Drives.{IsUnused, Leaves};
 ghost use Rattle.serial_driver.specs.declared.answer.DriveAnswer.TheVariants.{Done};
@@ -35,7 +36,8 @@ use victim_choice::Choose;
 pub enum Outcome {
     /// The site isn't taken up. Nothing was put.
     Untaken(Refused),
-    /// A session was run: how it ended, and whether its report was put whole. After `DriveAnswer::Memory` nothing was put.
+    /// A session was run: how it ended, and whether its report was put whole. After `DriveAnswer::Memory` nothing
+    /// was put.
     Ran(Session, DriveAnswer, Result<(), ReportFault>),
 }
 
@@ -46,8 +48,8 @@ pub struct JobEnd<S> {
     pub outcome: Outcome,
 }
 
-/// Runs the scripts of a job on a core in which nothing has happened, by rounds, until no host has a call or an event ends
-/// them.
+/// Runs the scripts of a job on a core in which nothing has happened, by rounds, until no host has a call or an
+/// event ends them.
 fn run_scripts<S: Site, C: Choose + Drop>(core: Core<S, C>, job: &Job) -> (Core<S, C>, DriveAnswer)
     requires unused { IsUnused core job.now }
     ensures goes { Goes S.tells (C.may core.chooser) job.now.hosts
@@ -94,6 +96,7 @@ fn run_session<S: Site, C: Choose + Drop, O: Sink>(
         (record { tells = S.tells; was = was; now = seen_site S.told S.writes S.faults result.0 })
         (between O.tells O.told O.faults output.old output.new) result.2 result.3
         (session_data result.1) }
+    ensures devices { WritesOn S.writes S.faults S.never_fails_but core.site result.0 }
 {
     sessions_are_plain::<S>();
     rows_of_a_content_show_its_volumes();
@@ -107,9 +110,9 @@ fn run_session<S: Site, C: Choose + Drop, O: Sink>(
 
 /// Takes up a site, runs a job on it, and puts the report.
 ///
-/// A site that a session left, stopped at whatever moment, is taken up; one with another fault is refused by the first,
-/// untouched. The hosts call by rounds: the recorders work until nothing is left to do, then each host that has a call
-/// makes it once, in the order of the job, until no host has one.
+/// A site that a session left, stopped at whatever moment, is taken up; one with another fault is refused by the
+/// first, untouched. The hosts call by rounds: the recorders work until nothing is left to do, then each host that has
+/// a call makes it once, in the order of the job, until no host has one, or one has at 4,096 entries.
 pub fn run_job<S: Site, C: Choose + Drop, O: Sink>(
     alloc: Global,
     job: &Job,
@@ -121,6 +124,7 @@ pub fn run_job<S: Site, C: Choose + Drop, O: Sink>(
     ensures ends { Ends (C.may chooser) job.now
         (devices S.tells S.told S.writes S.faults site result.site)
         (between O.tells O.told O.faults output.old output.new) result.outcome }
+    ensures devices { WritesOn S.writes S.faults S.never_fails_but site result.site }
 {
     match restart(alloc, site, &job.config, chooser) {
         Ok(core) => {

@@ -16,6 +16,7 @@ use std::env;
 use std::io::{ErrorKind, Read, Write};
 use std::process::ExitCode;
 use std::rt::Env;
+use victim_choice::Lru;
 
 fn main(rt: HostRuntime) -> ExitCode {
     let alloc = rt.alloc();
@@ -58,7 +59,7 @@ fn run<R: Read + Drop, W: Write + Drop>(
     let site = MemorySite::new(alloc)?;
     let mut input = StandardSource::new(input);
     let mut output = StandardSink::new(alloc, output)?;
-    let ended = serial(alloc, words, &mut input, &mut output, site);
+    let ended = serial(alloc, words, &mut input, &mut output, site, Lru);
     let status = finish(&mut output, ended.status);
     Ok((status, output))
 }

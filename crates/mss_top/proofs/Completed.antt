@@ -1,91 +1,112 @@
 -- A run without a fault of a device is complete.
-use Rattle.std.proofs.Common.{◌≡◌, inl, inr, ℕ, List, length, Option, Some, None, Result, Ok, Err, sym, ◌∙◌, ap, subst, arith}
+use Rattle.std.proofs.Common.{◌≡◌, ◌≤◌, inl, inr, ℕ, List, Option, Some, None, Result, Ok, Err, sym, ◌∙◌, subst, arith}
 use Rattle.std.proofs.lemmas.Bool.{false≢true}
-use Rattle.mss_base.specs.Content.{content}
+use Rattle.mss_base.specs.Configs.{ConfigData}
+use Rattle.mss_base.specs.Content.{Content, content}
 use Rattle.mss_base.specs.Counts.{Rises}
-use Rattle.job_text.specs.Jobs.{ScriptData, JobData}
+use Rattle.job_text.specs.Grammar.{BadLine, job_of}
+use Rattle.job_text.specs.Jobs.{JobData}
 use Rattle.report_text.specs.declared.one_line.OneLine.{OneLine}
 use Rattle.report_text.specs.declared.one_line.OneLine.TheVariants as line
+use Rattle.shown_volumes.specs.declared.refused.Refused.{Refused}
 use Rattle.shown_volumes.specs.declared.refused.Refused.TheVariants as refused
-use Rattle.mss_top.specs.declared.script.RunEnd.{RunEnd}
-use Rattle.mss_top.specs.declared.script.RunEnd.TheVariants as run_end
-use Rattle.mss_top.specs.declared.session.Session.{Session}
+use Rattle.mss_restart.specs.Answers.{OpensExactly}
+use Rattle.mss_restart.specs.declared.opening.Opened.{Opened}
+use Rattle.core_restart.specs.TakingUp.{IsFaultless, NoneFailed}
+use Rattle.core_state.specs.CoreValue.{DevicesSeen}
+use Rattle.core_state.specs.SessionData.{SessionData}
+use Rattle.core_state.specs.Sessions.{session_data}
+use Rattle.core_state.specs.declared.session.Session.{Session}
+use Rattle.serial_driver.specs.declared.answer.DriveAnswer.{DriveAnswer}
+use Rattle.serial_driver.specs.declared.answer.DriveAnswer.TheVariants as ended
+use Rattle.session_report.specs.Answers.{Answer, IsPut, whole as put_whole, broken, cut}
+use Rattle.session_report.specs.Parties.{Stream, IsUntouched, Devices as ToldDevices, seen_with}
+use Rattle.session_report.specs.declared.reporting.Last.TheVariants.{End, Limit}
+use Rattle.session_report.specs.Reports.{Ending, Heading, HasReason, IsReported, Matter, Telling, finished, told_answer, told_text, whole, unread}
+use Rattle.job_runs.specs.Parties.{Devices, reported, since as devices_since}
+use Rattle.job_runs.specs.Runs.{IsHalted, IsSessionOf, IsTold, matter_of}
+use Rattle.mss_top.specs.Admission.{IsAdmitted, IsUnread}
+use Rattle.mss_top.specs.Serial.{Chooses, Closes, Ends, GoesWell, IsComplete, IsRefused, IsRunOf, IsUntaken, Output, line_of, since, until}
+use Rattle.mss_top.specs.Status.{IsLinePut, whole as line_whole, broken as line_broken, line_status, status_of, end_status}
 use Rattle.mss_top.specs.declared.status.Status.{Status}
-use Rattle.job_text.specs.Grammar.{BadLine, job_of}
-use Rattle.mss_top.specs.Reports.{Telling, whole, unread, told_status, HasReason}
-use Rattle.mss_top.specs.Scripts.{HasHalted}
-use Rattle.mss_top.specs.Parties.{Party, Stream, Devices, shown_by, IsFaultless}
-use Rattle.mss_top.specs.Serial.{GoesWell, IsComplete, IsUnread, IsUnbegun, IsAdmitted, IsRefused, IsSessionOf, Ends, line_status, torn}
-use Rattle.mss_top.specs.Session.{SessionData}
-use Rattle.mss_top.specs.Sessions.{session_data}
-use Rattle.mss_top.specs.Start.{IsFirstFault}
-use Rattle.mss_top.proofs.VolumeTexts.{IsListed, listed_at}
-use Rattle.mss_top.specs.Status.{IsPut, whole as put_whole, broken, cut}
 
-no_rise : {T : Type 0} (party : Party T) → IsFaultless party → Rises party.faults_was party.faults_now → ⊥
-no_rise party none rose = absurd (omega (arith, none.same, none.counting, rose))
+-- no count between rises where none failed
+no_rise : (was now before after : ℕ) → NoneFailed was now → was ≤ before → after ≤ now → Rises before after → ⊥
+no_rise was now before after none from to rose = absurd (omega (arith, none.same, none.could_rise, from, to, rose))
 
--- what was put had its status, or memory ran out
-put_complete : (due : Status) (text : List ℕ) (sink : Stream) (told : Status) → (Rises sink.faults_was sink.faults_now → ⊥) → IsComplete due → IsPut due text sink told → IsComplete told
-put_complete due text sink told none complete (put_whole is bytes) = subst IsComplete (sym is) complete
-put_complete due text sink told none complete (broken is rose bytes) = absurd (none rose)
-put_complete due text sink told none complete (cut is bytes) = subst IsComplete (sym is) tt
+line_complete : (said : OneLine) (sink : Stream) (told : Status) → (Rises sink.faults_was sink.faults_now → ⊥) → IsComplete (line_status said) → IsLinePut said sink told → IsComplete told
+line_complete said sink told none complete (line_whole is bytes) = subst IsComplete (sym is) complete
+line_complete said sink told none complete (line_broken is rose front) = absurd (none rose)
+
+-- content without a fault is refused for want of memory alone
+refusal_complete : (config : ConfigData) (c : Content) (why : Refused) → IsFaultless config c → OpensExactly {T = Opened} config c (Err why) → IsComplete (line_status (line_of why))
+refusal_complete config c refused.Memory none is = tt
+refusal_complete config c (refused.RowUnread volume fault) none is = absurd is
+refusal_complete config c (refused.Stopped fault) none is = absurd is
+refusal_complete config c why none is = absurd (let both : None ≡ Some why = sym none ∙ is in cc)
+
+-- what was told of a session
+module _ (m : Matter) (ending : Ending) (end : DriveAnswer) (site : ToldDevices) (sink : Stream) (report : Answer)
+    (site_none : Rises site.faults_was site.faults_now → ⊥) (sink_none : Rises sink.faults_was sink.faults_now → ⊥) (complete : IsComplete (end_status end)) where
+  telling_complete : (telling : Telling) → HasReason ending m.volumes site.faults_was site.faults_now telling → IsPut (told_answer telling) (told_text m telling) (seen_with site sink) report → IsComplete (status_of end report)
+  telling_complete (whole e) reason (put_whole is bytes) = subst (λ (a : Answer). IsComplete (status_of end a)) (sym is) complete
+  telling_complete (unread place tracks fault) reason (put_whole is bytes) = absurd (site_none reason.3.rises)
+  telling_complete telling reason (broken is rose front) = absurd (sink_none rose)
+  telling_complete telling reason (cut is front) = subst (λ (a : Answer). IsComplete (status_of end a)) (sym is) tt
+
+  report_complete : IsReported m ending site sink report → IsComplete (status_of end report)
+  report_complete is = telling_complete is.telling is.reason is.put
 
 module _ (words : List (List ℕ)) (input : Stream) (site : Devices) (sink : Stream) (job : JobData) (well : GoesWell words input site sink job) where
-  same_read : (other : JobData) → job_of input.was ≡ Ok other → other ≡ job
-  same_read other read = let both : ◌≡◌ {A = Result JobData BadLine} (Ok other) (Ok job) = sym read ∙ well.asks.read in cc
+  same_job : (other : JobData) → IsAdmitted words input other → other ≡ job
+  same_job other admitted = let both : ◌≡◌ {A = Result JobData BadLine} (Ok other) (Ok job) = sym (admitted.text_ well.can_read) ∙ well.asks in cc
 
   unread_complete : (said : OneLine) → IsUnread words input said → IsComplete (line_status said)
   unread_complete line.WordsRefused cause = absurd (false≢true (sym cause.0 ∙ well.command))
-  unread_complete line.InputFault cause = absurd (no_rise input well.input_none cause.1)
+  unread_complete line.InputFault cause = absurd (no_rise _ _ _ _ well.input_none (omega arith) (omega arith) cause.1)
   unread_complete (line.JobRefused n kind) cause =
-      let both : ◌≡◌ {A = Result JobData BadLine} (Err (record { line = n; kind = kind })) (Ok job) = sym (cause.text_ well.can_read) ∙ well.asks.read in absurd cc
-  unread_complete line.JobRefusedLater cause =
-      let later = cause.text_ well.can_read in
-      let same : later.job ≡ job = same_read later.job later.read in
-      absurd (omega (arith, later.hosts, well.asks.hosts, ap (λ (j : JobData). length j.hosts) same))
+      let both : ◌≡◌ {A = Result JobData BadLine} (Err (record { line = n; kind = kind })) (Ok job) = sym (cause.text_ well.can_read) ∙ well.asks in absurd cc
   unread_complete (line.RestartRefused why) cause = absurd cause
   unread_complete line.WantOfMemory cause = tt
 
-  -- a torn track isn't one
-  not_torn : (volume cylinder head : ℕ) → IsFirstFault (content site.was) job.config.volumes (torn volume cylinder head) → ⊥
-  not_torn volume cylinder head first =
-      let there : IsListed job.config.volumes volume = listed_at job.config.volumes first.place volume first.serial first.at in
-      first.walk.torn (well.tracks volume there.serial there.there cylinder head first.walk.on first.walk.low)
-
-  unbegun_complete : (said : OneLine) → IsUnbegun job.config.volumes site said → IsComplete (line_status said)
-  unbegun_complete line.WordsRefused cause = absurd cause
-  unbegun_complete line.InputFault cause = absurd cause
-  unbegun_complete (line.JobRefused n kind) cause = absurd cause
-  unbegun_complete line.JobRefusedLater cause = absurd cause
-  unbegun_complete (line.RestartRefused (refused.TornTrack volume cylinder head)) cause = absurd (not_torn volume cylinder head (cause well.can_see))
-  unbegun_complete (line.RestartRefused (refused.Stopped fault)) cause = absurd (no_rise site well.site_none cause.rises)
-  unbegun_complete (line.RestartRefused why) cause = absurd cause
-  unbegun_complete line.WantOfMemory cause = tt
-
-  same_job : (other : JobData) → IsAdmitted words input other → other ≡ job
-  same_job other admitted = same_read other (admitted.text_ well.can_read).read
+  untaken_complete : (said : OneLine) → IsUntaken job site said → IsComplete (line_status said)
+  untaken_complete said untaken = subst (λ (l : OneLine). IsComplete (line_status l)) (sym untaken.line_)
+      (refusal_complete job.config (content site.was.told) untaken.why well.faultless ((untaken.opens.told well.can_see).exact well.site_none.same well.site_none.could_rise))
 
   -- ---- a run without a session, and one with it
   module _ (told : Status) where
-    pub refused_complete : IsRefused words input site sink told → IsComplete told
-    refused_complete refused = put_complete (line_status refused.said) _ sink told (no_rise sink well.sink_none) (elim refused.cause [
-      | inl unread_ ↦ unread_complete refused.said unread_
-      | inr late ↦ unbegun_complete refused.said (subst (λ (j : JobData). IsUnbegun j.config.volumes site refused.said) (same_job late.job late.admitted) late.unbegun)
-    ]) refused.put
+    sink_none : Rises sink.faults_was sink.faults_now → ⊥
+    sink_none rose = no_rise _ _ _ _ well.sink_none (omega arith) (omega arith) rose
 
-    telling_complete : (ended : RunEnd) (volumes : List (ℕ × List ℕ)) (telling : Telling) → HasHalted site.faults_was site.faults_now ended → HasReason ended volumes site.faults_was site.faults_now telling → IsComplete (told_status telling)
-    telling_complete ended volumes (whole run_end.Finished) halted reason = tt
-    telling_complete ended volumes (whole run_end.Limit) halted reason = tt
-    telling_complete ended volumes (whole (run_end.Stopped fault)) halted reason = absurd (no_rise site well.site_none (subst (HasHalted site.faults_was site.faults_now) (sym reason) halted).1.rises)
-    telling_complete ended volumes (whole run_end.Memory) halted reason = tt
-    telling_complete ended volumes (unread place tracks_ fault) halted reason = absurd (no_rise site well.site_none reason.3.rises)
+    refused_complete : IsRefused words input site sink told → IsComplete told
+    refused_complete is = line_complete is.said sink told sink_none (elim is.cause [
+      | inl unadmitted ↦ unread_complete is.said unadmitted.unread
+      | inr late ↦ untaken_complete is.said (subst (λ (j : JobData). IsUntaken j site is.said) (same_job late.job late.admitted) late.untaken)
+    ]) is.put
 
-    session_complete : (volumes : List (ℕ × List ℕ)) (hosts : List ScriptData) (s : SessionData) → IsSessionOf volumes hosts site sink told s → IsComplete told
-    session_complete volumes hosts s session =
-        put_complete (told_status session.report.telling) _ (shown_by site sink) told (no_rise sink well.sink_none)
-        (telling_complete session.ended volumes session.report.telling session.counted session.report.reason) session.report.put
+    -- nothing was put behind a report of which no put failed
+    puts_none : (mid : Output) → IsUntouched (since sink mid) → Rises sink.faults_was mid.faults → ⊥
+    puts_none mid none rose = no_rise _ _ _ _ well.sink_none (omega arith) (omega (arith, none.faults_)) rose
 
-    pub run_complete : (left_ : Option Session) → Ends words input site sink told left_ → IsComplete told
-    run_complete None refused = refused_complete refused
-    run_complete (Some session) ran = session_complete ran.job.config.volumes ran.job.hosts (session_data session) ran.session
+    -- a session that wasn't stopped, and of whose report no read failed
+    module _ (mid : Output) (at : DevicesSeen) (m : Matter) (kept : Option ℕ) (reads_none : Rises at.faults site.now.faults → ⊥) (not_stopped : (fault : ℕ) → kept ≡ Some fault → ⊥) where
+      ended_complete : (end : DriveAnswer) (report : Answer) → IsHalted end kept → IsTold m end (reported (devices_since site at)) (until sink mid) report → Closes end report (since sink mid) told → IsComplete told
+      ended_complete ended.Done report halts reports closes = subst IsComplete (sym closes.1)
+          (report_complete m (finished End) ended.Done (reported (devices_since site at)) (until sink mid) report reads_none (puts_none mid closes.0) tt reports)
+      ended_complete ended.CommandLimit report halts reports closes = subst IsComplete (sym closes.1)
+          (report_complete m (finished Limit) ended.CommandLimit (reported (devices_since site at)) (until sink mid) report reads_none (puts_none mid closes.0) tt reports)
+      ended_complete (ended.Stopped fault) report halts reports closes = absurd (not_stopped fault halts)
+      ended_complete ended.Memory report halts reports closes = line_complete line.WantOfMemory (since sink mid) told
+          (λ rose. no_rise _ _ _ _ well.sink_none (omega (arith, reports.1.faults_)) (omega arith) rose) tt closes
+
+    session_complete : (may : Chooses) (s : SessionData) → IsRunOf may job site sink told s → IsComplete told
+    session_complete may s run =
+        let is : IsSessionOf may job site (until sink run.mid) run.end run.report s = run.session in
+        ended_complete run.mid is.mid (matter_of job (content site.was.told) s) s.stopped
+        (λ rose. no_rise _ _ _ _ well.site_none (omega (arith, is.began, is.counted.began)) (omega arith) rose)
+        (λ fault stopped. let stop = (is.counted.stop fault stopped).within in no_rise _ _ _ _ well.site_none (omega (arith, is.began)) (omega (arith, stop.past, is.read.later)) stop.rises)
+        run.end run.report is.halts is.report run.closes
+
+    pub run_complete : (may : Chooses) (left : Option Session) → Ends words may input site sink told left → IsComplete told
+    run_complete may None is = refused_complete is
+    run_complete may (Some session) is = session_complete may (session_data session) (subst (λ (j : JobData). IsRunOf may j site sink told (session_data session)) (same_job is.job is.admitted) is.run)

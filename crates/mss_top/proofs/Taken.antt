@@ -1,5 +1,5 @@
--- The text of the input: what is taken of it, and the line of volumes that aren't taken on.
-use Rattle.std.proofs.Common.{◌≡◌, inl, inr, ℕ, ◌<◌, ◌≤◌, nat_lt, true, false, List, length, take, Result, Ok, Err, IfOk, sym, ◌∙◌, ap, arith}
+-- What is read of an input has the job of the whole text.
+use Rattle.std.proofs.Common.{◌≡◌, inl, inr, ℕ, ◌<◌, ◌≤◌, nat_lt, true, false, List, length, take, Result, Ok, Err, sym, ◌∙◌, ap, arith}
 use Rattle.std.proofs.lemmas.Bool.{cases_Bool, cond-true}
 use Rattle.std.proofs.lemmas.Bool.Decides.{nat_tests}
 use Rattle.std.proofs.lemmas.List.{take_all, length-take-le}
@@ -8,15 +8,9 @@ use Rattle.job_text.specs.Grammar.{TEXT_LIMIT, job_of}
 use Rattle.job_text.specs.declared.kind.JobKind.TheVariants.{TooBig}
 use Rattle.report_text.specs.declared.one_line.OneLine.{OneLine}
 use Rattle.report_text.specs.declared.one_line.OneLine.TheVariants as line
-use Rattle.mss_top.specs.Admission.{IsTaken}
-use Rattle.mss_base.specs.Content.{content}
-use Rattle.mss_top.specs.declared.start.StartFault.{StartFault}
-use Rattle.mss_top.specs.declared.start.StartFault.TheVariants.{TornTrack, Stopped}
-use Rattle.mss_top.specs.declared.start.VolumeFault.{VolumeFault}
-use Rattle.mss_top.specs.Parties.{Stream, Devices}
-use Rattle.mss_top.specs.Serial.{READ_LIMIT, IsRead, Admits, IsUnbegun, refusal_by, refusal_of}
+use Rattle.session_report.specs.Parties.{Stream}
+use Rattle.mss_top.specs.Admission.{READ_LIMIT, Admits, IsRead, IsTaken}
 use Rattle.mss_top.specs.Words.{are_serial}
-use Rattle.mss_top.specs.Start.{IsFirstFault, WalksAll, IsCounted, AreCounted}
 
 -- a text that is too long has no job
 too_big : (text : List ℕ) → nat_lt TEXT_LIMIT (length text) ≡ true → job_of text ≡ Err (record { line = 0; kind = TooBig })
@@ -43,9 +37,8 @@ job_of_front text = elim (cases_Bool (nat_lt READ_LIMIT (length text))) [
 
 -- what is said of a text's job is said of every text with that job
 taken_alike : (front text : List ℕ) (r : Result JobData OneLine) → job_of front ≡ job_of text → IsTaken front r → IsTaken text r
-taken_alike front text (Ok job) same is = record { read = sym same ∙ is.read; hosts = is.hosts }
+taken_alike front text (Ok job) same is = sym same ∙ is
 taken_alike front text (Err (line.JobRefused n kind)) same is = sym same ∙ is
-taken_alike front text (Err line.JobRefusedLater) same is = record { job = is.job; read = sym same ∙ is.read; hosts = is.hosts }
 taken_alike front text (Err line.WantOfMemory) same is = tt
 taken_alike front text (Err line.WordsRefused) same is = absurd is
 taken_alike front text (Err line.InputFault) same is = absurd is
@@ -54,26 +47,12 @@ taken_alike front text (Err (line.RestartRefused why)) same is = absurd is
 -- the input's text is taken as what was read of it is
 pub admits : (words : List (List ℕ)) (input : Stream) (front : List ℕ) (r : Result JobData OneLine) → are_serial words ≡ true → (input.tells → front ≡ take READ_LIMIT input.was)
     → IsRead input → IsTaken front r → Admits words input r
-admits words input front r command fronts rest is = by_result r (λ t. taken_alike front input.was r (ap job_of (fronts t) ∙ job_of_front input.was) is) is
+admits words input front r command fronts read is = by_result r (λ t. taken_alike front input.was r (ap job_of (fronts t) ∙ job_of_front input.was) is) is
   where
     by_result : (r : Result JobData OneLine) → (input.tells → IsTaken input.was r) → IsTaken front r → Admits words input r
-    by_result (Ok job) whole is = record { command = command; text_ = whole; read = rest }
-    by_result (Err (line.JobRefused n kind)) whole is = record { command = command; text_ = whole; read = rest }
-    by_result (Err line.JobRefusedLater) whole is = record { command = command; text_ = whole; read = rest }
+    by_result (Ok job) whole is = record { command = command; text_ = whole; read = read }
+    by_result (Err (line.JobRefused n kind)) whole is = record { command = command; text_ = whole; read = read }
     by_result (Err line.WantOfMemory) whole is = command
     by_result (Err line.WordsRefused) whole is = absurd is
     by_result (Err line.InputFault) whole is = absurd is
     by_result (Err (line.RestartRefused why)) whole is = absurd is
-
--- a job that is taken has at most one host
-pub few_hosts : (text : List ℕ) (r : Result JobData OneLine) → IsTaken text r → IfOk r (λ job. length job.hosts ≤ 1)
-few_hosts text (Ok job) is = is.hosts
-few_hosts text (Err said) is = tt
-
--- the line of a walk's fault has the walk's cause
-pub unbegun : (volumes : List (ℕ × List ℕ)) (site : Devices) (refused : VolumeFault) → (site.tells → WalksAll (content site.was) volumes (Err refused)) → AreCounted site.faults_was site.faults_now (Err refused) → IsUnbegun volumes site (refusal_of refused)
-unbegun volumes site refused walks counted = by_fault refused.volume refused.fault walks counted
-  where
-    by_fault : (volume : ℕ) (fault : StartFault) → (site.tells → IsFirstFault (content site.was) volumes (record { volume = volume; fault = fault })) → IsCounted site.faults_was site.faults_now (Err fault) → IsUnbegun volumes site (refusal_by volume fault)
-    by_fault volume (TornTrack cylinder head) walks counted = walks
-    by_fault volume (Stopped fault) walks counted = counted

@@ -1,8 +1,15 @@
--- Statuses, and what a status says of the bytes that were put.
-use Rattle.std.specs.Prelude.{◌≡◌, ℕ, List, ◌++◌}
+-- Statuses, and what a status says of one line that was put.
+use Rattle.std.specs.Prelude.{◌≡◌, ℕ, List, ◌++◌, Ok, Err}
 use Rattle.mss_base.specs.Counts.{Rises}
 use Rattle.mss_base.specs.Puts.{PutsFront}
-use Rattle.mss_top.specs.Parties.{Stream}
+use Rattle.report_text.specs.OneLines.{one_line_text}
+use Rattle.report_text.specs.declared.one_line.OneLine.{OneLine}
+use Rattle.report_text.specs.declared.one_line.OneLine.TheVariants as line
+use Rattle.serial_driver.specs.declared.answer.DriveAnswer.{DriveAnswer}
+use Rattle.serial_driver.specs.declared.answer.DriveAnswer.TheVariants as ended
+use Rattle.session_report.specs.Answers.{Answer}
+use Rattle.session_report.specs.Parties.{Stream}
+use Rattle.session_report.specs.declared.fault.ReportFault.TheVariants as report_fault
 use Rattle.mss_top.specs.declared.status.Status.{Status}
 use Rattle.mss_top.specs.declared.status.Status.TheVariants as status
 
@@ -18,11 +25,31 @@ code_of status.Limit = 6
 code_of status.OutputFault = 7
 code_of status.Memory = 8
 
--- What a status tells of its text: that it was put whole, or a front of it, since the sink failed
--- or memory ran out.
-pub data IsPut (due : Status) (text : List ℕ) (sink : Stream) (told : Status) : Type 0 where
-  whole : told ≡ due → (sink.tells → sink.now ≡ sink.was ++ text) → IsPut due text sink told
+-- the status of an output of one line
+abbrev pub line_status : OneLine → Status
+line_status line.WordsRefused = status.WordsRefused
+line_status line.InputFault = status.InputFault
+line_status (line.JobRefused n kind) = status.JobRefused
+line_status (line.RestartRefused why) = status.RestartRefused
+line_status line.WantOfMemory = status.Memory
+
+-- the status of a session that ended so, and whose report was put whole
+abbrev pub end_status : DriveAnswer → Status
+end_status ended.Done = status.Done
+end_status ended.CommandLimit = status.Limit
+end_status (ended.Stopped fault) = status.Stopped
+end_status ended.Memory = status.Memory
+
+-- the status of a session that ended so, and was told so
+abbrev pub status_of : DriveAnswer → Answer → Status
+status_of end (Ok _) = end_status end
+status_of end (Err (report_fault.Read fault)) = status.Stopped
+status_of end (Err report_fault.Output) = status.OutputFault
+status_of end (Err report_fault.Memory) = status.Memory
+
+-- What a status says of a line: that it was put whole, or a front of it, since the sink failed.
+pub data IsLinePut (said : OneLine) (sink : Stream) (told : Status) : Type 0 where
+  whole : told ≡ line_status said → (sink.tells → sink.now ≡ sink.was ++ one_line_text said)
+      → IsLinePut said sink told
   broken : told ≡ status.OutputFault → Rises sink.faults_was sink.faults_now
-      → (sink.tells → PutsFront sink.was sink.now text) → IsPut due text sink told
-  cut : told ≡ status.Memory → (sink.tells → PutsFront sink.was sink.now text)
-      → IsPut due text sink told
+      → (sink.tells → PutsFront sink.was sink.now (one_line_text said)) → IsLinePut said sink told

@@ -55,7 +55,7 @@ abbrev pub joined : List ℕ → List (List ℕ) → List ℕ
 joined first [] = first
 joined first (piece ∷ pieces) = joined (first ++ piece) pieces
 
-pieces_joined : (first : List ℕ) (pieces : List (List ℕ)) → first ++ flat pieces ≡ joined first pieces
+pub pieces_joined : (first : List ℕ) (pieces : List (List ℕ)) → first ++ flat pieces ≡ joined first pieces
 pieces_joined first [] = append-nil first
 pieces_joined first (piece ∷ pieces) = sym (append_assoc first piece (flat pieces)) ∙ pieces_joined (first ++ piece) pieces
 

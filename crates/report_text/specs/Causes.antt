@@ -4,8 +4,10 @@ use Rattle.mss_base.specs.Counts.{Rises}
 use Rattle.report_text.specs.declared.report.ReportFault.{ReportFault}
 use Rattle.report_text.specs.declared.report.ReportFault.TheVariants.{Output}
 
--- the sink is told to have failed only where its count rose, and where the part was put the count stays
-pub record HasOutputCause {T : Type 0} (before now : ℕ) (result : Result T ReportFault) : Type 0 where
+-- the sink is told to have failed only where its count rose, and where the part was put the count
+-- stays
+pub record HasOutputCause {T : Type 0} (before now : ℕ) (result : Result T ReportFault)
+    : Type 0 where
   pub later : before ≤ now
   pub output : IsErrOf result Output → Rises before now
   pub same : OnOk result (now ≡ before)

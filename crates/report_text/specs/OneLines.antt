@@ -3,7 +3,8 @@ use Rattle.std.specs.Prelude.{ℕ, List, ◌++◌, codes, decimal}
 use Rattle.job_text.specs.declared.kind.JobKind.{JobKind}
 use Rattle.job_text.specs.declared.kind.JobKind.TheVariants as kind
 use Rattle.report_text.specs.declared.one_line.OneLine.{OneLine}
-use Rattle.report_text.specs.declared.one_line.OneLine.TheVariants.{WordsRefused, InputFault, JobRefused, JobRefusedLater, RestartRefused, WantOfMemory}
+use Rattle.report_text.specs.declared.one_line.OneLine.TheVariants.{WordsRefused, InputFault, JobRefused}
+use Rattle.report_text.specs.declared.one_line.OneLine.TheVariants.{RestartRefused, WantOfMemory}
 use Rattle.report_text.specs.Refusals.{refusal_text}
 
 -- how a kind of bad lines is named
@@ -23,7 +24,7 @@ kind_name kind.Ended = codes "Ended"
 unfoldable pub one_line_text : OneLine → List ℕ
 one_line_text WordsRefused = codes "words refused\n"
 one_line_text InputFault = codes "input fault\n"
-one_line_text (JobRefused line kind) = codes "job refused line " ++ decimal line ++ codes " " ++ kind_name kind ++ codes "\n"
-one_line_text JobRefusedLater = codes "job refused line 0 Later\n"
+one_line_text (JobRefused line kind) =
+    codes "job refused line " ++ decimal line ++ codes " " ++ kind_name kind ++ codes "\n"
 one_line_text (RestartRefused refused) = refusal_text refused
 one_line_text WantOfMemory = codes "want of memory\n"

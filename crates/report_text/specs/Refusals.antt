@@ -47,13 +47,28 @@ page_text p = part_text (codes " page ") p
 
 -- the line of each refusal; want of memory has its own
 unfoldable pub refusal_text : Refused → List ℕ
-refusal_text (refused.RowDamaged volume copy fault) = codes "restart refused volume " ++ decimal volume ++ codes " copy " ++ copy_name copy ++ codes " row " ++ row_field_text fault.field ++ codes " value " ++ decimal fault.value ++ codes "\n"
-refusal_text (refused.RowUnread volume fault) = codes "restart refused volume " ++ decimal volume ++ codes " unread fault " ++ decimal fault ++ codes "\n"
-refusal_text (refused.SerialDiffers volume kept asked) = codes "restart refused volume " ++ decimal volume ++ codes " serial " ++ kept ++ codes " asked " ++ asked ++ codes "\n"
-refusal_text (refused.CartridgeTwice cartridge first second) = codes "restart refused cartridge " ++ decimal cartridge ++ codes " twice" ++ half_text first ++ half_text second ++ codes "\n"
-refusal_text (refused.FrameGone frame) = codes "restart refused frame " ++ decimal frame ++ codes " gone\n"
-refusal_text (refused.FrameTwice frame first second) = codes "restart refused frame " ++ decimal frame ++ codes " twice" ++ page_text first ++ page_text second ++ codes "\n"
-refusal_text (refused.TornTrack volume cylinder head) = codes "restart refused torn track volume " ++ place_text volume cylinder head ++ codes "\n"
-refusal_text (refused.StagedDiffers volume cylinder head) = codes "restart refused staged differs volume " ++ place_text volume cylinder head ++ codes "\n"
-refusal_text (refused.Stopped fault) = codes "restart refused stopped fault " ++ decimal fault ++ codes "\n"
+refusal_text (refused.RowDamaged volume copy fault) =
+    codes "restart refused volume " ++ decimal volume ++ codes " copy " ++ copy_name copy
+    ++ codes " row " ++ row_field_text fault.field ++ codes " value " ++ decimal fault.value
+    ++ codes "\n"
+refusal_text (refused.RowUnread volume fault) =
+    codes "restart refused volume " ++ decimal volume ++ codes " unread fault " ++ decimal fault
+    ++ codes "\n"
+refusal_text (refused.SerialDiffers volume kept asked) =
+    codes "restart refused volume " ++ decimal volume ++ codes " serial " ++ kept ++ codes " asked "
+    ++ asked ++ codes "\n"
+refusal_text (refused.CartridgeTwice cartridge first second) =
+    codes "restart refused cartridge " ++ decimal cartridge ++ codes " twice" ++ half_text first
+    ++ half_text second ++ codes "\n"
+refusal_text (refused.FrameGone frame) =
+    codes "restart refused frame " ++ decimal frame ++ codes " gone\n"
+refusal_text (refused.FrameTwice frame first second) =
+    codes "restart refused frame " ++ decimal frame ++ codes " twice" ++ page_text first
+    ++ page_text second ++ codes "\n"
+refusal_text (refused.TornTrack volume cylinder head) =
+    codes "restart refused torn track volume " ++ place_text volume cylinder head ++ codes "\n"
+refusal_text (refused.StagedDiffers volume cylinder head) =
+    codes "restart refused staged differs volume " ++ place_text volume cylinder head ++ codes "\n"
+refusal_text (refused.Stopped fault) =
+    codes "restart refused stopped fault " ++ decimal fault ++ codes "\n"
 refusal_text refused.Memory = codes "want of memory\n"

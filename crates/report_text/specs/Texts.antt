@@ -1,12 +1,17 @@
 -- The text of a report. Each line ends with a line feed.
-use Rattle.std.specs.Prelude.{ℕ, zero, suc, ◌+◌, ◌/◌, ◌%◌, Bool, true, List, [], ◌∷◌, ◌++◌, Option, Some, None, if◌then◌else◌, codes, decimal}
+use Rattle.std.specs.Prelude.{ℕ, zero, suc, ◌+◌, ◌/◌, ◌%◌, Bool, true, List, [], ◌∷◌, ◌++◌, Option}
+use Rattle.std.specs.Prelude.{Some, None, if◌then◌else◌, codes, decimal}
 use Rattle.std.specs.List.{flat_map}
 use Rattle.std.specs.Fmt.{digit_glyph}
-use Rattle.channel_commands.specs.Data.{CallData, mount, demount, command, break, ReplyData, done, mounted, demounted, already_mounted, not_mounted, no_volume, in_chain, program_check, chain_limit, equipment_check, no_space, stopped}
+use Rattle.channel_commands.specs.Data.{CallData, mount, demount, command, break, ReplyData, done}
+use Rattle.channel_commands.specs.Data.{mounted, demounted, already_mounted, not_mounted, no_volume}
+use Rattle.channel_commands.specs.Data.{in_chain, program_check, chain_limit, equipment_check}
+use Rattle.channel_commands.specs.Data.{no_space, stopped}
 use Rattle.ckd_track.specs.Data.{RecordData}
 use Rattle.ckd_plain.specs.History.{EntryData}
 use Rattle.volume_table.specs.declared.changes.Change.{Change}
-use Rattle.volume_table.specs.declared.changes.Change.TheVariants.{Create, Assign, Free, Staged, Changed, Destaged}
+use Rattle.volume_table.specs.declared.changes.Change.TheVariants.{Create, Assign, Free, Staged}
+use Rattle.volume_table.specs.declared.changes.Change.TheVariants.{Changed, Destaged}
 
 -- ---- bytes
 
@@ -63,7 +68,9 @@ reply_text stopped fault = codes "stopped" ++ fault_text fault
 
 -- the line of the entry at place n of the history, from 1
 unfoldable pub entry_text : ℕ → EntryData → List ℕ
-entry_text n e = codes "entry " ++ decimal n ++ codes " host " ++ decimal e.host ++ codes " " ++ call_text e.call ++ codes " " ++ reply_text e.reply e.fault ++ codes "\n"
+entry_text n e =
+    codes "entry " ++ decimal n ++ codes " host " ++ decimal e.host ++ codes " " ++ call_text e.call
+    ++ codes " " ++ reply_text e.reply e.fault ++ codes "\n"
 
 -- lines that are numbered from n on
 abbrev pub numbered : {A : Type 0} → (ℕ → A → List ℕ) → ℕ → List A → List ℕ
@@ -83,26 +90,34 @@ frame_text None = codes "-"
 
 -- what happened to a row; `freed` is the frame that a page gave back
 abbrev pub change_text : Change → Option ℕ → List ℕ
-change_text (Create serial first second) freed = codes "create " ++ serial ++ codes " " ++ decimal first ++ codes " " ++ decimal second
-change_text (Assign page frame) freed = codes "assign page " ++ decimal page ++ codes " frame " ++ decimal frame
-change_text (Free page) freed = codes "free page " ++ decimal page ++ codes " frame " ++ frame_text freed
+change_text (Create serial first second) freed =
+    codes "create " ++ serial ++ codes " " ++ decimal first ++ codes " " ++ decimal second
+change_text (Assign page frame) freed =
+    codes "assign page " ++ decimal page ++ codes " frame " ++ decimal frame
+change_text (Free page) freed =
+    codes "free page " ++ decimal page ++ codes " frame " ++ frame_text freed
 change_text (Staged cylinder) freed = codes "staged cylinder " ++ decimal cylinder
 change_text (Changed cylinder) freed = codes "changed cylinder " ++ decimal cylinder
 change_text (Destaged cylinder) freed = codes "destaged cylinder " ++ decimal cylinder
 
 -- the line of the change at place n of the console, from 1
 unfoldable pub change_line : ℕ → ℕ → Change → Option ℕ → List ℕ
-change_line n volume change freed = codes "change " ++ decimal n ++ codes " volume " ++ decimal volume ++ codes " " ++ change_text change freed ++ codes "\n"
+change_line n volume change freed =
+    codes "change " ++ decimal n ++ codes " volume " ++ decimal volume ++ codes " "
+    ++ change_text change freed ++ codes "\n"
 
 -- ---- the volumes
 
 -- a record's ID, key and data
 unfoldable pub record_text : RecordData → List ℕ
-record_text r = codes "record " ++ hex r.id ++ codes " " ++ field_text r.key ++ codes " " ++ field_text r.body ++ codes "\n"
+record_text r =
+    codes "record " ++ hex r.id ++ codes " " ++ field_text r.key ++ codes " " ++ field_text r.body
+    ++ codes "\n"
 
 -- a track's cylinder and head
 unfoldable pub track_line : ℕ → ℕ → List ℕ
-track_line cylinder head = codes "track " ++ decimal cylinder ++ codes " " ++ decimal head ++ codes "\n"
+track_line cylinder head =
+    codes "track " ++ decimal cylinder ++ codes " " ++ decimal head ++ codes "\n"
 
 -- a track and its records; nothing for a blank track
 unfoldable pub track_text : ℕ → ℕ → List RecordData → List ℕ
@@ -112,11 +127,13 @@ track_text cylinder head (r ∷ rs) = track_line cylinder head ++ flat_map recor
 -- the first n tracks of a volume, of which each cylinder has 19
 unfoldable pub tracks_text : (ℕ → ℕ → List RecordData) → ℕ → List ℕ
 tracks_text track zero = []
-tracks_text track (suc n) = tracks_text track n ++ track_text (n / 19) (n % 19) (track (n / 19) (n % 19))
+tracks_text track (suc n) =
+    tracks_text track n ++ track_text (n / 19) (n % 19) (track (n / 19) (n % 19))
 
 -- a track by volume, cylinder and head
 abbrev pub place_text : ℕ → ℕ → ℕ → List ℕ
-place_text volume cylinder head = decimal volume ++ codes " cylinder " ++ decimal cylinder ++ codes " head " ++ decimal head
+place_text volume cylinder head =
+    decimal volume ++ codes " cylinder " ++ decimal cylinder ++ codes " head " ++ decimal head
 
 -- a volume's number and serial
 unfoldable pub heading_text : ℕ → List ℕ → List ℕ

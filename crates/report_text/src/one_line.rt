@@ -17,8 +17,6 @@ pub enum OneLine {
     InputFault,
     /// A bad line of the job text, counted from 1, and why it is bad; line 0 where the text is too big.
     JobRefused { line: u32, kind: JobKind },
-    /// The input is of a form that isn't built yet.
-    JobRefusedLater,
     /// The site was refused.
     RestartRefused(Refused),
     WantOfMemory,
@@ -45,7 +43,8 @@ fn kind_name(kind: JobKind) -> &'static str
 /// Puts an output of one line, by at most eleven calls. It wants no memory, since it tells want of memory too.
 #[tactic(auto, unfolding(crate::specs::OneLines::one_line_text))]
 pub fn put_line<O: Sink>(output: &mut O, line: &OneLine) -> Result<(), Failed>
-    ensures bytes { O.tells → Puts result (O.told output.old) (O.told output.new) (one_line_text line.now) }
+    ensures bytes { O.tells → Puts result (O.told output.old) (O.told output.new)
+        (one_line_text line.now) }
     ensures cause { HasCause (O.faults output.old) (O.faults output.new) result }
 {
     match *line {
@@ -54,7 +53,6 @@ pub fn put_line<O: Sink>(output: &mut O, line: &OneLine) -> Result<(), Failed>
         OneLine::JobRefused { line, kind } => {
             put_numbered_word(output, "job refused line ", line, kind_name(kind))
         }
-        OneLine::JobRefusedLater => put_text(output, "job refused line 0 Later\n"),
         OneLine::RestartRefused(refused) => put_refusal(output, &refused),
         OneLine::WantOfMemory => put_text(output, "want of memory\n"),
     }

@@ -2,13 +2,36 @@
 ghost use Rattle.std.specs.Prelude.{◌≡◌, ◌++◌, ℕ, codes, decimal};
 ghost use Rattle.mss_base.specs.Counts.{HasCause};
 ghost use Rattle.mss_base.specs.Puts.{Puts};
-ghost use Rattle.report_text.specs.Refusals.{copy_name, half_text, number_text, numbered_half, page_text, part_text, refusal_text, row_field_text};
+ghost use Rattle.report_text.specs.Refusals.{
+  copy_name,
+  half_text,
+  number_text,
+  numbered_half,
+  page_text,
+  part_text,
+  refusal_text,
+  row_field_text,
+};
 
 use crate::pieces::{put_byte_pieces, put_numbered, put_pieces, put_place, put_text};
 use mss_base::{CartridgeNo, Failed, FrameNo, Page, Serial, Sink, VolumeNo};
 use shown_volumes::{Half, Refused};
 use table_pair::TableCopy;
 use volume_table::{RowFault, RowField};
+
+// How the line of each kind of refusal begins.
+
+const VOLUME: &str = "restart refused volume ";
+
+const CARTRIDGE: &str = "restart refused cartridge ";
+
+const FRAME: &str = "restart refused frame ";
+
+const TORN_TRACK: &str = "restart refused torn track volume ";
+
+const STAGED_DIFFERS: &str = "restart refused staged differs volume ";
+
+const STOPPED: &str = "restart refused stopped fault ";
 
 /// How a line names a copy of the table.
 fn copy_name(copy: TableCopy) -> &'static str
@@ -98,20 +121,22 @@ fn put_row_unread<O: Sink>(
     output: &mut O,
     text: &'static str,
     volume: VolumeNo,
-    word: &'static str,
     fault: u64,
 ) -> Result<(), Failed>
     ensures bytes { O.tells → Puts result (O.told output.old) (O.told output.new)
-        (text.now ++ decimal volume ++ word.now ++ decimal fault ++ codes "\n") }
+        (text.now ++ decimal volume ++ codes " unread fault " ++ decimal fault ++ codes "\n") }
     ensures cause { HasCause (O.faults output.old) (O.faults output.new) result }
 {
     let mut volume_digits = itoa::Buffer::new();
     let mut fault_digits = itoa::Buffer::new();
-    let volume = volume_digits.format(volume.get());
-    put_pieces(
-        output,
-        &[text, volume, word, fault_digits.format(fault), "\n"],
-    )
+    let pieces = [
+        text,
+        volume_digits.format(volume.get()),
+        " unread fault ",
+        fault_digits.format(fault),
+        "\n",
+    ];
+    put_pieces(output, &pieces)
 }
 
 fn put_serial_differs<'a, O: Sink>(
@@ -249,58 +274,35 @@ pub fn put_refusal<O: Sink>(output: &mut O, refused: &Refused) -> Result<(), Fai
             volume,
             copy,
             fault,
-        } => put_row_damaged(output, "restart refused volume ", *volume, *copy, fault),
-        Refused::RowUnread { volume, fault } => {
-            let (text, word) = ("restart refused volume ", " unread fault ");
-            put_row_unread(output, text, *volume, word, *fault)
-        }
+        } => put_row_damaged(output, VOLUME, *volume, *copy, fault),
+        Refused::RowUnread { volume, fault } => put_row_unread(output, VOLUME, *volume, *fault),
         Refused::SerialDiffers {
             volume,
             kept,
             asked,
-        } => put_serial_differs(output, "restart refused volume ", *volume, kept, asked),
+        } => put_serial_differs(output, VOLUME, *volume, kept, asked),
         Refused::CartridgeTwice {
             cartridge,
             first,
             second,
-        } => put_cartridge_twice(
-            output,
-            "restart refused cartridge ",
-            *cartridge,
-            first,
-            second,
-        ),
-        Refused::FrameGone { frame } => put_frame_gone(output, "restart refused frame ", *frame),
+        } => put_cartridge_twice(output, CARTRIDGE, *cartridge, first, second),
+        Refused::FrameGone { frame } => put_frame_gone(output, FRAME, *frame),
         Refused::FrameTwice {
             frame,
             first,
             second,
-        } => put_frame_twice(output, "restart refused frame ", *frame, *first, *second),
+        } => put_frame_twice(output, FRAME, *frame, *first, *second),
         Refused::TornTrack {
             volume,
             cylinder,
             head,
-        } => put_place(
-            output,
-            "restart refused torn track volume ",
-            *volume,
-            *cylinder,
-            *head,
-        ),
+        } => put_place(output, TORN_TRACK, *volume, *cylinder, *head),
         Refused::StagedDiffers {
             volume,
             cylinder,
             head,
-        } => put_place(
-            output,
-            "restart refused staged differs volume ",
-            *volume,
-            *cylinder,
-            *head,
-        ),
-        Refused::Stopped { fault } => {
-            put_numbered(output, "restart refused stopped fault ", *fault)
-        }
+        } => put_place(output, STAGED_DIFFERS, *volume, *cylinder, *head),
+        Refused::Stopped { fault } => put_numbered(output, STOPPED, *fault),
         Refused::Memory => put_text(output, "want of memory\n"),
     }
 }

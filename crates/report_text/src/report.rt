@@ -4,7 +4,18 @@ ghost use Rattle.mss_base.specs.Counts.{HasCause};
 ghost use Rattle.mss_base.specs.Puts.{Puts};
 ghost use Rattle.ckd_track.specs.Track.{reading};
 ghost use Rattle.report_text.specs.Causes.{HasOutputCause};
-ghost use Rattle.report_text.specs.Texts.{numbered, entry_text, history_text, change_line, track_text, heading_text, end_text, limit_text, stopped_text, listing_title};
+ghost use Rattle.report_text.specs.Texts.{
+  numbered,
+  entry_text,
+  history_text,
+  change_line,
+  track_text,
+  heading_text,
+  end_text,
+  limit_text,
+  stopped_text,
+  listing_title,
+};
 
 use crate::changes::push_change_line;
 use crate::pieces::{put_numbered, put_text};

@@ -122,7 +122,6 @@ fn outputs_of_one_line(rt: HostRuntime) -> Result<(), Fail> {
             },
             "job refused line 12 Absent\n",
         ),
-        (OneLine::JobRefusedLater, "job refused line 0 Later\n"),
         (OneLine::WantOfMemory, "want of memory\n"),
     ] {
         let mut output = MemorySink::new(rt.alloc(), &[])?;

@@ -3,7 +3,21 @@ ghost use Rattle.std.specs.Prelude.{◌≡◌, ◌++◌, ◌<◌, ◌∷◌, ℕ
 ghost use Rattle.std.specs.List.{flat_map};
 ghost use Rattle.std.specs.Fmt.{digit_glyph};
 ghost use Rattle.channel_commands.specs.Views.{call_of, reply_of};
-ghost use Rattle.report_text.specs.Texts.{hex_byte, hex, data_text, field_text, bind_text, fault_text, call_text, reply_text, entry_text, record_text, track_line, track_text, heading_text};
+ghost use Rattle.report_text.specs.Texts.{
+  hex_byte,
+  hex,
+  data_text,
+  field_text,
+  bind_text,
+  fault_text,
+  call_text,
+  reply_text,
+  entry_text,
+  record_text,
+  track_line,
+  track_text,
+  heading_text,
+};
 
 use channel_commands::{Call, Reply};
 use ckd_plain::Entry;
@@ -162,7 +176,8 @@ fn push_record(out: &mut Bytes, stored: &StoredRecord<'_>) -> Result<(), NoMemor
 }
 
 fn push_records(out: &mut Bytes, records: StoredRecords<'_>) -> Result<(), NoMemory>
-    ensures { OnOk result (out.new.items ≡ out.old.items ++ flat_map record_text records.entry.records) }
+    ensures { OnOk result (out.new.items
+        ≡ out.old.items ++ flat_map record_text records.entry.records) }
 {
     for record in records {
         push_record(out, &record)?;
@@ -190,7 +205,8 @@ pub fn push_track(
     first: &StoredRecord<'_>,
     others: StoredRecords<'_>,
 ) -> Result<(), NoMemory>
-    ensures { OnOk result (out.new.items ≡ out.old.items ++ track_text cylinder head (first.now ∷ others.entry.records)) }
+    ensures { OnOk result (out.new.items ≡ out.old.items
+        ++ track_text cylinder head (first.now ∷ others.entry.records)) }
 {
     push_track_line(out, cylinder, head)?;
     push_record(out, first)?;

@@ -1,5 +1,5 @@
 -- What a serial run keeps, over one event.
-use Rattle.std.proofs.Common.{◌≡◌, ◌≢◌, ◌<◌, ℕ, Bool, true, false, List, [], ◌∷◌, ◌++◌, length, get_or, Option, Some, None, refl, sym, ◌∙◌, ap, subst}
+use Rattle.std.proofs.Common.{◌≡◌, ◌≢◌, ◌<◌, ◌≤◌, arith, ℕ, Bool, true, false, List, [], ◌∷◌, ◌++◌, length, get_or, Option, Some, None, refl, sym, ◌∙◌, ap, subst}
 use Rattle.std.specs.Prelude.{nat_eq, slice_set, slice_get, is_some}
 use Rattle.mss_base.specs.Counts.{IsFaultSince}
 use Rattle.mss_base.specs.Content.{SiteLog}
@@ -17,16 +17,19 @@ use Rattle.core_state.specs.HostEvents.{HostTold, replied, marked, waits, halts,
 use Rattle.core_state.specs.IsCore.{IsCore}
 use Rattle.core_state.specs.Pins.{host_at}
 use Rattle.host_events.specs.Leaves.{LeavesOthers, EntersAsTold, AddsEntry, KeepsHistory}
+use Rattle.host_events.specs.Causes.{CauseOf}
+use Rattle.host_events.proofs.CauseFacts.{has_cause}
 use Rattle.host_events.proofs.EventLeaves.{enters, leaves_others}
 use Rattle.serial_driver.specs.declared.place.Place.{Place}
 use Rattle.serial_driver.specs.Places.{StandsAt}
 use Rattle.serial_driver.specs.Scripts.{Left, not_begun, next_of, left_after, left_behind, Plays, script_of, exchanges_of, left_of, calls_of}
-use Rattle.serial_driver.specs.Drives.{IsScript, AllStand, HasMore, IsDriven, Halts}
-use Rattle.serial_driver.proofs.ScriptFacts.{left_after-push, Plays-push}
+use Rattle.serial_driver.specs.Drives.{IsScript, AllStand, HasMore, IsDriven, IsFull, Halts}
+use Rattle.serial_driver.proofs.ScriptFacts.{left_after-push, Plays-push, ended_has_none}
 use Rattle.serial_driver.proofs.ScriptPlaces.{others_entry, its_own, stand_set}
 use Rattle.serial_driver.proofs.ChainedOn.{open_goes_on}
 use Rattle.serial_driver.proofs.HostFacts.{HostFacts, LeavesHost, StopsAs, host_facts}
 use Rattle.serial_driver.specs.Answers.{of_host}
+use Rattle.serial_driver.specs.declared.answer.DriveAnswer.TheVariants.{Done, Stopped, CommandLimit, Memory}
 
 -- ---- a history with at most one entry more, of this host and call
 
@@ -228,8 +231,26 @@ module _ {S C : Type 0} (tells : Type 0) (told_by : S → SiteLog) (writes fault
         by_told at_limit stops = stops
         by_told no_memory stops = stops
 
-    pub host_config : w.config ≡ v.config
-    host_config = facts.config_
+    -- the limit is told of a full history, to a host that has a call
+    pub host_full : of_host told ≡ CommandLimit → IsFull scripts w.history
+    host_full = by_told told (has_cause tells old kept_ host new call told event) (enters tells old kept_ host new call told event)
+      where
+        by_told : (told' : HostTold) → CauseOf old host call told' new → EntersAsTold old host call told' new → of_host told' ≡ CommandLimit → IsFull scripts w.history
+        by_told at_limit cause keeps is =
+            let long : 4096 ≤ length v.history = cause.1 in
+            let few : length v.history ≤ 4096 = (kept cause.0).few in
+            let exactly : length v.history ≡ 4096 = omega (arith, long, few) in
+            subst (IsFull scripts) (sym keeps.history)
+            (record {
+              entries = exactly;
+              host = host;
+              unfinished = λ ends. absurd (let e : None ≡ Some call = sym (ended_has_none (script_of scripts host) (exchanges_of host v.history) ends) ∙ next in cc);
+            })
+        by_told (replied index reply) cause enters_ is = absurd (let e : Done ≡ CommandLimit = is in cc)
+        by_told (halts fault) cause enters_ is = absurd (let e : Stopped fault ≡ CommandLimit = is in cc)
+        by_told marked cause enters_ is = absurd (let e : Done ≡ CommandLimit = is in cc)
+        by_told (waits why) cause enters_ is = absurd (let e : Done ≡ CommandLimit = is in cc)
+        by_told no_memory cause enters_ is = absurd (let e : Memory ≡ CommandLimit = is in cc)
 
     pub host_cause : v.stopped ≡ None → (fault : ℕ) → w.stopped ≡ Some fault → IsFaultSince (faults v.site) (faults w.site) fault
     host_cause was fault is = by_told told facts.stops

@@ -46,7 +46,6 @@ leaves_then tells told writes faults never_fails_but old mid new answer first th
   session = later_then tells (seen told writes faults old.core) (seen told writes faults mid.core) (seen told writes faults new.core) first.session then_.session;
   scripts_ = then_.scripts_ ∙ first.scripts_;
   chooser_ = then_.chooser_ ∙ first.chooser_;
-  config_ = then_.config_ ∙ first.config_;
   written = omega (arith, first.written, then_.written);
   later = omega (arith, first.later, then_.later);
   sound = λ but never. then_.sound but (first.sound but never);
@@ -55,6 +54,7 @@ leaves_then tells told writes faults never_fails_but old mid new answer first th
       let it = then_.cause (first.halts ∙ none) fault is in
       record { count = it.count; rises = omega (arith, first.later, it.rises) };
   only_reads_fail = λ but never none. then_.only_reads_fail but (first.sound but never) (first.only_reads_fail but never none);
+  full = then_.full;
 }
 
 pub leaves_none : {S C : Type 0} (tells : Type 0) (told : S → SiteLog) (writes faults : S → ℕ) (never_fails_but : FailingReads S) (d : DriveValue S C) → Leaves tells told writes faults never_fails_but d d Done
@@ -62,13 +62,13 @@ leaves_none tells told writes faults never_fails_but d = record {
   session = later_none tells (seen told writes faults d.core);
   scripts_ = refl;
   chooser_ = refl;
-  config_ = refl;
   written = omega arith;
   later = omega arith;
   sound = λ but never. never;
   halts = refl;
   cause = λ none fault is. absurd (let e : None ≡ Some fault = sym none ∙ is in cc);
   only_reads_fail = λ but never none. none;
+  full = λ is. absurd cc;
 }
 
 -- ---- a list

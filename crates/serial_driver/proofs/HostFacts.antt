@@ -2,7 +2,6 @@
 use Rattle.std.proofs.Common.{◌≡◌, ◌≤◌, ℕ, Bool, true, cond, List, [], length, Option, Some, None, refl, sym, ◌∙◌, ap, subst}
 use Rattle.std.specs.Prelude.{is_some}
 use Rattle.std.proofs.lemmas.Bool.{cond_both, false≢true}
-use Rattle.mss_base.specs.Configs.{ConfigData}
 use Rattle.mss_base.specs.Counts.{IsFaultSince}
 use Rattle.channel_commands.specs.Data.{CallData, mount, demount, command as ask, break, ReplyData, done, equipment_check, no_space}
 use Rattle.ckd_plain.specs.declared.host.HostState.{HostState}
@@ -62,16 +61,15 @@ LeavesHost core h call (halts fault) left = Unit {0}
 LeavesHost core h call _ left = left.hosts ≡ core.hosts
 
 pub record HostFacts (core : CoreData) (h : ℕ) (call : CallData) (told : HostTold) (left : CoreData) : Type 0 where
-  pub config_ : left.config ≡ core.config
   pub stops : StopsAs told core left
   pub host_ : LeavesHost core h call told left
 
 -- the parts that a wait and a mark leave
 Quiet : Type 0
-Quiet = ConfigData × Option ℕ × List HostState
+Quiet = Option ℕ × List HostState
 
-abbrev quiet : CoreData → ConfigData × Option ℕ × List HostState
-quiet c = (c.config, c.stopped, c.hosts)
+abbrev quiet : CoreData → Option ℕ × List HostState
+quiet c = (c.stopped, c.hosts)
 
 module _ (tells : Type 0) (core : CoreData) (kept : core.stopped ≡ None → IsCore core) (h : ℕ) (low : 1 ≤ h) (high : h ≤ 8) (core' : CoreData) where
   same_quiet : IsSame tells core core' → quiet core' ≡ quiet core
@@ -116,16 +114,14 @@ module _ (tells : Type 0) (core : CoreData) (kept : core.stopped ≡ None → Is
 
     quietly : (told : HostTold) → (quiet core' ≡ quiet core) → (core'.stopped ≡ core.stopped → StopsAs told core core') → (core'.hosts ≡ core.hosts → LeavesHost core h call told core') → HostFacts core h call told core'
     quietly told same stops leaves = record {
-      config_ = ap (λ p. p.0) same;
-      stops = stops (ap (λ p. p.1) same);
-      host_ = leaves (ap (λ p. p.2) same);
+      stops = stops (ap (λ p. p.0) same);
+      host_ = leaves (ap (λ p. p.1) same);
     }
 
     by_reply : (rule : HostRule) → host_rule core h call ≡ rule → IsLate rule → (answer : ReplyData × HostState) (reply : ReplyData) (index : ℕ)
-        → core'.config ≡ core.config → core'.stopped ≡ core.stopped → core'.hosts ≡ put_host core.hosts h answer.1 → core'.requests ≡ without_request h core.requests
+        → core'.stopped ≡ core.stopped → core'.hosts ≡ put_host core.hosts h answer.1 → core'.requests ≡ without_request h core.requests
         → (answer.1.chain_open ≡ true → ChainsOn (host_at core.hosts h) call reply) → HostFacts core h call (replied index reply) core'
-    by_reply rule is late answer reply index config_ stopped_ hosts_ requests_ chain = record {
-      config_ = config_;
+    by_reply rule is late answer reply index stopped_ hosts_ requests_ chain = record {
       stops = stopped_;
       host_ = leaves_by (rule_goes core h call rule is late).going answer hosts_ requests_ reply chain index;
     }
@@ -138,22 +134,22 @@ module _ (tells : Type 0) (core : CoreData) (kept : core.stopped ≡ None → Is
       is_busy = λ owner same is. quietly _ (same_quiet same) (λ s. s) (λ s. s);
       moves = λ cylinder same is. quietly _ (same_quiet same) (λ s. s) (λ s. s);
       holds = λ frame held is. quietly _ (held_quiet held) (λ s. s) (λ s. s);
-      responds = λ it is. by_reply Responds is tt (response core h call) (response core h call).0 (length core.history) (ap (λ c. c.config) it.1) (ap (λ c. c.stopped) it.1) (ap (λ c. c.hosts) it.1) (ap (λ c. c.requests) it.1)
+      responds = λ it is. by_reply Responds is tt (response core h call) (response core h call).0 (length core.history) (ap (λ c. c.stopped) it.1) (ap (λ c. c.hosts) it.1) (ap (λ c. c.requests) it.1)
           (responds_chain (host_at core.hosts h) (is_there core.rows call) call);
-      fails = λ fault it is. by_reply (HasFailed fault) is tt (equipment core h) equipment_check (length core.history) (ap (λ c. c.config) it.1) (ap (λ c. c.stopped) it.1) (ap (λ c. c.hosts) it.1) (ap (λ c. c.requests) it.1) (λ open_. absurd (false≢true open_));
-      is_full = λ it is. by_reply HasNoSpace is tt (exception check.NoSpace no_space core h) no_space (length core.history) (ap (λ c. c.config) it.1) (ap (λ c. c.stopped) it.1) (ap (λ c. c.hosts) it.1) (ap (λ c. c.requests) it.1) (λ open_. absurd (false≢true open_));
+      fails = λ fault it is. by_reply (HasFailed fault) is tt (equipment core h) equipment_check (length core.history) (ap (λ c. c.stopped) it.1) (ap (λ c. c.hosts) it.1) (ap (λ c. c.requests) it.1) (λ open_. absurd (false≢true open_));
+      is_full = λ it is. by_reply HasNoSpace is tt (exception check.NoSpace no_space core h) no_space (length core.history) (ap (λ c. c.stopped) it.1) (ap (λ c. c.hosts) it.1) (ap (λ c. c.requests) it.1) (λ open_. absurd (false≢true open_));
       asks = λ volume cylinder it is. quietly _ (asked_quiet volume cylinder it) (λ s. s) (λ s. s);
       marks = λ volume cylinder it is. quietly _ (marked_quiet volume cylinder it) (λ s. s) (λ s. s);
       unmarked = λ volume cylinder fault un is.
           let on = mark_there volume cylinder is in
           let cause = (un.0 on.r on.there).cause in
-          record { config_ = ap (λ c. c.config) un.1; stops = (ap (λ c. c.stopped) un.1 ∙ ap Some (sym cause.count), λ _. cause); host_ = tt };
-      unread = λ c volume frame un is. by_reply (Runs c volume frame) is tt (equipment core h) equipment_check (length core.history) (ap (λ c. c.config) un.1) (ap (λ c. c.stopped) un.1) (ap (λ c. c.hosts) un.1) (ap (λ c. c.requests) un.1) (λ open_. absurd (false≢true open_));
+          record { stops = (ap (λ c. c.stopped) un.1 ∙ ap Some (sym cause.count), λ _. cause); host_ = tt };
+      unread = λ c volume frame un is. by_reply (Runs c volume frame) is tt (equipment core h) equipment_check (length core.history) (ap (λ c. c.stopped) un.1) (ap (λ c. c.hosts) un.1) (ap (λ c. c.requests) un.1) (λ open_. absurd (false≢true open_));
       runs = λ c volume frame code argument chained status bytes ran is.
-          by_reply (Runs c volume frame) is tt (done status bytes, ran.1) (done status bytes) (length core.history) (ap (λ c. c.config) ran.3) (ap (λ c. c.stopped) ran.3) (ap (λ c. c.hosts) ran.3) (ap (λ c. c.requests) ran.3)
+          by_reply (Runs c volume frame) is tt (done status bytes, ran.1) (done status bytes) (length core.history) (ap (λ c. c.stopped) ran.3) (ap (λ c. c.hosts) ran.3) (ap (λ c. c.requests) ran.3)
           (λ open_. subst (λ (k : CallData). ChainsOn (host_at core.hosts h) k (done status bytes)) (sym ran.0) (ran.2.chain.asked open_, ran.2.chain.smooth open_));
       unwritten = λ c volume frame code argument chained fault un is.
-          record { config_ = ap (λ c. c.config) un.2; stops = (ap (λ c. c.stopped) un.2 ∙ ap Some (sym un.1.cause.count), λ _. un.1.cause); host_ = tt };
+          record { stops = (ap (λ c. c.stopped) un.2 ∙ ap Some (sym un.1.cause.count), λ _. un.1.cause); host_ = tt };
     }
 
   pub host_facts : (call : CallData) (told : HostTold) → HostEvent tells core h call told core' → HostFacts core h call told core'

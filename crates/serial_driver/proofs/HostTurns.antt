@@ -21,9 +21,9 @@ use Rattle.serial_driver.specs.declared.place.Place.{Place}
 use Rattle.serial_driver.specs.Answers.{IsUnstopped}
 use Rattle.serial_driver.specs.Places.{StandsAt}
 use Rattle.serial_driver.specs.Scripts.{Left, not_begun, next_of, left_after, left_behind, Plays, script_of, exchanges_of, left_of, calls_of}
-use Rattle.serial_driver.specs.Drives.{HostTakes, HasMore, IsDriven, Halts}
+use Rattle.serial_driver.specs.Drives.{HostTakes, HasMore, IsDriven, IsFull, Halts}
 use Rattle.serial_driver.proofs.ScriptPlaces.{script_at, stand_at, stand_set, as_many}
-use Rattle.serial_driver.proofs.DriveFacts.{nothing_behind, host_driven, host_halts, host_config, host_cause}
+use Rattle.serial_driver.proofs.DriveFacts.{nothing_behind, host_driven, host_halts, host_full, host_cause}
 
 pub same_default : {A : Type 0} (xs : List A) (n : ℕ) (d e : A) → n < length xs → get_or xs n d ≡ get_or xs n e
 same_default [] n d e below = absurd (omega (arith, below))
@@ -38,7 +38,7 @@ unstopped_same Memory was is un halts = halts
 
 pub record HostWhole {S C : Type 0} (faults : S → ℕ) (v w : CoreValue S C) (scripts : List ScriptData) (places : List Place) (answer : DriveAnswer) : Type 0 where
   pub driven : IsDriven w scripts places
-  pub config_ : w.config ≡ v.config
+  pub full : answer ≡ CommandLimit → IsFull scripts w.history
   pub halts : Halts answer v.stopped w.stopped
   pub cause : v.stopped ≡ None → (fault : ℕ) → w.stopped ≡ Some fault → IsFaultSince (faults v.site) (faults w.site) fault
 
@@ -112,13 +112,13 @@ module _ {S C : Type 0} (tells : Type 0) (told_by : S → SiteLog) (writes fault
       by_call : (call : Option CallData) → calls_of scripts v.history script.host ≡ call → HostTakes tells script.host call old answer new → HostWhole faults v w scripts (slice_set places n q) answer
       by_call None next it = record {
         driven = still it.0;
-        config_ = ap (λ (c : CoreData). c.config) it.0;
+        full = λ is. absurd (let e : Done ≡ CommandLimit = sym it.1 ∙ is in cc);
         halts = subst (λ (a : DriveAnswer). Halts a v.stopped w.stopped) (sym it.1) (ap (λ (c : CoreData). c.stopped) it.0);
         cause = λ was fault is. absurd (let e : None ≡ Some fault = sym was ∙ sym (ap (λ (c : CoreData). c.stopped) it.0) ∙ is in cc);
       }
       by_call (Some call) next it = record {
         driven = host_driven tells told_by writes faults v w scripts places kept driven n d below call it.0 it.1 next q stands;
-        config_ = host_config tells told_by writes faults v w scripts places kept driven n d below call it.0 it.1 next q stands;
+        full = λ is. host_full tells told_by writes faults v w scripts places kept driven n d below call it.0 it.1 next q stands (sym it.2 ∙ is);
         halts = subst (λ (a : DriveAnswer). Halts a v.stopped w.stopped) (sym it.2) (host_halts tells told_by writes faults v w scripts places kept driven n d below call it.0 it.1 next q stands);
         cause = host_cause tells told_by writes faults v w scripts places kept driven n d below call it.0 it.1 next q stands;
       }

@@ -1,7 +1,7 @@
 -- Later moments of a session, one after the other.
-use Rattle.std.proofs.Common.{◌≡◌, ◌++◌, [], List, refl, sym, ◌∙◌, ap, append_assoc}
+use Rattle.std.proofs.Common.{◌++◌, [], refl, sym, ◌∙◌, ap, append_assoc}
 use Rattle.std.proofs.lemmas.List.{append-nil}
-use Rattle.mss_base.specs.Content.{SiteLog, Write}
+use Rattle.mss_base.specs.Content.{SiteLog}
 use Rattle.core_state.specs.Beginning.{Continues, IsLater}
 use Rattle.core_state.specs.CoreValue.{CoreData}
 

@@ -389,7 +389,7 @@ module _ {S C : Type 0} (tells : Type 0) (may : C → List Candidate → ℕ →
       pub round_goes : answer ≡ Done → RoundsSoFar tells (may init.core.chooser) init.scripts (seen told_by writes faults init.core) (seen told_by writes faults new.core)
       round_goes goes =
           rounds_go tells (may init.core.chooser) init.scripts (seen told_by writes faults init.core) (seen told_by writes faults now.core) (seen told_by writes faults mid.core) so_far (calls_so true some) told settles_so done
-          (seen told_by writes faults new.core) answer hosts_so goes (then_.config_ ∙ left.config_)
+          (seen told_by writes faults new.core) answer hosts_so goes (then_.session.beginning.config ∙ left.session.beginning.config)
 
       pub round_falls : run_left (seen told_by writes faults mid.core) ≤ run_left (seen told_by writes faults now.core)
           → RunFalls tells (may mid.core.chooser) mid.scripts (seen told_by writes faults mid.core) (seen told_by writes faults new.core)

@@ -1,8 +1,9 @@
 -- What is left of a script, and which lists of calls follow it.
 use Rattle.std.proofs.Common.{◌≡◌, ◌⊎◌, inl, inr, ℕ, Bool, true, false, cond, List, [], ◌∷◌, ◌++◌, Option, Some, None, refl, sym, ◌∙◌, ap, subst}
 use Rattle.std.specs.Prelude.{◌==◌, option_map, is_some, not}
+use Rattle.std.proofs.lemmas.Bool.{false≢true}
 use Rattle.channel_commands.specs.Data.{CallData, ReplyData, CcwData, mount, demount}
-use Rattle.channel_program.specs.Script.{ItemData, mounting, demounting, program, Exchange, Standing, at_start, next_call, call_for, reached, moved, Runs, Follows, FollowsToEnd}
+use Rattle.channel_program.specs.Script.{ItemData, mounting, demounting, program, Exchange, Standing, at_start, next_call, call_for, reached, moved, Runs, Gives, Follows, FollowsToEnd}
 use Rattle.ckd_plain.specs.History.{EntryData}
 use Rattle.serial_driver.specs.Scripts.{Left, not_begun, next_of, program_left, left_by, left_after, Plays, exchanges_of}
 
@@ -169,3 +170,42 @@ ends_on (x ∷ xs) (program words ∷ more) at live plays none =
 pub plays_to_end : (items : List ItemData) (xs : List Exchange) → Plays (not_begun items) xs → next_of (left_after (not_begun items) xs).items (left_after (not_begun items) xs).at ≡ None → FollowsToEnd items xs
 unfolding NoneNext
 plays_to_end items xs plays none = whole_ends items xs (ends_on xs items at_start (begun_live items) plays none)
+
+-- and then no call comes next
+
+finished_next : (words : List CcwData) (at : Standing) → at.word ≡ None → next_call words at ≡ None
+finished_next words at ended = ap (option_map (λ (x : ℕ). call_for words at.executed (reached words x))) ended
+
+-- behind a program that ran to its end the items behind it are left
+left_by_run : (words : List CcwData) (more : List ItemData) (at to : Standing) (front rest : List Exchange) → is_some at.word ≡ true → Runs words at front to → to.word ≡ None
+    → left_after (record { items = program words ∷ more; at = at }) (front ++ rest) ≡ left_after (not_begun more) rest
+left_by_run words more at to [] rest live runs ended = absurd (false≢true (sym (ap (λ (s : Standing). is_some s.word) runs ∙ ap is_some ended) ∙ live))
+left_by_run words more at to (x ∷ front) rest live runs ended =
+    by_word (λ on. left_by_run words more (moved words at x.1) to front rest on runs.1 ended) front runs.1 refl (moved words at x.1).word refl
+  where
+    by_word : (is_some (moved words at x.1).word ≡ true → left_after (record { items = program words ∷ more; at = moved words at x.1 }) (front ++ rest) ≡ left_after (not_begun more) rest)
+        → (xs : List Exchange) → Runs words (moved words at x.1) xs to → xs ≡ front
+        → (word : Option ℕ) → (moved words at x.1).word ≡ word → left_after (program_left words more (moved words at x.1) word) (xs ++ rest) ≡ left_after (not_begun more) rest
+    by_word again xs on same (Some w) is = ap (λ (l : List Exchange). left_after (record { items = program words ∷ more; at = moved words at x.1 }) (l ++ rest)) same ∙ again (ap is_some is)
+    by_word again [] on same None is = refl
+    by_word again (y ∷ ys) on same None is = absurd (let e : None ≡ Some y.0 = sym (finished_next words (moved words at x.1) is) ∙ on.0 in cc)
+
+no_word : (word : Option ℕ) → true ≡ not (is_some word) → word ≡ None
+no_word None is = refl
+no_word (Some w) is = absurd (false≢true (sym is))
+
+-- so it is behind an item that is finished
+left_behind_item : (item : ItemData) (more : List ItemData) (front rest : List Exchange) → Gives item front true → left_after (not_begun (item ∷ more)) (front ++ rest) ≡ left_after (not_begun more) rest
+left_behind_item (mounting volume bind) more [] rest gives = absurd (false≢true (sym gives))
+left_behind_item (mounting volume bind) more (x ∷ xs) rest gives = ap (λ (l : List Exchange). left_after (not_begun more) (l ++ rest)) gives.1
+left_behind_item demounting more [] rest gives = absurd (false≢true (sym gives))
+left_behind_item demounting more (x ∷ xs) rest gives = ap (λ (l : List Exchange). left_after (not_begun more) (l ++ rest)) gives.1
+left_behind_item (program words) more front rest gives = left_by_run words more at_start gives.0 front rest refl gives.1 (no_word gives.0.word gives.2)
+
+abbrev next_in : Left → Option CallData
+next_in left = next_of left.items left.at
+
+pub ended_has_none : (items : List ItemData) (xs : List Exchange) → FollowsToEnd items xs → next_of (left_after (not_begun items) xs).items (left_after (not_begun items) xs).at ≡ None
+ended_has_none [] xs follows = ap (λ (l : List Exchange). next_in (left_after (not_begun []) l)) follows
+ended_has_none (item ∷ more) xs (front, rest, is, gives, ends) =
+    ap (λ (l : List Exchange). next_in (left_after (not_begun (item ∷ more)) l)) is ∙ ap next_in (left_behind_item item more front rest gives) ∙ ended_has_none more rest ends

@@ -118,7 +118,7 @@ module _ {S C : Type 0} (tells : Type 0) (may : C → List Candidate → ℕ →
 
   pub turn_on : turn.answer ≡ Done → turn.idle ≡ false → SettlesSoFar tells (may init.core.chooser) (seen told_by writes faults init.core) (seen told_by writes faults new.core)
   turn_on done busy =
-      settle_goes tells (may init.core.chooser) (seen told_by writes faults init.core) (seen told_by writes faults now.core) (seen told_by writes faults new.core) so_far turn turns_so done busy left.config_
+      settle_goes tells (may init.core.chooser) (seen told_by writes faults init.core) (seen told_by writes faults now.core) (seen told_by writes faults new.core) so_far turn turns_so done busy left.session.beginning.config
 
   pub turn_ends : turn.answer ≢ Done → SettlesIt tells (may init.core.chooser) (seen told_by writes faults init.core) turn.answer (seen told_by writes faults new.core)
   turn_ends halted =

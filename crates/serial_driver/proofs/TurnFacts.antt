@@ -185,7 +185,7 @@ module _ {S C : Type 0} (tells : Type 0) (may : C → List Candidate → ℕ →
   event_so = subst (λ (c : C). WorkEvent tells (may c) (seen told_by writes faults now.core) number told (seen told_by writes faults new.core)) leaves.chooser_ event
 
   low : number < now.core.config.recorders
-  low = subst (λ c. number < c.recorders) (sym leaves.config_) below
+  low = subst (λ c. number < c.recorders) (sym leaves.session.beginning.config) below
 
   pub one_leaves : (told_so : DriveAnswer) → told_so ≡ of_work told → Leaves tells told_by writes faults never_fails_but init new told_so
   one_leaves told_so is =
@@ -195,7 +195,7 @@ module _ {S C : Type 0} (tells : Type 0) (may : C → List Candidate → ℕ →
   pub one_goes : of_work told ≡ answer.Done → new.core.history ≡ now.core.history → LeavesLessBy (seen told_by writes faults now.core) number told (seen told_by writes faults new.core)
       → TurnSoFar tells (may init.core.chooser) (seen told_by writes faults init.core) (number + 1) (idle && is_idle (worked number told)) (seen told_by writes faults new.core)
   one_goes done history_ less =
-      turn_goes tells (may init.core.chooser) (seen told_by writes faults init.core) number idle (seen told_by writes faults now.core) (seen told_by writes faults new.core) so_far low told event_so done left.config_ history_ less
+      turn_goes tells (may init.core.chooser) (seen told_by writes faults init.core) number idle (seen told_by writes faults now.core) (seen told_by writes faults new.core) so_far low told event_so done left.session.beginning.config history_ less
 
   pub one_halts : of_work told ≢ answer.Done → new.core.history ≡ now.core.history → (turn : Turn) → turn.answer ≡ of_work told
       → TurnsTo tells (may init.core.chooser) (seen told_by writes faults init.core) turn (seen told_by writes faults new.core)

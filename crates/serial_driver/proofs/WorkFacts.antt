@@ -7,31 +7,20 @@ use Rattle.mss_base.specs.Counts.{IsFaultSince}
 use Rattle.ckd_plain.specs.declared.host.HostState.{HostState}
 use Rattle.ckd_plain.specs.History.{EntryData}
 use Rattle.job_text.specs.Jobs.{ScriptData}
-use Rattle.volume_table.specs.declared.changes.Change.{Change}
-use Rattle.volume_table.specs.declared.changes.Change.TheVariants as change
 use Rattle.fault_queue.specs.declared.queue.Request.{Request}
 use Rattle.fault_queue.specs.declared.queue.RequestState.{RequestState}
-use Rattle.fault_queue.specs.declared.queue.RequestState.TheVariants as request
 use Rattle.fault_queue.specs.Requests.{RequestsData, request_of, with_state, with_request_at, in_state, IsOnce}
 use Rattle.fault_queue.proofs.RequestFacts.{request_other, with_state_is}
-use Rattle.transfers.specs.declared.transfer.Transfer.{Transfer}
-use Rattle.transfers.specs.declared.transfer.TransferKind.{TransferKind}
-use Rattle.transfers.specs.declared.transfer.TransferKind.TheVariants.{StageBlank, StageCartridge, Destage}
 use Rattle.victim_choice.specs.declared.choose.Candidate.{Candidate}
 use Rattle.core_state.specs.Beginning.{IsLater}
-use Rattle.core_state.specs.declared.task.Task.{Task}
-use Rattle.core_state.specs.declared.rule.WorkKind.{WorkKind}
-use Rattle.core_state.specs.declared.rule.WorkKind.TheVariants as kind
 use Rattle.core_state.specs.declared.rule.WorkAnswer.{WorkAnswer}
 use Rattle.core_state.specs.declared.rule.WorkAnswer.TheVariants.{Did, Idle, Stopped, Memory}
 use Rattle.core_state.specs.declared.rule.WorkRule.{WorkRule}
-use Rattle.core_state.specs.declared.rule.WorkRule.TheVariants.{IsStopped, IsIdle, GivesBack, Picks, PicksVictim, Abandons, Fetches, Copies, Ends, Frees, Assigns}
 use Rattle.core_state.specs.CoreValue.{CoreValue, CoreData, seen}
 use Rattle.core_state.specs.IsCore.{IsCore}
 use Rattle.core_state.specs.Pins.{host_at}
-use Rattle.core_state.specs.Steps.{with_change, most_recent, with_owner, with_task, picked, task_ended, given_back, fetched}
-use Rattle.core_state.specs.WorkEvents.{Does, ChangesThen, CopiesIt, EndsIt, TaskDoes, WithTask, WorkDoes, WorkEvent}
-use Rattle.core_state.specs.WorkRules.{task_of, work_rule}
+use Rattle.core_state.specs.WorkEvents.{WorkEvent}
+use Rattle.core_state.specs.WorkRules.{work_rule}
 use Rattle.host_events.proofs.RuleFacts.{core_seen}
 use Rattle.work_events.specs.WorkLaws.{AnswerSays}
 use Rattle.work_events.proofs.Outcomes.{Outcome, Restates, outcome}
@@ -40,51 +29,15 @@ use Rattle.serial_driver.specs.declared.place.Place.{Place}
 use Rattle.serial_driver.specs.Answers.{of_work}
 use Rattle.serial_driver.specs.Scripts.{not_begun, left_of, Plays, script_of, exchanges_of}
 use Rattle.serial_driver.specs.Drives.{AllStand, HasMore, IsDriven, Halts}
+use Rattle.serial_driver.specs.declared.answer.DriveAnswer.TheVariants as answer
 
--- ---- the configuration
+-- ---- no recorder is told the limit
 
-module _ (tells : Type 0) (may : List Candidate → ℕ → Type 0) (core : CoreData) (n : ℕ) (left : CoreData) where
-  does_config : (what : WorkKind) (after : CoreData → CoreData) → ((c : CoreData) → (after c).config ≡ c.config) → (told : WorkAnswer) → Does tells core what n after told left → left.config ≡ core.config
-  does_config what after same told does = ap (λ (c : CoreData). c.config) does.2 ∙ same (record core { site = left.site })
-
-  changes_config : (what : WorkKind) (volume : ℕ) (change : Change) (after : CoreData → CoreData) → ((c : CoreData) → (after c).config ≡ c.config) → (told : WorkAnswer)
-      → ChangesThen tells core what n volume change after told left → left.config ≡ core.config
-  changes_config what volume change after same (Did did) does = ap (λ (c : CoreData). c.config) does.2 ∙ same (with_change volume change (record core { site = left.site }))
-  changes_config what volume change after same (Stopped fault) does = ap (λ (c : CoreData). c.config) does.1
-  changes_config what volume change after same Idle does = absurd does
-  changes_config what volume change after same Memory does = absurd does
-
-  copies_config : (task : Task) (t : Transfer) → CopiesIt tells core n task t left → left.config ≡ core.config
-  copies_config task t (inl copied) = ap (λ (c : CoreData). c.config) copied.1
-  copies_config task t (inr failed) = ap (λ (c : CoreData). c.config) failed.1
-
-  ends_config : (task : Task) (k : TransferKind) (t : Transfer) (told : WorkAnswer) → EndsIt tells core n task k t told left → left.config ≡ core.config
-  ends_config task Destage t told does = changes_config kind.End t.volume (change.Destaged t.cylinder) (with_task n (Some (record task { transfer = None }))) (λ c. refl) told does
-  ends_config task StageBlank t told does = changes_config kind.End t.volume (change.Staged t.cylinder) (task_ended n task request.Ready) (λ c. refl) told does
-  ends_config task StageCartridge t told does = changes_config kind.End t.volume (change.Staged t.cylinder) (task_ended n task request.Ready) (λ c. refl) told does
-
-  with_config : (rule : WorkRule) (told : WorkAnswer) (o : Option Task) → ((task : Task) → TaskDoes tells core n rule task told left → left.config ≡ core.config)
-      → WithTask o (λ task. TaskDoes tells core n rule task told left) → left.config ≡ core.config
-  with_config rule told None by does = absurd does
-  with_config rule told (Some task) by does = by task does
-
-  config_stays : (rule : WorkRule) (told : WorkAnswer) → WorkDoes tells may core n rule told left → left.config ≡ core.config
-  config_stays (IsStopped fault) told does = ap (λ (c : CoreData). c.config) does.1.1
-  config_stays rule Memory does = ap (λ (c : CoreData). c.config) does.1
-  config_stays IsIdle told does = ap (λ (c : CoreData). c.config) does.1.1
-  config_stays (GivesBack cartridge) told does = does_config kind.GiveBack (given_back n cartridge) (λ c. refl) told does
-  config_stays (Fetches cartridge) told does = does_config kind.Fetch (fetched n cartridge) (λ c. refl) told does
-  config_stays (Picks h frame) told does = does_config kind.Pick (picked n h frame None) (λ c. refl) told does
-  config_stays (PicksVictim h) told does = does_config kind.Pick (picked n h does.1.frame (Some (does.1.volume, does.1.page))) (λ c. refl) told does.4
-  config_stays Abandons told does = with_config Abandons told (task_of core n) (λ task d. does_config kind.Abandon (task_ended n task request.Queued) (λ c. refl) told d) does
-  config_stays (Copies t) told does = with_config (Copies t) told (task_of core n) (λ task d. copies_config task t d.1) does
-  config_stays (Ends t) told does = with_config (Ends t) told (task_of core n) (λ task d. ends_config task t.kind t told d) does
-  config_stays (Frees volume page) told does =
-      with_config (Frees volume page) told (task_of core n)
-      (λ task d. changes_config kind.Free volume (change.Free page) (λ now. with_task n (Some (record task { victim = None })) (with_owner task.frame None now)) (λ c. refl) told d) does
-  config_stays (Assigns volume page) told does =
-      with_config (Assigns volume page) told (task_of core n)
-      (λ task d. changes_config kind.Assign volume (change.Assign page task.frame) (λ now. most_recent task.frame (with_owner task.frame (Some (volume, page)) now)) (λ c. refl) told d) does
+pub no_limit : (told : WorkAnswer) → of_work told ≡ answer.CommandLimit → ⊥
+no_limit (Did what) is = let e : answer.Done ≡ answer.CommandLimit = is in cc
+no_limit Idle is = let e : answer.Done ≡ answer.CommandLimit = is in cc
+no_limit (Stopped fault) is = let e : answer.Stopped fault ≡ answer.CommandLimit = is in cc
+no_limit Memory is = let e : answer.Memory ≡ answer.CommandLimit = is in cc
 
 -- ---- requests keep their hosts
 
@@ -125,9 +78,6 @@ module _ {S C : Type 0} (tells : Type 0) (may : List Candidate → ℕ → Type 
 
   pub work_session : IsLater tells old new
   work_session = is_later tells may old n told new event (record { there = below; kept = λ going. core_seen told_by writes faults v (kept going) })
-
-  pub work_config : w.config ≡ v.config
-  work_config = config_stays tells may old n new (work_rule old n) told event
 
   pub work_halts : Halts (of_work told) v.stopped w.stopped
   work_halts = by_told told says

@@ -5,7 +5,8 @@ use Rattle.core_state.specs.declared.rule.WorkAnswer.TheVariants as work
 use Rattle.core_state.specs.Chains.{Step, called, worked}
 use Rattle.core_state.specs.HostEvents.{HostTold, halts, at_limit, no_memory}
 use Rattle.serial_driver.specs.declared.answer.DriveAnswer.{DriveAnswer}
-use Rattle.serial_driver.specs.declared.answer.DriveAnswer.TheVariants.{Done, Stopped, CommandLimit, Memory}
+use Rattle.serial_driver.specs.declared.answer.DriveAnswer.TheVariants.{Done, Stopped, CommandLimit}
+use Rattle.serial_driver.specs.declared.answer.DriveAnswer.TheVariants.{Memory}
 
 abbrev pub of_host : HostTold → DriveAnswer
 of_host (halts fault) = Stopped fault

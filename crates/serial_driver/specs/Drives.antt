@@ -1,5 +1,6 @@
 -- A serial run as plain data, what it keeps, and what its calls do.
-use Rattle.std.specs.Prelude.{◌≡◌, ◌≤◌, ◌<◌, ℕ, slice_index_or, ◌==◌, Bool, true, false, List, [], ◌∷◌, length, map, Option, Some, None}
+use Rattle.std.specs.Prelude.{◌≡◌, ◌≤◌, ◌<◌, ℕ, slice_index_or, ◌==◌, Bool, true, false, List, []}
+use Rattle.std.specs.Prelude.{◌∷◌, length, map, Option, Some, None}
 use Rattle.std.specs.List.{IsDistinct, AllByRecursion, range_with_len}
 use Rattle.mss_base.specs.Configs.{ConfigData}
 use Rattle.mss_base.specs.Content.{SiteLog}
@@ -8,14 +9,15 @@ use Rattle.mss_base.specs.Sites.{FailingReads, StaysSound}
 use Rattle.mss_base.specs.declared.place.UnitNo.{UnitNo}
 use Rattle.channel_commands.specs.Data.{CallData}
 use Rattle.channel_program.specs.Items.{AreRunnable}
-use Rattle.channel_program.specs.Script.{ItemData, program}
+use Rattle.channel_program.specs.Script.{ItemData, program, FollowsToEnd}
 use Rattle.ckd_plain.specs.History.{EntryData}
 use Rattle.job_text.specs.Jobs.{ScriptData, JobData}
 use Rattle.victim_choice.specs.declared.choose.Candidate.{Candidate}
 use Rattle.fault_queue.specs.declared.queue.Request.{Request}
 use Rattle.fault_queue.specs.Requests.{request_of}
 use Rattle.core_state.specs.Beginning.{IsLater}
-use Rattle.core_state.specs.Chains.{Step, EventTurn, Settles, HostTurn, Rounds, Onward, Ended, has_call, IsSettled}
+use Rattle.core_state.specs.Chains.{Step, EventTurn, Settles, HostTurn, Rounds, Onward, Ended}
+use Rattle.core_state.specs.Chains.{has_call, IsSettled}
 use Rattle.core_state.specs.CoreValue.{CoreValue, CoreData, seen}
 use Rattle.core_state.specs.Pins.{host_at}
 use Rattle.core_state.specs.HostEvents.{HostTold, HostEvent}
@@ -23,12 +25,14 @@ use Rattle.core_state.specs.WorkEvents.{WorkEvent}
 use Rattle.core_state.specs.declared.session.Event.{Event}
 use Rattle.core_state.specs.declared.session.Event.TheVariants.{Host, Work}
 use Rattle.core_state.specs.declared.rule.WorkAnswer.{WorkAnswer}
+use Rattle.core_state.specs.declared.session.TheConstants.{ENTRY_LIMIT}
 use Rattle.serial_driver.specs.Answers.{of_host, of_work, of_last}
 use Rattle.serial_driver.specs.declared.answer.DriveAnswer.{DriveAnswer}
-use Rattle.serial_driver.specs.declared.answer.DriveAnswer.TheVariants.{Done, Stopped}
+use Rattle.serial_driver.specs.declared.answer.DriveAnswer.TheVariants.{Done, Stopped, CommandLimit}
 use Rattle.serial_driver.specs.declared.place.Place.{Place}
 use Rattle.serial_driver.specs.Places.{StandsAt}
-use Rattle.serial_driver.specs.Scripts.{Left, not_begun, next_of, left_after, Plays, script_of, exchanges_of, left_of, calls_of}
+use Rattle.serial_driver.specs.Scripts.{Left, not_begun, next_of, left_after, Plays, script_of}
+use Rattle.serial_driver.specs.Scripts.{exchanges_of, left_of, calls_of}
 
 -- a core, and what each host of the job is to do
 pub record DriveValue (S C : Type 0) : Type 0 where
@@ -132,15 +136,20 @@ abbrev pub Halts : DriveAnswer → Option ℕ → Option ℕ → Type 0
 Halts (Stopped fault) was is = is ≡ Some fault
 Halts _ was is = is ≡ was
 
+-- the history has no room for an entry, and some host hasn't come to the end of its script
+pub record IsFull (scripts : List ScriptData) (history : List EntryData) : Type 0 where
+  pub entries : length history ≡ ENTRY_LIMIT
+  pub host : ℕ
+  pub unfinished : FollowsToEnd (script_of scripts host) (exchanges_of host history) → ⊥
+
 -- The job and the chooser stay, and no count falls. A fault stopped the core only by a write that
--- failed since, and none did where reads alone may fail.
+-- failed since, and none did where reads alone may fail. The limit is told of a full history alone.
 pub record Leaves {S C : Type 0} (tells : Type 0) (told : S → SiteLog) (writes faults : S → ℕ)
     (never_fails_but : FailingReads S) (old new : DriveValue S C) (answer : DriveAnswer)
     : Type 0 where
   pub session : IsLater tells (seen told writes faults old.core) (seen told writes faults new.core)
   pub scripts_ : new.scripts ≡ old.scripts
   pub chooser_ : new.core.chooser ≡ old.core.chooser
-  pub config_ : new.core.config ≡ old.core.config
   pub written : writes old.core.site ≤ writes new.core.site
   pub later : faults old.core.site ≤ faults new.core.site
   pub sound : StaysSound never_fails_but old.core.site new.core.site
@@ -149,6 +158,7 @@ pub record Leaves {S C : Type 0} (tells : Type 0) (told : S → SiteLog) (writes
       → IsFaultSince (faults old.core.site) (faults new.core.site) fault
   pub only_reads_fail : (but : UnitNo → Bool) → never_fails_but old.core.site but
       → old.core.stopped ≡ None → new.core.stopped ≡ None
+  pub full : answer ≡ CommandLimit → IsFull new.scripts new.core.history
 
 -- ---- a list of events
 
@@ -180,7 +190,8 @@ module _ (tells : Type 0) (may : List Candidate → ℕ → Type 0) (scripts : L
   -- one event of each host that has a call, in order, unless one ends them before
   pub record HostsTurn (core : CoreData) (answer : DriveAnswer) (left : CoreData) : Type 0 where
     pub steps : List Step
-    pub chain : HostTurn tells may (calls_of scripts) (hosts_of scripts) core steps left (Ended left)
+    pub chain : HostTurn tells may (calls_of scripts) (hosts_of scripts) core steps left
+        (Ended left)
     pub last : answer ≡ of_last steps
 
   abbrev pub NoneCalls : CoreData → Onward

@@ -1,7 +1,8 @@
 -- What a host does next, by its script and by what it was told so far.
 use Rattle.std.specs.Prelude.{◌≡◌, ℕ, ◌==◌, List, [], ◌∷◌, Option, Some, None, if◌then◌else◌}
 use Rattle.channel_commands.specs.Data.{CallData, mount, demount, ReplyData, CcwData}
-use Rattle.channel_program.specs.Script.{ItemData, mounting, demounting, program, Exchange, Standing, at_start, next_call, moved}
+use Rattle.channel_program.specs.Script.{ItemData, mounting, demounting, program, Exchange}
+use Rattle.channel_program.specs.Script.{Standing, at_start, next_call, moved}
 use Rattle.ckd_plain.specs.History.{EntryData}
 use Rattle.job_text.specs.Jobs.{ScriptData}
 

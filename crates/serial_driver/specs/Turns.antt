@@ -4,7 +4,8 @@ use Rattle.victim_choice.specs.declared.choose.Candidate.{Candidate}
 use Rattle.core_state.specs.declared.rule.WorkAnswer.{WorkAnswer}
 use Rattle.core_state.specs.declared.rule.WorkRule.TheVariants.{IsIdle}
 use Rattle.core_state.specs.WorkRules.{work_rule}
-use Rattle.core_state.specs.Chains.{Step, worked, is_idle, WorkTurn, Onward, Ended, IsSettled, has_call}
+use Rattle.core_state.specs.Chains.{Step, worked, is_idle, WorkTurn, Onward, Ended, IsSettled}
+use Rattle.core_state.specs.Chains.{has_call}
 use Rattle.core_state.specs.CoreValue.{CoreData}
 use Rattle.core_progress.specs.Progress.{AreIdle}
 use Rattle.core_progress.specs.WorkLeft.{settle_left, run_left}

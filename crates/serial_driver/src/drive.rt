@@ -29,8 +29,8 @@ type Places = Listed<Place>;
 
 /// A serial run of a job on a core.
 ///
-/// It keeps that each host's entries, in order, are the calls of its script, and that a host whose chain is open, or that
-/// has a request, has a call left while the core isn't stopped.
+/// It keeps that each host's entries, in order, are the calls of its script, and that a host whose chain is open,
+/// or that has a request, has a call left while the core isn't stopped.
 #[derive(Drop)]
 pub struct Drive<'a, S: Site, C: Choose> {
     core: Core<S, C>,
@@ -98,10 +98,11 @@ pub(crate) fn answer_of(told: WorkAnswer) -> DriveAnswer
 }
 
 impl<'a, S: Site, C: Choose> Drive<'a, S, C> {
-    ghost use Rattle.serial_driver.specs.Drives.{AreScripts, HostTakes, EventTakes, IsConfigured, IsUnused, Leaves, RunsEvents};
+    ghost use Rattle.serial_driver.specs.Drives.{AreScripts, HostTakes, EventTakes, IsConfigured};
+    ghost use Rattle.serial_driver.specs.Drives.{IsUnused, Leaves, RunsEvents};
 
-    /// A serial run of a job, on a core in which nothing has happened, of the job's configuration. After want of memory it
-    /// hands the core back.
+    /// A serial run of a job, on a core in which nothing has happened, of the job's configuration. After want of
+    /// memory it hands the core back.
     pub fn new(core: Core<S, C>, job: &'a Job) -> Result<Drive<'a, S, C>, (Core<S, C>, NoMemory)>
         requires unused { IsUnused core job.now }
         ensures ok { IfOk result (λ drive.
@@ -152,7 +153,8 @@ impl<'a, S: Site, C: Choose> Drive<'a, S, C> {
             HostTakes S.tells h (calls_of self.old.scripts self.old.core.history h)
             (seen S.told S.writes S.faults self.old.core) result
             (seen S.told S.writes S.faults self.new.core) }
-        ensures leaves { Leaves S.tells S.told S.writes S.faults S.never_fails_but self.old self.new result }
+        ensures leaves { Leaves S.tells S.told S.writes S.faults S.never_fails_but self.old self.new
+            result }
     {
         look(&self.core);
         let script = &self.scripts[number];
@@ -182,8 +184,8 @@ impl<'a, S: Site, C: Choose> Drive<'a, S, C> {
         has_call(script.items.as_slice(), &place)
     }
 
-    /// What the hosts of a run keep, for the proofs of callers: each that owns a volume has a call, and one that has none
-    /// has come to the end of its script.
+    /// What the hosts of a run keep, for the proofs of callers: each that owns a volume has a call, and one that
+    /// has none has come to the end of its script.
     pub(crate) fn look_at_hosts(&self)
         ensures scripts { AreScripts self.now.scripts }
         ensures owners { self.now.core.stopped ≡ None → OwnersCall
@@ -214,7 +216,8 @@ impl<'a, S: Site, C: Choose> Drive<'a, S, C> {
             (calls_of self.old.scripts self.old.core.history host)
             (seen S.told S.writes S.faults self.old.core) result
             (seen S.told S.writes S.faults self.new.core) }
-        ensures leaves { Leaves S.tells S.told S.writes S.faults S.never_fails_but self.old self.new result }
+        ensures leaves { Leaves S.tells S.told S.writes S.faults S.never_fails_but self.old self.new
+            result }
     {
         match script_number(self.scripts, host) {
             Some(number) => self.host(number),
@@ -228,7 +231,8 @@ impl<'a, S: Site, C: Choose> Drive<'a, S, C> {
         ensures takes { EventTakes S.tells (C.may self.old.core.chooser) self.old.scripts event
             (seen S.told S.writes S.faults self.old.core) result
             (seen S.told S.writes S.faults self.new.core) }
-        ensures leaves { Leaves S.tells S.told S.writes S.faults S.never_fails_but self.old self.new result }
+        ensures leaves { Leaves S.tells S.told S.writes S.faults S.never_fails_but self.old self.new
+            result }
     {
         match event {
             Event::Host(host) => self.named(host),
@@ -243,7 +247,8 @@ impl<'a, S: Site, C: Choose> Drive<'a, S, C> {
         ensures runs { RunsEvents S.tells (C.may self.old.core.chooser) self.old.scripts events.now
             (seen S.told S.writes S.faults self.old.core) result
             (seen S.told S.writes S.faults self.new.core) }
-        ensures leaves { Leaves S.tells S.told S.writes S.faults S.never_fails_but self.old self.new result }
+        ensures leaves { Leaves S.tells S.told S.writes S.faults S.never_fails_but self.old self.new
+            result }
     {
         for event in events {
             match self.event(*event) {

@@ -32,8 +32,8 @@ impl<'a, S: Site, C: Choose> Drive<'a, S, C> {
         false
     }
 
-    /// One event of each host that has a call, in the order of the job, until one ends them. Where nothing was left to do
-    /// before, less of the run is left.
+    /// One event of each host that has a call, in the order of the job, until one ends them. Where nothing was left
+    /// to do before, less of the run is left.
     fn hosts_turn(&mut self) -> DriveAnswer
         ensures turns { HostsTurn S.tells (C.may self.old.core.chooser) self.old.scripts
             (seen S.told S.writes S.faults self.old.core) result
@@ -41,7 +41,8 @@ impl<'a, S: Site, C: Choose> Drive<'a, S, C> {
         ensures falls { result ≡ Done → RunFalls S.tells (C.may self.old.core.chooser)
             self.old.scripts (seen S.told S.writes S.faults self.old.core)
             (seen S.told S.writes S.faults self.new.core) }
-        ensures leaves { Leaves S.tells S.told S.writes S.faults S.never_fails_but self.old self.new result }
+        ensures leaves { Leaves S.tells S.told S.writes S.faults S.never_fails_but self.old self.new
+            result }
     {
         self.look_at_hosts();
         calls_leave_less::<S>();
@@ -59,17 +60,18 @@ impl<'a, S: Site, C: Choose> Drive<'a, S, C> {
         DriveAnswer::Done
     }
 
-    /// Goes on by rounds while some host has a call: the recorders work until nothing is left to do, and then each host that
-    /// has a call makes it, in the order of the job. An event that finds the core stopped, or stops it, that finds the
-    /// history full, or that is refused memory, ends it before. Where none does, each host has followed its script to the
-    /// end.
+    /// Goes on by rounds while some host has a call: the recorders work until nothing is left to do, and then each
+    /// host that has a call makes it, in the order of the job. An event that finds the core stopped, or stops it,
+    /// that finds the history full, or that is refused memory, ends it before. Where none does, each host has
+    /// followed its script to the end.
     pub fn run_to_end(&mut self) -> DriveAnswer
         ensures runs { RunsToEnd S.tells (C.may self.old.core.chooser) self.old.scripts
             (seen S.told S.writes S.faults self.old.core) result
             (seen S.told S.writes S.faults self.new.core) }
         ensures ended { result ≡ Done → (h : ℕ) → FollowsToEnd (script_of self.new.scripts h)
             (exchanges_of h self.new.core.history) }
-        ensures leaves { Leaves S.tells S.told S.writes S.faults S.never_fails_but self.old self.new result }
+        ensures leaves { Leaves S.tells S.told S.writes S.faults S.never_fails_but self.old self.new
+            result }
     {
         loop {
             if !self.some_host_calls() {

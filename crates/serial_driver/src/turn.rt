@@ -95,16 +95,17 @@ impl<'a, S: Site, C: Choose> Drive<'a, S, C> {
         }
     }
 
-    /// Lets the recorders work, one event of each in turn, until a whole turn is idle: then nothing is left to do. An event
-    /// that finds the core stopped, or stops it, or that is refused memory, ends it before. What is left of a run doesn't
-    /// grow.
+    /// Lets the recorders work, one event of each in turn, until a whole turn is idle: then nothing is left to do.
+    /// An event that finds the core stopped, or stops it, or that is refused memory, ends it before. What is left
+    /// of a run doesn't grow.
     pub fn settle(&mut self) -> DriveAnswer
         ensures settles { SettlesIt S.tells (C.may self.old.core.chooser)
             (seen S.told S.writes S.faults self.old.core) result
             (seen S.told S.writes S.faults self.new.core) }
         ensures run { result ≡ Done → run_left (seen S.told S.writes S.faults self.new.core)
             ≤ run_left (seen S.told S.writes S.faults self.old.core) }
-        ensures leaves { Leaves S.tells S.told S.writes S.faults S.never_fails_but self.old self.new result }
+        ensures leaves { Leaves S.tells S.told S.writes S.faults S.never_fails_but self.old self.new
+            result }
     {
         loop {
             let turn = self.turn();

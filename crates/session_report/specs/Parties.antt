@@ -1,5 +1,5 @@
--- The parties of a report, each from one moment to a later one.
-use Rattle.std.specs.Prelude.{ℕ, List}
+-- The parties of a run, each from one moment to a later one.
+use Rattle.std.specs.Prelude.{◌≡◌, ℕ, List}
 use Rattle.mss_base.specs.Content.{SiteLog}
 
 -- what a party tells at both moments, where clauses may speak of that, and its counts of faults
@@ -10,7 +10,12 @@ pub record Party (T : Type 0) : Type 1 where
   pub faults_was : ℕ
   pub faults_now : ℕ
 
--- a sink, by the bytes that were put
+-- it tells what it told, and counted no fault
+pub record IsUntouched {T : Type 0} (party : Party T) : Type 0 where
+  pub told_ : party.now ≡ party.was
+  pub faults_ : party.faults_now ≡ party.faults_was
+
+-- a source, by the bytes that are left, or a sink, by the bytes that were put
 abbrev pub Stream : Type 1
 Stream = Party (List ℕ)
 

@@ -7,8 +7,8 @@ use report_text::ReportFault as PartFault;
 /// Why a report wasn't put whole. What was put is a front of it, but after a failed read.
 #[derive(Clone, Copy, Debug, PartialEq, Eq)]
 pub enum ReportFault {
-    /// A read of a volume's track failed; the site's count of faults behind it. The report ended before that track, with
-    /// a line that tells this count.
+    /// A read of a volume's track failed; the site's count of faults behind it. The report ended before that track,
+    /// with a line that tells this count.
     Read { fault: u64 },
     /// The sink failed.
     Output,

@@ -1,14 +1,11 @@
-use Rattle.std.proofs.Common.{rules, ◌≡◌, ℕ, List, Option, refl, sym, ◌∙◌, ap, subst}
-use Rattle.mss_base.specs.Configs.{ConfigData}
+use Rattle.std.proofs.Common.{rules, arith, ◌≡◌, ℕ, List, Option, sym, ◌∙◌, ap, subst}
 use Rattle.mss_base.specs.Content.{content}
 use Rattle.mss_base.specs.Sites.{OnlyReads}
-use Rattle.job_text.specs.Jobs.{JobData}
 use Rattle.volume_table.specs.Listed.{listed}
 use Rattle.volume_table.specs.Row.{RowValue}
 use Rattle.shown_volumes.specs.Shown.{shown_by}
-use Rattle.core_state.specs.CoreValue.{CoreValue, CoreData, seen}
+use Rattle.core_state.specs.CoreValue.{CoreValue, seen}
 use Rattle.core_state.specs.SessionData.{SessionData, data_of}
-use Rattle.core_state.specs.Sessions.{session_data}
 use Rattle.session_report.specs.Parties.{Stream, between}
 use Rattle.session_report.specs.Reports.{Heading, report_matter}
 use Rattle.job_runs.specs.Parties.{seen_site}
@@ -42,6 +39,11 @@ returns g c =
     let read : OnlyReads tells told g.S.Site.spare writes faults g.S.Site.never_fails_but left.site site =
     subst (λ (x : g.row.S.Denot). OnlyReads tells told g.S.Site.spare writes faults g.S.Site.never_fails_but x site) ended.ensures.site c.tell-told.ensures.site in
     record {
+      devices = record {
+        written = omega (arith, ran.ensures.leaves.written, read.unwritten);
+        later = omega (arith, ran.ensures.leaves.later, read.later);
+        sound = λ but so. read.sound but (ran.ensures.leaves.sound but so);
+      };
       session = λ was begun.
           let law = c.sessions_are_plain.ensures in
           subst (λ (s : SessionData). IsSessionOf (g.C.Choose.may c.args.core.chooser) c.args.job.now (record { tells = tells; was = was; now = seen_site told writes faults site }) sink ran.result.1 c.tell-told.result s) (sym ended.ensures.session)

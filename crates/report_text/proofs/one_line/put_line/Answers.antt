@@ -10,8 +10,3 @@ returns-in-JobRefused-clause-bytes g c = λ told.
     subst (λ (line : OneLine). Puts c.put_numbered_word.result (g.O.Sink.told c.args.output.now) (g.O.Sink.told c.put_numbered_word.new.output) (one_line_text line)) (sym c.in-JobRefused.is)
     (subst (λ (word : List ℕ). Puts c.put_numbered_word.result (g.O.Sink.told c.args.output.now) (g.O.Sink.told c.put_numbered_word.new.output) (codes "job refused line " ++ decimal c.in-JobRefused.line ++ codes " " ++ word ++ codes "\n")) c.kind_name.ensures
     (c.put_numbered_word.ensures.bytes told))
-
-pub returns-in-JobRefusedLater-clause-bytes : goal.returns-in-JobRefusedLater-clause-bytes
-unfolding one_line_text
-returns-in-JobRefusedLater-clause-bytes g c = λ told.
-    subst (λ (line : OneLine). Puts c.put_text-in-JobRefusedLater.result (g.O.Sink.told c.args.output.now) (g.O.Sink.told c.put_text-in-JobRefusedLater.new.output) (one_line_text line)) (sym c.in-JobRefusedLater.is) (c.put_text-in-JobRefusedLater.ensures.bytes told)

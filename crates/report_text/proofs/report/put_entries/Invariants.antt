@@ -1,4 +1,4 @@
-use Rattle.std.proofs.Common.{◌≡◌, ◌+◌, ◌≤◌, drop}
+use Rattle.std.proofs.Common.{◌≡◌, ◌+◌, drop}
 use Rattle.mss_base.proofs.Putting.{Part}
 use Rattle.report_text.specs.Texts.{numbered, entry_text}
 use Rattle.report_text.proofs.report.put_entries.Given as goal

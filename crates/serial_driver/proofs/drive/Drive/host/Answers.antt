@@ -48,11 +48,11 @@ returns-clause-leaves g c =
       session = session_;
       scripts_ = refl;
       chooser_ = c.call_host-answer.ensures.chooser;
-      config_ = whole.config_;
       written = c.call_host-answer.ensures.devices.written;
       later = c.call_host-answer.ensures.devices.later;
       sound = c.call_host-answer.ensures.devices.sound;
       halts = whole.halts;
       cause = whole.cause;
       only_reads_fail = λ but never none. unstopped_same c.call_host-answer.result _ _ (c.call_host-answer.ensures.only_reads_fail but never none) whole.halts ∙ none;
+      full = whole.full;
     })

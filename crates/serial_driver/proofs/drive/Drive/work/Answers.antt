@@ -1,7 +1,7 @@
 use Rattle.std.proofs.Common.{◌<◌, arith, refl, ◌∙◌, ap, subst}
 use Rattle.serial_driver.specs.Answers.{of_work}
 use Rattle.serial_driver.specs.Drives.{DriveValue, Leaves}
-use Rattle.serial_driver.proofs.WorkFacts.{work_session, work_config, work_halts, work_cause, work_driven}
+use Rattle.serial_driver.proofs.WorkFacts.{work_session, work_halts, work_cause, work_driven, no_limit}
 use Rattle.serial_driver.proofs.drive.Drive.work.Goals as goal
 
 pub invariant_of-self : goal.invariant_of-self
@@ -17,11 +17,11 @@ returns-clause-leaves g c =
       session = work_session g.S.Site.tells (g.C.Choose.may c.self.inside.core.chooser) g.S.Site.told g.S.Site.writes g.S.Site.faults c.self.inside.core c.work_event.new.core c.look.ensures.kept c.args.recorder low c.work_event.result c.work_event.ensures.event;
       scripts_ = refl;
       chooser_ = c.work_event.ensures.chooser;
-      config_ = work_config g.S.Site.tells (g.C.Choose.may c.self.inside.core.chooser) g.S.Site.told g.S.Site.writes g.S.Site.faults c.self.inside.core c.work_event.new.core c.look.ensures.kept c.args.recorder low c.work_event.result c.work_event.ensures.event;
       written = c.work_event.ensures.devices.written;
       later = c.work_event.ensures.devices.later;
       sound = c.work_event.ensures.devices.sound;
       halts = work_halts g.S.Site.tells (g.C.Choose.may c.self.inside.core.chooser) g.S.Site.told g.S.Site.writes g.S.Site.faults c.self.inside.core c.work_event.new.core c.look.ensures.kept c.args.recorder low c.work_event.result c.work_event.ensures.event;
       cause = work_cause g.S.Site.tells (g.C.Choose.may c.self.inside.core.chooser) g.S.Site.told g.S.Site.writes g.S.Site.faults c.self.inside.core c.work_event.new.core c.look.ensures.kept c.args.recorder low c.work_event.result c.work_event.ensures.event;
       only_reads_fail = λ but never none. c.work_event.ensures.only_reads_fail but never ∙ none;
+      full = λ is. absurd (no_limit c.work_event.result is);
     })
