@@ -1,0 +1,160 @@
+// Jobs that several tests run.
+use std::alloc::Global;
+use std::test::Fail;
+
+/// A host writes a record on cylinder 5, head 3, and reads it back.
+pub const WRITE_AND_READ: &str = "mss 1 frames 1 recorders 1\n\
+    volume 0 VOL001\n\
+    host 1\n\
+    mount VOL001\n\
+    program\n\
+    ccw 07 000000050003\n\
+    ccw 31 0005000300\n\
+    tic 1\n\
+    ccw 1D 0005000301000003414243\n\
+    end\n\
+    program\n\
+    ccw 07 000000050003\n\
+    ccw 31 0005000301\n\
+    tic 1\n\
+    ccw 06\n\
+    end\n\
+    done\n";
+
+/// The same devices, of which no host asks anything.
+pub const ONE_VOLUME: &str = "mss 1 frames 1 recorders 1\n\
+    volume 0 VOL001\n\
+    done\n";
+
+/// One frame for two pages: a record on cylinder 0, one on cylinder 8, and the first is read back.
+pub const REPLACEMENT: &str = "mss 1 frames 1 recorders 1\n\
+    volume 0 VOL001\n\
+    host 1\n\
+    mount VOL001\n\
+    program\n\
+    ccw 07 000000000000\n\
+    ccw 31 0000000000\n\
+    tic 1\n\
+    ccw 1D 000000000100000141\n\
+    end\n\
+    program\n\
+    ccw 07 000000080000\n\
+    ccw 31 0008000000\n\
+    tic 1\n\
+    ccw 1D 000800000100000142\n\
+    end\n\
+    program\n\
+    ccw 07 000000000000\n\
+    ccw 31 0000000001\n\
+    tic 1\n\
+    ccw 06\n\
+    end\n\
+    done\n";
+
+/// Two hosts bind both frames, and a third finds no space until one demounts.
+pub const BOUND: &str = "mss 1 frames 2 recorders 1\n\
+    volume 0 VOL001\n\
+    volume 1 VOL002\n\
+    volume 2 VOL003\n\
+    host 1\n\
+    mount VOL001 bind\n\
+    program\n\
+    ccw 31 0000000000\n\
+    end\n\
+    demount\n\
+    host 2\n\
+    mount VOL002 bind\n\
+    program\n\
+    ccw 31 0000000000\n\
+    end\n\
+    host 3\n\
+    mount VOL003\n\
+    program\n\
+    ccw 31 0000000000\n\
+    end\n\
+    program\n\
+    ccw 31 0000000000\n\
+    end\n\
+    done\n";
+
+/// The volumes of the three hosts, and one more.
+const FOUR_VOLUMES: &str = "volume 0 VOL001\n\
+    volume 1 VOL002\n\
+    volume 2 VOL003\n\
+    volume 3 VOL004\n";
+
+/// Each host writes a record on its own volume and reads it back; the first then writes it on the fourth volume.
+const THREE_HOSTS: &str = "host 1\n\
+    mount VOL001\n\
+    program\n\
+    ccw 1F C0\n\
+    ccw 07 000000010001\n\
+    ccw 23 00\n\
+    ccw 31 0001000100\n\
+    tic 3\n\
+    ccw 1D 0001000101000005484F535431\n\
+    end\n\
+    program\n\
+    ccw 1F 40\n\
+    ccw 07 000000010001\n\
+    ccw 23 00\n\
+    ccw 31 0001000101\n\
+    tic 3\n\
+    ccw 06\n\
+    end\n\
+    demount\n\
+    mount VOL004\n\
+    program\n\
+    ccw 1F C0\n\
+    ccw 07 000000010001\n\
+    ccw 23 00\n\
+    ccw 31 0001000100\n\
+    tic 3\n\
+    ccw 1D 0001000101000005484F535431\n\
+    end\n\
+    host 2\n\
+    mount VOL002\n\
+    program\n\
+    ccw 1F C0\n\
+    ccw 07 000000020002\n\
+    ccw 23 00\n\
+    ccw 31 0002000200\n\
+    tic 3\n\
+    ccw 1D 0002000201000005484F535432\n\
+    end\n\
+    program\n\
+    ccw 1F 40\n\
+    ccw 07 000000020002\n\
+    ccw 23 00\n\
+    ccw 31 0002000201\n\
+    tic 3\n\
+    ccw 06\n\
+    end\n\
+    host 3\n\
+    mount VOL003\n\
+    program\n\
+    ccw 1F C0\n\
+    ccw 07 000000030003\n\
+    ccw 23 00\n\
+    ccw 31 0003000300\n\
+    tic 3\n\
+    ccw 1D 0003000301000005484F535433\n\
+    end\n\
+    program\n\
+    ccw 1F 40\n\
+    ccw 07 000000030003\n\
+    ccw 23 00\n\
+    ccw 31 0003000301\n\
+    tic 3\n\
+    ccw 06\n\
+    end\n";
+
+/// Three hosts, two recorders, and so many frames.
+pub fn three_hosts(alloc: Global, frames: u8) -> Result<String, Fail> {
+    Ok(format!(in alloc; "mss 1 frames {frames} recorders 2\n{FOUR_VOLUMES}{THREE_HOSTS}done\n")?)
+}
+
+/// The same devices, of which no host asks anything.
+pub fn four_volumes(alloc: Global, frames: u8) -> Result<String, Fail> {
+    Ok(format!(in alloc; "mss 1 frames {frames} recorders 2\n{FOUR_VOLUMES}done\n")?)
+}

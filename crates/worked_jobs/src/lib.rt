@@ -1,0 +1,15 @@
+//! Jobs that are worked out by hand, as tests over `run_job`: whole reports, what stops leave, devices that fail.
+//!
+//! Nothing stands on this crate.
+#![tactic(auto)]
+
+#[cfg(test)]
+mod failures;
+#[cfg(test)]
+mod jobs;
+#[cfg(test)]
+mod reports;
+#[cfg(test)]
+mod running;
+#[cfg(test)]
+mod stops;
