@@ -39,10 +39,14 @@ END
 """
 
 
+def drawing(top, report):
+    """The picture of a report."""
+    return subprocess.run([f"{top}/tools/picture", "-"], input=report, capture_output=True, check=True).stdout
+
+
 def picture(top, report):
-    """The picture of a report, read as XML."""
-    drawn = subprocess.run([f"{top}/tools/picture", "-"], input=report, capture_output=True, check=True)
-    return xml.fromstring(drawn.stdout)
+    """The same, read as XML."""
+    return xml.fromstring(drawing(top, report))
 
 
 def numbers(element, *names):
@@ -90,6 +94,10 @@ def main(top):
         entries = sum(rect.get("class") == "entry" for rect in drawn.iter(f"{SVG}rect"))
         if entries != sum(line.startswith("entry ") for line in report.read_text().splitlines()):
             print(f"checks/picture: {report.name}: {entries} entries are drawn", file=sys.stderr)
+            failed = 1
+        kept = report.with_suffix(".svg")
+        if kept.exists() and kept.read_bytes() != drawing(top, report.read_bytes()):
+            print(f"checks/picture: {kept.name} isn't what is drawn of its report", file=sys.stderr)
             failed = 1
     return failed
 

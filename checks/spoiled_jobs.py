@@ -40,7 +40,7 @@ def fault(program, text):
     ran = subprocess.run([program, "serial"], input=text, capture_output=True, check=False)
     told = ran.stdout
     try:
-        job = read_job_to_run(text)
+        job = read_job(text)
     except BadLine as bad:
         agrees = (ran.returncode, told) == (REFUSED, f"{bad.plain()}\n".encode())
         return None if agrees else f"{bad.plain()} beside {told[:80]}"
@@ -68,7 +68,7 @@ def main(top, program):
 if __name__ == "__main__":
     sys.path.insert(0, str(Path(sys.argv[1], "tools")))
     from formats.following import sources_of
-    from formats.jobs import BadLine, read_job_to_run
+    from formats.jobs import BadLine, read_job
     from formats.reports import read_report
 
     sys.exit(main(*sys.argv[1:]))

@@ -13,10 +13,11 @@ TROUBLE = 0x03  # unit check, unit exception
 
 @dataclass
 class Source:
-    """Where an entry comes from: the line of the job, and the word, if it is a command."""
+    """Where an entry comes from: the line of the job; of a command its word, and whether that is its program's last."""
 
     line: int
     word: object = None
+    is_last: bool = False
 
 
 class Following:
@@ -52,8 +53,9 @@ class Following:
         if entry.call != "ccw" or entry.code != word.code:
             return None
         self.executed += 1
-        self.move(reached, entry.status)
-        return Source(word.line, word)
+        is_last = reached + 1 == len(words)
+        self.move(reached, is_last, entry.status)
+        return Source(word.line, word, is_last)
 
     def reached(self):
         """The number of the command that the present word leads to: its own or, behind word 0, that of a transfer."""
@@ -62,9 +64,8 @@ class Following:
             at = words[at].to
         return at if at < len(words) and words[at].to is None else None
 
-    def move(self, reached, status):
+    def move(self, reached, is_last, status):
         """Goes on behind a command with this status; none where its reply has no status."""
-        is_last = reached + 1 == len(self.program.words)
         if status is None or status & TROUBLE or is_last:
             self.program = None
         else:

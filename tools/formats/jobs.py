@@ -34,7 +34,6 @@ SENTENCES = {
     "Absent": "the mounted serial is on no `volume` line",
     "Count": "a limit is passed",
     "Ended": "no line is bad, and there is no `done`",
-    "Later": "the job is good, and has several hosts, which the program doesn't take yet",
 }
 
 
@@ -326,11 +325,3 @@ def read_job(text):
         wanting = "`end` and `done`" if reader.place == "program" else "`done`"
         raise BadLine(len(reader.job.lines) + 1, "Ended", 0, f"expected {wanting}")
     return reader.job
-
-
-def read_job_to_run(text):
-    """The job of a text that the program runs. It takes one host so far: this goes when it takes several."""
-    job = read_job(text)
-    if len(job.hosts) > 1:
-        raise BadLine(0, "Later")
-    return job

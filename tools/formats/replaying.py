@@ -1,0 +1,96 @@
+"""Whether a report is one that plain volumes give: each reply, each change of the table, and the volumes at the end."""
+
+from .following import sources_of
+from .plain import EQUIPMENT_CHECK, NO_SPACE, Machine
+
+CARTRIDGES = 2
+OF_PAGE = 8
+
+
+class Differs(Exception):
+    """Where a report isn't what plain volumes give."""
+
+
+def replay(job, report):
+    """Goes through a report of a job. What plain volumes don't give is told as Differs."""
+    machine = Machine(job.volumes)
+    sources = sources_of(job, report)
+    if len(sources) < len(report.entries):
+        raise Differs(f"entry {len(sources) + 1} doesn't follow from the job")
+    for entry, source in zip(report.entries, sources):
+        due = reply(machine, entry, source)
+        if due != entry.text:
+            raise Differs(f"entry {entry.number} is {entry.text}, and plain volumes give {due}")
+    replay_changes(job, report)
+    if report.last in ("END", "LIMIT"):
+        compare_volumes(job, machine, report)
+
+
+def reply(machine, entry, source):
+    """The text that is due for an entry."""
+    if entry.call == "mount":
+        return f"mount {entry.volume}{' bind' if entry.bind else ''} {machine.mount(entry.host, entry.volume)}"
+    if entry.call == "demount":
+        return f"demount {machine.demount(entry.host)}"
+    if entry.call == "break":
+        machine.break_off(entry.host)
+        return entry.text  # which of both it is, its program tells
+    if entry.reply in ("equipment check", "no space"):
+        machine.fail(entry.host, EQUIPMENT_CHECK if entry.reply == "equipment check" else NO_SPACE)
+        return entry.text
+    if entry.reply == "stopped":
+        return entry.text
+    status, data = machine.command(entry.host, entry.code, source.word.argument(), not source.is_last)
+    told = f" data {data.hex().upper()}" if data else ""
+    return f"ccw {entry.code:02X} status {status:02X}{told}"
+
+
+def replay_changes(job, report):
+    """Each change is one that the table allows, on blank devices; frames are those of the job."""
+    frames = {}  # the page, with its volume, that has each frame
+    staged = {}  # the cylinders that have a copy, with their volumes, and whether it was changed
+    created = {}
+    for change in report.changes:
+        if not is_allowed(job, change, frames, staged, created):
+            raise Differs(f"change {change.number}: {change.text} isn't allowed there")
+    if report.changes and created != job.volumes:
+        raise Differs("not every volume is created")
+
+
+def is_allowed(job, change, frames, staged, created):
+    page = (change.volume, change.page if change.cylinder is None else change.cylinder // OF_PAGE)
+    cylinder = (change.volume, change.cylinder)
+    frame = next((frame for frame, other in frames.items() if other == page), None)
+    if change.kind == "create":
+        created[change.volume] = change.serial
+        first = CARTRIDGES * (len(created) - 1)
+        return job.volumes.get(change.volume) == change.serial and change.cartridges == (first, first + 1)
+    if change.kind == "assign":
+        is_free = frame is None and change.frame not in frames and change.frame < job.frames
+        frames[change.frame] = page
+        return is_free
+    if change.kind == "free":
+        pages = [other for other in staged if (other[0], other[1] // OF_PAGE) == page]
+        is_clean = frame == change.frame and not any(staged[other] for other in pages)
+        frames.pop(frame, None)
+        for other in pages:
+            del staged[other]
+        return is_clean
+    allowed = {"staged": None, "changed": False, "destaged": True}[change.kind]
+    was = staged.get(cylinder)
+    staged[cylinder] = change.kind == "changed"
+    return frame is not None and was is allowed
+
+
+def compare_volumes(job, machine, report):
+    for (number, serial), volume in zip(sorted(job.volumes.items()), report.volumes, strict=True):
+        if (volume.number, volume.serial) != (number, serial):
+            raise Differs(f"volume {volume.number} {volume.serial} isn't of the job")
+        due = {
+            place: [(record.identity, record.key, record.data) for record in track]
+            for place, track in machine.volumes[number].items()
+            if track
+        }
+        told = {(track.cylinder, track.head): track.records for track in volume.tracks}
+        if told != due or list(told) != sorted(told):
+            raise Differs(f"volume {number} has other tracks")
