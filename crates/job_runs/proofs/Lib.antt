@@ -1,3 +1,4 @@
 pub mod Seen
 pub mod Reporting
 pub mod SessionFacts
+mod Ended

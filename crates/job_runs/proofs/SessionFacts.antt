@@ -7,24 +7,25 @@ use Rattle.channel_program.specs.Script.{ItemData, mounting, demounting, program
 use Rattle.victim_choice.specs.declared.choose.Candidate.{Candidate}
 use Rattle.job_text.specs.Jobs.{JobData, ScriptData}
 use Rattle.volume_table.specs.Listed.{listed}
+use Rattle.volume_table.specs.Row.{RowValue}
 use Rattle.shown_volumes.specs.Shown.{rows_of, shown, shown_by}
 use Rattle.core_state.specs.Counted.{IsCounted}
 use Rattle.core_state.specs.CoreValue.{CoreValue, CoreData, DevicesSeen, seen}
 use Rattle.core_state.specs.IsCore.{IsTold as IsToldCore}
-use Rattle.core_state.specs.SessionData.{data_of}
+use Rattle.core_state.specs.SessionData.{SessionData, data_of}
 use Rattle.core_restart.specs.Begins.{Begins}
 use Rattle.core_restart.specs.Opening.{OpensAny, OpensTold, opened_in}
 use Rattle.core_restart.specs.TakingUp.{BeginsWith, shown_for}
 use Rattle.plain_sessions.specs.Sessions.{BeganOver, IsPlainSession, StopsAnywhere, plain_volumes}
 use Rattle.core_state.specs.Beginning.{IsLater}
-use Rattle.serial_driver.specs.Drives.{Leaves, RunsToEnd, Halts}
+use Rattle.serial_driver.specs.Drives.{Leaves, RunsOn, Halts}
 use Rattle.serial_driver.specs.declared.answer.DriveAnswer.{DriveAnswer}
 use Rattle.serial_driver.specs.declared.answer.DriveAnswer.TheVariants as ended
 use Rattle.session_report.specs.Answers.{Answer}
 use Rattle.session_report.specs.Parties.{Stream, between}
 use Rattle.session_report.specs.Reports.{report_matter, opening_text}
 use Rattle.job_runs.specs.Parties.{seen_site}
-use Rattle.job_runs.specs.Runs.{FollowScripts, FollowToEnd, Goes, IsBegun, IsHalted, IsSessionOf, IsTold}
+use Rattle.job_runs.specs.Runs.{AreRowsOf, FollowScripts, FollowToEnd, Goes, IsBegun, IsHalted, IsPlayed, IsSessionOf, IsTold}
 use Rattle.job_runs.proofs.Reporting.{told_alike}
 use Rattle.job_runs.proofs.Seen.{begins_seen, told_seen, with_seen}
 
@@ -39,11 +40,12 @@ follows_none (program words ∷ more) = inl (at_start, refl, refl)
 
 -- ---- how it went
 
-pub goes_by : (tells : Type 0) (may : List Candidate → ℕ → Type 0) (scripts : List ScriptData) (began : CoreData) (end : DriveAnswer) (left : CoreData) → RunsToEnd tells may scripts began end left → Goes tells may scripts began end left
-goes_by tells may scripts began ended.Done left runs = runs
-goes_by tells may scripts began ended.CommandLimit left runs = runs
-goes_by tells may scripts began (ended.Stopped fault) left runs = runs
-goes_by tells may scripts began ended.Memory left runs = inr runs
+pub goes_by : (tells : Type 0) (may : List Candidate → ℕ → Type 0) (scripts : List ScriptData) (turns : List ℕ) (began : CoreData) (end : DriveAnswer) (left : CoreData) → RunsOn tells may scripts turns began end left
+    → Goes tells may scripts turns began end left
+goes_by tells may scripts turns began ended.Done left runs = runs
+goes_by tells may scripts turns began ended.CommandLimit left runs = runs
+goes_by tells may scripts turns began (ended.Stopped fault) left runs = runs
+goes_by tells may scripts turns began ended.Memory left runs = inr runs
 
 pub halted_by : (end : DriveAnswer) (was is : Option ℕ) → was ≡ None → Halts end was is → IsHalted end is
 halted_by ended.Done was is none halts = halts ∙ none
@@ -53,9 +55,9 @@ halted_by ended.Memory was is none halts = halts ∙ none
 
 -- ---- the session
 
-module _ {S C : Type 0} (tells : Type 0) (may : List Candidate → ℕ → Type 0) (told : S → SiteLog) (spare writes faults : S → ℕ) (never_fails_but : FailingReads S) (job : JobData)
+module _ {S C : Type 0} (tells : Type 0) (may : List Candidate → ℕ → Type 0) (told : S → SiteLog) (writes faults : S → ℕ) (never_fails_but : FailingReads S) (job : JobData) (turns : List ℕ)
     (core left : CoreValue S C) (end : DriveAnswer)
-    (goes : Goes tells may job.hosts (seen told writes faults core) end (seen told writes faults left))
+    (goes : Goes tells may job.hosts turns (seen told writes faults core) end (seen told writes faults left))
     (follow : FollowScripts job.hosts left.history) (reach : end ≡ ended.Done → FollowToEnd job.hosts left.history)
     (leaves : Leaves tells told writes faults never_fails_but (record { core = core; scripts = job.hosts }) (record { core = left; scripts = job.hosts }) end)
     (told_left : tells → IsToldCore (told left.site) left)
@@ -67,36 +69,45 @@ module _ {S C : Type 0} (tells : Type 0) (may : List Candidate → ℕ → Type 
   abbrev to : CoreData
   to = seen told writes faults left
 
-  halts : IsHalted end left.stopped
-  halts = halted_by end core.stopped left.stopped begun.begins.going leaves.halts
-
   module _ (plain_law : (t : tells) → BeganOver job.config was from → IsLater tells from to → IsToldCore to.site.told to → IsPlainSession job.config was.told to.site.told (data_of to))
-      (stops_law : (t : tells) → BeganOver job.config was from → IsLater tells from to → IsToldCore to.site.told to → StopsAnywhere job.config was.told to.site.told (data_of to))
-      (same_volumes : listed left.rows ≡ rows_of (content (told left.site)) → shown_by (listed left.rows) (content (told left.site)) ≡ shown (content (told left.site))) where
-    plain_at : tells → IsPlainSession job.config was.told (told left.site) (data_of left)
-    plain_at t = plain_law t (begun.over t) leaves.session (told_seen told writes faults left (told_left t))
+      (stops_law : (t : tells) → BeganOver job.config was from → IsLater tells from to → IsToldCore to.site.told to → StopsAnywhere job.config was.told to.site.told (data_of to)) where
+    pub played_of : IsPlayed may job turns (record { tells = tells; was = was; now = seen_site told writes faults left.site }) end (data_of left)
+    played_of = record {
+      driven = record { began = from; begun = begun; left = to; goes = goes; devices_ = refl; session = refl };
+      began = leaves.session.beginning.first_faults ∙ begun.begins.first_faults_ ∙ begun.opened.any.kept;
+      follow = follow;
+      reach = reach;
+      full = leaves.full;
+      halts = halted_by end core.stopped left.stopped begun.begins.going leaves.halts;
+      requests = left.requests;
+      counted = counted;
+      plain = λ t. plain_law t (begun.over t) leaves.session (told_seen told writes faults left (told_left t));
+      stops = λ t. stops_law t (begun.over t) leaves.session (told_seen told writes faults left (told_left t));
+    }
 
-    module _ (site : S) (sink : Stream) (answer : Answer)
-        (read : OnlyReads tells told spare writes faults never_fails_but left.site site)
-        (report : IsTold (report_matter (data_of left) job.config.volumes (shown_by (listed left.rows) (content (told left.site)))) end (between tells told faults left.site site) sink answer) where
-      pub session_of : IsSessionOf may job (record { tells = tells; was = was; now = seen_site told writes faults site }) sink end answer (data_of left)
-      session_of = record {
-        mid = seen_site told writes faults left.site;
-        driven = record { began = from; begun = begun; left = to; goes = goes; devices_ = refl; session = refl };
-        began = leaves.session.beginning.first_faults ∙ begun.begins.first_faults_ ∙ begun.opened.any.kept;
-        follow = follow;
-        reach = reach;
-        full = leaves.full;
-        halts = halts;
-        requests = left.requests;
-        counted = counted;
-        plain = plain_at;
-        stops = λ t. stops_law t (begun.over t) leaves.session (told_seen told writes faults left (told_left t));
-        read = record { told_ = read.log; writes_ = read.unwritten; later = read.later };
-        report = told_alike (opening_text (data_of left)) job.config.volumes (between tells told faults left.site site) sink answer
-            (shown_by (listed left.rows) (content (told left.site))) (plain_volumes job.config (content was.told) left.history) end left.stopped halts
-            (λ t none. same_volumes (sym ((told_left t).going none).rows_) ∙ (plain_at t).shows none) report;
-      }
+-- its rows
+pub rows_of_core : {S C : Type 0} (tells : Type 0) (told : S → SiteLog) (left : CoreValue S C) → length left.rows ≡ 32 → (tells → IsToldCore (told left.site) left) → AreRowsOf tells (told left.site) left.stopped left.rows
+rows_of_core tells told left count told_left = record { count = count; shown_ = λ t none. sym ((told_left t).going none).rows_ }
+
+-- ---- and its report
+
+module _ {S : Type 0} (tells : Type 0) (may : List Candidate → ℕ → Type 0) (told : S → SiteLog) (spare writes faults : S → ℕ) (never_fails_but : FailingReads S) (job : JobData) (turns : List ℕ)
+    (was : DevicesSeen) (mid site : S) (end : DriveAnswer) (s : SessionData) (rows : List (Option RowValue))
+    (played : IsPlayed may job turns (record { tells = tells; was = was; now = seen_site told writes faults mid }) end s)
+    (are_rows : AreRowsOf tells (told mid) s.stopped rows)
+    (same_volumes : listed rows ≡ rows_of (content (told mid)) → shown_by (listed rows) (content (told mid)) ≡ shown (content (told mid)))
+    (sink : Stream) (answer : Answer)
+    (read : OnlyReads tells told spare writes faults never_fails_but mid site)
+    (report : IsTold (report_matter s job.config.volumes (shown_by (listed rows) (content (told mid)))) end (between tells told faults mid site) sink answer) where
+  pub session_of : IsSessionOf may job turns (record { tells = tells; was = was; now = seen_site told writes faults site }) sink end answer s
+  session_of = record {
+    mid = seen_site told writes faults mid;
+    played = played;
+    read = record { told_ = read.log; writes_ = read.unwritten; later = read.later };
+    report = told_alike (opening_text s) job.config.volumes (between tells told faults mid site) sink answer
+        (shown_by (listed rows) (content (told mid))) (plain_volumes job.config (content was.told) s.history) end s.stopped played.halts
+        (λ t none. same_volumes (are_rows.shown_ t none) ∙ (played.plain t).shows none) report;
+  }
 
 -- ---- what a restart made
 

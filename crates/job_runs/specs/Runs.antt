@@ -1,12 +1,15 @@
 -- What running a job on a site promises.
-use Rattle.std.specs.Prelude.{◌≡◌, ◌⊎◌, ◌≤◌, ℕ, List, Option, None, Some, Result, Ok, Err}
+use Rattle.std.specs.Prelude.{◌≡◌, ◌⊎◌, ◌≤◌, ℕ, List, length, Option, None, Some, Result, Ok, Err}
 use Rattle.mss_base.specs.Configs.{ConfigData}
-use Rattle.mss_base.specs.Content.{Content, content}
+use Rattle.mss_base.specs.Content.{Content, SiteLog, content}
 use Rattle.ckd_plain.specs.History.{EntryData}
 use Rattle.channel_program.specs.Script.{Follows, FollowsToEnd}
 use Rattle.fault_queue.specs.Requests.{RequestsData}
 use Rattle.victim_choice.specs.declared.choose.Candidate.{Candidate}
 use Rattle.job_text.specs.Jobs.{JobData, ScriptData}
+use Rattle.volume_table.specs.Listed.{listed}
+use Rattle.volume_table.specs.Row.{RowValue}
+use Rattle.shown_volumes.specs.Shown.{rows_of}
 use Rattle.shown_volumes.specs.declared.refused.Refused.{Refused}
 use Rattle.mss_restart.specs.declared.opening.Opened.{Opened}
 use Rattle.core_state.specs.Counted.{IsCounted}
@@ -16,16 +19,19 @@ use Rattle.core_state.specs.Sessions.{session_data}
 use Rattle.core_restart.specs.Begins.{Begins}
 use Rattle.core_restart.specs.Opening.{OpensAny, OpensTold, opened_in}
 use Rattle.plain_sessions.specs.Sessions.{BeganOver, IsPlainSession, StopsAnywhere, plain_volumes}
-use Rattle.serial_driver.specs.Drives.{IsFull, RunsToEnd}
+use Rattle.serial_driver.specs.Drives.{IsFull, RunsOn}
 use Rattle.serial_driver.specs.Scripts.{exchanges_of, script_of}
 use Rattle.serial_driver.specs.declared.answer.DriveAnswer.{DriveAnswer}
 use Rattle.serial_driver.specs.declared.answer.DriveAnswer.TheVariants as ended
-use Rattle.session_report.specs.Answers.{Answer}
+use Rattle.session_report.specs.Answers.{Answer, IsPut}
 use Rattle.session_report.specs.Parties.{Stream, IsUntouched, Devices as ToldDevices}
-use Rattle.session_report.specs.Reports.{Matter, IsReported, finished, report_matter, stopped}
+use Rattle.session_report.specs.Reports.{Ending, Matter, IsReported, finished, stopped}
+use Rattle.session_report.specs.Reports.{report_matter}
+use Rattle.session_report.specs.Summaries.{summary_text}
 use Rattle.session_report.specs.declared.fault.ReportFault.TheVariants as report_fault
+use Rattle.session_report.specs.declared.reporting.Last.{Last}
 use Rattle.session_report.specs.declared.reporting.Last.TheVariants.{End, Limit}
-use Rattle.job_runs.specs.Parties.{Devices, since, reported}
+use Rattle.job_runs.specs.Parties.{Devices, since, until, reported}
 use Rattle.job_runs.specs.declared.run.Outcome.{Outcome}
 use Rattle.job_runs.specs.declared.run.Outcome.TheVariants.{Untaken, Ran}
 
@@ -45,13 +51,13 @@ pub record IsBegun (tells : Type 0) (config : ConfigData) (was : DevicesSeen) (c
       (Ok (opened_in core))
   pub over : tells → BeganOver config was core
 
--- from a core that has begun to one that ended so: by rounds, or not at all, where memory ran out
--- before
-abbrev pub Goes : Type 0 → (List Candidate → ℕ → Type 0) → List ScriptData → CoreData
+-- from a core that has begun to one that ended so: by the turns and then by rounds, or not at all,
+-- where memory ran out before
+abbrev pub Goes : Type 0 → (List Candidate → ℕ → Type 0) → List ScriptData → List ℕ → CoreData
     → DriveAnswer → CoreData → Type 0
-Goes tells may scripts began ended.Memory left =
-    (left ≡ began) ⊎ RunsToEnd tells may scripts began ended.Memory left
-Goes tells may scripts began end left = RunsToEnd tells may scripts began end left
+Goes tells may scripts turns began ended.Memory left =
+    (left ≡ began) ⊎ RunsOn tells may scripts turns began ended.Memory left
+Goes tells may scripts turns began end left = RunsOn tells may scripts turns began end left
 
 -- whether a session was stopped, and by which fault
 abbrev pub IsHalted : DriveAnswer → Option ℕ → Type 0
@@ -60,23 +66,38 @@ IsHalted _ kept = kept ≡ None
 
 -- the core that a session began with, and the one that it came to
 pub record IsDriven (tells : Type 0) (may : List Candidate → ℕ → Type 0) (job : JobData)
-    (was mid : DevicesSeen) (end : DriveAnswer) (s : SessionData) : Type 0 where
+    (turns : List ℕ) (was now : DevicesSeen) (end : DriveAnswer) (s : SessionData) : Type 0 where
   pub began : CoreData
   pub begun : IsBegun tells job.config was began
   pub left : CoreData
-  pub goes : Goes tells may job.hosts began end left
-  pub devices_ : left.site ≡ mid
+  pub goes : Goes tells may job.hosts turns began end left
+  pub devices_ : left.site ≡ now
   pub session : data_of left ≡ s
 
 -- ---- what is told
 
--- The report of a session that ended so. Where memory ran out before, nothing was put.
+-- the last line that is due, if anything is told
+abbrev pub last_of : DriveAnswer → Option Last
+last_of ended.Memory = None
+last_of ended.CommandLimit = Some Limit
+last_of _ = Some End
+
+-- A text of a session that ended so was put, with the ending that is due. Where memory ran out
+-- before, nothing was put.
+abbrev pub TellsOf : (Ending → Type 0) → DriveAnswer → Stream → Answer → Type 0
+TellsOf put ended.Done sink told = put (finished End)
+TellsOf put ended.CommandLimit sink told = put (finished Limit)
+TellsOf put (ended.Stopped fault) sink told = put (stopped fault)
+TellsOf put ended.Memory sink told = (told ≡ Err report_fault.Memory) × IsUntouched sink
+
+-- its report
 abbrev pub IsTold : Matter → DriveAnswer → ToldDevices → Stream → Answer → Type 0
-IsTold m ended.Done site sink told = IsReported m (finished End) site sink told
-IsTold m ended.CommandLimit site sink told = IsReported m (finished Limit) site sink told
-IsTold m (ended.Stopped fault) site sink told = IsReported m (stopped fault) site sink told
-IsTold m ended.Memory site sink told =
-    (told ≡ Err report_fault.Memory) × IsUntouched sink
+IsTold m end site sink told = TellsOf (λ ending. IsReported m ending site sink told) end sink told
+
+-- its summary, where so many programs were asked for
+abbrev pub IsSummed : ℕ → SessionData → DriveAnswer → Stream → Answer → Type 0
+IsSummed programs s end sink told =
+    TellsOf (λ ending. IsPut (Ok tt) (summary_text programs s ending) sink told) end sink told
 
 -- the session, its changes of rows, and the plain volumes of the job after its history
 abbrev pub matter_of : JobData → Content → SessionData → Matter
@@ -98,13 +119,11 @@ abbrev pub FollowToEnd : List ScriptData → List EntryData → Type 0
 FollowToEnd scripts history =
     (h : ℕ) → FollowsToEnd (script_of scripts h) (exchanges_of h history)
 
--- A session of a job, from the devices that were handed in to those that are handed back: how it
--- went, what it promises, and what was put of it.
-pub record IsSessionOf (may : List Candidate → ℕ → Type 0) (job : JobData) (site : Devices)
-    (sink : Stream) (end : DriveAnswer) (told : Answer) (s : SessionData) : Type 0 where
-  -- the devices when it ended
-  pub mid : DevicesSeen
-  pub driven : IsDriven site.tells may job site.was mid end s
+-- A session of a job, from the devices that were handed in to those when it ended: how it went by
+-- the turns and by rounds, and what it promises.
+pub record IsPlayed (may : List Candidate → ℕ → Type 0) (job : JobData) (turns : List ℕ)
+    (site : Devices) (end : DriveAnswer) (s : SessionData) : Type 0 where
+  pub driven : IsDriven site.tells may job turns site.was site.now end s
   -- no call had failed when it began
   pub began : s.first_faults ≡ site.was.faults
   pub follow : FollowScripts job.hosts s.history
@@ -113,15 +132,49 @@ pub record IsSessionOf (may : List Candidate → ℕ → Type 0) (job : JobData)
   pub halts : IsHalted end s.stopped
   -- marks, numbers and kept faults, with the requests that were left
   pub requests : RequestsData
-  pub counted : IsCounted mid.writes mid.faults requests s
-  pub plain : site.tells → IsPlainSession job.config site.was.told mid.told s
-  pub stops : site.tells → StopsAnywhere job.config site.was.told mid.told s
+  pub counted : IsCounted site.now.writes site.now.faults requests s
+  pub plain : site.tells → IsPlainSession job.config site.was.told site.now.told s
+  pub stops : site.tells → StopsAnywhere job.config site.was.told site.now.told s
+
+-- the rows of a session's volumes; while it isn't stopped, just those that its devices show
+pub record AreRowsOf (tells : Type 0) (log : SiteLog) (stop : Option ℕ)
+    (rows : List (Option RowValue)) : Type 0 where
+  pub count : length rows ≡ 32
+  pub shown_ : tells → stop ≡ None → listed rows ≡ rows_of (content log)
+
+-- such a session and its report, from the devices that were handed in to those that are handed back
+pub record IsSessionOf (may : List Candidate → ℕ → Type 0) (job : JobData) (turns : List ℕ)
+    (site : Devices) (sink : Stream) (end : DriveAnswer) (told : Answer) (s : SessionData)
+    : Type 0 where
+  -- the devices when it ended
+  pub mid : DevicesSeen
+  pub played : IsPlayed may job turns (until site mid) end s
   pub read : OnlyRead site.tells mid site.now
   pub report : IsTold (matter_of job (content site.was.told) s) end (reported (since site mid))
       sink told
 
--- the site isn't taken up, and nothing was put; or a session was run, and told
-abbrev pub Ends : (List Candidate → ℕ → Type 0) → JobData → Devices → Stream → Outcome → Type 0
-Ends may job site sink (Untaken why) = Opens job.config site (Err why) × IsUntouched sink
-Ends may job site sink (Ran session end told) =
-    IsSessionOf may job site sink end told (session_data session)
+-- such a session of a load, and its summary
+pub record IsLoadOf (may : List Candidate → ℕ → Type 0) (job : JobData) (programs : ℕ)
+    (turns : List ℕ) (site : Devices) (sink : Stream) (end : DriveAnswer) (told : Answer)
+    (s : SessionData) : Type 0 where
+  pub played : IsPlayed may job turns site end s
+  pub summed : IsSummed programs s end sink told
+
+-- the site isn't taken up, and nothing was put
+pub record IsUntaken (job : JobData) (site : Devices) (sink : Stream) (why : Refused) : Type 0 where
+  pub opens : Opens job.config site (Err why)
+  pub unput : IsUntouched sink
+
+-- the site isn't taken up, or a session was run, and its report was put
+abbrev pub Ends : (List Candidate → ℕ → Type 0) → JobData → List ℕ → Devices → Stream → Outcome
+    → Type 0
+Ends may job turns site sink (Untaken why) = IsUntaken job site sink why
+Ends may job turns site sink (Ran session end told) =
+    IsSessionOf may job turns site sink end told (session_data session)
+
+-- or its summary
+abbrev pub LoadEnds : (List Candidate → ℕ → Type 0) → JobData → ℕ → List ℕ → Devices → Stream
+    → Outcome → Type 0
+LoadEnds may job programs turns site sink (Untaken why) = IsUntaken job site sink why
+LoadEnds may job programs turns site sink (Ran session end told) =
+    IsLoadOf may job programs turns site sink end told (session_data session)

@@ -1,13 +1,16 @@
-//! A job, run on a site: restart, serial run and report.
+//! A job, run on a site: restart, serial run, and a report or a summary.
 //!
-//! `run_job` takes a site up, lets the hosts of the job call and the recorders work until no host has a call, and
-//! puts the report. Its clause `ends` (`specs/Runs.antt`) says of the session what hosts, devices and readers of
-//! the report are promised; `plain_sessions` has it in plain volumes.
+//! `play` takes a site up, and lets the hosts of the job call and the recorders work: by turns that it is handed, and
+//! then until no host has a call. Its clause `played` (`specs/Runs.antt`) says of the session what hosts and devices
+//! are promised; `plain_sessions` has it in plain volumes. `run_job` puts the report behind it, and `run_load` a
+//! summary; the clause `ends` of each says what a reader is promised.
 #![tactic(auto)]
 
+mod load;
 mod run;
 mod telling;
 #[cfg(test)]
 mod tests;
 
-pub use run::{JobEnd, Outcome, run_job};
+pub use load::run_load;
+pub use run::{JobEnd, Outcome, Played, play, run_job};

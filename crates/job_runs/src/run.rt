@@ -1,27 +1,29 @@
 // A job, run on a site.
-ghost use Rattle.std.specs.Prelude.{◌≡◌, None, length};
+ghost use Rattle.std.specs.Prelude.{◌≡◌, Err, IfErr, IfOk, None, length};
 ghost use Rattle.core_state.specs.Counted.{IsCounted};
 ghost use Rattle.core_state.specs.CoreValue.{DevicesSeen, seen};
 ghost use Rattle.core_state.specs.IsCore.{IsTold};
 ghost use Rattle.core_state.specs.SessionData.{data_of};
 ghost use Rattle.mss_restart.specs.Creations.{WritesOn};
 ghost use Rattle.session_report.specs.Parties.{between};
-ghost use Rattle.serial_driver.specs.Drives.{IsUnused, Leaves};
+ghost use Rattle.serial_driver.specs.Drives.{AreTurns, IsUnused, Leaves};
 ghost use Rattle.serial_driver.specs.declared.answer.DriveAnswer.TheVariants.{Done};
 ghost use Rattle.job_runs.specs.Parties.{devices, seen_site};
 ghost use Rattle.job_runs.specs.Runs.{
+  AreRowsOf,
   Ends,
   FollowScripts,
   FollowToEnd,
   Goes,
   IsBegun,
-  IsSessionOf,
+  IsPlayed,
+  Opens,
 };
 ghost use Rattle.core_state.specs.Sessions.{session_data};
 
 use crate::telling::tell;
 use core_restart::{Refused, restart};
-use core_state::{Core, Session};
+use core_state::{Core, Rows, Session};
 use job_text::Job;
 use mss_base::{NoMemory, Sink, Site};
 use plain_sessions::law::sessions_are_plain;
@@ -30,6 +32,16 @@ use session_report::ReportFault;
 use session_report::law::rows_of_a_content_show_its_volumes;
 use std::alloc::Global;
 use victim_choice::Choose;
+
+/// A session that was run, and what it left.
+#[derive(Drop)]
+pub struct Played<S> {
+    pub site: S,
+    /// The rows of the site's volumes, 32 of them.
+    pub rows: Rows,
+    pub session: Session,
+    pub end: DriveAnswer,
+}
 
 /// What became of a job.
 #[derive(Drop)]
@@ -48,11 +60,16 @@ pub struct JobEnd<S> {
     pub outcome: Outcome,
 }
 
-/// Runs the scripts of a job on a core in which nothing has happened, by rounds, until no host has a call or an
-/// event ends them.
-fn run_scripts<S: Site, C: Choose + Drop>(core: Core<S, C>, job: &Job) -> (Core<S, C>, DriveAnswer)
+/// Runs the scripts of a job on a core in which nothing has happened: by turns, and then by rounds, until no host has a
+/// call or an event ends them.
+fn run_scripts<S: Site, C: Choose + Drop>(
+    core: Core<S, C>,
+    job: &Job,
+    turns: &[u32],
+) -> (Core<S, C>, DriveAnswer)
     requires unused { IsUnused core job.now }
-    ensures goes { Goes S.tells (C.may core.chooser) job.now.hosts
+    requires turns { AreTurns job.now.hosts job.now.config turns.now }
+    ensures goes { Goes S.tells (C.may core.chooser) job.now.hosts turns.now
         (seen S.told S.writes S.faults core) result.1
         (seen S.told S.writes S.faults result.0) }
     ensures follow { FollowScripts job.now.hosts result.0.history }
@@ -63,7 +80,7 @@ fn run_scripts<S: Site, C: Choose + Drop>(core: Core<S, C>, job: &Job) -> (Core<
 {
     match Drive::new(core, job) {
         Ok(mut drive) => {
-            let end = drive.run_to_end();
+            let end = drive.run(turns);
             let _follows = drive.core();
             (drive.into_core(), end)
         }
@@ -81,55 +98,95 @@ fn look<S: Site, C: Choose>(core: &Core<S, C>)
     let _site = &core.site;
 }
 
-/// Runs a job on a core that has just begun, and puts the report.
-fn run_session<S: Site, C: Choose + Drop, O: Sink>(
-    alloc: Global,
-    job: &Job,
-    core: Core<S, C>,
-    output: &mut O,
-) -> (S, Session, DriveAnswer, Result<(), ReportFault>)
+/// Plays a job on a core that has just begun.
+fn play_on<S: Site, C: Choose + Drop>(core: Core<S, C>, job: &Job, turns: &[u32]) -> Played<S>
     requires unused { IsUnused core job.now }
     requires going { core.stopped ≡ None }
+    requires turns { AreTurns job.now.hosts job.now.config turns.now }
     ensures session { (was : DevicesSeen) → IsBegun S.tells job.now.config was
         (seen S.told S.writes S.faults core)
-        → IsSessionOf (C.may core.chooser) job.now
-        (record { tells = S.tells; was = was; now = seen_site S.told S.writes S.faults result.0 })
-        (between O.tells O.told O.faults output.old output.new) result.2 result.3
-        (session_data result.1) }
-    ensures devices { WritesOn S.writes S.faults S.never_fails_but core.site result.0 }
+        → IsPlayed (C.may core.chooser) job.now turns.now
+        (record { tells = S.tells; was = was; now = seen_site S.told S.writes S.faults result.site })
+        result.end (session_data result.session) }
+    ensures rows { AreRowsOf S.tells (S.told result.site) result.session.stopped
+        result.rows.items }
+    ensures devices { WritesOn S.writes S.faults S.never_fails_but core.site result.site }
 {
     sessions_are_plain::<S>();
-    rows_of_a_content_show_its_volumes();
-    let (core, end) = run_scripts(core, job);
+    let (core, end) = run_scripts(core, job, turns);
     look(&core);
-    let (mut site, session, rows) = core.into_session();
-    let volumes = job.config.volumes.as_slice();
-    let told = tell(alloc, &mut site, &rows, volumes, &session, end, output);
-    (site, session, end, told)
+    let (site, session, rows) = core.into_session();
+    Played {
+        site,
+        rows,
+        session,
+        end,
+    }
 }
 
-/// Takes up a site, runs a job on it, and puts the report.
+/// Takes up a site and runs a job on it.
 ///
 /// A site that a session left, stopped at whatever moment, is taken up; one with another fault is refused by the
-/// first, untouched. The hosts call by rounds: the recorders work until nothing is left to do, then each host that has
-/// a call makes it once, in the order of the job, until no host has one, or one has at 4,096 entries.
+/// first, untouched, and handed back. Hosts and recorders take the turns of a list first, one event each: a turn is a
+/// number, of which the hosts of the job come first, in order, and then the recorders. Then the hosts call by rounds:
+/// the recorders work until nothing is left to do, and each host that has a call makes it once, in the order of the
+/// job, until no host has one, or one has at 4,096 entries.
+pub fn play<S: Site, C: Choose + Drop>(
+    alloc: Global,
+    job: &Job,
+    turns: &[u32],
+    site: S,
+    chooser: C,
+) -> Result<Played<S>, (S, Refused)>
+    requires able { C.can_choose chooser }
+    requires turns { AreTurns job.now.hosts job.now.config turns.now }
+    ensures played { IfOk result (λ p. IsPlayed (C.may chooser) job.now turns.now
+        (devices S.tells S.told S.writes S.faults site p.site) p.end (session_data p.session)) }
+    ensures rows { IfOk result (λ p.
+        AreRowsOf S.tells (S.told p.site) p.session.stopped p.rows.items) }
+    ensures devices { IfOk result (λ p.
+        WritesOn S.writes S.faults S.never_fails_but site p.site) }
+    ensures untaken { IfErr result (λ back. Opens job.now.config
+        (devices S.tells S.told S.writes S.faults site back.0) (Err back.1)) }
+    ensures back { IfErr result (λ back.
+        WritesOn S.writes S.faults S.never_fails_but site back.0) }
+{
+    match restart(alloc, site, &job.config, chooser) {
+        Ok(core) => {
+            look(&core);
+            Ok(play_on(core, job, turns))
+        }
+        Err((site, refused)) => Err((site, refused)),
+    }
+}
+
+/// Plays a job on a site, and puts the report.
 pub fn run_job<S: Site, C: Choose + Drop, O: Sink>(
     alloc: Global,
     job: &Job,
+    turns: &[u32],
     site: S,
     chooser: C,
     output: &mut O,
 ) -> JobEnd<S>
     requires able { C.can_choose chooser }
-    ensures ends { Ends (C.may chooser) job.now
+    requires turns { AreTurns job.now.hosts job.now.config turns.now }
+    ensures ends { Ends (C.may chooser) job.now turns.now
         (devices S.tells S.told S.writes S.faults site result.site)
         (between O.tells O.told O.faults output.old output.new) result.outcome }
     ensures devices { WritesOn S.writes S.faults S.never_fails_but site result.site }
 {
-    match restart(alloc, site, &job.config, chooser) {
-        Ok(core) => {
-            look(&core);
-            let (site, session, end, told) = run_session(alloc, job, core, output);
+    rows_of_a_content_show_its_volumes();
+    match play(alloc, job, turns, site, chooser) {
+        Ok(played) => {
+            let Played {
+                mut site,
+                rows,
+                session,
+                end,
+            } = played;
+            let volumes = job.config.volumes.as_slice();
+            let told = tell(alloc, &mut site, &rows, volumes, &session, end, output);
             JobEnd {
                 site,
                 outcome: Outcome::Ran(session, end, told),

@@ -7,7 +7,7 @@ ghost use Rattle.shown_volumes.specs.Shown.{shown_by};
 ghost use Rattle.core_state.specs.Sessions.{session_data};
 ghost use Rattle.session_report.specs.Parties.{between};
 ghost use Rattle.session_report.specs.Reports.{report_matter};
-ghost use Rattle.job_runs.specs.Runs.{IsHalted, IsTold};
+ghost use Rattle.job_runs.specs.Runs.{IsHalted, IsTold, last_of};
 
 use core_state::Session;
 use mss_base::{Serial, Sink, Site, VolumeNo};
@@ -15,6 +15,17 @@ use serial_driver::DriveAnswer;
 use session_report::{Last, ReportFault, report};
 use std::alloc::Global;
 use volume_table::VolumeRow;
+
+/// The last line of what is told of a session that ended so, if anything is.
+pub fn last_of(end: DriveAnswer) -> Option<Last>
+    ensures { result ≡ last_of end }
+{
+    match end {
+        DriveAnswer::Done | DriveAnswer::Stopped { .. } => Some(Last::End),
+        DriveAnswer::CommandLimit => Some(Last::Limit),
+        DriveAnswer::Memory => None,
+    }
+}
 
 /// Puts the report of a session that ended so. Where memory ran out in it, nothing is put.
 pub fn tell<S: Site, O: Sink>(
@@ -35,10 +46,8 @@ pub fn tell<S: Site, O: Sink>(
     ensures site { OnlyReads S.tells S.told S.spare S.writes S.faults S.never_fails_but
         site.old site.new }
 {
-    let last = match end {
-        DriveAnswer::Done | DriveAnswer::Stopped { .. } => Last::End,
-        DriveAnswer::CommandLimit => Last::Limit,
-        DriveAnswer::Memory => return Err(ReportFault::Memory),
-    };
-    report(alloc, site, rows, volumes, session, last, output)
+    match last_of(end) {
+        Some(last) => report(alloc, site, rows, volumes, session, last, output),
+        None => Err(ReportFault::Memory),
+    }
 }

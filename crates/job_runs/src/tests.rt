@@ -1,5 +1,5 @@
 // Jobs on sites in memory, with reports that a person worked out.
-use crate::{JobEnd, Outcome, run_job};
+use crate::{JobEnd, Outcome, run_job, run_load};
 use core_restart::Refused;
 use job_text::read_job;
 use mss_base::{MemorySink, MemorySite};
@@ -166,6 +166,44 @@ const BIND_REPORT: &str = "MSS REPORT 1\n\
     volume 2 VOL003\n\
     END\n";
 
+/// How its report begins where the first host has two turns before the rounds.
+const TURNS_FIRST: &str = "MSS REPORT 1\n\
+    entry 1 host 1 mount 0 bind mounted\n\
+    entry 2 host 1 ccw 31 status 4C\n\
+    entry 3 host 2 mount 1 bind mounted\n\
+    entry 4 host 3 mount 2 mounted\n";
+
+/// What the load of one program is by order 0, whose third drawn word is odd: R0 of a track is read.
+const LOAD_JOB: &str = "mss 1 frames 24 recorders 2\n\
+    volume 0 LOAD00\n\
+    volume 1 LOAD01\n\
+    volume 2 LOAD02\n\
+    volume 3 LOAD03\n\
+    host 1\n\
+    mount LOAD00\n\
+    program\n\
+    ccw 07 00000033000E\n\
+    ccw 31 0033000E00\n\
+    tic 1\n\
+    ccw 16\n\
+    end\n\
+    host 2\n\
+    mount LOAD01\n\
+    host 3\n\
+    mount LOAD02\n\
+    host 4\n\
+    mount LOAD03\n\
+    done\n";
+
+const LOAD_SUMMARY: &str = "MSS LOAD 1\n\
+    entries 7\n\
+    assign 1\n\
+    free 0\n\
+    staged 1\n\
+    changed 0\n\
+    destaged 0\n\
+    END\n";
+
 /// The first job's volume by another serial.
 const OTHER_JOB: &str = "mss 1 frames 1 recorders 1\n\
     volume 0 VOL009\n\
@@ -179,7 +217,7 @@ fn ran(
 ) -> Result<(JobEnd<MemorySite>, MemorySink), Fail> {
     let job = read_job(alloc, job.as_bytes()).ok().ok_or("no job")?;
     let mut output = MemorySink::new(alloc, &[])?;
-    let end = run_job(alloc, &job, site, Lru, &mut output);
+    let end = run_job(alloc, &job, &[], site, Lru, &mut output);
     Ok((end, output))
 }
 
@@ -211,5 +249,38 @@ fn volumes_outlive_a_run(rt: HostRuntime) -> Result<(), Fail> {
             Outcome::Untaken(Refused::SerialDiffers { .. })
         )
     );
+    Ok(())
+}
+
+#[test]
+fn a_load_has_its_summary(rt: HostRuntime) -> Result<(), Fail> {
+    let alloc = rt.alloc();
+    let job = read_job(alloc, LOAD_JOB.as_bytes()).ok().ok_or("no job")?;
+    let mut output = MemorySink::new(alloc, &[])?;
+    let _end = run_load(
+        alloc,
+        &job,
+        1,
+        &[],
+        MemorySite::new(alloc)?,
+        Lru,
+        &mut output,
+    );
+    assert_eq!(rt; output.bytes(), LOAD_SUMMARY.as_bytes());
+    Ok(())
+}
+
+/// By its turns the first host has mounted its volume and asked for a cylinder before the other two call.
+#[test]
+fn turns_come_before_rounds(rt: HostRuntime) -> Result<(), Fail> {
+    let alloc = rt.alloc();
+    let job = read_job(alloc, BIND_JOB.as_bytes()).ok().ok_or("no job")?;
+    if job.config.recorders == 0 {
+        return Err("no recorder".into());
+    }
+    let mut output = MemorySink::new(alloc, &[])?;
+    let site = MemorySite::new(alloc)?;
+    let _end = run_job(alloc, &job, &[0, 0], site, Lru, &mut output);
+    assert!(rt; output.bytes().starts_with(TURNS_FIRST.as_bytes()));
     Ok(())
 }

@@ -17,6 +17,7 @@ mod tests;
 mod text;
 
 pub use one_line::{OneLine, put_line};
+pub use pieces::put_numbered;
 pub use report::{
     ReportFault, put_change, put_end, put_heading, put_history, put_limit, put_stopped, put_title,
     put_track,

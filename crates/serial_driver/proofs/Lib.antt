@@ -15,3 +15,4 @@ pub mod SettleFacts
 pub mod Later
 pub mod OwnerFacts
 pub mod RoundFacts
+pub mod ActorFacts

@@ -1,6 +1,6 @@
 -- A serial run as plain data, what it keeps, and what its calls do.
-use Rattle.std.specs.Prelude.{◌≡◌, ◌≤◌, ◌<◌, ℕ, slice_index_or, ◌==◌, Bool, true, false, List, []}
-use Rattle.std.specs.Prelude.{◌∷◌, length, map, Option, Some, None}
+use Rattle.std.specs.Prelude.{◌≡◌, ◌≢◌, ◌≤◌, ◌<◌, ◌+◌, ◌==◌, ℕ, zero, suc, slice_index_or}
+use Rattle.std.specs.Prelude.{Bool, true, false, List, [], ◌∷◌, length, map, Option, Some, None}
 use Rattle.std.specs.List.{IsDistinct, AllByRecursion, range_with_len}
 use Rattle.mss_base.specs.Configs.{ConfigData}
 use Rattle.mss_base.specs.Content.{SiteLog}
@@ -162,6 +162,20 @@ pub record Leaves {S C : Type 0} (tells : Type 0) (told : S → SiteLog) (writes
 
 -- ---- a list of events
 
+-- whose turn it is, by number: the hosts of the job come first, and then the recorders
+abbrev pub event_of : List ScriptData → ℕ → Event
+event_of [] turn = Work turn
+event_of (script ∷ scripts) zero = Host script.host
+event_of (script ∷ scripts) (suc turn) = event_of scripts turn
+
+abbrev pub events_of : List ScriptData → List ℕ → List Event
+events_of scripts turns = map (event_of scripts) turns
+
+-- each turn is of a host of the job, or of a recorder that is configured
+abbrev pub AreTurns : List ScriptData → ConfigData → List ℕ → Type 0
+AreTurns scripts config turns =
+    AllByRecursion (λ turn. turn < length scripts + config.recorders) turns
+
 module _ (tells : Type 0) (may : List Candidate → ℕ → Type 0) (scripts : List ScriptData) where
   -- the events of a list, each once and in order, until one ends them
   pub record RunsEvents (events : List Event) (core : CoreData) (answer : DriveAnswer)
@@ -208,3 +222,12 @@ module _ (tells : Type 0) (may : List Candidate → ℕ → Type 0) (scripts : L
     pub last : answer ≡ of_last steps
     pub none_calls : answer ≡ Done
         → has_call tells may (calls_of scripts) (hosts_of scripts) left ≡ false
+
+  -- the turns of a list, and then rounds, unless one of the turns ended them
+  pub record RunsOn (turns : List ℕ) (core : CoreData) (answer : DriveAnswer) (left : CoreData)
+      : Type 0 where
+    pub mid : CoreData
+    pub halfway : DriveAnswer
+    pub turned : RunsEvents tells may scripts (events_of scripts turns) core halfway mid
+    pub rounds : halfway ≡ Done → RunsToEnd mid answer left
+    pub halted : halfway ≢ Done → (answer ≡ halfway) × (left ≡ mid)

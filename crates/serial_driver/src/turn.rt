@@ -35,7 +35,7 @@ fn is_idle(told: WorkAnswer) -> bool
 }
 
 /// How many recorders a core has, 1 to 8.
-fn recorder_count<S: Site, C: Choose>(core: &Core<S, C>) -> u8
+pub(crate) fn recorder_count<S: Site, C: Choose>(core: &Core<S, C>) -> u8
     ensures value { result ≡ core.now.config.recorders }
     ensures some { 1 ≤ result }
     ensures few { result ≤ 8 }
@@ -49,7 +49,7 @@ impl<'a, S: Site, C: Choose> Drive<'a, S, C> {
     ghost use Rattle.serial_driver.specs.Turns.{TurnsTo, LeavesLessBy};
 
     /// An event of the recorder with a number, and what it leaves to do.
-    fn work_of(&mut self, number: u8) -> WorkAnswer
+    pub(crate) fn work_of(&mut self, number: u8) -> WorkAnswer
         requires low { number < self.old.core.config.recorders }
         requires few { number < 8 }
         ensures event { WorkEvent S.tells (C.may self.old.core.chooser)

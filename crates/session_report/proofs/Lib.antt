@@ -2,3 +2,4 @@ pub mod VolumeTexts
 pub mod SiteReads
 pub mod Told
 pub mod Listings
+mod Lines

@@ -2,3 +2,4 @@ pub mod Parties
 pub mod Answers
 pub mod Reports
 pub mod Parts
+pub mod Summaries

@@ -1,8 +1,9 @@
-//! The report of a session, and the listing of a site's volumes.
+//! The report of a session, its summary, and the listing of a site's volumes.
 //!
 //! `report` puts the history of a session, its changes of rows, and the volumes of its job as the devices show them;
-//! `listing` puts every volume that has a row. What each says is `told_text` of `specs/Reports.antt`, which is made of
-//! the texts of `report_text`. Both read the block of a track only where its cylinder isn't blank, write nothing, and
+//! `summary` puts how many entries and changes it has (`specs/Summaries.antt`), and `listing` every volume that has a
+//! row. What a report and a listing say is `told_text` of `specs/Reports.antt`, which is made of the texts of
+//! `report_text`. Both read the block of a track only where its cylinder isn't blank, write nothing, and
 //! answer over every site and every sink: a failed read and a failing sink each have a count that rose.
 //!
 //! The volumes are those that the rows handed in show over the devices (`shown_by` of `shown_volumes`). Where these are
@@ -15,6 +16,7 @@ mod fault;
 pub mod law;
 mod place;
 mod reporting;
+mod summing;
 #[cfg(test)]
 mod tests;
 mod volumes;
@@ -22,3 +24,4 @@ mod volumes;
 pub use all_volumes::listing;
 pub use fault::ReportFault;
 pub use reporting::{Last, report};
+pub use summing::summary;

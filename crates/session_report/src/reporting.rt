@@ -33,7 +33,7 @@ pub enum Last {
     Limit,
 }
 
-fn put_last<O: Sink>(output: &mut O, last: Last) -> Result<(), Failed>
+pub fn put_last<O: Sink>(output: &mut O, last: Last) -> Result<(), Failed>
     ensures bytes { O.tells → Puts result (O.told output.old) (O.told output.new) (last_text last) }
     ensures cause { HasCause (O.faults output.old) (O.faults output.new) result }
 {

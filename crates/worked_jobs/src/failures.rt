@@ -196,7 +196,7 @@ fn a_report_that_cant_be_put_is_told_so(rt: HostRuntime) -> Result<(), Fail> {
     let alloc = rt.alloc();
     let job = job_of(alloc, ONE_VOLUME)?;
     let mut output = MemorySink::new(alloc, &[1])?;
-    let end = run_job(alloc, &job, MemorySite::new(alloc)?, Lru, &mut output);
+    let end = run_job(alloc, &job, &[], MemorySite::new(alloc)?, Lru, &mut output);
     assert!(rt;
         matches!(
             end.outcome,

@@ -22,7 +22,7 @@ pub fn job_of(alloc: Global, text: &str) -> Result<Job, Fail> {
 pub fn run(alloc: Global, text: &str, site: MemorySite) -> Result<RunEnd, Fail> {
     let job = job_of(alloc, text)?;
     let mut output = MemorySink::new(alloc, &[])?;
-    let end = run_job(alloc, &job, site, Lru, &mut output);
+    let end = run_job(alloc, &job, &[], site, Lru, &mut output);
     Ok(RunEnd {
         site: end.site,
         outcome: end.outcome,

@@ -1,0 +1,108 @@
+-- Turns of hosts and recorders by number, one after the other.
+use Rattle.std.proofs.Common.{◌≡◌, ◌≢◌, ◌<◌, ◌≤◌, ℕ, zero, suc, ◌+◌, List, [], ◌∷◌, length, drop, get_or, refl, sym, ap, subst, arith}
+use Rattle.std.specs.Prelude.{slice_index_or}
+use Rattle.std.proofs.lemmas.List.{length-map}
+use Rattle.mss_base.specs.Content.{SiteLog}
+use Rattle.mss_base.specs.Sites.{FailingReads}
+use Rattle.channel_program.proofs.ItemFacts.{view_at}
+use Rattle.victim_choice.specs.declared.choose.Candidate.{Candidate}
+use Rattle.job_text.specs.Jobs.{ScriptData}
+use Rattle.core_state.specs.declared.rule.WorkAnswer.{WorkAnswer}
+use Rattle.core_state.specs.declared.session.Event.{Event}
+use Rattle.core_state.specs.declared.session.Event.TheVariants.{Host, Work}
+use Rattle.core_state.specs.CoreValue.{CoreData, seen}
+use Rattle.core_state.specs.WorkEvents.{WorkEvent}
+use Rattle.serial_driver.specs.Answers.{of_work}
+use Rattle.serial_driver.specs.declared.answer.DriveAnswer.{DriveAnswer}
+use Rattle.serial_driver.specs.declared.answer.DriveAnswer.TheVariants.{Done}
+use Rattle.serial_driver.specs.Drives.{DriveValue, EventTakes, Leaves, RunsEvents, RunsOn, RunsToEnd, event_of, events_of}
+use Rattle.serial_driver.proofs.EventRuns.{EventsSoFar, event_leaves, leaves_done, event_goes, event_halts, events_over, leaves_then}
+
+-- ---- whose turn it is
+
+pub host_of : (scripts : List ScriptData) (n : ℕ) (unknown : ScriptData) → n < length scripts → event_of scripts n ≡ Host (slice_index_or scripts n unknown).host
+host_of [] n unknown low = absurd (omega (arith, low))
+host_of (s ∷ ss) zero unknown low = refl
+host_of (s ∷ ss) (suc n) unknown low = host_of ss n unknown (omega (arith, low))
+
+recorder_of : (scripts : List ScriptData) (actor n : ℕ) → n + length scripts ≡ actor → event_of scripts actor ≡ Work n
+recorder_of [] actor n is = let e : actor ≡ n = omega (arith, is) in ap Work e
+recorder_of (s ∷ ss) zero n is = absurd (omega (arith, is))
+recorder_of (s ∷ ss) (suc actor) n is = recorder_of ss actor n (omega (arith, is))
+
+module _ (tells : Type 0) (may : List Candidate → ℕ → Type 0) (scripts : List ScriptData) (core : CoreData) (answer : DriveAnswer) (left : CoreData) where
+  pub recorder_takes : (actor n : ℕ) (told : WorkAnswer) → n + length scripts ≡ actor → WorkEvent tells may core n told left → answer ≡ of_work told → EventTakes tells may scripts (event_of scripts actor) core answer left
+  recorder_takes actor n told is event answered = subst (λ (e : Event). EventTakes tells may scripts e core answer left) (sym (recorder_of scripts actor n is)) (told, event, answered)
+
+-- ---- one turn more
+
+-- an item that is there needs no other
+same_there : (xs : List ℕ) (i d e : ℕ) → i < length xs → get_or xs i d ≡ get_or xs i e
+same_there [] i d e below = absurd (omega (arith, below))
+same_there (x ∷ xs) zero d e below = refl
+same_there (x ∷ xs) (suc i) d e below = same_there xs i d e (omega (arith, below))
+
+module _ {S C : Type 0} (tells : Type 0) (may : C → List Candidate → ℕ → Type 0) (told : S → SiteLog) (writes faults : S → ℕ) (never_fails_but : FailingReads S)
+    (turns : List ℕ) (i other : ℕ) (init now new : DriveValue S C) (answer : DriveAnswer)
+    (below : i < length turns)
+    (so_far : EventsSoFar tells (may init.core.chooser) init.scripts (events_of init.scripts turns) (seen told writes faults init.core) (drop i (events_of init.scripts turns)) (seen told writes faults now.core))
+    (leaves : Leaves tells told writes faults never_fails_but init now Done)
+    (takes : EventTakes tells (may now.core.chooser) now.scripts (event_of now.scripts (get_or turns i other)) (seen told writes faults now.core) answer (seen told writes faults new.core))
+    (left : Leaves tells told writes faults never_fails_but now new answer) where
+  abbrev turn : ℕ
+  turn = get_or turns i other
+
+  low : i < length (events_of init.scripts turns)
+  low = omega (arith, below, length-map turns (event_of init.scripts))
+
+  there : event_of init.scripts turn ≡ get_or (events_of init.scripts turns) i (event_of init.scripts turn)
+  there = view_at (event_of init.scripts) turns i turn below (same_there turns i other turn below)
+
+  takes_so : EventTakes tells (may now.core.chooser) now.scripts (event_of init.scripts turn) (seen told writes faults now.core) answer (seen told writes faults new.core)
+  takes_so =
+      subst (λ (scripts : List ScriptData). EventTakes tells (may now.core.chooser) now.scripts (event_of scripts turn) (seen told writes faults now.core) answer (seen told writes faults new.core)) leaves.scripts_ takes
+
+  pub turn_leaves : Leaves tells told writes faults never_fails_but init new answer
+  turn_leaves = event_leaves tells may told writes faults never_fails_but (events_of init.scripts turns) i (event_of init.scripts turn) init now new answer low there so_far leaves takes_so left
+
+  pub turn_done : answer ≡ Done → Leaves tells told writes faults never_fails_but init new Done
+  turn_done = leaves_done tells may told writes faults never_fails_but (events_of init.scripts turns) i (event_of init.scripts turn) init now new answer low there so_far leaves takes_so left
+
+  pub turn_goes : answer ≡ Done → EventsSoFar tells (may init.core.chooser) init.scripts (events_of init.scripts turns) (seen told writes faults init.core) (drop (i + 1) (events_of init.scripts turns)) (seen told writes faults new.core)
+  turn_goes = event_goes tells may told writes faults never_fails_but (events_of init.scripts turns) i (event_of init.scripts turn) init now new answer low there so_far leaves takes_so left
+
+  pub turn_halts : answer ≢ Done → RunsEvents tells (may init.core.chooser) init.scripts (events_of init.scripts turns) (seen told writes faults init.core) answer (seen told writes faults new.core)
+  turn_halts = event_halts tells may told writes faults never_fails_but (events_of init.scripts turns) i (event_of init.scripts turn) init now new answer low there so_far leaves takes_so left
+
+pub turns_over : (tells : Type 0) (may : List Candidate → ℕ → Type 0) (scripts : List ScriptData) (turns : List ℕ) (i : ℕ) (start now : CoreData) → length turns ≤ i
+    → EventsSoFar tells may scripts (events_of scripts turns) start (drop i (events_of scripts turns)) now → RunsEvents tells may scripts (events_of scripts turns) start Done now
+turns_over tells may scripts turns i start now past so_far =
+    events_over tells may scripts (events_of scripts turns) i start now (omega (arith, past, length-map turns (event_of scripts))) so_far
+
+-- ---- and then rounds
+
+module _ {S C : Type 0} (tells : Type 0) (may : C → List Candidate → ℕ → Type 0) (told : S → SiteLog) (writes faults : S → ℕ) (never_fails_but : FailingReads S)
+    (turns : List ℕ) (init mid : DriveValue S C) (halfway : DriveAnswer)
+    (turned : RunsEvents tells (may init.core.chooser) init.scripts (events_of init.scripts turns) (seen told writes faults init.core) halfway (seen told writes faults mid.core)) where
+  pub run_halts : halfway ≢ Done → RunsOn tells (may init.core.chooser) init.scripts turns (seen told writes faults init.core) halfway (seen told writes faults mid.core)
+  run_halts other = record {
+    mid = seen told writes faults mid.core;
+    halfway = halfway;
+    turned = turned;
+    rounds = λ done. absurd (other done);
+    halted = λ _. (refl, refl);
+  }
+
+  module _ (leaves : Leaves tells told writes faults never_fails_but init mid halfway) (done : halfway ≡ Done) (new : DriveValue S C) (end : DriveAnswer) where
+    pub run_ends : RunsToEnd tells (may mid.core.chooser) mid.scripts (seen told writes faults mid.core) end (seen told writes faults new.core)
+        → RunsOn tells (may init.core.chooser) init.scripts turns (seen told writes faults init.core) end (seen told writes faults new.core)
+    run_ends rounds = record {
+      mid = seen told writes faults mid.core;
+      halfway = halfway;
+      turned = turned;
+      rounds = λ _. subst (λ (p : C × List ScriptData). RunsToEnd tells (may p.0) p.1 (seen told writes faults mid.core) end (seen told writes faults new.core)) (λ k. (leaves.chooser_ k, leaves.scripts_ k)) rounds;
+      halted = λ other. absurd (other done);
+    }
+
+    pub run_leaves : Leaves tells told writes faults never_fails_but mid new end → Leaves tells told writes faults never_fails_but init new end
+    run_leaves last = leaves_then tells told writes faults never_fails_but init mid new end (subst (λ (a : DriveAnswer). Leaves tells told writes faults never_fails_but init mid a) done leaves) last

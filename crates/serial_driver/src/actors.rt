@@ -1,0 +1,76 @@
+// Turns of hosts and recorders, by number.
+ghost use Rattle.std.specs.Prelude.{◌≡◌, ◌<◌, ◌+◌, ℕ, length};
+ghost use Rattle.channel_program.specs.Script.{FollowsToEnd};
+ghost use Rattle.core_state.specs.CoreValue.{seen};
+ghost use Rattle.serial_driver.specs.declared.answer.DriveAnswer.TheVariants.{Done};
+ghost use Rattle.serial_driver.specs.Scripts.{script_of, exchanges_of};
+
+use crate::answer::DriveAnswer;
+use crate::drive::{Drive, answer_of};
+use crate::turn::recorder_count;
+use mss_base::Site;
+use victim_choice::Choose;
+
+impl<'a, S: Site, C: Choose> Drive<'a, S, C> {
+    ghost use Rattle.serial_driver.specs.Drives.{AreTurns, EventTakes, Leaves, RunsEvents};
+    ghost use Rattle.serial_driver.specs.Drives.{RunsOn, event_of, events_of};
+
+    /// An event of the host or recorder with a number: the hosts of the job come first, in order, and then the
+    /// recorders.
+    fn act(&mut self, actor: u32) -> DriveAnswer
+        requires there { actor < length self.old.scripts + self.old.core.config.recorders }
+        ensures takes { EventTakes S.tells (C.may self.old.core.chooser) self.old.scripts
+            (event_of self.old.scripts actor) (seen S.told S.writes S.faults self.old.core) result
+            (seen S.told S.writes S.faults self.new.core) }
+        ensures leaves { Leaves S.tells S.told S.writes S.faults S.never_fails_but self.old self.new
+            result }
+    {
+        let hosts = self.host_count();
+        let number = actor as usize;
+        if number < hosts {
+            return self.host(number);
+        }
+        // There are at most 8, so that the number of one is a byte.
+        let _recorders = recorder_count(self.core());
+        answer_of(self.work_of((number - hosts) as u8))
+    }
+
+    /// Lets hosts and recorders take the turns of a list, one event each and in order, until one ends them. A turn is a
+    /// number: the hosts of the job come first, in order, and then the recorders. The turn of a host that has no call
+    /// does nothing.
+    pub fn run_turns(&mut self, turns: &[u32]) -> DriveAnswer
+        requires turns { AreTurns self.old.scripts self.old.core.config turns.now }
+        ensures runs { RunsEvents S.tells (C.may self.old.core.chooser) self.old.scripts
+            (events_of self.old.scripts turns.now)
+            (seen S.told S.writes S.faults self.old.core) result
+            (seen S.told S.writes S.faults self.new.core) }
+        ensures leaves { Leaves S.tells S.told S.writes S.faults S.never_fails_but self.old self.new
+            result }
+    {
+        for turn in turns {
+            match self.act(*turn) {
+                DriveAnswer::Done => {}
+                halted => return halted,
+            }
+        }
+        DriveAnswer::Done
+    }
+
+    /// Lets hosts and recorders take the turns of a list, and then goes on by rounds to the end. An event that ends the
+    /// turns ends it.
+    pub fn run(&mut self, turns: &[u32]) -> DriveAnswer
+        requires turns { AreTurns self.old.scripts self.old.core.config turns.now }
+        ensures runs { RunsOn S.tells (C.may self.old.core.chooser) self.old.scripts turns.now
+            (seen S.told S.writes S.faults self.old.core) result
+            (seen S.told S.writes S.faults self.new.core) }
+        ensures ended { result ≡ Done → (h : ℕ) → FollowsToEnd (script_of self.new.scripts h)
+            (exchanges_of h self.new.core.history) }
+        ensures leaves { Leaves S.tells S.told S.writes S.faults S.never_fails_but self.old self.new
+            result }
+    {
+        match self.run_turns(turns) {
+            DriveAnswer::Done => self.run_to_end(),
+            halted => halted,
+        }
+    }
+}
