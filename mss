@@ -14,10 +14,10 @@ is_built() {
         [[ -z $(find "$top/crates.txt" "$top"/crates/*/{src,specs,proofs} -newer "$program" -print -quit) ]]
 }
 
-# rt builds a program in order to run it. It is given its stored job, on which it ends with 0, since any other status
+# rt builds a program in order to run it. It looks at a site that isn't there, on which it ends with 0, since any other status
 # could be rt's as well. The program then gets the time at which the build began, so that later edits are newer.
 build() {
-    cd "$crate" && rt run -- serial <stdin && touch --date="@$1" "$program"
+    cd "$crate" && rt run -- show </dev/null && touch --date="@$1" "$program"
 }
 
 declare -A libraries stands_on

@@ -1,1 +1,1 @@
-pub mod Output
+pub mod Words

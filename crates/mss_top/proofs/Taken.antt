@@ -9,8 +9,7 @@ use Rattle.job_text.specs.declared.kind.JobKind.TheVariants.{TooBig}
 use Rattle.report_text.specs.declared.one_line.OneLine.{OneLine}
 use Rattle.report_text.specs.declared.one_line.OneLine.TheVariants as line
 use Rattle.session_report.specs.Parties.{Stream}
-use Rattle.mss_top.specs.Admission.{READ_LIMIT, Admits, IsRead, IsTaken}
-use Rattle.mss_top.specs.Words.{are_serial}
+use Rattle.mss_top.specs.Admission.{READ_LIMIT, IsRead, IsTaken, TakesText}
 
 -- a text that is too long has no job
 too_big : (text : List ℕ) → nat_lt TEXT_LIMIT (length text) ≡ true → job_of text ≡ Err (record { line = 0; kind = TooBig })
@@ -45,14 +44,13 @@ taken_alike front text (Err line.InputFault) same is = absurd is
 taken_alike front text (Err (line.RestartRefused why)) same is = absurd is
 
 -- the input's text is taken as what was read of it is
-pub admits : (words : List (List ℕ)) (input : Stream) (front : List ℕ) (r : Result JobData OneLine) → are_serial words ≡ true → (input.tells → front ≡ take READ_LIMIT input.was)
-    → IsRead input → IsTaken front r → Admits words input r
-admits words input front r command fronts read is = by_result r (λ t. taken_alike front input.was r (ap job_of (fronts t) ∙ job_of_front input.was) is) is
+pub takes : (input : Stream) (front : List ℕ) (r : Result JobData OneLine) → (input.tells → front ≡ take READ_LIMIT input.was) → IsRead input → IsTaken front r → TakesText input r
+takes input front r fronts read is = by_result r (λ t. taken_alike front input.was r (ap job_of (fronts t) ∙ job_of_front input.was) is) is
   where
-    by_result : (r : Result JobData OneLine) → (input.tells → IsTaken input.was r) → IsTaken front r → Admits words input r
-    by_result (Ok job) whole is = record { command = command; text_ = whole; read = read }
-    by_result (Err (line.JobRefused n kind)) whole is = record { command = command; text_ = whole; read = read }
-    by_result (Err line.WantOfMemory) whole is = command
+    by_result : (r : Result JobData OneLine) → (input.tells → IsTaken input.was r) → IsTaken front r → TakesText input r
+    by_result (Ok job) whole is = record { text_ = whole; read = read }
+    by_result (Err (line.JobRefused n kind)) whole is = record { text_ = whole; read = read }
+    by_result (Err line.WantOfMemory) whole is = tt
     by_result (Err line.WordsRefused) whole is = absurd is
     by_result (Err line.InputFault) whole is = absurd is
     by_result (Err (line.RestartRefused why)) whole is = absurd is

@@ -1,15 +1,48 @@
--- Which job a run is of: the words, and the text that was read.
-use Rattle.std.specs.Prelude.{◌≡◌, ℕ, true, false, List, drop, Result, Ok, Err}
+-- Which run is admitted: the words, the job, and the turns that are drawn.
+use Rattle.std.specs.Prelude.{◌≡◌, ◌≢◌, ◌≤◌, ◌+◌, ℕ, List, drop, length, Option, Some, None, IfSome}
+use Rattle.std.specs.Prelude.{Result, Ok, Err}
 use Rattle.mss_base.specs.Counts.{Rises}
 use Rattle.job_text.specs.declared.kind.JobKind.{JobKind}
 use Rattle.job_text.specs.Grammar.{job_of}
 use Rattle.job_text.specs.Jobs.{JobData}
+use Rattle.command_words.specs.Options.{Text}
+use Rattle.command_words.specs.Words.{meaning}
+use Rattle.command_words.specs.declared.command.Command.{Command}
+use Rattle.command_words.specs.declared.command.Command.TheVariants.{Serial}
+use Rattle.draws.specs.Draws.{schedule}
+use Rattle.draws.specs.Load.{load_job}
 use Rattle.report_text.specs.declared.one_line.OneLine.{OneLine}
 use Rattle.report_text.specs.declared.one_line.OneLine.TheVariants as line
 use Rattle.session_report.specs.Parties.{Stream, IsUntouched}
-use Rattle.mss_top.specs.Words.{are_serial}
+use Rattle.mss_top.specs.declared.admission.Admitted.{Admitted}
+use Rattle.mss_top.specs.declared.admission.Settings.{Settings}
 
--- ---- texts
+-- ---- the words
+
+-- the command with these settings
+abbrev pub command_of : Settings → Command
+command_of s = Serial s.order s.turns s.load
+
+-- the words ask for a run with these settings
+abbrev pub AskToRun : List Text → Settings → Type 0
+AskToRun words settings = meaning words ≡ Some (command_of settings)
+
+-- they ask for none
+abbrev pub AskForNoRun : List Text → Type 0
+AskForNoRun words = (settings : Settings) → meaning words ≢ Some (command_of settings)
+
+-- the settings, or the line that refuses the words; of want of memory nothing is said
+abbrev pub Asks : List Text → Result Settings OneLine → Type 0
+Asks words (Ok settings) = AskToRun words settings
+Asks words (Err line.WordsRefused) = AskForNoRun words
+Asks words (Err line.WantOfMemory) = Unit {0}
+Asks words (Err _) = ⊥
+
+-- a load has 1 to 1,000 programs
+abbrev pub IsLoad : Option ℕ → Type 0
+IsLoad load = IfSome load (λ programs. (1 ≤ programs) × (programs ≤ 1000))
+
+-- ---- the job of the input
 
 -- the text is this job
 abbrev pub IsJobText : List ℕ → JobData → Type 0
@@ -26,8 +59,6 @@ IsTaken text (Err (line.JobRefused n kind)) = IsBadText text n kind
 IsTaken text (Err line.WantOfMemory) = Unit {0}
 IsTaken text (Err _) = ⊥
 
--- ---- words and input
-
 -- the input is read to its end, or to one byte past the longest job text
 abbrev pub READ_LIMIT : ℕ
 READ_LIMIT = 4194305
@@ -37,27 +68,70 @@ pub record IsRead (input : Stream) : Type 0 where
   pub rest : input.tells → input.now ≡ drop READ_LIMIT input.was
   pub none_failed : input.faults_now ≡ input.faults_was
 
--- the words are the command, and the text that was read is so
-pub record Reads (words : List (List ℕ)) (input : Stream) (Text : List ℕ → Type 0) : Type 0 where
-  pub command : are_serial words ≡ true
-  pub text_ : input.tells → Text input.was
+-- the input was read, and its text is so
+pub record Reads (input : Stream) (IsText : List ℕ → Type 0) : Type 0 where
+  pub text_ : input.tells → IsText input.was
   pub read : IsRead input
 
--- the job is admitted
-abbrev pub IsAdmitted : List (List ℕ) → Stream → JobData → Type 0
-IsAdmitted words input job = Reads words input (λ text. IsJobText text job)
+-- why the input gives no job: a fault of its own, or its text; of want of memory nothing is said
+abbrev pub IsNoJob : Stream → OneLine → Type 0
+IsNoJob input line.InputFault = Rises input.faults_was input.faults_now
+IsNoJob input (line.JobRefused n kind) = Reads input (λ text. IsBadText text n kind)
+IsNoJob input line.WantOfMemory = Unit {0}
+IsNoJob input _ = ⊥
 
--- Why no job is admitted: the words, a fault of the input, or the text. Of want of memory nothing
--- is said.
-abbrev pub IsUnread : List (List ℕ) → Stream → OneLine → Type 0
-IsUnread words input line.WordsRefused = (are_serial words ≡ false) × IsUntouched input
-IsUnread words input line.InputFault =
-    (are_serial words ≡ true) × Rises input.faults_was input.faults_now
-IsUnread words input (line.JobRefused n kind) = Reads words input (λ text. IsBadText text n kind)
-IsUnread words input line.WantOfMemory = are_serial words ≡ true
-IsUnread words input _ = ⊥
+-- the job of the input's text, or the line that says why there is none
+abbrev pub TakesText : Stream → Result JobData OneLine → Type 0
+TakesText input (Ok job) = Reads input (λ text. IsJobText text job)
+TakesText input (Err said) = IsNoJob input said
 
--- a job is admitted, or the line says why not
-abbrev pub Admits : List (List ℕ) → Stream → Result JobData OneLine → Type 0
-Admits words input (Ok job) = IsAdmitted words input job
+-- ---- the job
+
+-- the job of a load, for which the input isn't read, or that of the input
+abbrev pub IsJobOf : Option ℕ → ℕ → Stream → JobData → Type 0
+IsJobOf (Some programs) order input job = (job ≡ load_job order programs) × IsUntouched input
+IsJobOf None order input job = Reads input (λ text. IsJobText text job)
+
+-- why there is no job; a load wants nothing but memory
+abbrev pub IsJobless : Option ℕ → Stream → OneLine → Type 0
+IsJobless (Some programs) input said = said ≡ line.WantOfMemory
+IsJobless None input said = IsNoJob input said
+
+abbrev pub GivesJob : Option ℕ → ℕ → Stream → Result JobData OneLine → Type 0
+GivesJob load order input (Ok job) = IsJobOf load order input job
+GivesJob load order input (Err said) = IsJobless load input said
+
+-- ---- the turns
+
+-- the hosts of a job come first, and then its recorders
+abbrev pub actors : JobData → ℕ
+actors job = length job.hosts + job.config.recorders
+
+-- the turns that the settings draw
+abbrev pub IsDrawn : Settings → JobData → List ℕ → Type 0
+IsDrawn settings job turns = turns ≡ schedule settings.order settings.turns (actors job)
+
+-- ---- the run
+
+-- the run is admitted
+pub record IsAdmitted (words : List Text) (input : Stream) (run : Admitted) : Type 0 where
+  pub command : AskToRun words run.settings
+  pub job_ : IsJobOf run.settings.load run.settings.order input run.job
+  pub drawn : IsDrawn run.settings run.job run.turns.items
+
+-- the words ask for a run that has no job
+pub record AskInVain (words : List Text) (input : Stream) (said : OneLine) : Type 0 where
+  pub settings : Settings
+  pub command : AskToRun words settings
+  pub jobless : IsJobless settings.load input said
+
+-- Why no run is admitted: the words, or the job. Of want of memory nothing is said.
+abbrev pub IsUnread : List Text → Stream → OneLine → Type 0
+IsUnread words input line.WordsRefused = AskForNoRun words × IsUntouched input
+IsUnread words input line.WantOfMemory = Unit {0}
+IsUnread words input said = AskInVain words input said
+
+-- a run is admitted, or the line says why not
+abbrev pub Admits : List Text → Stream → Result Admitted OneLine → Type 0
+Admits words input (Ok run) = IsAdmitted words input run
 Admits words input (Err said) = IsUnread words input said

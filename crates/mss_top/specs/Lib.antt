@@ -1,5 +1,6 @@
-pub mod Words
 pub mod Inputs
 pub mod Admission
 pub mod Status
+pub mod Ending
+pub mod Showing
 pub mod Serial

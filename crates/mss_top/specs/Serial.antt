@@ -1,12 +1,13 @@
 -- What a run of `serial` promises.
-use Rattle.std.specs.Prelude.{◌≡◌, ◌⊎◌, ℕ, true, List, Option, Some, None, Err}
+use Rattle.std.specs.Prelude.{◌≡◌, ◌⊎◌, ℕ, List, Option, Some, None, Err}
 use Rattle.mss_base.specs.Content.{content}
 use Rattle.victim_choice.specs.declared.choose.Candidate.{Candidate}
+use Rattle.command_words.specs.Options.{Text}
+use Rattle.draws.specs.Load.{load_job}
 use Rattle.job_text.specs.Jobs.{JobData}
 use Rattle.report_text.specs.declared.one_line.OneLine.{OneLine}
 use Rattle.report_text.specs.declared.one_line.OneLine.TheVariants as line
 use Rattle.shown_volumes.specs.declared.refused.Refused.{Refused}
-use Rattle.shown_volumes.specs.declared.refused.Refused.TheVariants as refused
 use Rattle.core_restart.specs.TakingUp.{IsFaultless, NoneFailed}
 use Rattle.core_state.specs.SessionData.{SessionData}
 use Rattle.core_state.specs.Sessions.{session_data}
@@ -16,10 +17,14 @@ use Rattle.serial_driver.specs.declared.answer.DriveAnswer.TheVariants as ended
 use Rattle.session_report.specs.Answers.{Answer}
 use Rattle.session_report.specs.Parties.{Stream, IsUntouched}
 use Rattle.job_runs.specs.Parties.{Devices}
-use Rattle.job_runs.specs.Runs.{Opens, IsSessionOf}
-use Rattle.mss_top.specs.Admission.{IsAdmitted, IsJobText, IsUnread}
+use Rattle.job_runs.specs.Runs.{IsLoadOf, IsSessionOf, Opens, IsUntaken as IsNotTakenUp}
+use Rattle.job_runs.specs.declared.run.Outcome.{Outcome}
+use Rattle.job_runs.specs.declared.run.Outcome.TheVariants as outcome
+use Rattle.mss_top.specs.Admission.{AskToRun, IsAdmitted, IsJobText, IsUnread}
+use Rattle.mss_top.specs.Ending.{SaysWhy, line_of}
 use Rattle.mss_top.specs.Status.{IsLinePut, status_of}
-use Rattle.mss_top.specs.Words.{are_serial}
+use Rattle.mss_top.specs.declared.admission.Admitted.{Admitted}
+use Rattle.mss_top.specs.declared.admission.Settings.{Settings}
 use Rattle.mss_top.specs.declared.status.Status.{Status}
 use Rattle.mss_top.specs.declared.status.Status.TheVariants as status
 
@@ -29,16 +34,11 @@ Chooses = List Candidate → ℕ → Type 0
 
 -- ---- no session
 
--- no job is admitted, and the devices are untouched
-pub record IsUnadmitted (words : List (List ℕ)) (input : Stream) (site : Devices)
-    (said : OneLine) : Type 0 where
+-- no run is admitted, and the devices are untouched
+pub record IsUnadmitted (words : List Text) (input : Stream) (site : Devices) (said : OneLine)
+    : Type 0 where
   pub unread : IsUnread words input said
   pub devices_ : site.now ≡ site.was
-
--- the line of a site that isn't taken up
-abbrev pub line_of : Refused → OneLine
-line_of refused.Memory = line.WantOfMemory
-line_of why = line.RestartRefused why
 
 -- the restart for a job doesn't take up the devices
 pub record IsUntaken (job : JobData) (site : Devices) (said : OneLine) : Type 0 where
@@ -46,20 +46,14 @@ pub record IsUntaken (job : JobData) (site : Devices) (said : OneLine) : Type 0 
   pub opens : Opens job.config site (Err why)
   pub line_ : said ≡ line_of why
 
-pub record IsRefusedLate (words : List (List ℕ)) (input : Stream) (site : Devices)
-    (said : OneLine) : Type 0 where
-  pub job : JobData
-  pub admitted : IsAdmitted words input job
-  pub untaken : IsUntaken job site said
-
--- one line was put, and says why
-pub record SaysWhy (Cause : OneLine → Type 0) (sink : Stream) (told : Status) : Type 0 where
-  pub said : OneLine
-  pub cause : Cause said
-  pub put : IsLinePut said sink told
+pub record IsRefusedLate (words : List Text) (input : Stream) (site : Devices) (said : OneLine)
+    : Type 0 where
+  pub run : Admitted
+  pub admitted : IsAdmitted words input run
+  pub untaken : IsUntaken run.job site said
 
 -- no session began
-abbrev pub IsRefused : List (List ℕ) → Stream → Devices → Stream → Status → Type 0
+abbrev pub IsRefused : List Text → Stream → Devices → Stream → Status → Type 0
 IsRefused words input site sink told =
     SaysWhy (λ said. IsUnadmitted words input site said ⊎ IsRefusedLate words input site said)
     sink told
@@ -84,22 +78,31 @@ abbrev pub Closes : DriveAnswer → Answer → Stream → Status → Type 0
 Closes ended.Memory report sink told = IsLinePut line.WantOfMemory sink told
 Closes end report sink told = IsUntouched sink × (told ≡ status_of end report)
 
--- a session of a job was run and told, and the run closed
-pub record IsRunOf (may : Chooses) (job : JobData) (site : Devices) (sink : Stream)
+-- a session of a run, with what was put of it: its report, or of a load its summary
+abbrev pub IsToldOf : Chooses → Option ℕ → JobData → List ℕ → Devices → Stream → DriveAnswer
+    → Answer → SessionData → Type 0
+IsToldOf may None job turns site sink end answer s =
+    IsSessionOf may job turns site sink end answer s
+IsToldOf may (Some programs) job turns site sink end answer s =
+    IsLoadOf may job programs turns site sink end answer s
+
+-- a session of a run was told, and the run closed
+pub record IsRunOf (may : Chooses) (run : Admitted) (site : Devices) (sink : Stream)
     (told : Status) (s : SessionData) : Type 0 where
   pub end : DriveAnswer
-  pub report : Answer
-  -- the output behind the report
+  pub answer : Answer
+  -- the output behind the report or the summary
   pub mid : Output
-  pub session : IsSessionOf may job site (until sink mid) end report s
-  pub closes : Closes end report (since sink mid) told
+  pub session : IsToldOf may run.settings.load run.job run.turns.items site (until sink mid) end
+      answer s
+  pub closes : Closes end answer (since sink mid) told
 
--- an admitted job was run
-pub record IsRun (may : Chooses) (words : List (List ℕ)) (input : Stream) (site : Devices)
+-- a run was admitted and done
+pub record IsRun (may : Chooses) (words : List Text) (input : Stream) (site : Devices)
     (sink : Stream) (told : Status) (s : SessionData) : Type 0 where
-  pub job : JobData
-  pub admitted : IsAdmitted words input job
-  pub run : IsRunOf may job site sink told s
+  pub run : Admitted
+  pub admitted : IsAdmitted words input run
+  pub done : IsRunOf may run site sink told s
 
 -- ---- a run
 
@@ -108,25 +111,36 @@ abbrev pub EndsAs : Type 0 → (SessionData → Type 0) → Option Session → T
 EndsAs Refused Ran None = Refused
 EndsAs Refused Ran (Some s) = Ran (session_data s)
 
--- the run of an admitted job
-abbrev pub EndsJob : Chooses → JobData → Devices → Stream → Status → Option Session → Type 0
-EndsJob may job site sink told session =
-    EndsAs (SaysWhy (IsUntaken job site) sink told) (IsRunOf may job site sink told) session
+-- an admitted run
+abbrev pub EndsRun : Chooses → Admitted → Devices → Stream → Status → Option Session → Type 0
+EndsRun may run site sink told session =
+    EndsAs (SaysWhy (IsUntaken run.job site) sink told) (IsRunOf may run site sink told) session
 
-abbrev pub Ends : List (List ℕ) → Chooses → Stream → Devices → Stream → Status → Option Session
+abbrev pub Ends : List Text → Chooses → Stream → Devices → Stream → Status → Option Session
     → Type 0
 Ends words may input site sink told session =
     EndsAs (IsRefused words input site sink told) (IsRun may words input site sink told) session
 
+-- what running it leaves, told or not
+abbrev pub Runs : Chooses → Option ℕ → JobData → List ℕ → Devices → Stream → Outcome → Type 0
+Runs may load job turns site sink (outcome.Untaken why) =
+    IsNotTakenUp job site sink why
+Runs may load job turns site sink (outcome.Ran session end answer) =
+    IsToldOf may load job turns site sink end answer (session_data session)
+
 -- ---- completeness
 
--- the words are the command, the input tells this job, the devices tell content in which its
--- configuration finds no fault, and no call fails
-pub record GoesWell (words : List (List ℕ)) (input : Stream) (site : Devices) (sink : Stream)
-    (job : JobData) : Type 0 where
-  pub command : are_serial words ≡ true
-  pub can_read : input.tells
-  pub asks : IsJobText input.was job
+-- this is the job of a load, or the one that the input tells
+abbrev pub AsksJob : Option ℕ → ℕ → Stream → JobData → Type 0
+AsksJob (Some programs) order input job = job ≡ load_job order programs
+AsksJob None order input job = input.tells × IsJobText input.was job
+
+-- the words ask for a run, this is its job, the devices tell content in which its configuration
+-- finds no fault, and no call fails
+pub record GoesWell (words : List Text) (input : Stream) (site : Devices) (sink : Stream)
+    (settings : Settings) (job : JobData) : Type 0 where
+  pub command : AskToRun words settings
+  pub asks : AsksJob settings.load settings.order input job
   pub can_see : site.tells
   pub faultless : IsFaultless job.config (content site.was.told)
   pub input_none : NoneFailed input.faults_was input.faults_now

@@ -1,21 +1,24 @@
-//! A whole run: words, input, job, session and report.
+//! What the program does: a whole run, and a look at the volumes.
 //!
-//! `serial` is what a program calls; its clause `ended` (`specs/Serial.antt`) is the promise of this repository. It reads
-//! the input and its job (`read_input`, `job_of_text`), and runs that on the site by `job_runs::run_job`. Contracts speak of
-//! input, devices and output as parties: what each told before and after, and its counts of faults.
+//! `serial` does a run; its clause `ended` (`specs/Serial.antt`) is the promise of this repository. It reads the
+//! words, the job and draws the turns (`admission.rt`), and runs the job on the site by `job_runs`. `show` lists the
+//! volumes of a site (`specs/Showing.antt`). Contracts speak of input, devices and output as parties: what each told
+//! before and after, and its counts of faults.
 #![tactic(auto)]
 
 mod admission;
+mod ending;
 mod input;
 mod run;
 #[cfg(test)]
 mod run_tests;
+mod showing;
 mod status;
 #[cfg(test)]
 mod tests;
-mod words;
 
+pub use ending::Ended;
 pub use input::{InputFault, read_input};
-pub use run::{Ended, serial};
+pub use run::serial;
+pub use showing::show;
 pub use status::Status;
-pub use words::are_serial;

@@ -1,6 +1,6 @@
 // Whole runs over devices in memory.
-use crate::{Ended, Status, serial};
-use mss_base::{MemorySink, MemorySite, MemorySource, SiteFault};
+use crate::{Ended, Status, serial, show};
+use mss_base::{MemorySink, MemorySite, MemorySource, SiteFault, UnitNo};
 use std::alloc::Global;
 use std::test::Fail;
 use victim_choice::Lru;
@@ -79,6 +79,30 @@ const TWO_HOSTS: &str = "mss 1 frames 1 recorders 1\n\
     mount VOL001\n\
     done\n";
 
+/// Of two hosts and a recorder order 0 draws the second host first.
+const TURNED_REPORT: &str = "MSS REPORT 1\n\
+    entry 1 host 2 mount 0 mounted\n\
+    entry 2 host 1 mount 0 mounted\n\
+    change 1 volume 0 create VOL001 0 1\n\
+    volume 0 VOL001\n\
+    END\n";
+
+/// The third word that order 0 draws is odd, so the one program reads.
+const SUMMARY: &str = "MSS LOAD 1\n\
+    entries 7\n\
+    assign 1\n\
+    free 0\n\
+    staged 1\n\
+    changed 0\n\
+    destaged 0\n\
+    END\n";
+
+const LISTING: &str = "MSS VOLUMES 1\n\
+    volume 0 VOL001\n\
+    track 5 3\n\
+    record 0005000301 - 414243\n\
+    END\n";
+
 const TWO_HOSTS_REPORT: &str = "MSS REPORT 1\n\
     entry 1 host 1 mount 0 mounted\n\
     entry 2 host 2 mount 0 mounted\n\
@@ -91,12 +115,12 @@ const OTHER_SERIAL: &str = "mss 1 frames 1 recorders 1\n\
     volume 0 VOL009\n\
     done\n";
 
-/// How many calls a restart makes of a blank site for one volume: two looks at both copies of 32 rows, and two reads and
-/// six writes for the new row.
+/// How many calls a restart makes of a blank site for one volume: two looks at both copies of 32 rows, and two reads
+/// and six writes for the new row.
 const RESTART: u64 = 136;
 
-/// A change of a row makes six writes, and a cylinder is staged by 19. So before the first write of the host come a frame's
-/// assignment, the staging with its change, a search's read, the change to state 4, and a read of the track.
+/// A change of a row makes six writes, and a cylinder is staged by 19. So before the first write of the host come a
+/// frame's assignment, the staging with its change, a search's read, the change to state 4, and a read of the track.
 const FIRST_WRITE: u64 = RESTART + 6 + 19 + 6 + 1 + 6 + 1 + 1;
 
 /// Behind the two writes of the record come two searches and the read, and then the report's first track.
@@ -116,15 +140,24 @@ const NONE: Failing<'static> = Failing {
     of_site: &[],
 };
 
+/// The words of a text.
+fn words_of(alloc: Global, text: &str) -> Result<Vec<String>, Fail> {
+    let mut words = Vec::new(alloc);
+    for word in text.split(' ') {
+        words.push(String::from_str(alloc, word)?)?;
+    }
+    Ok(words)
+}
+
 /// A run over this site, and what it put.
 fn ran(
     alloc: Global,
-    word: &str,
+    words: &str,
     job: &str,
     mut site: MemorySite,
     failing: Failing,
 ) -> Result<(Ended<MemorySite>, MemorySink), Fail> {
-    let words = [String::from_str(alloc, word)?];
+    let words = words_of(alloc, words)?;
     let mut input = MemorySource::of(alloc, job.as_bytes(), failing.takes)?;
     let mut output = MemorySink::new(alloc, failing.puts)?;
     let mut faults = Vec::new(alloc);
@@ -136,6 +169,19 @@ fn ran(
     Ok((ended, output))
 }
 
+/// A look at this site, where these calls fail, and what it put.
+fn shown(
+    alloc: Global,
+    mut site: MemorySite,
+    faults: &[SiteFault],
+) -> Result<(Ended<MemorySite>, MemorySink), Fail> {
+    let words = words_of(alloc, "show")?;
+    let mut output = MemorySink::new(alloc, &[])?;
+    site.fail(faults)?;
+    let ended = show(alloc, &words, &mut output, site);
+    Ok((ended, output))
+}
+
 #[test]
 fn jobs_are_run_one_after_the_other(rt: HostRuntime) -> Result<(), Fail> {
     let alloc = rt.alloc();
@@ -143,7 +189,10 @@ fn jobs_are_run_one_after_the_other(rt: HostRuntime) -> Result<(), Fail> {
     let (first, output) = ran(alloc, "serial", JOB, blank, NONE)?;
     assert_eq!(rt; output.bytes(), REPORT.as_bytes());
     assert_eq!(rt; first.status, Status::Done);
-    let (second, output) = ran(alloc, "serial", OTHER_SERIAL, first.site, NONE)?;
+    let (looked, output) = shown(alloc, first.site, &[])?;
+    assert_eq!(rt; output.bytes(), LISTING.as_bytes());
+    assert_eq!(rt; looked.status, Status::Done);
+    let (second, output) = ran(alloc, "serial", OTHER_SERIAL, looked.site, NONE)?;
     let line = "restart refused volume 0 serial VOL001 asked VOL009\n";
     assert_eq!(rt; output.bytes(), line.as_bytes());
     assert_eq!(rt; second.status, Status::RestartRefused);
@@ -151,25 +200,25 @@ fn jobs_are_run_one_after_the_other(rt: HostRuntime) -> Result<(), Fail> {
     Ok(())
 }
 
-/// A run of another end: its word, its job, the calls that fail, its status and what it puts.
+/// A run of another end: its words, its job, the calls that fail, its status and what it puts.
 struct Case<'a> {
-    word: &'a str,
+    words: &'a str,
     job: &'a str,
     failing: Failing<'a>,
     status: Status,
     text: &'a str,
 }
 
-const CASES: [Case; 7] = [
+const CASES: [Case; 9] = [
     Case {
-        word: "serve",
+        words: "serve",
         job: JOB,
         failing: NONE,
         status: Status::WordsRefused,
         text: "words refused\n",
     },
     Case {
-        word: "serial",
+        words: "serial",
         job: JOB,
         failing: Failing {
             takes: &[1],
@@ -179,21 +228,21 @@ const CASES: [Case; 7] = [
         text: "input fault\n",
     },
     Case {
-        word: "serial",
+        words: "serial",
         job: "mss 1 frames 1 recorders 1\nhost 1\nprogram\nend\ndone\n",
         failing: NONE,
         status: Status::JobRefused,
         text: "job refused line 4 Count\n",
     },
     Case {
-        word: "serial",
+        words: "serial",
         job: JOB,
         failing: Failing { puts: &[1], ..NONE },
         status: Status::OutputFault,
         text: "",
     },
     Case {
-        word: "serial",
+        words: "serial",
         job: JOB,
         failing: Failing {
             of_site: &[FIRST_WRITE],
@@ -203,7 +252,7 @@ const CASES: [Case; 7] = [
         text: STOPPED_REPORT,
     },
     Case {
-        word: "serial",
+        words: "serial",
         job: JOB,
         failing: Failing {
             of_site: &[FIRST_TRACK],
@@ -213,11 +262,28 @@ const CASES: [Case; 7] = [
         text: UNREAD_REPORT,
     },
     Case {
-        word: "serial",
+        words: "serial",
         job: TWO_HOSTS,
         failing: NONE,
         status: Status::Done,
         text: TWO_HOSTS_REPORT,
+    },
+    Case {
+        words: "serial --turns 1",
+        job: TWO_HOSTS,
+        failing: NONE,
+        status: Status::Done,
+        text: TURNED_REPORT,
+    },
+    Case {
+        words: "serial --load 1",
+        job: "",
+        failing: Failing {
+            takes: &[1],
+            ..NONE
+        },
+        status: Status::Done,
+        text: SUMMARY,
     },
 ];
 
@@ -226,9 +292,48 @@ fn each_end_has_its_status(rt: HostRuntime) -> Result<(), Fail> {
     let alloc = rt.alloc();
     for case in &CASES {
         let blank = MemorySite::new(alloc)?;
-        let (ended, output) = ran(alloc, case.word, case.job, blank, case.failing)?;
+        let (ended, output) = ran(alloc, case.words, case.job, blank, case.failing)?;
         assert_eq!(rt; output.bytes(), case.text.as_bytes());
         assert_eq!(rt; ended.status, case.status);
+    }
+    Ok(())
+}
+
+/// Calls of a look at the first job's site that fail, its status and what it puts.
+struct Look<'a> {
+    fails: SiteFault,
+    status: Status,
+    text: &'a str,
+}
+
+/// A look reads both copies of 32 rows, then the 19 tracks of the one cylinder that isn't blank, and for the listing
+/// those again.
+const LOOKS: [Look; 3] = [
+    Look {
+        fails: SiteFault::ReadsOf(UnitNo::TableA),
+        status: Status::Done,
+        text: LISTING,
+    },
+    Look {
+        fails: SiteFault::Call(65),
+        status: Status::RestartRefused,
+        text: "restart refused stopped fault 1\n",
+    },
+    Look {
+        fails: SiteFault::Call(84),
+        status: Status::Stopped,
+        text: "MSS VOLUMES 1\nvolume 0 VOL001\nSTOPPED 1\n",
+    },
+];
+
+#[test]
+fn a_look_tells_the_volumes_or_why_not(rt: HostRuntime) -> Result<(), Fail> {
+    let alloc = rt.alloc();
+    for look in &LOOKS {
+        let (first, _) = ran(alloc, "serial", JOB, MemorySite::new(alloc)?, NONE)?;
+        let (ended, output) = shown(alloc, first.site, &[look.fails])?;
+        assert_eq!(rt; output.bytes(), look.text.as_bytes());
+        assert_eq!(rt; ended.status, look.status);
     }
     Ok(())
 }

@@ -1,0 +1,57 @@
+-- Why a run is admitted, or isn't; how many actors it has.
+use Rattle.std.proofs.Common.{◌≡◌, ◌≤◌, ◌<◌, inl, inr, ℕ, Bool, true, false, List, [], ◌∷◌, length, map, Option, Some, None, Result, Ok, Err, refl, sym, ◌∙◌, subst, arith}
+use Rattle.std.specs.Prelude.{◌==◌, IfErr, IfOk}
+use Rattle.std.specs.List.{AllByRecursion, IsDistinct, list_any}
+use Rattle.std.proofs.lemmas.Bool.{eqb-true, or_cases}
+use Rattle.std.proofs.lemmas.Map.Steps.{length-le_from_distinct_below}
+use Rattle.std.proofs.lemmas.List.{length-map}
+use Rattle.mss_base.specs.Configs.{VolumeData}
+use Rattle.job_text.specs.Jobs.{IsJob, IsScript, JobData, ScriptData}
+use Rattle.draws.specs.Load.{load_job}
+use Rattle.report_text.specs.declared.one_line.OneLine.{OneLine}
+use Rattle.report_text.specs.declared.one_line.OneLine.TheVariants as line
+use Rattle.session_report.specs.Parties.{Stream, IsUntouched}
+use Rattle.mss_top.specs.Admission.{AskInVain, AskToRun, Asks, GivesJob, IsJobless, IsUnread, actors}
+use Rattle.mss_top.specs.declared.admission.Settings.{Settings}
+
+-- ---- actors
+
+below_nine : (volumes : List VolumeData) (q : ℕ) (scripts : List ScriptData) → AllByRecursion (IsScript volumes) scripts → list_any (λ h. q == h) (map (λ script. script.host) scripts) ≡ true → q < 9
+below_nine volumes q [] all is = absurd cc
+below_nine volumes q (script ∷ scripts) all is = elim (or_cases (q == script.host) (list_any (λ h. q == h) (map (λ script. script.host) scripts)) is) [
+  | inl here ↦ omega (arith, eqb-true q script.host here, all.0.high)
+  | inr there ↦ below_nine volumes q scripts all.1 there
+]
+
+pub few_hosts : (job : JobData) → IsJob job → length job.hosts ≤ 9
+few_hosts job is = subst (λ (n : ℕ). n ≤ 9) (length-map job.hosts (λ (script : ScriptData). script.host))
+    (length-le_from_distinct_below (map (λ (script : ScriptData). script.host) job.hosts) 9 is.hosts_differ (λ q. below_nine job.config.volumes q job.hosts is.scripts))
+
+-- ---- why no run is admitted
+
+-- the words are at fault
+pub refused_words : (words : List (List ℕ)) (input : Stream) (said : OneLine) → Asks words (Err said) → IsUntouched input → IsUnread words input said
+refused_words words input line.WordsRefused is untouched = (is, untouched)
+refused_words words input line.WantOfMemory is untouched = tt
+refused_words words input line.InputFault is untouched = absurd is
+refused_words words input (line.JobRefused n kind) is untouched = absurd is
+refused_words words input (line.RestartRefused why) is untouched = absurd is
+
+never_words : (load : Option ℕ) (input : Stream) → IsJobless load input line.WordsRefused → ⊥
+never_words (Some programs) input is = absurd (let e : line.WordsRefused ≡ line.WantOfMemory = is in cc)
+never_words None input is = is
+
+-- the job is wanting
+pub in_vain : (words : List (List ℕ)) (input : Stream) (settings : Settings) (said : OneLine) → AskToRun words settings → IsJobless settings.load input said → IsUnread words input said
+in_vain words input settings line.WordsRefused asks is = absurd (never_words settings.load input is)
+in_vain words input settings line.WantOfMemory asks is = tt
+in_vain words input settings said asks is = record { settings = settings; command = asks; jobless = is }
+
+-- memory is
+pub unread_memory : (words : List (List ℕ)) (input : Stream) (said : OneLine) → said ≡ line.WantOfMemory → IsUnread words input said
+unread_memory words input said is = subst (λ (l : OneLine). IsUnread words input l) (sym is) tt
+
+-- a load is drawn, or memory is wanting
+pub load_given : (programs order : ℕ) (input : Stream) (r : Result JobData OneLine) → IfOk r (λ job. job ≡ load_job order programs) → IfErr r (λ said. said ≡ line.WantOfMemory) → IsUntouched input → GivesJob (Some programs) order input r
+load_given programs order input (Ok job) drawn memory untouched = (drawn, untouched)
+load_given programs order input (Err said) drawn memory untouched = memory

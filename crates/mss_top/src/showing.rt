@@ -1,0 +1,126 @@
+//! A look at the volumes of a site.
+ghost use Rattle.std.specs.Prelude.{◌≡◌, [], None, length, map, string_bytes, IfOk};
+ghost use Rattle.mss_base.specs.Content.{content};
+ghost use Rattle.mss_base.specs.Sites.{OnlyReads};
+ghost use Rattle.session_report.specs.Parties.{between};
+ghost use Rattle.job_runs.specs.Parties.{devices};
+ghost use Rattle.mss_top.specs.Showing.{EndsShown, FRAMES, IsShown, Lists, Looks, LooksWell};
+ghost use Rattle.mss_top.specs.Showing.{SurveysAny, rows_in};
+
+use crate::ending::{Ended, refusal_line, say, status_of};
+use crate::status::Status;
+use command_words::{Command, CommandFault, read_command};
+use mss_base::{Config, Sink, Site, VolumeList};
+use mss_restart::{Rows, survey};
+use report_text::OneLine;
+use serial_driver::DriveAnswer;
+use session_report::listing;
+use std::alloc::Global;
+
+/// As many frames as there may be: the devices may have a frame of any number.
+const FRAMES: u16 = 200;
+
+/// The configuration of a look: it asks for no volume.
+fn any_config(alloc: Global) -> Config
+    ensures frames { result.frames ≡ FRAMES }
+    ensures volumes { result.volumes ≡ [] }
+{
+    Config {
+        frames: FRAMES,
+        recorders: 1,
+        volumes: VolumeList::new(alloc),
+    }
+}
+
+/// Surveys a site whatever its volumes are: its rows, or the line of its first fault.
+fn survey_any<S: Site>(alloc: Global, site: &mut S) -> Result<Rows, OneLine>
+    ensures survey { SurveysAny (devices S.tells S.told S.writes S.faults site.old site.new)
+        (rows_in result) }
+    ensures whole { IfOk result (λ rows. length rows.items ≡ 32) }
+    ensures site { OnlyReads S.tells S.told S.spare S.writes S.faults S.never_fails_but
+        site.old site.new }
+{
+    match survey(alloc, site, &any_config(alloc)) {
+        Ok(rows) => Ok(rows),
+        Err(refused) => Err(refusal_line(&refused)),
+    }
+}
+
+/// The rows of a site, where the words ask for a look at it, or the line that says why there are none.
+fn look<S: Site>(alloc: Global, words: &[String], site: &mut S) -> Result<Rows, OneLine>
+    ensures looks { Looks (map string_bytes words.now)
+        (devices S.tells S.told S.writes S.faults site.old site.new) (rows_in result) }
+    ensures whole { IfOk result (λ rows. length rows.items ≡ 32) }
+    ensures site { OnlyReads S.tells S.told S.spare S.writes S.faults S.never_fails_but
+        site.old site.new }
+{
+    match read_command(alloc, words) {
+        Ok(Command::Show) => survey_any(alloc, site),
+        Ok(_) | Err(CommandFault::Refused) => Err(OneLine::WordsRefused),
+        Err(CommandFault::Memory) => Err(OneLine::WantOfMemory),
+    }
+}
+
+/// Lists the volumes of the rows that a survey found, and answers with the status.
+fn list<S: Site, O: Sink>(alloc: Global, site: &mut S, rows: &Rows, output: &mut O) -> Status
+    requires whole { length rows.now.items ≡ 32 }
+    ensures lists { Lists rows.now.items
+        (devices S.tells S.told S.writes S.faults site.old site.new)
+        (between O.tells O.told O.faults output.old output.new) result }
+    ensures site { OnlyReads S.tells S.told S.spare S.writes S.faults S.never_fails_but
+        site.old site.new }
+{
+    let told = listing(alloc, site, rows.as_slice(), output);
+    status_of(DriveAnswer::Done, told)
+}
+
+/// Looks at a site that is lent, and answers with the status.
+fn show_lent<S: Site, O: Sink>(
+    alloc: Global,
+    words: &[String],
+    output: &mut O,
+    site: &mut S,
+) -> Status
+    ensures ended { EndsShown (map string_bytes words.now)
+        (devices S.tells S.told S.writes S.faults site.old site.new)
+        (between O.tells O.told O.faults output.old output.new) result }
+    ensures site { OnlyReads S.tells S.told S.spare S.writes S.faults S.never_fails_but
+        site.old site.new }
+{
+    match look(alloc, words, site) {
+        Ok(rows) => list(alloc, site, &rows, output),
+        Err(line) => say(output, line),
+    }
+}
+
+/// Puts the listing of a site: every volume that has a row, with its tracks.
+///
+/// The words are the command `show`. Nothing is written to the site. One with a fault is told by its first, by one
+/// line; which frames and recorders a run would have, and which volumes its job asks for, doesn't matter. Where one
+/// copy of a row can't be read, the other tells it. Where a read for a track fails, the listing ends before that
+/// track.
+pub fn show<S: Site, O: Sink>(
+    alloc: Global,
+    words: &[String],
+    output: &mut O,
+    mut site: S,
+) -> Ended<S>
+    ensures ended { EndsShown (map string_bytes words.now)
+        (devices S.tells S.told S.writes S.faults site result.site)
+        (between O.tells O.told O.faults output.old output.new) result.status }
+    ensures complete { LooksWell (map string_bytes words.now)
+        (devices S.tells S.told S.writes S.faults site result.site)
+        (between O.tells O.told O.faults output.old output.new)
+        → IsShown (content (S.told site))
+        (between O.tells O.told O.faults output.old output.new) result.status }
+    ensures site { OnlyReads S.tells S.told S.spare S.writes S.faults S.never_fails_but
+        site result.site }
+    ensures session { result.session ≡ None }
+{
+    let status = show_lent(alloc, words, output, &mut site);
+    Ended {
+        status,
+        site,
+        session: None,
+    }
+}
