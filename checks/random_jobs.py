@@ -1,7 +1,6 @@
-"""Runs jobs that are drawn from numbers, of several hosts on few frames, and replays each report on plain volumes."""
+"""Runs jobs that are drawn from numbers, of several hosts on few frames. Each report has to be that of the model."""
 
 import random
-import subprocess
 import sys
 from pathlib import Path
 
@@ -12,6 +11,10 @@ RECORDS = (0, 1, 2, 3)
 SEARCH_IDS, SEARCH_KEYS = ("31", "51", "71"), ("29", "49", "69")
 READS = ("06", "0E", "1E", "12", "16", "1A", "39 00000000")
 CONTROLS = ("03", "04", "13", "23 00", "1F 00", "1F 40", "1F 80", "1F 18", "1B 000000000001", "FF", "05 41")
+
+
+# Every other job is begun with so many drawn turns, in which hosts call while recorders work.
+TURNS = 500
 
 
 def hexadecimal(number, length):
@@ -94,32 +97,40 @@ class Drawing:
         return f"{int(code, 16) | 0x80:02X}" if multi else code
 
 
-def fault(command, text):
-    """What is wrong with the report of a job; none where it is one that plain volumes give."""
-    ran = subprocess.run(command, input=text.encode(), capture_output=True, check=False)
-    due = {"END": 0, "LIMIT": 6}
-    try:
-        report = read_report(ran.stdout)
-        replay(read_job(text.encode()), report)
-    except (BadLine, ReportFault, Differs) as found:
-        return f"{found}; status {ran.returncode}"
-    return None if due.get(report.last) == ran.returncode else f"{report.last} with status {ran.returncode}"
+def fault(command, text, turns, folder):
+    """What is wrong with the report of a job; none where it is the model's, with its status."""
+    ran = run_on_blank(command, text.encode(), folder)
+    job = read_job(text.encode())
+    due = Model(job, plain.Machine(job.volumes), plain).report(turns)
+    if ran.stdout != due.encode():
+        for line, other in zip(ran.stdout.decode().splitlines(), due.splitlines()):
+            if line != other:
+                return f"{line}, and the model tells {other}"
+        return "the end differs"
+    status = 6 if due.endswith("LIMIT\n") else 0
+    return None if ran.returncode == status else f"the status is {ran.returncode}"
 
 
 def main(top, count, *command):
     differing = 0
-    for number in range(int(count)):
-        text = Drawing(number).job()
-        if told := fault(command, text):
-            differing += 1
-            print(f"checks/random_jobs.py: job {number}: {told}", file=sys.stderr)
+    with new_folder() as folder:
+        for number in range(int(count)):
+            drawing = Drawing(number)
+            text = drawing.job()
+            turns = TURNS * (number % 2)
+            drawn = drawn_turns(number, turns, text.count("\nhost ") + drawing.recorders)
+            if told := fault([*command, f"--order={number}", f"--turns={turns}"], text, drawn, folder):
+                differing += 1
+                print(f"checks/random_jobs.py: job {number}: {told}", file=sys.stderr)
     return 1 if differing else 0
 
 
 if __name__ == "__main__":
     sys.path.insert(0, str(Path(sys.argv[1], "tools")))
-    from formats.jobs import BadLine, read_job
-    from formats.replaying import Differs, replay
-    from formats.reports import ReportFault, read_report
+    from draws import drawn_turns
+    from formats import plain
+    from formats.jobs import read_job
+    from runs import new_folder, run_on_blank
+    from staging_model import Model
 
     sys.exit(main(*sys.argv[1:]))

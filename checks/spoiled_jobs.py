@@ -2,7 +2,6 @@
 left out, doubled, cut, or with other bytes. What the program refuses check-job has to refuse alike; of what it takes,
 explain has to find the line of each entry."""
 
-import subprocess
 import sys
 from pathlib import Path
 
@@ -35,9 +34,9 @@ def spoiled(text):
         yield b"\n".join(before + [line])
 
 
-def fault(program, text):
+def fault(program, text, folder):
     """What the tools say otherwise than the program; none where they agree."""
-    ran = subprocess.run([program, "serial"], input=text, capture_output=True, check=False)
+    ran = run_on_blank([program, "serial"], text, folder)
     told = ran.stdout
     try:
         job = read_job(text)
@@ -56,9 +55,10 @@ def main(top, program):
         print(f"checks/spoiled_jobs.py: there is no {program}", file=sys.stderr)
         return 1
     differing = 0
-    for job in sorted([*Path(top, "examples").glob("*.job"), *Path(top, "checks/cases").glob("*.job")]):
-        for text in spoiled(job.read_bytes()):
-            if told := fault(program, text):
+    jobs = sorted([*Path(top, "examples").glob("*.job"), *Path(top, "checks/cases").glob("*.job")])
+    with new_folder() as folder:
+        for job, text in ((job, text) for job in jobs for text in spoiled(job.read_bytes())):
+            if told := fault(program, text, folder):
                 differing += 1
                 print(f"checks/spoiled_jobs.py: {job.name}: {told}:", file=sys.stderr)
                 print(text.decode("latin-1")[:400], file=sys.stderr)
@@ -70,5 +70,6 @@ if __name__ == "__main__":
     from formats.following import sources_of
     from formats.jobs import BadLine, read_job
     from formats.reports import read_report
+    from runs import new_folder, run_on_blank
 
     sys.exit(main(*sys.argv[1:]))
