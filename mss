@@ -53,7 +53,8 @@ follow() {
 }
 
 if (($# == 0)) || [[ $1 == --help ]]; then
-    echo "usage: mss serial <JOB    runs a job, and prints its report; docs/JOBS.md tells how to write one" >&2
+    echo "usage: mss serial <JOB    runs a job, and prints its report; docs/JOBS.md tells how to write one
+       mss show           lists the volumes that the jobs so far left in mss.site" >&2
     exit $(($# == 0))
 fi
 
