@@ -111,17 +111,30 @@ def fault(command, text, turns, folder):
     return None if ran.returncode == status else f"the status is {ran.returncode}"
 
 
+def cases(top, count):
+    """Jobs, each with its name, an order and a number of turns."""
+    for number in range(count):
+        yield f"job {number}", Drawing(number).job(), number, TURNS * (number % 2)
+    for name in ("three_hosts", "bind"):
+        text = Path(top, f"checks/cases/{name}.job").read_text()
+        for order in range(10):
+            yield name, text, order, 2 * TURNS
+    yield "three hosts on one frame", text_of_one_frame(top), 0, 0
+
+
+def text_of_one_frame(top):
+    return Path(top, "checks/cases/three_hosts.job").read_text().replace("frames 8", "frames 1")
+
+
 def main(top, count, *command):
     differing = 0
     with new_folder() as folder:
-        for number in range(int(count)):
-            drawing = Drawing(number)
-            text = drawing.job()
-            turns = TURNS * (number % 2)
-            drawn = drawn_turns(number, turns, text.count("\nhost ") + drawing.recorders)
-            if told := fault([*command, f"--order={number}", f"--turns={turns}"], text, drawn, folder):
+        for name, text, order, turns in cases(top, int(count)):
+            job = read_job(text.encode())
+            drawn = drawn_turns(order, turns, len(job.hosts) + job.recorders)
+            if told := fault([*command, f"--order={order}", f"--turns={turns}"], text, drawn, folder):
                 differing += 1
-                print(f"checks/random_jobs.py: job {number}: {told}", file=sys.stderr)
+                print(f"checks/random_jobs.py: {name}, order {order}: {told}", file=sys.stderr)
     return 1 if differing else 0
 
 
