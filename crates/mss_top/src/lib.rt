@@ -10,8 +10,6 @@ mod admission;
 mod ending;
 mod input;
 mod run;
-#[cfg(test)]
-mod run_tests;
 mod showing;
 mod status;
 #[cfg(test)]
