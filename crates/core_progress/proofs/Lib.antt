@@ -3,7 +3,6 @@ pub mod AtRest
 pub mod Idle
 pub mod Progress
 pub mod Told
-pub mod Walks
 pub mod OneRequest
 pub mod OtherDevices
 pub mod RunStays

@@ -19,8 +19,7 @@ use Rattle.core_state.specs.IsCore.{IsPlaced}
 use Rattle.core_state.specs.Pins.{host_at, volume_under, owns, owner_of, are_all_bound, is_on, state_in}
 use Rattle.core_state.specs.HostRules.{data_command, is_for, request_for, is_moving_request, fault_of, volume_of, state_under, frame_under, stopped_rule, full_rule, busy_rule, moving_rule, taken_from, would_bind, held_rule, failed_rule, fault_rule, mark_rule, data_rule, host_rule}
 use Rattle.core_state.specs.Steps.{ends_request}
-use Rattle.core_state.proofs.RuleWalks.{none_some, either, where_test, mapped, found, tested}
-use Rattle.core_progress.proofs.Walks.{in_order, mapped_at, chained_at}
+use Rattle.core_state.proofs.RuleWalks.{none_some, either, where_test, mapped, found, tested, either_then, mapped_at, chained_at}
 use Rattle.core_progress.proofs.Progress.{found_below, owner_owns}
 
 -- ---- what is said
@@ -97,8 +96,8 @@ module _ (core : CoreData) (h : ℕ) (call : CallData) where
   data_says : (c : Command) → data_command host call ≡ Some c → ForSome (data_rule core host c) Said
   data_says c is =
       let asked : IsAsked core h call (volume_of host) host.cylinder = record { data_ = ap is_some is; volume_ = refl; cylinder_ = refl } in
-      in_order Said (fault_rule core host c) _ (where_test Said (nat_lt (state_under core host) 2) _ λ _. either_way asked (not (is_some (frame_under core host)) && are_all_bound core)) λ staged.
-      in_order Said (mark_rule core host c) _ (where_test Said (is_write c && nat_lt (state_under core host) 4) (Marks (volume_of host) host.cylinder) λ may_mark. record {
+      either_then Said (fault_rule core host c) _ (where_test Said (nat_lt (state_under core host) 2) _ λ _. either_way asked (not (is_some (frame_under core host)) && are_all_bound core)) λ staged.
+      either_then Said (mark_rule core host c) _ (where_test Said (is_write c && nat_lt (state_under core host) 4) (Marks (volume_of host) host.cylinder) λ may_mark. record {
         asked = asked;
         staged = ltb-false (state_under core host) 2 (none_where (nat_lt (state_under core host) 2) _ staged);
         unchanged = ltb-true (state_under core host) 4 (and_parts (is_write c) (nat_lt (state_under core host) 4) may_mark).1;

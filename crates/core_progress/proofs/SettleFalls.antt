@@ -30,13 +30,12 @@ use Rattle.core_state.specs.IsCore.{IsCore}
 use Rattle.core_state.specs.Pins.{is_ready, frame_in, asked_page, page_of, state_of_row, state_in, is_moving, free_frame, candidates, changed_in}
 use Rattle.core_state.specs.WorkRules.{task_of, held_in, transfer, destaging, staging_kind, staging, next_transfer, transfer_of, stopped_rule, return_rule, pick_on, pick_for, first_pick, pick_rule, is_within, abandon_rule, needs_cartridge, is_in_cell, carry_for, carry_rule, copy_rule, end_rule, free_rule, assign_rule, task_rule, work_rule}
 use Rattle.core_state.specs.WorkEvents.{WithTask, TaskDoes, EndsIt, WorkDoes, WorkEvent}
-use Rattle.core_state.proofs.RuleWalks.{some_is, none_some, nothing, this, where_test, found}
+use Rattle.core_state.proofs.RuleWalks.{some_is, none_some, nothing, this, where_test, found, either_then, mapped_at, chained_at}
 use Rattle.core_progress.specs.CoreFits.{CoreFits}
 use Rattle.core_progress.specs.WorkLeft.{copies_left, needed, work_left, settle_left}
 use Rattle.core_progress.proofs.Fits.{core_fits}
 use Rattle.core_progress.proofs.OneRequest.{OnlyOne, one_stated}
 use Rattle.core_progress.proofs.RunStays.{Keeps, KeepsFours, Never, requests_stay, request_goes, same_fours, within_states, within_rows, row_fours, all_fours, destaged_fours, staged_fours, freed_fours}
-use Rattle.core_progress.proofs.Walks.{in_order, mapped_at, chained_at}
 use Rattle.core_progress.proofs.WorkFalls.{picked_falls, ended_falls, abandoned_falls, copied_falls, destaged_falls, staged_falls, freed_falls, assigned_falls, work_falls, returned_falls, exchanged_falls, fetched_falls}
 
 -- ---- the transfer of a task
@@ -147,7 +146,7 @@ module _ (tells : Type 0) (may : List Candidate → ℕ → Type 0) (core core' 
     picks h r has queued free (Some frame) = where_test Falls (not (is_moving core frame)) (Picks h frame) λ _ does.
         becomes_less _ does.2 refl (λ there. picked_falls core i h r has there frame None free queued) (goes_run h r has (ap is_ready queued) _ request.Moving refl refl refl (same_fours core.rows core.rows refl))
     picks h r has queued free None =
-        in_order Falls (option_map (Picks h) (free_frame core)) (where_so (nat_lt 0 (length (candidates core))) (PicksVictim h))
+        either_then Falls (option_map (Picks h) (free_frame core)) (where_so (nat_lt 0 (length (candidates core))) (PicksVictim h))
         (mapped_at Falls (Picks h) (free_frame core) λ frame _ does.
         becomes_less _ does.2 refl (λ there. picked_falls core i h r has there frame None free queued) (goes_run h r has (ap is_ready queued) _ request.Moving refl refl refl (same_fours core.rows core.rows refl))) λ _.
         where_test Falls (nat_lt 0 (length (candidates core))) (PicksVictim h) λ _ does.
@@ -163,7 +162,7 @@ module _ (tells : Type 0) (may : List Candidate → ℕ → Type 0) (core core' 
     all_picks : task_of core i ≡ None → (requests : RequestsData) → ((asked : ℕ × Request) → Contains requests asked → Contains core.requests asked) → Each (first_pick core requests)
     all_picks free [] inside = nothing Falls None refl
     all_picks free (asked ∷ more) inside =
-        in_order Falls (pick_for core asked.0 asked.1 asked.1.state) (first_pick core more)
+        either_then Falls (pick_for core asked.0 asked.1 asked.1.state) (first_pick core more)
         (by_state asked.0 asked.1 (lookup-from_Contains nat_eq_equiv asked.0 asked.1 core.requests kept.requests_ (inside asked (0, omega arith, refl))) free asked.1.state refl) λ _.
         all_picks free more (λ other at. inside other (suc at.0, omega (arith, at.1), at.2))
 
@@ -292,12 +291,12 @@ module _ (tells : Type 0) (may : List Candidate → ℕ → Type 0) (core core' 
 
     task_each : Each (task_rule core i task)
     task_each =
-        in_order Falls (abandon_rule task) _ abandon_each λ stays.
-        in_order Falls (option_and_then (λ t. carry_rule core i t or copy_rule t or end_rule t) (transfer_of core task)) _
+        either_then Falls (abandon_rule task) _ abandon_each λ stays.
+        either_then Falls (option_and_then (λ t. carry_rule core i t or copy_rule t or end_rule t) (transfer_of core task)) _
         (chained_at Falls (λ t. carry_rule core i t or copy_rule t or end_rule t) (transfer_of core task) λ t is.
-        in_order Falls (carry_rule core i t) _ (carry_each t is) λ _.
-        in_order Falls (copy_rule t) (end_rule t) (copy_each t is) λ over. end_each stays t is (none_where (nat_lt t.next 19) (Copies t) over)) λ idle.
-        in_order Falls (free_rule task) (assign_rule core task) free_each λ none.
+        either_then Falls (carry_rule core i t) _ (carry_each t is) λ _.
+        either_then Falls (copy_rule t) (end_rule t) (copy_each t is) λ over. end_each stays t is (none_where (nat_lt t.next 19) (Copies t) over)) λ idle.
+        either_then Falls (free_rule task) (assign_rule core task) free_each λ none.
         assign_each (map_none (λ page. Frees page.0 page.1) task.victim none) (no_transfer (transfer_of core task) idle) where
           no_transfer : (o : Option Transfer) → option_and_then (λ t. carry_rule core i t or copy_rule t or end_rule t) o ≡ None → o ≡ None
           no_transfer None e = refl
@@ -307,9 +306,9 @@ module _ (tells : Type 0) (may : List Candidate → ℕ → Type 0) (core core' 
   pub settle_falls : WorkEvent tells may core i (Did kind) core' → LessLeft core'
   unfolding work_rule
   settle_falls event = found Falls (stopped_rule core or return_rule core i or pick_rule core i or option_and_then (task_rule core i) (task_of core i)) IsIdle
-      (in_order Falls (stopped_rule core) _ (mapped_at Falls IsStopped core.stopped λ fault _ does. absurd (let e = does.0 in cc)) λ _.
-      in_order Falls (return_rule core i) _ return_each λ _.
-      in_order Falls (pick_rule core i) _ pick_each λ _.
+      (either_then Falls (stopped_rule core) _ (mapped_at Falls IsStopped core.stopped λ fault _ does. absurd (let e = does.0 in cc)) λ _.
+      either_then Falls (return_rule core i) _ return_each λ _.
+      either_then Falls (pick_rule core i) _ pick_each λ _.
       chained_at Falls (task_rule core i) (task_of core i) λ task works.
       let s = fit.tasks_.serves i task works in task_each task works s.0 s.1 s.2)
       (λ does. absurd (let e = does.0 in cc)) event

@@ -2,6 +2,7 @@ pub mod RuleWalks
 pub mod LookLemmas
 pub mod Limits
 pub mod CountedFacts
+pub mod Later
 pub mod HostFacts
 pub mod StopsLemmas
 pub mod AnsweredFacts

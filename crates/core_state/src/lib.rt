@@ -39,11 +39,11 @@
 //!
 //! Lemmas that the layers above cite, all in `proofs/`: a whole core after an event is
 //! `WholeEvents`, `BesideFacts`, `Moved` and `Begun`, of `EntryLemmas`, `CoreWork`, `RowEvents`,
-//! `StopsLemmas` and `ChangeLemmas`; its counts are `CountedFacts`; its tasks, rows, hosts and
-//! requests are `TaskLists`, `TaskRows`, `Others`, `RowOwners`, `MovingFacts`, `Serving`,
-//! `HostFacts`, `HostTasks`, `HostRequests`, `Fitting` and `CoreFacts`; the first rule of many is
-//! `RuleWalks`, with `Limits`. Worked sessions, by computing, are `Row10`, `Row11`, `Row12` and
-//! `Row28`, each a chain of events by `RunnerWork`.
+//! `StopsLemmas` and `ChangeLemmas`; its counts are `CountedFacts`; later moments, one after the
+//! other, are `Later`; its tasks, rows, hosts and requests are `TaskLists`, `TaskRows`, `Others`,
+//! `RowOwners`, `MovingFacts`, `Serving`, `HostFacts`, `HostTasks`, `HostRequests`, `Fitting` and
+//! `CoreFacts`; the first rule of many is `RuleWalks`, with `Limits`. Worked sessions, by computing,
+//! are `Row10`, `Row11`, `Row12` and `Row28`, each a chain of events by `RunnerWork`.
 #![tactic(auto)]
 
 mod change;

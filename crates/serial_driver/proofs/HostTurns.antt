@@ -14,7 +14,7 @@ use Rattle.core_state.specs.IsCore.{IsCore}
 use Rattle.core_state.specs.Pins.{host_at}
 use Rattle.host_events.proofs.EventLeaves.{keeps_beginning, leaves_cartridges}
 use Rattle.host_events.proofs.RuleFacts.{core_seen}
-use Rattle.serial_driver.proofs.Later.{later_none}
+use Rattle.core_state.proofs.Later.{later_none}
 use Rattle.serial_driver.specs.declared.answer.DriveAnswer.{DriveAnswer}
 use Rattle.serial_driver.specs.declared.answer.DriveAnswer.TheVariants.{Done, Stopped, CommandLimit, Memory}
 use Rattle.serial_driver.specs.declared.place.Place.{Place}

@@ -12,7 +12,6 @@ pub mod HostTurns
 pub mod EventRuns
 pub mod TurnFacts
 pub mod SettleFacts
-pub mod Later
 pub mod OwnerFacts
 pub mod RoundFacts
 pub mod ActorFacts
