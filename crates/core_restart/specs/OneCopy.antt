@@ -1,26 +1,26 @@
--- Rows of which each copy tells the row alone.
-use Rattle.std.specs.Prelude.{◌≡◌, ◌⊎◌, ◌<◌, ℕ, false}
-use Rattle.mss_base.specs.Content.{Content}
+-- What is said of surveys where each copy of a row tells it alone.
+use Rattle.std.specs.Prelude.{◌≡◌, ◌⊎◌, ℕ, List, length, Option, Result, Err, IfOk}
 use Rattle.mss_base.specs.Counts.{Rises, next_count}
-use Rattle.mss_base.specs.declared.place.UnitNo.TheVariants.{TableA, TableB}
 use Rattle.volume_table.specs.Row.{RowValue}
-use Rattle.table_pair.specs.Copies.{copy_at}
-use Rattle.table_pair.specs.Pair.{HoldsRow, AreClosed}
-
--- both copies of a volume's row are closed, and neither was ever made
-pub record AreUnmade (volume : ℕ) (c : Content) : Type 0 where
-  pub closed : AreClosed volume c
-  pub a : (copy_at (c TableA volume)).is_made ≡ false
-  pub b : (copy_at (c TableB volume)).is_made ≡ false
-
--- each of the two copies of a volume's row tells it alone: both are open with it, or neither was
--- ever made
-abbrev pub IsPaired : ℕ → Content → Type 0
-IsPaired volume c = ((row : RowValue) × HoldsRow row volume c) ⊎ AreUnmade volume c
-
-abbrev pub ArePaired : Content → Type 0
-ArePaired c = (volume : ℕ) → volume < 32 → IsPaired volume c
+use Rattle.shown_volumes.specs.declared.refused.Refused.{Refused}
+use Rattle.shown_volumes.specs.declared.refused.Refused.TheVariants.{Memory}
+use Rattle.mss_base.specs.Content.{Content}
+use Rattle.mss_restart.specs.Survey.{IsExact}
 
 -- the count of faults rose at two calls at least, or stands at its last value
 abbrev pub RisesTwice : ℕ → ℕ → Type 0
 RisesTwice before now = Rises (next_count before) now
+
+-- what a survey answers of a content: the rows of all volumes, or its first fault, or that memory
+-- ran out
+abbrev pub SurveyAnswer : Type 0
+SurveyAnswer = Result (List (Option RowValue)) Refused
+
+pub record IsAnswerOf (frames : ℕ) (asked : ℕ → Option (List ℕ)) (c : Content)
+    (result : SurveyAnswer) : Type 0 where
+  pub exact : IsExact frames asked c result
+  pub whole : IfOk result (λ rows. length rows ≡ 32)
+
+-- two surveys answered the same, or memory ran out in one of them
+abbrev pub AreOneAnswer : SurveyAnswer → SurveyAnswer → Type 0
+AreOneAnswer result other = (other ≡ result) ⊎ ((result ≡ Err Memory) ⊎ (other ≡ Err Memory))

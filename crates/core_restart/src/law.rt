@@ -11,7 +11,8 @@ ghost use Rattle.mss_restart.specs.declared.opening.Opened.{Opened};
 ghost use Rattle.mss_restart.specs.Survey.{IsExact, Surveys, TellsNoFailure};
 ghost use Rattle.core_state.specs.CoreValue.{CoreValue, DevicesSeen};
 ghost use Rattle.core_state.specs.IsCore.{IsTold};
-ghost use Rattle.core_restart.specs.OneCopy.{ArePaired, RisesTwice};
+ghost use Rattle.mss_restart.specs.OneCopy.{ArePaired};
+ghost use Rattle.core_restart.specs.OneCopy.{AreOneAnswer, IsAnswerOf, RisesTwice, SurveyAnswer};
 ghost use Rattle.core_restart.specs.TakingUp.{
   Answer,
   BeginsWith,
@@ -72,7 +73,7 @@ pub fn restart_takes_up_its_own_stops<S: Site, C: Choose>()
 
 /// Where each copy of each row tells the row alone, it changes nothing which copies can't be read: a survey that tells no
 /// failed call answers just what the content is, or that memory ran out. A row that it tells as unread was read in vain
-/// from both copies.
+/// from both copies. Whatever failed, two surveys that answer what a content is answer the same.
 pub fn one_unreadable_copy_changes_nothing()
     ensures exact { (before now frames : ℕ) (asked : ℕ → Option (List ℕ)) (c : Content)
         (result : Result (List (Option RowValue)) Refused) → ArePaired c
@@ -82,4 +83,7 @@ pub fn one_unreadable_copy_changes_nothing()
         (c : Content) → ArePaired c
         → Surveys before now frames asked c (Err (RowUnread volume fault))
         → RisesTwice before now }
+    ensures same { (frames : ℕ) (asked : ℕ → Option (List ℕ)) (c : Content)
+        (result other : SurveyAnswer) → IsAnswerOf frames asked c result
+        → IsAnswerOf frames asked c other → AreOneAnswer result other }
 {}

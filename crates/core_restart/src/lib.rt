@@ -5,7 +5,7 @@
 //! of a core in `specs/Opening.antt`; with which volumes its session begins is in `specs/TakingUp.antt`.
 //!
 //! They rely on `law` too: whatever a stop leaves, of a session or of a restart, is taken up; and it changes nothing which
-//! copies of rows can't be read, where each copy tells its row alone (`specs/OneCopy.antt`).
+//! copies of rows can't be read, where each copy tells its row alone (`specs/OneCopy.antt` of `mss_restart`).
 #![tactic(auto)]
 
 mod console;

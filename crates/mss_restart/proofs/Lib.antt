@@ -15,3 +15,5 @@ pub mod UsableFacts
 pub mod KnownRows
 pub mod Completed
 pub mod Finishing
+pub mod OneCopy
+pub mod OneTable

@@ -5,3 +5,4 @@ pub mod Cartridges
 pub mod Opening
 pub mod Creations
 pub mod Answers
+pub mod OneCopy

@@ -18,8 +18,10 @@ ghost use Rattle.mss_restart.specs.Survey.{
   ReadsVolume,
   ReadsWhole,
   ReadsWholeRows,
+  TellsNoFailure,
   TellsRow,
 };
+ghost use Rattle.mss_restart.specs.OneCopy.{ArePaired, IsPaired, LosesOneTable};
 
 use crate::numbers::volume_at;
 use mss_base::{Listed, Serial, Site, VolumeNo};
@@ -102,6 +104,8 @@ fn read_volume<S: Site>(
     ensures serial { IfOk result (λ read. serial_fault volume read.row asked ≡ None) }
     ensures counts { KeepsRead (S.faults site.old) (S.faults site.new) result }
     ensures works { NeverFails S.never_fails_but site.old → ReadsWhole result }
+    ensures one_copy { S.tells → LosesOneTable S.never_fails_but site.old
+        → IsPaired volume (content (S.told site.old)) → TellsNoFailure result }
     ensures devices { OnlyReads S.tells S.told S.spare S.writes S.faults S.never_fails_but
         site.old site.new }
 {
@@ -127,6 +131,8 @@ pub fn read_rows<S: Site>(
     ensures whole { IfOk result (λ read. length read.rows.items ≡ 32) }
     ensures counts { KeepsRows (S.faults site.old) (S.faults site.new) result }
     ensures works { NeverFails S.never_fails_but site.old → ReadsWholeRows result }
+    ensures one_copy { S.tells → LosesOneTable S.never_fails_but site.old
+        → ArePaired (content (S.told site.old)) → TellsNoFailure result }
     ensures devices { OnlyReads S.tells S.told S.spare S.writes S.faults S.never_fails_but
         site.old site.new }
 {

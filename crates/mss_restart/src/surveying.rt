@@ -5,6 +5,7 @@ ghost use Rattle.mss_base.specs.Sites.{OnlyReads};
 ghost use Rattle.ckd_plain.specs.Plain.{serial_in};
 ghost use Rattle.volume_table.specs.Listed.{listed};
 ghost use Rattle.mss_restart.specs.Walks.{rest_fault};
+ghost use Rattle.mss_restart.specs.OneCopy.{ArePaired, CanReadTracks, LosesOneTable};
 ghost use Rattle.mss_restart.specs.Survey.{
   AreRead,
   CountsFaults,
@@ -44,7 +45,7 @@ fn check_rows<S: Site>(
     ensures usable { (asked : ℕ → Option (List ℕ)) → HasSerialsAsked asked (listed rows.now)
         → OnOk result (AreUsable frames asked (listed rows.now)) }
     ensures counts { CountsFaults (S.faults site.old) (S.faults site.new) result }
-    ensures works { NeverFails S.never_fails_but site.old → TellsNoFailure result }
+    ensures works { CanReadTracks S.never_fails_but site.old → TellsNoFailure result }
     ensures devices { OnlyReads S.tells S.told S.spare S.writes S.faults S.never_fails_but
         site.old site.new }
 {
@@ -74,6 +75,8 @@ pub fn survey_rows<S: Site>(
     ensures whole { IfOk result (λ read. length read.rows.items ≡ 32) }
     ensures counts { KeepsRows (S.faults site.old) (S.faults site.new) result }
     ensures works { NeverFails S.never_fails_but site.old → ReadsWholeRows result }
+    ensures one_copy { S.tells → LosesOneTable S.never_fails_but site.old
+        → ArePaired (content (S.told site.old)) → TellsNoFailure result }
     ensures devices { OnlyReads S.tells S.told S.spare S.writes S.faults S.never_fails_but
         site.old site.new }
 {
@@ -84,9 +87,10 @@ pub fn survey_rows<S: Site>(
 
 /// Surveys a site: the rows of all volumes, or the first fault in the order of the four walks.
 ///
-/// Nothing is written. Where no read failed, the answer is exactly the content's. `RowUnread` and `Stopped` come only
-/// where a read failed, the last one, and keep the site's count of faults behind it. The rows can be used whatever the
-/// devices tell: no cartridge and no frame stands in two of them.
+/// Nothing is written. Where no read failed, the answer is exactly the content's. So it is where reads of one unit of
+/// the table fail, and no others, if each copy tells its row alone. `RowUnread` and `Stopped` come only where a read
+/// failed, the last one, and keep the site's count of faults behind it. The rows can be used whatever the devices
+/// tell: no cartridge and no frame stands in two of them.
 pub fn survey<S: Site>(alloc: Global, site: &mut S, config: &Config) -> Result<Rows, Refused>
     ensures found { S.tells → Surveys (S.faults site.old) (S.faults site.new) config.now.frames
         (serial_in config.now.volumes) (content (S.told site.old)) (rows_given result) }
@@ -99,6 +103,10 @@ pub fn survey<S: Site>(alloc: Global, site: &mut S, config: &Config) -> Result<R
     ensures whole { IfOk result (λ rows. length rows.items ≡ 32) }
     ensures kept { KeepsFault (S.faults site.old) (S.faults site.new) result }
     ensures works { NeverFails S.never_fails_but site.old → TellsNoFailure result }
+    ensures one_copy { S.tells → LosesOneTable S.never_fails_but site.old
+        → ArePaired (content (S.told site.old))
+        → IsExact config.now.frames (serial_in config.now.volumes) (content (S.told site.old))
+        (rows_given result) }
     ensures devices { OnlyReads S.tells S.told S.spare S.writes S.faults S.never_fails_but
         site.old site.new }
 {

@@ -10,7 +10,9 @@ ghost use Rattle.shown_volumes.specs.Faults.{is_torn, is_blank, is_same_list, ro
 ghost use Rattle.shown_volumes.specs.declared.refused.Refused.TheVariants.{TornTrack, StagedDiffers};
 ghost use Rattle.volume_table.specs.Listed.{listed};
 ghost use Rattle.mss_restart.specs.Walks.{row_cylinder_fault, row_tracks_fault};
-ghost use Rattle.mss_restart.specs.Survey.{FindsFault, Finds, CountsFaults, NeverFails, TellsNoFailure};
+ghost use Rattle.table_pair.specs.Reads.{IsReadable};
+ghost use Rattle.mss_restart.specs.OneCopy.{CanReadTracks};
+ghost use Rattle.mss_restart.specs.Survey.{FindsFault, Finds, CountsFaults, TellsNoFailure};
 ghost use Rattle.shown_volumes.specs.declared.refused.Refused.{Refused};
 
 use crate::numbers::{cylinder_at, head_at, volume_at};
@@ -29,7 +31,7 @@ fn read_block<S: Site>(site: &mut S, place: &BlockPlace, into: &mut [u8]) -> Res
         OnOk result (into.new ≡ block_at (content (S.told site.old)) place.now) }
     ensures device { IfErr result (λ r. (found : Option Refused) → FindsFault r found) }
     ensures counts { CountsFaults (S.faults site.old) (S.faults site.new) result }
-    ensures works { NeverFails S.never_fails_but site.old → TellsNoFailure result }
+    ensures works { IsReadable S.never_fails_but site.old place.now.unit → TellsNoFailure result }
     ensures devices { OnlyReads S.tells S.told S.spare S.writes S.faults S.never_fails_but
         site.old site.new }
 {
@@ -56,7 +58,7 @@ fn check_shown<S: Site>(
     ensures block { S.tells →
         OnOk result (into.new ≡ block_at (content (S.told site.old)) place.now) }
     ensures counts { CountsFaults (S.faults site.old) (S.faults site.new) result }
-    ensures works { NeverFails S.never_fails_but site.old → TellsNoFailure result }
+    ensures works { IsReadable S.never_fails_but site.old place.now.unit → TellsNoFailure result }
     ensures devices { OnlyReads S.tells S.told S.spare S.writes S.faults S.never_fails_but
         site.old site.new }
 {
@@ -85,7 +87,7 @@ fn check_blank<S: Site>(
         (where_so (not (is_blank (reading (block_at (content (S.told site.old)) place.now))))
         (StagedDiffers volume cylinder head)) }
     ensures counts { CountsFaults (S.faults site.old) (S.faults site.new) result }
-    ensures works { NeverFails S.never_fails_but site.old → TellsNoFailure result }
+    ensures works { IsReadable S.never_fails_but site.old place.now.unit → TellsNoFailure result }
     ensures devices { OnlyReads S.tells S.told S.spare S.writes S.faults S.never_fails_but
         site.old site.new }
 {
@@ -115,7 +117,7 @@ fn check_copy<S: Site>(
         (where_so (not (is_same_list (block_at (content (S.told site.old)) place.now) shown.now))
         (StagedDiffers volume cylinder head)) }
     ensures counts { CountsFaults (S.faults site.old) (S.faults site.new) result }
-    ensures works { NeverFails S.never_fails_but site.old → TellsNoFailure result }
+    ensures works { IsReadable S.never_fails_but site.old place.now.unit → TellsNoFailure result }
     ensures devices { OnlyReads S.tells S.told S.spare S.writes S.faults S.never_fails_but
         site.old site.new }
 {
@@ -172,7 +174,7 @@ fn check_track_of<S: Site>(
     ensures finds { S.tells → Finds result
         (row_track_fault (content (S.told site.old)) volume cylinder head row.now) }
     ensures counts { CountsFaults (S.faults site.old) (S.faults site.new) result }
-    ensures works { NeverFails S.never_fails_but site.old → TellsNoFailure result }
+    ensures works { CanReadTracks S.never_fails_but site.old → TellsNoFailure result }
     ensures devices { OnlyReads S.tells S.told S.spare S.writes S.faults S.never_fails_but
         site.old site.new }
 {
@@ -213,7 +215,7 @@ fn check_cylinder<S: Site>(
     ensures finds { S.tells → Finds result
         (row_cylinder_fault (content (S.told site.old)) volume row.now cylinder) }
     ensures counts { CountsFaults (S.faults site.old) (S.faults site.new) result }
-    ensures works { NeverFails S.never_fails_but site.old → TellsNoFailure result }
+    ensures works { CanReadTracks S.never_fails_but site.old → TellsNoFailure result }
     ensures devices { OnlyReads S.tells S.told S.spare S.writes S.faults S.never_fails_but
         site.old site.new }
 {
@@ -236,7 +238,7 @@ fn check_row<S: Site>(
     ensures finds { S.tells → Finds result
         (row_tracks_fault (content (S.told site.old)) volume row.now) }
     ensures counts { CountsFaults (S.faults site.old) (S.faults site.new) result }
-    ensures works { NeverFails S.never_fails_but site.old → TellsNoFailure result }
+    ensures works { CanReadTracks S.never_fails_but site.old → TellsNoFailure result }
     ensures devices { OnlyReads S.tells S.told S.spare S.writes S.faults S.never_fails_but
         site.old site.new }
 {
@@ -260,7 +262,7 @@ fn check_volume<S: Site>(
     ensures finds { S.tells → Finds result
         (tracks_fault (listed rows.now) (content (S.told site.old)) volume) }
     ensures counts { CountsFaults (S.faults site.old) (S.faults site.new) result }
-    ensures works { NeverFails S.never_fails_but site.old → TellsNoFailure result }
+    ensures works { CanReadTracks S.never_fails_but site.old → TellsNoFailure result }
     ensures devices { OnlyReads S.tells S.told S.spare S.writes S.faults S.never_fails_but
         site.old site.new }
 {
@@ -285,7 +287,7 @@ pub fn check_tracks<S: Site>(
     ensures finds { S.tells → Finds result
         (first_below 32 (tracks_fault (listed rows.now) (content (S.told site.old)))) }
     ensures counts { CountsFaults (S.faults site.old) (S.faults site.new) result }
-    ensures works { NeverFails S.never_fails_but site.old → TellsNoFailure result }
+    ensures works { CanReadTracks S.never_fails_but site.old → TellsNoFailure result }
     ensures devices { OnlyReads S.tells S.told S.spare S.writes S.faults S.never_fails_but
         site.old site.new }
 {

@@ -149,3 +149,8 @@ abbrev pub SiteCounts : ℕ → ℕ → Answer → Type 0
 SiteCounts before now (Err (report_fault.Read fault)) = IsFaultSince before now fault
 SiteCounts before now (Err report_fault.Output) = before ≤ now
 SiteCounts before now _ = now ≡ before
+
+-- no failed read is told
+abbrev pub AnswersNoRead : Answer → Type 0
+AnswersNoRead (Err (report_fault.Read fault)) = ⊥
+AnswersNoRead _ = Unit {0}

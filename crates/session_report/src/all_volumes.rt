@@ -7,7 +7,9 @@ ghost use Rattle.volume_table.specs.Listed.{listed};
 ghost use Rattle.shown_volumes.specs.Shown.{shown_by};
 ghost use Rattle.session_report.specs.Answers.{SinkCounts};
 ghost use Rattle.session_report.specs.Parties.{between};
-ghost use Rattle.session_report.specs.Reports.{IsReported, SiteCounts, finished, listing_matter};
+ghost use Rattle.session_report.specs.Parts.{CanReadTracks};
+ghost use Rattle.session_report.specs.Reports.{AnswersNoRead, IsReported, SiteCounts};
+ghost use Rattle.session_report.specs.Reports.{finished, listing_matter};
 ghost use Rattle.session_report.specs.Reports.{heading_of, volumes_below};
 ghost use Rattle.session_report.specs.declared.reporting.Last.TheVariants.{End};
 
@@ -68,6 +70,7 @@ pub fn listing<S: Site, O: Sink>(
         (between S.tells S.told S.faults site.old site.new)
         (between O.tells O.told O.faults output.old output.new) result }
     ensures counted { SiteCounts (S.faults site.old) (S.faults site.new) result }
+    ensures works { CanReadTracks S.never_fails_but site.old → AnswersNoRead result }
     ensures site { OnlyReads S.tells S.told S.spare S.writes S.faults S.never_fails_but
         site.old site.new }
     ensures output { SinkCounts (O.faults output.old) (O.faults output.new) result }

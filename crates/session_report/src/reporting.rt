@@ -11,7 +11,9 @@ ghost use Rattle.report_text.specs.Causes.{HasOutputCause};
 ghost use Rattle.session_report.specs.Answers.{SinkCounts};
 ghost use Rattle.session_report.specs.Parties.{between};
 ghost use Rattle.session_report.specs.Parts.{PutsVolumes, CountsReads, CountsPuts};
-ghost use Rattle.session_report.specs.Reports.{IsReported, SiteCounts, ending_of, finished};
+ghost use Rattle.session_report.specs.Parts.{CanReadTracks, TellsNoRead};
+ghost use Rattle.session_report.specs.Reports.{AnswersNoRead, IsReported, SiteCounts};
+ghost use Rattle.session_report.specs.Reports.{ending_of, finished};
 ghost use Rattle.session_report.specs.Reports.{last_text, opening_text, report_matter};
 ghost use Rattle.session_report.specs.Reports.{untitled, volumes_text};
 
@@ -74,6 +76,7 @@ fn put_to_end<S: Site, O: Sink>(
         (volumes_text shown volumes.now ++ last_text last)
         (O.told output.old) (O.told output.new) result }
     ensures counted { CountsReads (S.faults site.old) (S.faults site.new) result }
+    ensures works { CanReadTracks S.never_fails_but site.old → TellsNoRead result }
     ensures site { OnlyReads S.tells S.told S.spare S.writes S.faults S.never_fails_but
         site.old site.new }
     ensures output { CountsPuts (O.faults output.old) (O.faults output.new) result }
@@ -108,6 +111,7 @@ pub fn put_ending<S: Site, O: Sink>(
         (between S.tells S.told S.faults site.old site.new)
         (between O.tells O.told O.faults output.old output.new) result }
     ensures counted { SiteCounts (S.faults site.old) (S.faults site.new) result }
+    ensures works { CanReadTracks S.never_fails_but site.old → AnswersNoRead result }
     ensures site { OnlyReads S.tells S.told S.spare S.writes S.faults S.never_fails_but
         site.old site.new }
     ensures output { SinkCounts (O.faults output.old) (O.faults output.new) result }
@@ -145,6 +149,7 @@ pub fn report<S: Site, O: Sink>(
         (between S.tells S.told S.faults site.old site.new)
         (between O.tells O.told O.faults output.old output.new) result }
     ensures counted { SiteCounts (S.faults site.old) (S.faults site.new) result }
+    ensures works { CanReadTracks S.never_fails_but site.old → AnswersNoRead result }
     ensures site { OnlyReads S.tells S.told S.spare S.writes S.faults S.never_fails_but
         site.old site.new }
     ensures output { SinkCounts (O.faults output.old) (O.faults output.new) result }

@@ -6,7 +6,7 @@ ghost use Rattle.volume_table.specs.Listed.{listed};
 ghost use Rattle.shown_volumes.specs.Shown.{shown_by};
 ghost use Rattle.report_text.specs.Texts.{track_text, heading_text};
 ghost use Rattle.session_report.specs.Parts.{row_tracks, PutsTrack, PutsTracks, PutsVolumes};
-ghost use Rattle.session_report.specs.Parts.{CountsReads, CountsPuts};
+ghost use Rattle.session_report.specs.Parts.{CanReadTracks, CountsReads, CountsPuts, TellsNoRead};
 ghost use Rattle.session_report.specs.Reports.{volumes_text};
 
 use crate::fault::VolumesFault;
@@ -33,6 +33,7 @@ fn put_shown<S: Site, O: Sink>(
         PutsTrack (S.tells × O.tells) (track_text cylinder head (tracks cylinder head))
         (O.told output.old) (O.told output.new) result }
     ensures counted { CountsReads (S.faults site.old) (S.faults site.new) result }
+    ensures works { CanReadTracks S.never_fails_but site.old → TellsNoRead result }
     ensures site { OnlyReads S.tells S.told S.spare S.writes S.faults S.never_fails_but
         site.old site.new }
     ensures output { CountsPuts (O.faults output.old) (O.faults output.new) result }
@@ -62,6 +63,7 @@ fn put_tracks<S: Site, O: Sink>(
         (row_tracks (content (S.told site.old)) (Some row.now))
         (O.told output.old) (O.told output.new) result }
     ensures counted { CountsReads (S.faults site.old) (S.faults site.new) result }
+    ensures works { CanReadTracks S.never_fails_but site.old → TellsNoRead result }
     ensures site { OnlyReads S.tells S.told S.spare S.writes S.faults S.never_fails_but
         site.old site.new }
     ensures output { CountsPuts (O.faults output.old) (O.faults output.new) result }
@@ -93,6 +95,7 @@ fn put_row<S: Site, O: Sink>(
         (row_tracks (content (S.told site.old)) row.now)
         (O.told output.old) (O.told output.new) result }
     ensures counted { CountsReads (S.faults site.old) (S.faults site.new) result }
+    ensures works { CanReadTracks S.never_fails_but site.old → TellsNoRead result }
     ensures site { OnlyReads S.tells S.told S.spare S.writes S.faults S.never_fails_but
         site.old site.new }
     ensures output { CountsPuts (O.faults output.old) (O.faults output.new) result }
@@ -119,6 +122,7 @@ fn put_volume<S: Site, O: Sink>(
         (row_tracks (content (S.told site.old)) (listed rows.now volume))
         (O.told output.old) (O.told output.new) result }
     ensures counted { CountsReads (S.faults site.old) (S.faults site.new) result }
+    ensures works { CanReadTracks S.never_fails_but site.old → TellsNoRead result }
     ensures site { OnlyReads S.tells S.told S.spare S.writes S.faults S.never_fails_but
         site.old site.new }
     ensures output { CountsPuts (O.faults output.old) (O.faults output.new) result }
@@ -144,6 +148,7 @@ pub fn put_volumes<S: Site, O: Sink>(
         PutsVolumes (S.tells × O.tells) shown volumes.now (volumes_text shown volumes.now)
         (O.told output.old) (O.told output.new) result }
     ensures counted { CountsReads (S.faults site.old) (S.faults site.new) result }
+    ensures works { CanReadTracks S.never_fails_but site.old → TellsNoRead result }
     ensures site { OnlyReads S.tells S.told S.spare S.writes S.faults S.never_fails_but
         site.old site.new }
     ensures output { CountsPuts (O.faults output.old) (O.faults output.new) result }

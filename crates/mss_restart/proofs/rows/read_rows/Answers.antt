@@ -1,7 +1,7 @@
 use Rattle.std.proofs.Common.{◌≡◌, refl, sym, ◌∙◌, ap, subst, arith, rules, Ok, Err, List, Option, None, Result, ℕ, ◌+◌, length, ◌++◌, ◌∷◌, []}
 use Rattle.std.specs.Option.{option_or}
 use Rattle.std.proofs.lemmas.Result.{err_from_is_err_and}
-use Rattle.mss_base.specs.Content.{content}
+use Rattle.mss_base.specs.Content.{Content, content}
 use Rattle.ckd_plain.specs.Plain.{serial_in}
 use Rattle.volume_table.specs.Row.{RowValue}
 use Rattle.shown_volumes.specs.Faults.{serial_fault}
@@ -13,6 +13,8 @@ use Rattle.mss_restart.specs.Survey.{ReadsRows, KeepsFirst, KeepsRows}
 use Rattle.mss_restart.proofs.Going.{nothing_read, read_on}
 use Rattle.mss_restart.proofs.RowLemmas.{cause_since}
 use Rattle.mss_restart.proofs.ReadRows.{SoFar, none_read, all_read, row_read, row_ends, rows_end, named, first_kept, one_longer, serials_on, no_serials}
+use Rattle.mss_restart.specs.OneCopy.{IsPaired}
+use Rattle.mss_restart.proofs.OneTable.{loses_on}
 use Rattle.mss_restart.proofs.rows.read_rows.Goals as goal
 
 pub loop-number-init : goal.loop-number-init
@@ -84,3 +86,12 @@ returns-clause-read g c = λ tells.
     let n : c.loop-number.number ≡ 32 = search rules in
     all_read (g.S.Site.faults c.args.site.now) (g.S.Site.faults c.loop-number.site) (serial_in c.args.volumes.now) (content (g.S.Site.told c.args.site.now)) c.loop-number.rows.items c.loop-number.unread
     (subst (λ (m : ℕ). SoFar (g.S.Site.faults c.args.site.now) (g.S.Site.faults c.loop-number.site) m (serial_in c.args.volumes.now) (content (g.S.Site.told c.args.site.now)) c.loop-number.rows.items c.loop-number.unread) n (c.loop-number.invariant.read tells))
+
+pub returns-in_err-read-clause-one_copy : goal.returns-in_err-read-clause-one_copy
+returns-in_err-read-clause-one_copy g c = λ tells loses paired.
+    let p = err_from_is_err_and c.from_residual-in_err-read.result c.from_residual-in_err-read.ensures.1 in
+    let known = c.loop-number.invariant in
+    let k = content (g.S.Site.told c.args.site.now) in
+    let here : IsPaired c.volume_at-volume.result (content (g.S.Site.told c.loop-number.site)) =
+    subst (λ (q : ℕ × Content). IsPaired q.0 q.1) (λ i. (sym c.volume_at-volume.ensures i, content (sym (known.devices.log tells) i))) (paired c.loop-number.number (omega (arith, c.loop-number-test.true))) in
+    rw (p.1, p.2) (c.in_err-read.ensures.one_copy tells (loses_on g.S.Site.never_fails_but c.args.site.now c.loop-number.site known.devices.sound loses) here)

@@ -10,6 +10,7 @@ use Rattle.volume_table.specs.Listed.{listed}
 use Rattle.mss_restart.specs.Walks.{rest_fault}
 use Rattle.mss_restart.specs.Survey.{FindsFault, Surveys, rows_read}
 use Rattle.mss_restart.proofs.Surveyed.{rows_survey, good_survey, bad_survey, renamed, read_renamed, later_rows}
+use Rattle.mss_restart.proofs.OneTable.{all_read_tracks, loses_on, reads_tracks}
 use Rattle.mss_restart.proofs.surveying.survey_rows.Goals as goal
 
 pub returns-in_err-read-clause-found : goal.returns-in_err-read-clause-found
@@ -62,3 +63,14 @@ returns-clause-read g c = λ tells.
     let rows = c.in_ok-read.read.rows.items in
     read_renamed before now c.as_slice.result.now c.args.config.now.volumes k rows c.in_ok-read.read.unread (c.as_slice.ensures ∙ ap (λ (x : ConfigData). x.volumes) c.config.view_is)
     (later_rows before mid now c.config.inside.frames (serial_in c.as_slice.result.now) k rows c.in_ok-read.read.unread (c.in_ok-read.ensures.read tells) c.in_ok-read.ensures.whole c.in_ok-check_rows.ensures.counts)
+
+pub returns-in_err-check_rows-clause-works : goal.returns-in_err-check_rows-clause-works
+returns-in_err-check_rows-clause-works g c = λ never.
+    let p = err_from_is_err_and c.from_residual-in_err-check_rows.result c.from_residual-in_err-check_rows.ensures.1 in
+    rw (p.1, p.2) (c.in_err-check_rows.ensures.works (all_read_tracks g.S.Site.never_fails_but c.read_rows.new.site (c.in_ok-read.ensures.devices.sound _ never)))
+
+pub returns-in_err-check_rows-clause-one_copy : goal.returns-in_err-check_rows-clause-one_copy
+returns-in_err-check_rows-clause-one_copy g c = λ tells loses paired.
+    let p = err_from_is_err_and c.from_residual-in_err-check_rows.result c.from_residual-in_err-check_rows.ensures.1 in
+    rw (p.1, p.2)
+    (c.in_err-check_rows.ensures.works (reads_tracks g.S.Site.never_fails_but c.read_rows.new.site (loses_on g.S.Site.never_fails_but c.args.site.now c.read_rows.new.site c.in_ok-read.ensures.devices.sound loses)))

@@ -4,6 +4,7 @@ use Rattle.mss_base.specs.Content.{Content, content}
 use Rattle.mss_restart.specs.Walks.{row_cylinder_fault}
 use Rattle.mss_base.proofs.FirstFacts.{none_yet}
 use Rattle.mss_restart.proofs.Going.{nothing_read, read_on, goes_on, ends_at}
+use Rattle.mss_restart.proofs.OneTable.{tracks_on}
 use Rattle.mss_restart.proofs.tracks.check_row.Goals as goal
 
 pub loop-number-init : goal.loop-number-init
@@ -33,3 +34,8 @@ loop-number-preserved g c =
       shown_whole = omega (arith, known.shown_whole, c.check_cylinder.auto.shown);
       staged_whole = omega (arith, known.staged_whole, c.check_cylinder.auto.staged);
     }
+
+pub returns-in_err-check_cylinder-clause-works : goal.returns-in_err-check_cylinder-clause-works
+returns-in_err-check_cylinder-clause-works g c = λ reads.
+    let p = err_from_is_err_and c.from_residual.result c.from_residual.ensures.1 in
+    rw (p.1, p.2) (c.in_err-check_cylinder.ensures.works (tracks_on g.S.Site.never_fails_but c.args.site.now c.loop-number.site c.loop-number.invariant.devices.sound reads))

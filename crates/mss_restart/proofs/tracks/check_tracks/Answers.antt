@@ -5,6 +5,7 @@ use Rattle.shown_volumes.specs.Faults.{tracks_fault}
 use Rattle.mss_base.proofs.FirstFacts.{none_yet}
 use Rattle.volume_table.specs.Listed.{listed}
 use Rattle.mss_restart.proofs.Going.{nothing_read, read_on, goes_on, ends_at}
+use Rattle.mss_restart.proofs.OneTable.{tracks_on}
 use Rattle.mss_restart.proofs.tracks.check_tracks.Goals as goal
 
 pub loop-number-init : goal.loop-number-init
@@ -34,3 +35,8 @@ loop-number-preserved g c =
       shown_whole = omega (arith, known.shown_whole, c.check_volume.auto.shown);
       staged_whole = omega (arith, known.staged_whole, c.check_volume.auto.staged);
     }
+
+pub returns-in_err-check_volume-clause-works : goal.returns-in_err-check_volume-clause-works
+returns-in_err-check_volume-clause-works g c = λ reads.
+    let p = err_from_is_err_and c.from_residual.result c.from_residual.ensures.1 in
+    rw (p.1, p.2) (c.in_err-check_volume.ensures.works (tracks_on g.S.Site.never_fails_but c.args.site.now c.loop-number.site c.loop-number.invariant.devices.sound reads))

@@ -3,7 +3,7 @@ use Rattle.std.proofs.lemmas.Result.{err_from_is_err_and}
 use Rattle.mss_base.specs.Content.{SiteLog, content}
 use Rattle.report_text.specs.Texts.{track_text}
 use Rattle.session_report.specs.Parts.{row_tracks}
-use Rattle.session_report.proofs.SiteReads.{reads_none, reads_then}
+use Rattle.session_report.proofs.SiteReads.{reads_none, reads_then, tracks_on}
 use Rattle.session_report.proofs.VolumeTexts.{tracks_begin, tracks_more, tracks_left, track_put_same}
 use Rattle.session_report.proofs.volumes.put_tracks.Goals as goal
 
@@ -38,3 +38,8 @@ loop-head-preserved g c = record {
   output_same = c.in_ok-put_shown.ensures.output.same (λ x. x) ∙ c.loop-head.invariant.output_same;
   whole = omega (arith, c.loop-head.invariant.whole, c.put_shown.auto.block);
 }
+
+pub returns-in_err-put_shown-clause-works : goal.returns-in_err-put_shown-clause-works
+returns-in_err-put_shown-clause-works g c = λ reads.
+    let p = err_from_is_err_and c.from_residual.result c.from_residual.ensures.1 in
+    rw (p.1, p.2) (c.in_err-put_shown.ensures.works (tracks_on g.S.Site.never_fails_but c.args.site.now c.loop-head.site c.loop-head.invariant.site.sound reads))

@@ -5,7 +5,7 @@ use Rattle.report_text.specs.Texts.{heading_text, tracks_text}
 use Rattle.volume_table.specs.Listed.{listed}
 use Rattle.shown_volumes.specs.Shown.{shown_by}
 use Rattle.session_report.specs.Parts.{row_tracks}
-use Rattle.session_report.proofs.SiteReads.{reads_then}
+use Rattle.session_report.proofs.SiteReads.{reads_then, tracks_on}
 use Rattle.session_report.proofs.VolumeTexts.{volumes_go_on, volumes_left, tracks_put_same}
 use Rattle.session_report.proofs.volumes.put_volumes.Goals as goal
 
@@ -35,3 +35,8 @@ loop-entry-preserved g c = record {
   output_same = c.in_ok-put_volume.ensures.output.same (λ x. x) ∙ c.loop-entry.invariant.output_same;
   whole = omega (arith, c.loop-entry.invariant.whole, c.put_volume.auto.block);
 }
+
+pub returns-in_err-put_volume-clause-works : goal.returns-in_err-put_volume-clause-works
+returns-in_err-put_volume-clause-works g c = λ reads.
+    let p = err_from_is_err_and c.from_residual.result c.from_residual.ensures.1 in
+    rw (p.1, p.2) (c.in_err-put_volume.ensures.works (tracks_on g.S.Site.never_fails_but c.args.site.now c.loop-entry.site c.loop-entry.invariant.site.sound reads))

@@ -1,0 +1,39 @@
+-- One copy of the table that can't be read, where each copy tells its row alone.
+use Rattle.std.specs.Prelude.{◌≡◌, ◌≢◌, ◌⊎◌, ◌<◌, ℕ, true, false}
+use Rattle.mss_base.specs.Content.{Content}
+use Rattle.mss_base.specs.Sites.{FailingReads}
+use Rattle.mss_base.specs.declared.place.UnitNo.{UnitNo}
+use Rattle.mss_base.specs.declared.place.UnitNo.TheVariants.{TableA, TableB}
+use Rattle.volume_table.specs.Row.{RowValue}
+use Rattle.table_pair.specs.Copies.{copy_at}
+use Rattle.table_pair.specs.Pair.{HoldsRow, AreClosed, is_table}
+use Rattle.table_pair.specs.Reads.{IsReadable}
+
+-- ---- the content
+
+-- both copies of a volume's row are closed, and neither was ever made
+pub record AreUnmade (volume : ℕ) (c : Content) : Type 0 where
+  pub closed : AreClosed volume c
+  pub a : (copy_at (c TableA volume)).is_made ≡ false
+  pub b : (copy_at (c TableB volume)).is_made ≡ false
+
+-- each of the two copies of a volume's row tells it alone: both are open with it, or neither was
+-- ever made
+abbrev pub IsPaired : ℕ → Content → Type 0
+IsPaired volume c = ((row : RowValue) × HoldsRow row volume c) ⊎ AreUnmade volume c
+
+abbrev pub ArePaired : Content → Type 0
+ArePaired c = (volume : ℕ) → volume < 32 → IsPaired volume c
+
+-- ---- the devices
+
+-- no read of a frame or a cartridge fails
+abbrev pub CanReadTracks : {S : Type 0} → FailingReads S → S → Type 0
+CanReadTracks never_fails_but s =
+    (unit : UnitNo) → is_table unit ≡ false → IsReadable never_fails_but s unit
+
+-- reads of one of the two units of the table may fail, and no others
+pub record LosesOneTable {S : Type 0} (never_fails_but : FailingReads S) (s : S) : Type 0 where
+  pub lost : UnitNo
+  pub of_table : is_table lost ≡ true
+  pub others : (unit : UnitNo) → unit ≢ lost → IsReadable never_fails_but s unit
