@@ -1,5 +1,5 @@
 -- What an event leaves of a pass and of the lock, from what it did to the history.
-use Rattle.std.proofs.Common.{◌≡◌, ℕ, List, [], ◌∷◌, ◌++◌, length, Option, Some, None, inl, inr, refl, sym, ◌∙◌, ap, subst}
+use Rattle.std.proofs.Common.{◌≡◌, ◌≤◌, ℕ, Bool, List, [], ◌∷◌, ◌++◌, length, Option, Some, None, inl, inr, refl, sym, ◌∙◌, ap, subst}
 use Rattle.std.specs.Prelude.{slice_get}
 use mathlib.Core.List.{IsPrefix}
 use Rattle.channel_commands.specs.Data.{CallData, ReplyData, stopped}
@@ -7,13 +7,17 @@ use Rattle.ckd_plain.specs.Data.{State}
 use Rattle.ckd_plain.specs.History.{EntryData, IsLegal}
 use Rattle.seen_book.specs.Openings.{OpeningData, IsLegalFrom}
 use Rattle.seen_book.specs.Books.{BookData, PassData}
+use Rattle.mss_base.specs.declared.place.UnitNo.{UnitNo}
+use Rattle.core_state.specs.Beginning.{IsLater}
 use Rattle.core_state.specs.CoreValue.{CoreData}
 use Rattle.core_state.specs.HostEvents.{halts}
 use Rattle.core_state.specs.IsCore.{opening_of}
+use Rattle.core_state.proofs.Later.{later_none, later_then}
 use Rattle.mss_run.specs.Answers.{Grows, IsFull}
-use Rattle.mss_run.specs.Beginning.{SetupData, SameBeginning, OpensWith, held_then}
+use Rattle.mss_run.specs.Beginning.{Failing, SetupData, OpensWith}
 use Rattle.mss_run.specs.Happens.{Enters, Happens}
 use Rattle.mss_run.specs.Held.{IsHeld}
+use Rattle.mss_run.proofs.EventFacts.{same_opening}
 
 -- ---- passes
 
@@ -65,20 +69,19 @@ is_full p q log long pre is = record {
 -- ---- the lock
 
 module _ (opening : OpeningData) (setup : SetupData) (tells : Type 0) where
-  -- an event keeps the opening
-  pub opens_still : (core core' : CoreData) → OpensWith opening setup tells core → SameBeginning tells core core' → OpensWith opening setup tells core'
-  opens_still core core' opens same = record {
+  -- an event leaves a later core of the same session
+  pub opens_still : (never never' : Failing) (core core' : CoreData) → OpensWith opening setup tells never core → (tells → core.first_write ≤ length core.site.told.log)
+      → IsLater tells core core' → ((but : UnitNo → Bool) → never but → never' but) → OpensWith opening setup tells never' core'
+  opens_still never never' core core' opens before later sound = record {
     to = opens.to;
     from = opens.from;
-    config_ = same.config_ ∙ opens.config_;
-    writes_ = same.writes_ ∙ opens.writes_;
-    faults_ = same.faults_ ∙ opens.faults_;
-    site_ = λ tl. same.site_ tl ∙ opens.site_ tl;
-    state_ = λ tl. same.state_ tl ∙ opens.state_ tl;
+    later = later_then tells setup.began core core' opens.later later;
+    state_ = λ tl. same_opening core core' later.beginning (later.grown tl) (before tl) ∙ opens.state_ tl;
+    sound = λ but none. sound but (opens.sound but none);
   }
 
-  pub legal_from : (core : CoreData) → OpensWith opening setup tells core → (tells → IsLegal (opening_of core.site.told core) core.history) → IsLegalFrom opening core.history
-  legal_from core opens legal = λ tl. let here = opens.to tl in subst (λ (s : State). IsLegal s core.history) (opens.state_ here) (legal here)
+  pub legal_from : (never : Failing) (core : CoreData) → OpensWith opening setup tells never core → (tells → IsLegal (opening_of core.site.told core) core.history) → IsLegalFrom opening core.history
+  legal_from never core opens legal = λ tl. let here = opens.to tl in subst (λ (s : State). IsLegal s core.history) (opens.state_ here) (legal here)
 
 -- the book that is there has the list that is kept
 pub list_is : (b : Option BookData) (x : BookData) (log : List EntryData) (made : List ℕ) → b ≡ Some x → b ≡ Some record { list = log; made = made } → x.list ≡ log
@@ -93,24 +96,10 @@ book_there b x none some = absurd (let e : None ≡ Some x = sym none ∙ some i
 
 -- ---- the whole session
 
-pub begins_itself : (tells : Type 0) (core : CoreData) → SameBeginning tells core core
-begins_itself tells core = record { config_ = refl; faults_ = refl; writes_ = refl; site_ = λ _. refl; state_ = λ _. refl }
+-- the session of a core has its own opening
+pub opens_itself : (tells : Type 0) (never : Failing) (core : CoreData) → OpensWith (record { tells = tells; state = opening_of core.site.told core }) (record { began = core; never_fails_but = never }) tells never core
+opens_itself tells never core = record { to = λ t. t; from = λ t. t; later = later_none tells core; state_ = λ _. refl; sound = λ but none. none }
 
--- the opening that a core's own session has
-pub opens_itself : (tells : Type 0) (core : CoreData)
-    → OpensWith (record { tells = tells; site = held_then core; faults = core.first_faults; state = opening_of core.site.told core }) (record { config = core.config; first_write = core.first_write }) tells core
-opens_itself tells core = record { to = λ t. t; from = λ t. t; config_ = refl; writes_ = refl; faults_ = refl; site_ = λ _. refl; state_ = λ _. refl }
-
-module _ (opening : OpeningData) (setup : SetupData) (tells : Type 0) (core : CoreData) (opens : OpensWith opening setup tells core) where
-  -- two cores of one name began alike
-  pub begins_by : (core' : CoreData) → OpensWith opening setup tells core' → SameBeginning tells core core'
-  begins_by core' after = record {
-    config_ = after.config_ ∙ sym opens.config_;
-    faults_ = after.faults_ ∙ sym opens.faults_;
-    writes_ = after.writes_ ∙ sym opens.writes_;
-    site_ = λ tl. after.site_ tl ∙ sym (opens.site_ tl);
-    state_ = λ tl. after.state_ tl ∙ sym (opens.state_ tl);
-  }
-
+module _ (opening : OpeningData) (setup : SetupData) (tells : Type 0) (never : Failing) (core : CoreData) (opens : OpensWith opening setup tells never core) where
   pub legal_since : (log : List EntryData) → IsLegalFrom opening log → tells → IsLegal (opening_of core.site.told core) log
   legal_since log legal tl = subst (λ (s : State). IsLegal s log) (sym (opens.state_ tl)) (legal (opens.from tl))

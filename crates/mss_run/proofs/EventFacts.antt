@@ -1,24 +1,18 @@
 -- What an event leaves of a session, from its laws.
 use Rattle.std.proofs.Common.{◌≡◌, ◌⊎◌, inl, inr, ℕ, ◌≤◌, Bool, true, false, List, [], ◌∷◌, ◌++◌, length, take, Option, Some, None, refl, sym, ◌∙◌, ap, subst, arith}
 use Rattle.std.specs.Prelude.{is_some}
-use Rattle.std.proofs.lemmas.List.{append-nil, take-append-le}
-use Rattle.mss_base.specs.Content.{Content, SiteLog, Write, Writes, content}
 use Rattle.channel_commands.specs.Data.{CallData, ReplyData, stopped}
 use Rattle.ckd_plain.specs.History.{IsStopped}
-use Rattle.transfers.specs.Copies.{AddsAtMost, in_cartridge}
-use Rattle.mss_base.specs.declared.place.BlockPlace.{BlockPlace}
-use Rattle.core_state.specs.Beginning.{IsLater}
+use Rattle.core_state.specs.Beginning.{Continues, KeepsBeginning}
 use Rattle.core_state.specs.Chains.{OneOf}
 use Rattle.core_state.specs.CoreValue.{CoreData}
+use Rattle.core_state.specs.IsCore.{opening_of}
 use Rattle.core_state.specs.HostEvents.{HostTold, replied, marked, waits, halts, at_limit, no_memory}
 use Rattle.core_state.specs.Steps.{entry_of}
 use Rattle.core_state.specs.StopRule.{opening}
 use Rattle.core_state.proofs.EntryLemmas.{opening_same}
-use Rattle.host_events.specs.Leaves.{KeepsHistory, AddsEntry, EntersAsTold, LeavesCartridges}
+use Rattle.host_events.specs.Leaves.{KeepsHistory, AddsEntry, EntersAsTold}
 use Rattle.host_events.specs.Causes.{CauseOf, CauseOfReply}
-use Rattle.work_events.specs.WorkLaws.{AddsTrack, WritesCartridges}
-use Rattle.core_state.specs.WorkRules.{task_of}
-use Rattle.mss_run.specs.Beginning.{SameBeginning, held_then}
 use Rattle.mss_run.specs.Happens.{Enters, Happens}
 
 -- ---- the history
@@ -45,23 +39,10 @@ module _ (core : CoreData) (h : ℕ) (call : CallData) (core' : CoreData) where
   happens (waits why) few enters cause = enters.history
   happens no_memory few enters cause = enters.history
 
--- ---- the beginning
+-- ---- the session
 
-abbrev then_of : SiteLog → ℕ → SiteLog
-then_of site first = record { start = site.start; log = take first site.log }
-
-pub same_beginning : (tells : Type 0) (core core' : CoreData) → IsLater tells core core' → (tells → core.first_write ≤ length core.site.told.log) → SameBeginning tells core core'
-same_beginning tells core core' later before =
-    let writes : core'.first_write ≡ core.first_write = later.beginning.first_write in
-    record {
-      config_ = later.beginning.config;
-      faults_ = later.beginning.first_faults;
-      writes_ = writes;
-      site_ = λ tl.
-          let grown = later.grown tl in
-          ap (then_of core'.site.told) writes ∙ ap (λ (s : SiteLog). then_of s core.first_write) grown.1
-          ∙ ap (λ (l : List Write). record { start = core.site.told.start; log = l }) (take-append-le core.first_write core.site.told.log grown.0 (before tl));
-      state_ = λ tl.
-          let grown = later.grown tl in
-          ap (λ (n : ℕ). opening n core'.site.told) writes ∙ opening_same core.first_write core.site.told core'.site.told grown.0 grown.1 (before tl);
-    }
+-- a later moment has the same opening
+pub same_opening : (core core' : CoreData) → KeepsBeginning core core' → Continues core.site.told core'.site.told → core.first_write ≤ length core.site.told.log → opening_of core'.site.told core' ≡ opening_of core.site.told core
+same_opening core core' keeps grown before =
+    ap (λ (n : ℕ). opening n core'.site.told) keeps.first_write
+    ∙ opening_same core.first_write core.site.told core'.site.told grown.0 grown.1 before

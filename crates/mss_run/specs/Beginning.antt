@@ -1,46 +1,56 @@
--- What a session began with, and that it stays.
-use Rattle.std.specs.Prelude.{◌≡◌, ℕ, [], take}
-use Rattle.mss_base.specs.Configs.{ConfigData}
-use Rattle.mss_base.specs.Content.{SiteLog}
+-- What a session began with, and that each later moment is one of that session.
+use Rattle.std.specs.Prelude.{◌≡◌, ℕ, Bool, [], None}
+use Rattle.mss_base.specs.declared.place.UnitNo.{UnitNo}
+use Rattle.accessors.specs.Rails.{rail_start}
 use Rattle.seen_book.specs.Openings.{OpeningData}
+use Rattle.core_state.specs.Beginning.{IsLater}
 use Rattle.core_state.specs.CoreValue.{CoreData}
 use Rattle.core_state.specs.IsCore.{opening_of}
 
--- what the devices held when the session began, and the writes until then
-abbrev pub held_then : CoreData → SiteLog
-held_then core = record {
-  start = core.site.told.start;
-  log = take core.first_write core.site.told.log;
+-- which units' reads may fail, where no other call of the devices does
+abbrev pub Failing : Type 1
+Failing = (UnitNo → Bool) → Type 0
+
+-- what a session is made of beside its opening: the core that it began with, and what of its
+-- devices may have failed then
+pub record SetupData : Type 1 where
+  pub began : CoreData
+  pub never_fails_but : Failing
+
+-- a core of nothing
+abbrev pub no_core : CoreData
+no_core = record {
+  site = record { told = record { start = λ unit block. []; log = [] }; writes = 0; faults = 0 };
+  chooser = tt;
+  config = record { frames = 0; recorders = 0; volumes = [] };
+  rows = [];
+  owners = [];
+  moving = [];
+  recency = [];
+  requests = [];
+  tasks = [];
+  recorders = [];
+  store = [];
+  rail = rail_start;
+  hosts = [];
+  history = [];
+  marks = [];
+  console = [];
+  events = [];
+  first_write = 0;
+  first_faults = 0;
+  stopped = None;
 }
-
--- another core began the session with this configuration and these counts; of a site that tells, with
--- the same devices and the volumes that they showed
-pub record SameBeginning (tells : Type 0) (core core' : CoreData) : Type 0 where
-  pub config_ : core'.config ≡ core.config
-  pub faults_ : core'.first_faults ≡ core.first_faults
-  pub writes_ : core'.first_write ≡ core.first_write
-  pub site_ : tells → held_then core' ≡ held_then core
-  pub state_ : tells → opening_of core'.site.told core' ≡ opening_of core.site.told core
-
--- what a session is made of beside its opening: the configuration, and the count of writes then
-pub record SetupData : Type 0 where
-  pub config : ConfigData
-  pub first_write : ℕ
 
 -- a setup that tells nothing
 abbrev pub no_setup : SetupData
-no_setup = record {
-  config = record { frames = 0; recorders = 0; volumes = [] };
-  first_write = 0;
-}
+no_setup = record { began = no_core; never_fails_but = λ but. ⊥ }
 
--- the core's session has this setup and this opening
-pub record OpensWith (opening : OpeningData) (setup : SetupData) (tells : Type 0) (core : CoreData)
-    : Type 0 where
+-- the core is a later one of the session that has this opening and this setup
+pub record OpensWith (opening : OpeningData) (setup : SetupData) (tells : Type 0)
+    (never_fails_but : Failing) (core : CoreData) : Type 0 where
   pub to : opening.tells → tells
   pub from : tells → opening.tells
-  pub config_ : core.config ≡ setup.config
-  pub writes_ : core.first_write ≡ setup.first_write
-  pub faults_ : core.first_faults ≡ opening.faults
-  pub site_ : tells → held_then core ≡ opening.site
+  pub later : IsLater tells setup.began core
   pub state_ : tells → opening_of core.site.told core ≡ opening.state
+  pub sound : (but : UnitNo → Bool) → setup.never_fails_but but → never_fails_but but

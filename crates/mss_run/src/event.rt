@@ -1,11 +1,12 @@
 // Events of a core, as what they leave of its session.
 ghost use Rattle.std.specs.Prelude.{◌≡◌, ◌≤◌, ◌<◌, length};
+ghost use Rattle.mss_base.specs.Sites.{StaysSound};
 ghost use Rattle.channel_commands.specs.Views.{call_of};
 ghost use Rattle.ckd_plain.specs.History.{IsLegal};
+ghost use Rattle.core_state.specs.Beginning.{IsLater};
 ghost use Rattle.core_state.specs.CoreValue.{seen};
 ghost use Rattle.core_state.specs.IsCore.{IsCore, opening_of};
 ghost use Rattle.host_events.specs.Answers.{told_of};
-ghost use Rattle.mss_run.specs.Beginning.{SameBeginning};
 ghost use Rattle.mss_run.specs.Happens.{Happens};
 
 use channel_commands::Call;
@@ -37,7 +38,7 @@ pub(crate) fn entries_of<S: Site, C: Choose>(core: &Core<S, C>) -> usize
     core.history().as_slice().len()
 }
 
-/// One event of a host: what it adds to the history, and that the session has the same beginning.
+/// One event of a host: what it adds to the history, and that it leaves a later moment of the session.
 pub(crate) fn host_step<S: Site, C: Choose>(
     core: &mut Core<S, C>,
     host: HostNo,
@@ -45,8 +46,9 @@ pub(crate) fn host_step<S: Site, C: Choose>(
 ) -> HostAnswer
     ensures history { Happens host (call_of call.now) (told_of result)
         core.old.history core.new.history }
-    ensures begins { SameBeginning S.tells (seen S.told S.writes S.faults core.old)
+    ensures later { IsLater S.tells (seen S.told S.writes S.faults core.old)
         (seen S.told S.writes S.faults core.new) }
+    ensures sound { StaysSound S.never_fails_but core.old.site core.new.site }
 {
     events_add_one_entry_at_most::<S>();
     answers_have_their_causes::<S>();
@@ -55,15 +57,16 @@ pub(crate) fn host_step<S: Site, C: Choose>(
     host_event(core, host, call)
 }
 
-/// One event of a recorder: the history stays, and the session has the same beginning.
+/// One event of a recorder: the history stays, and it leaves a later moment of the session.
 pub(crate) fn work_step<S: Site, C: Choose>(
     core: &mut Core<S, C>,
     recorder: RecorderNo,
 ) -> WorkAnswer
     requires { recorder < core.old.config.recorders }
     ensures history { core.new.history ≡ core.old.history }
-    ensures begins { SameBeginning S.tells (seen S.told S.writes S.faults core.old)
+    ensures later { IsLater S.tells (seen S.told S.writes S.faults core.old)
         (seen S.told S.writes S.faults core.new) }
+    ensures sound { StaysSound S.never_fails_but core.old.site core.new.site }
 {
     work_leaves_the_history::<S, C>();
     work_is_later::<S, C>();

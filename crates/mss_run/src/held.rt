@@ -41,7 +41,8 @@ impl<N: Setup, S: Site, C: Choose> Model for Held<N, S, C> {
     ghost view = { λ h. h.core };
 
     ghost invariant = { λ h.
-        IsHeld N.opening N.setup S.tells (seen S.told S.writes S.faults h.core) h.book };
+        IsHeld N.opening N.setup S.tells (S.never_fails_but h.core.site)
+        (seen S.told S.writes S.faults h.core) h.book };
 }
 
 /// The entry at a place.
@@ -89,7 +90,7 @@ fn told<N: Name>(
 impl<N: Setup, S: Site, C: Choose> Held<N, S, C> {
     /// Before any actor is in.
     pub fn new(core: Core<S, C>, book: Book<N>) -> Self
-        requires opening { OpensWith N.opening N.setup S.tells
+        requires opening { OpensWith N.opening N.setup S.tells (S.never_fails_but core.site)
             (seen S.told S.writes S.faults core) }
         requires history { book.list ≡ core.history }
     {
@@ -105,7 +106,7 @@ impl<N: Setup, S: Site, C: Choose> Held<N, S, C> {
     /// The core and the book, when the lock is gone.
     pub fn into_parts(self) -> (Core<S, C>, Book<N>)
         ensures opening { OpensWith N.opening N.setup S.tells
-            (seen S.told S.writes S.faults result.0) }
+            (S.never_fails_but result.0.site) (seen S.told S.writes S.faults result.0) }
         ensures history { result.1.list ≡ result.0.history }
     {
         let Held { core, book, .. } = self;
@@ -140,6 +141,7 @@ impl<N: Setup, S: Site, C: Choose> Held<N, S, C> {
         if recorder.get() >= recorders_of(&self.core) {
             return WorkAnswer::Idle;
         }
+        let _before = entries_of(&self.core);
         work_step(&mut self.core, recorder)
     }
 }

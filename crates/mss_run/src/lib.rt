@@ -10,8 +10,9 @@
 //! (`specs/Owns.antt`, `specs/Runs.antt`). The loops call a `Gate` between events, with the lock free.
 //!
 //! The layers above rely on these clauses, on the laws of `law`, and on what a session began with
-//! (`specs/Beginning.antt`). What a hold of the lock keeps is `specs/Held.antt`; what an event of the core leaves for it,
-//! `specs/Happens.antt`. That threads get on, that none waits for ever, and how long they take, no contract says.
+//! (`specs/Beginning.antt`, with `opens_itself` of `proofs/AnswerFacts.antt`). What a hold of the lock keeps is
+//! `specs/Held.antt`; what an event of the core leaves for it, `specs/Happens.antt`. That threads get on, that none waits
+//! for ever, and how long they take, no contract says.
 #![tactic(auto)]
 
 mod actor;

@@ -1,13 +1,16 @@
 // The actors of a job, each in a thread of its own.
-ghost use Rattle.std.specs.Prelude.{◌≡◌, ◌≤◌, ◌+◌, ◌++◌, ◌∷◌, [], length, nat_eq};
+ghost use Rattle.std.specs.Prelude.{◌≡◌, ◌≤◌, ◌+◌, ◌++◌, ◌∷◌, [], Bool, length, nat_eq};
 ghost use Rattle.std.specs.List.{IsDistinct, list_all};
 ghost use Rattle.std.specs.Thread.{IsSend, IsSync};
+ghost use Rattle.mss_base.specs.Sites.{StaysSound};
+ghost use Rattle.mss_base.specs.declared.place.UnitNo.{UnitNo};
 ghost use Rattle.ckd_plain.specs.History.{IsLegal};
 ghost use Rattle.job_text.specs.Jobs.{AreRunnableScripts};
 ghost use Rattle.seen_book.specs.Books.{AreOfThese};
+ghost use Rattle.core_state.specs.Beginning.{IsLater};
 ghost use Rattle.core_state.specs.CoreValue.{seen};
 ghost use Rattle.core_state.specs.IsCore.{opening_of};
-ghost use Rattle.mss_run.specs.Beginning.{OpensWith, SameBeginning};
+ghost use Rattle.mss_run.specs.Beginning.{OpensWith};
 ghost use Rattle.mss_run.specs.Runs.{
   AreRuns,
   AreStarts,
@@ -271,12 +274,16 @@ fn run_named<
     R: Threads + Wait + Sync,
 >(rt: &R, alloc: Global, blank: Blank, core: Core<S, C>, job: &Job, gate: &G) -> RunEnd<S, C>
     requires word { blank ≡ N.table }
-    requires opening { OpensWith N.opening N.setup S.tells
+    requires opening { OpensWith N.opening N.setup S.tells (S.never_fails_but core.site)
         (seen S.told S.writes S.faults core) }
+    requires began { N.setup.began ≡ seen S.told S.writes S.faults core }
+    requires sound { (but : UnitNo → Bool)
+        → S.never_fails_but core.site but → N.setup.never_fails_but but }
     requires hosts { N.hosts ≡ hosts_of job.now.hosts }
     requires empty { core.history ≡ [] }
-    ensures begins { SameBeginning S.tells (seen S.told S.writes S.faults core)
+    ensures later { IsLater S.tells (seen S.told S.writes S.faults core)
         (seen S.told S.writes S.faults result.core) }
+    ensures sound { StaysSound S.never_fails_but core.site result.core.site }
     ensures legal { S.tells → IsLegal (opening_of (S.told core.site) core) result.core.history }
     ensures hosts { AreOfThese (hosts_of job.now.hosts) result.core.history }
     ensures ends { Leaves result.core.history job.now.hosts result.hosts.items }
@@ -312,7 +319,7 @@ fn run_named<
 /// Runs each host and each recorder of a job as an actor in a thread of its own, and gives back the core when all have
 /// left.
 ///
-/// The session has the beginning that it had. Its history is legal from there, whatever the order in which the actors
+/// It is a later core of the same session. Its history is legal from where that began, whatever the order in which the actors
 /// came, and each entry is of a host of the job. Of each host there is its end: the places of all entries that it was
 /// told of, in rising order, and whether what it was told follows its script to the end; for want of memory at the start
 /// there is none. All memory that is common to them is taken before the first actor starts.
@@ -325,8 +332,9 @@ pub fn run_actors<S: Site + Send, C: Choose + Send, G: Gate + Sync, R: Threads +
 ) -> RunEnd<S, C>
     requires empty { core.history ≡ [] }
     requires config { core.config ≡ job.now.config }
-    ensures begins { SameBeginning S.tells (seen S.told S.writes S.faults core)
+    ensures later { IsLater S.tells (seen S.told S.writes S.faults core)
         (seen S.told S.writes S.faults result.core) }
+    ensures sound { StaysSound S.never_fails_but core.site result.core.site }
     ensures legal { S.tells → IsLegal (opening_of (S.told core.site) core) result.core.history }
     ensures hosts { AreOfThese (hosts_of job.now.hosts) result.core.history }
     ensures ends { Leaves result.core.history job.now.hosts result.hosts.items }

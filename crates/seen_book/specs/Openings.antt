@@ -1,24 +1,18 @@
 -- What a session begins with, and which histories are legal from there.
 use Rattle.std.specs.Prelude.{ℕ, List, [], None}
-use Rattle.mss_base.specs.Content.{SiteLog}
 use Rattle.ckd_plain.specs.Data.{State}
 use Rattle.ckd_plain.specs.Plain.{fresh_host}
 use Rattle.ckd_plain.specs.History.{EntryData, IsLegal}
 
--- whether the site tells, what its devices held and the writes until then, its count of faults then, and the plain
--- state that it showed
+-- whether the site tells, and the plain state that it showed when the session began
 pub record OpeningData : Type 1 where
   pub tells : Type 0
-  pub site : SiteLog
-  pub faults : ℕ
   pub state : State
 
 -- an opening that tells nothing
 abbrev pub no_opening : OpeningData
 no_opening = record {
   tells = ⊥;
-  site = record { start = λ unit block. []; log = [] };
-  faults = 0;
   state = record { volumes = record { serial = λ volume. None; track = λ volume cylinder head. [] }; host = λ host. fresh_host };
 }
 

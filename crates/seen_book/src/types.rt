@@ -30,7 +30,7 @@ impl Model for Blank {
     ghost invariant = { λ b. IsFresh b.table.shared.table_id b.seat };
 }
 
-/// What a session begins with: whether its site tells, what the devices held, the count of faults, and the plain state.
+/// What a session begins with: whether its site tells, and the plain state that it shows.
 pub trait Opening {
     ghost use Rattle.seen_book.specs.Openings.{OpeningData};
 

@@ -1,6 +1,7 @@
+use Rattle.std.proofs.Common.{refl}
 use Rattle.core_state.specs.CoreValue.{seen}
 use Rattle.mss_run.proofs.AnswerFacts.{opens_itself}
 use Rattle.mss_run.proofs.run.run_actors.Goals as goal
 
 pub run_named-requires-clause-opening : goal.run_named-requires-clause-opening
-run_named-requires-clause-opening g c = λ _ _. opens_itself g.S.Site.tells (seen g.S.Site.told g.S.Site.writes g.S.Site.faults c.args.core)
+run_named-requires-clause-opening g c = λ _ _. opens_itself g.S.Site.tells (g.S.Site.never_fails_but c.args.core.site) (seen g.S.Site.told g.S.Site.writes g.S.Site.faults c.args.core)

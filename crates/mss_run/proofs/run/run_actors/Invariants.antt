@@ -1,6 +1,5 @@
 use Rattle.core_state.specs.CoreValue.{seen}
 use Rattle.core_state.specs.IsCore.{opening_of}
-use Rattle.mss_run.specs.Beginning.{held_then}
 use Rattle.mss_run.specs.Runs.{hosts_of}
 use Rattle.mss_run.proofs.run.run_actors.Given as goal
 
@@ -10,14 +9,7 @@ ghosts-run_named-N-Name g a = record { table = a.blank; hosts = hosts_of a.job.n
 
 -- the core's session
 abbrev pub ghosts-run_named-N-Opening : goal.ghosts-run_named-N-Opening
-ghosts-run_named-N-Opening g a = record {
-  opening = record {
-    tells = g.S.Site.tells;
-    site = held_then (seen g.S.Site.told g.S.Site.writes g.S.Site.faults a.core);
-    faults = a.core.first_faults;
-    state = opening_of (g.S.Site.told a.core.site) a.core;
-  };
-}
+ghosts-run_named-N-Opening g a = record { opening = record { tells = g.S.Site.tells; state = opening_of (g.S.Site.told a.core.site) a.core } }
 
 abbrev pub ghosts-run_named-N-Setup : goal.ghosts-run_named-N-Setup
-ghosts-run_named-N-Setup g a = record { setup = record { config = a.core.config; first_write = a.core.first_write } }
+ghosts-run_named-N-Setup g a = record { setup = record { began = seen g.S.Site.told g.S.Site.writes g.S.Site.faults a.core; never_fails_but = g.S.Site.never_fails_but a.core.site } }

@@ -1,12 +1,12 @@
 use Rattle.std.proofs.Common.{ℕ, List, inl, inr, sym, ◌∙◌, ap, subst}
 use Rattle.ckd_plain.specs.History.{EntryData, IsLegal}
-use Rattle.core_state.specs.CoreValue.{CoreValue, CoreData, seen}
+use Rattle.core_state.specs.Beginning.{IsLater}
+use Rattle.core_state.specs.CoreValue.{CoreData, seen}
 use Rattle.core_state.specs.IsCore.{opening_of}
 use Rattle.job_text.specs.Jobs.{ScriptData, JobData, AreRunnableScripts}
 use Rattle.seen_book.specs.Books.{AreOfThese}
-use Rattle.mss_run.specs.Beginning.{SameBeginning}
 use Rattle.mss_run.specs.Runs.{AreEndsIn}
-use Rattle.mss_run.proofs.AnswerFacts.{begins_itself, begins_by, legal_since}
+use Rattle.mss_run.proofs.AnswerFacts.{legal_since}
 use Rattle.mss_run.proofs.RunFacts.{ends_whole}
 use Rattle.mss_run.proofs.run.run_named.Goals as goal
 
@@ -14,16 +14,18 @@ pub make_passes-book-requires-clause-runnable : goal.make_passes-book-requires-c
 make_passes-book-requires-clause-runnable g c =
     subst AreRunnableScripts (sym c.as_slice-scripts.ensures) (c.programs_can_be_run.ensures.job (record { config = c.job.inside.config; hosts = c.job.inside.hosts.items }) c.job.invariant)
 
-pub returns-clause-begins : goal.returns-clause-begins
-returns-clause-begins g c =
-    let old : CoreData = seen g.S.Site.told g.S.Site.writes g.S.Site.faults c.args.core in
+pub returns-clause-later : goal.returns-clause-later
+returns-clause-later g c =
     let new : CoreData = seen g.S.Site.told g.S.Site.writes g.S.Site.faults c.close-core.result in
-    begins_by g.N.Opening.opening g.N.Setup.setup g.S.Site.tells old c.requires.opening new c.close-core.ensures.opening
+    subst (λ (began : CoreData). IsLater g.S.Site.tells began new) c.requires.began c.close-core.ensures.opening.later
+
+pub returns-clause-sound : goal.returns-clause-sound
+returns-clause-sound g c = λ but none. c.close-core.ensures.opening.sound but (c.requires.sound but none)
 
 pub returns-clause-legal : goal.returns-clause-legal
 returns-clause-legal g c =
     let old : CoreData = seen g.S.Site.told g.S.Site.writes g.S.Site.faults c.args.core in
-    legal_since g.N.Opening.opening g.N.Setup.setup g.S.Site.tells old c.requires.opening c.close-core.result.history c.close-core.ensures.legal
+    legal_since g.N.Opening.opening g.N.Setup.setup g.S.Site.tells (g.S.Site.never_fails_but c.args.core.site) old c.requires.opening c.close-core.result.history c.close-core.ensures.legal
 
 pub returns-clause-ends : goal.returns-clause-ends
 returns-clause-ends g c =

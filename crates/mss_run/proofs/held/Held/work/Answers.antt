@@ -11,5 +11,6 @@ invariant_of-self g c =
     record {
       made = c.self.invariant.made;
       book_ = c.self.invariant.book_ ∙ ap (λ (l : List EntryData). Some record { list = l; made = c.self.invariant.made }) (sym c.work_step.ensures.history);
-      opens = opens_still g.N.Opening.opening g.N.Setup.setup g.S.Site.tells old new c.self.invariant.opens c.work_step.ensures.begins;
+      opens = opens_still g.N.Opening.opening g.N.Setup.setup g.S.Site.tells (g.S.Site.never_fails_but c.self.inside.core.site) (g.S.Site.never_fails_but c.work_step.new.core.site) old new c.self.invariant.opens
+          c.entries_of-before.ensures.began c.work_step.ensures.later c.work_step.ensures.sound;
     }
