@@ -1,5 +1,5 @@
 -- A session of a job, from its parts.
-use Rattle.std.proofs.Common.{◌≡◌, inl, inr, ℕ, List, [], ◌∷◌, length, Option, None, Ok, refl, sym, ◌∙◌}
+use Rattle.std.proofs.Common.{◌≡◌, inl, inr, ℕ, List, [], ◌∷◌, length, Option, None, Ok, refl, sym, ◌∙◌, subst}
 use Rattle.mss_base.specs.Configs.{ConfigData, IsConfig}
 use Rattle.mss_base.specs.Content.{SiteLog, content}
 use Rattle.mss_base.specs.Sites.{FailingReads, OnlyReads}
@@ -24,8 +24,10 @@ use Rattle.serial_driver.specs.declared.answer.DriveAnswer.TheVariants as ended
 use Rattle.session_report.specs.Answers.{Answer}
 use Rattle.session_report.specs.Parties.{Stream, between}
 use Rattle.session_report.specs.Reports.{report_matter, opening_text}
-use Rattle.job_runs.specs.Parties.{seen_site}
-use Rattle.job_runs.specs.Runs.{AreRowsOf, FollowScripts, FollowToEnd, Goes, IsBegun, IsHalted, IsPlayed, IsSessionOf, IsTold}
+use Rattle.job_runs.specs.Parties.{devices, seen_site}
+use Rattle.job_runs.specs.Runs.{AreRowsOf, FollowScripts, FollowToEnd, Goes, IsBegun, IsHalted, IsPlayed, IsPromised, IsReportOf, IsSessionOf, IsTold, Ends, TellsSession}
+use Rattle.job_runs.specs.declared.run.Outcome.{Outcome}
+use Rattle.job_runs.specs.declared.run.Outcome.TheVariants.{Untaken, Ran}
 use Rattle.job_runs.proofs.Reporting.{told_alike}
 use Rattle.job_runs.proofs.Seen.{begins_seen, told_seen, with_seen}
 
@@ -55,35 +57,45 @@ halted_by ended.Memory was is none halts = halts ∙ none
 
 -- ---- the session
 
-module _ {S C : Type 0} (tells : Type 0) (may : List Candidate → ℕ → Type 0) (told : S → SiteLog) (writes faults : S → ℕ) (never_fails_but : FailingReads S) (job : JobData) (turns : List ℕ)
-    (core left : CoreValue S C) (end : DriveAnswer)
-    (goes : Goes tells may job.hosts turns (seen told writes faults core) end (seen told writes faults left))
-    (follow : FollowScripts job.hosts left.history) (reach : end ≡ ended.Done → FollowToEnd job.hosts left.history)
-    (leaves : Leaves tells told writes faults never_fails_but (record { core = core; scripts = job.hosts }) (record { core = left; scripts = job.hosts }) end)
+-- what a later core of a session that has begun promises
+module _ {S C : Type 0} (tells : Type 0) (told : S → SiteLog) (writes faults : S → ℕ) (core left : CoreValue S C) (config : ConfigData)
+    (later : IsLater tells (seen told writes faults core) (seen told writes faults left))
     (told_left : tells → IsToldCore (told left.site) left)
     (counted : IsCounted (writes left.site) (faults left.site) left.requests (data_of left))
-    (was : DevicesSeen) (begun : IsBegun tells job.config was (seen told writes faults core)) where
+    (was : DevicesSeen) (begun : IsBegun tells config was (seen told writes faults core)) where
   abbrev from : CoreData
   from = seen told writes faults core
 
   abbrev to : CoreData
   to = seen told writes faults left
 
-  module _ (plain_law : (t : tells) → BeganOver job.config was from → IsLater tells from to → IsToldCore to.site.told to → IsPlainSession job.config was.told to.site.told (data_of to))
-      (stops_law : (t : tells) → BeganOver job.config was from → IsLater tells from to → IsToldCore to.site.told to → StopsAnywhere job.config was.told to.site.told (data_of to)) where
-    pub played_of : IsPlayed may job turns (record { tells = tells; was = was; now = seen_site told writes faults left.site }) end (data_of left)
-    played_of = record {
-      driven = record { began = from; begun = begun; left = to; goes = goes; devices_ = refl; session = refl };
-      began = leaves.session.beginning.first_faults ∙ begun.begins.first_faults_ ∙ begun.opened.any.kept;
-      follow = follow;
-      reach = reach;
-      full = leaves.full;
-      halts = halted_by end core.stopped left.stopped begun.begins.going leaves.halts;
+  module _ (plain_law : (t : tells) → BeganOver config was from → IsLater tells from to → IsToldCore to.site.told to → IsPlainSession config was.told to.site.told (data_of to))
+      (stops_law : (t : tells) → BeganOver config was from → IsLater tells from to → IsToldCore to.site.told to → StopsAnywhere config was.told to.site.told (data_of to)) where
+    pub promised_of : IsPromised config (record { tells = tells; was = was; now = seen_site told writes faults left.site }) (data_of left)
+    promised_of = record {
+      began = later.beginning.first_faults ∙ begun.begins.first_faults_ ∙ begun.opened.any.kept;
       requests = left.requests;
       counted = counted;
-      plain = λ t. plain_law t (begun.over t) leaves.session (told_seen told writes faults left (told_left t));
-      stops = λ t. stops_law t (begun.over t) leaves.session (told_seen told writes faults left (told_left t));
+      plain = λ t. plain_law t (begun.over t) later (told_seen told writes faults left (told_left t));
+      stops = λ t. stops_law t (begun.over t) later (told_seen told writes faults left (told_left t));
     }
+
+module _ {S C : Type 0} (tells : Type 0) (may : List Candidate → ℕ → Type 0) (told : S → SiteLog) (writes faults : S → ℕ) (never_fails_but : FailingReads S) (job : JobData) (turns : List ℕ)
+    (core left : CoreValue S C) (end : DriveAnswer)
+    (goes : Goes tells may job.hosts turns (seen told writes faults core) end (seen told writes faults left))
+    (follow : FollowScripts job.hosts left.history) (reach : end ≡ ended.Done → FollowToEnd job.hosts left.history)
+    (leaves : Leaves tells told writes faults never_fails_but (record { core = core; scripts = job.hosts }) (record { core = left; scripts = job.hosts }) end)
+    (was : DevicesSeen) (begun : IsBegun tells job.config was (seen told writes faults core))
+    (promised : IsPromised job.config (record { tells = tells; was = was; now = seen_site told writes faults left.site }) (data_of left)) where
+  pub played_of : IsPlayed may job turns (record { tells = tells; was = was; now = seen_site told writes faults left.site }) end (data_of left)
+  played_of = record {
+    driven = record { began = seen told writes faults core; begun = begun; left = seen told writes faults left; goes = goes; devices_ = refl; session = refl };
+    promised = promised;
+    follow = follow;
+    reach = reach;
+    full = leaves.full;
+    halts = halted_by end core.stopped left.stopped begun.begins.going leaves.halts;
+  }
 
 -- its rows
 pub rows_of_core : {S C : Type 0} (tells : Type 0) (told : S → SiteLog) (left : CoreValue S C) → length left.rows ≡ 32 → (tells → IsToldCore (told left.site) left) → AreRowsOf tells (told left.site) left.stopped left.rows
@@ -91,23 +103,30 @@ rows_of_core tells told left count told_left = record { count = count; shown_ = 
 
 -- ---- and its report
 
-module _ {S : Type 0} (tells : Type 0) (may : List Candidate → ℕ → Type 0) (told : S → SiteLog) (spare writes faults : S → ℕ) (never_fails_but : FailingReads S) (job : JobData) (turns : List ℕ)
-    (was : DevicesSeen) (mid site : S) (end : DriveAnswer) (s : SessionData) (rows : List (Option RowValue))
-    (played : IsPlayed may job turns (record { tells = tells; was = was; now = seen_site told writes faults mid }) end s)
+module _ {S : Type 0} (tells : Type 0) (told : S → SiteLog) (spare writes faults : S → ℕ) (never_fails_but : FailingReads S) (job : JobData)
+    (was : SiteLog) (mid site : S) (end : DriveAnswer) (s : SessionData) (rows : List (Option RowValue))
+    (plain : tells → IsPlainSession job.config was (told mid) s) (halts : IsHalted end s.stopped)
     (are_rows : AreRowsOf tells (told mid) s.stopped rows)
     (same_volumes : listed rows ≡ rows_of (content (told mid)) → shown_by (listed rows) (content (told mid)) ≡ shown (content (told mid)))
     (sink : Stream) (answer : Answer)
     (read : OnlyReads tells told spare writes faults never_fails_but mid site)
     (report : IsTold (report_matter s job.config.volumes (shown_by (listed rows) (content (told mid)))) end (between tells told faults mid site) sink answer) where
-  pub session_of : IsSessionOf may job turns (record { tells = tells; was = was; now = seen_site told writes faults site }) sink end answer s
-  session_of = record {
-    mid = seen_site told writes faults mid;
-    played = played;
+  pub report_of : IsReportOf job was (devices tells told writes faults mid site) sink end answer s
+  report_of = record {
     read = record { told_ = read.log; writes_ = read.unwritten; later = read.later };
     report = told_alike (opening_text s) job.config.volumes (between tells told faults mid site) sink answer
-        (shown_by (listed rows) (content (told mid))) (plain_volumes job.config (content was.told) s.history) end s.stopped played.halts
-        (λ t none. same_volumes (are_rows.shown_ t none) ∙ (played.plain t).shows none) report;
+        (shown_by (listed rows) (content (told mid))) (plain_volumes job.config (content was) s.history) end s.stopped halts
+        (λ t none. same_volumes (are_rows.shown_ t none) ∙ (plain t).shows none) report;
   }
+
+module _ {S : Type 0} (tells : Type 0) (may : List Candidate → ℕ → Type 0) (told : S → SiteLog) (writes faults : S → ℕ) (job : JobData) (turns : List ℕ)
+    (was : DevicesSeen) (mid site : S) (end : DriveAnswer) (s : SessionData)
+    (played : IsPlayed may job turns (record { tells = tells; was = was; now = seen_site told writes faults mid }) end s) (sink : Stream) where
+  pub ends_of : (o : Outcome) → TellsSession job was.told (devices tells told writes faults mid site) sink end s o → Ends may job turns (record { tells = tells; was = was; now = seen_site told writes faults site }) sink o
+  ends_of (Untaken why) is = absurd is
+  ends_of (Ran session last answer) is =
+      subst (λ (x : SessionData × DriveAnswer). IsSessionOf may job turns (record { tells = tells; was = was; now = seen_site told writes faults site }) sink x.1 answer x.0) (λ i. (sym is.0 i, sym is.1 i))
+      (record { mid = seen_site told writes faults mid; played = played; report = is.2 })
 
 -- ---- what a restart made
 

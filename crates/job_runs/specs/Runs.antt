@@ -119,28 +119,38 @@ abbrev pub FollowToEnd : List ScriptData → List EntryData → Type 0
 FollowToEnd scripts history =
     (h : ℕ) → FollowsToEnd (script_of scripts h) (exchanges_of h history)
 
--- A session of a job, from the devices that were handed in to those when it ended: how it went by
--- the turns and by rounds, and what it promises.
+-- What every session promises, from the devices that were handed in to those when it ended,
+-- however its events came.
+pub record IsPromised (config : ConfigData) (site : Devices) (s : SessionData) : Type 0 where
+  -- no call had failed when it began
+  pub began : s.first_faults ≡ site.was.faults
+  -- marks, numbers and kept faults, with the requests that were left
+  pub requests : RequestsData
+  pub counted : IsCounted site.now.writes site.now.faults requests s
+  pub plain : site.tells → IsPlainSession config site.was.told site.now.told s
+  pub stops : site.tells → StopsAnywhere config site.was.told site.now.told s
+
+-- A session of a job: how it went by the turns and by rounds, and what it promises.
 pub record IsPlayed (may : List Candidate → ℕ → Type 0) (job : JobData) (turns : List ℕ)
     (site : Devices) (end : DriveAnswer) (s : SessionData) : Type 0 where
   pub driven : IsDriven site.tells may job turns site.was site.now end s
-  -- no call had failed when it began
-  pub began : s.first_faults ≡ site.was.faults
+  pub promised : IsPromised job.config site s
   pub follow : FollowScripts job.hosts s.history
   pub reach : end ≡ ended.Done → FollowToEnd job.hosts s.history
   pub full : end ≡ ended.CommandLimit → IsFull job.hosts s.history
   pub halts : IsHalted end s.stopped
-  -- marks, numbers and kept faults, with the requests that were left
-  pub requests : RequestsData
-  pub counted : IsCounted site.now.writes site.now.faults requests s
-  pub plain : site.tells → IsPlainSession job.config site.was.told site.now.told s
-  pub stops : site.tells → StopsAnywhere job.config site.was.told site.now.told s
 
 -- the rows of a session's volumes; while it isn't stopped, just those that its devices show
 pub record AreRowsOf (tells : Type 0) (log : SiteLog) (stop : Option ℕ)
     (rows : List (Option RowValue)) : Type 0 where
   pub count : length rows ≡ 32
   pub shown_ : tells → stop ≡ None → listed rows ≡ rows_of (content log)
+
+-- a session's report was put, over devices of which it was read at most
+pub record IsReportOf (job : JobData) (was : SiteLog) (site : Devices) (sink : Stream)
+    (end : DriveAnswer) (told : Answer) (s : SessionData) : Type 0 where
+  pub read : OnlyRead site.tells site.was site.now
+  pub report : IsTold (matter_of job (content was) s) end (reported site) sink told
 
 -- such a session and its report, from the devices that were handed in to those that are handed back
 pub record IsSessionOf (may : List Candidate → ℕ → Type 0) (job : JobData) (turns : List ℕ)
@@ -149,9 +159,14 @@ pub record IsSessionOf (may : List Candidate → ℕ → Type 0) (job : JobData)
   -- the devices when it ended
   pub mid : DevicesSeen
   pub played : IsPlayed may job turns (until site mid) end s
-  pub read : OnlyRead site.tells mid site.now
-  pub report : IsTold (matter_of job (content site.was.told) s) end (reported (since site mid))
-      sink told
+  pub report : IsReportOf job site.was.told (since site mid) sink end told s
+
+-- what became of a job is this session, that ended so, and its report was put
+abbrev pub TellsSession : JobData → SiteLog → Devices → Stream → DriveAnswer → SessionData
+    → Outcome → Type 0
+TellsSession job was site sink end s (Untaken why) = ⊥
+TellsSession job was site sink end s (Ran session last told) =
+    (session_data session ≡ s) × (last ≡ end) × IsReportOf job was site sink end told s
 
 -- such a session of a load, and its summary
 pub record IsLoadOf (may : List Candidate → ℕ → Type 0) (job : JobData) (programs : ℕ)

@@ -1,10 +1,13 @@
 // A job, run on a site.
 ghost use Rattle.std.specs.Prelude.{◌≡◌, Err, IfErr, IfOk, None, length};
+ghost use Rattle.mss_base.specs.Content.{SiteLog};
+ghost use Rattle.mss_base.specs.Sites.{OnlyReads};
 ghost use Rattle.core_state.specs.Counted.{IsCounted};
 ghost use Rattle.core_state.specs.CoreValue.{DevicesSeen, seen};
 ghost use Rattle.core_state.specs.IsCore.{IsTold};
 ghost use Rattle.core_state.specs.SessionData.{data_of};
 ghost use Rattle.mss_restart.specs.Creations.{WritesOn};
+ghost use Rattle.plain_sessions.specs.Sessions.{IsPlainSession};
 ghost use Rattle.session_report.specs.Parties.{between};
 ghost use Rattle.serial_driver.specs.Drives.{AreTurns, IsUnused, Leaves};
 ghost use Rattle.serial_driver.specs.declared.answer.DriveAnswer.TheVariants.{Done};
@@ -16,8 +19,10 @@ ghost use Rattle.job_runs.specs.Runs.{
   FollowToEnd,
   Goes,
   IsBegun,
+  IsHalted,
   IsPlayed,
   Opens,
+  TellsSession,
 };
 ghost use Rattle.core_state.specs.Sessions.{session_data};
 
@@ -89,7 +94,7 @@ fn run_scripts<S: Site, C: Choose + Drop>(
 }
 
 /// What every core keeps, for the proof of a caller that holds one.
-fn look<S: Site, C: Choose>(core: &Core<S, C>)
+pub fn look<S: Site, C: Choose>(core: &Core<S, C>)
     ensures told { S.tells → IsTold (S.told core.now.site) core.now }
     ensures counted { IsCounted (S.writes core.now.site) (S.faults core.now.site)
         core.now.requests (data_of core.now) }
@@ -160,6 +165,42 @@ pub fn play<S: Site, C: Choose + Drop>(
     }
 }
 
+/// Puts the report of a session that was played, and hands the site back.
+///
+/// Where it promises plain volumes, those are told.
+pub fn put_report<S: Site, O: Sink>(
+    alloc: Global,
+    job: &Job,
+    played: Played<S>,
+    output: &mut O,
+) -> JobEnd<S>
+    requires rows { AreRowsOf S.tells (S.told played.site) played.session.stopped
+        played.rows.items }
+    requires halts { IsHalted played.end played.session.stopped }
+    ensures tells { (was : SiteLog) → (S.tells → IsPlainSession job.now.config was
+        (S.told played.site) (session_data played.session))
+        → TellsSession job.now was
+        (devices S.tells S.told S.writes S.faults played.site result.site)
+        (between O.tells O.told O.faults output.old output.new)
+        played.end (session_data played.session) result.outcome }
+    ensures site { OnlyReads S.tells S.told S.spare S.writes S.faults S.never_fails_but
+        played.site result.site }
+{
+    rows_of_a_content_show_its_volumes();
+    let Played {
+        mut site,
+        rows,
+        session,
+        end,
+    } = played;
+    let volumes = job.config.volumes.as_slice();
+    let told = tell(alloc, &mut site, &rows, volumes, &session, end, output);
+    JobEnd {
+        site,
+        outcome: Outcome::Ran(session, end, told),
+    }
+}
+
 /// Plays a job on a site, and puts the report.
 pub fn run_job<S: Site, C: Choose + Drop, O: Sink>(
     alloc: Global,
@@ -176,22 +217,8 @@ pub fn run_job<S: Site, C: Choose + Drop, O: Sink>(
         (between O.tells O.told O.faults output.old output.new) result.outcome }
     ensures devices { WritesOn S.writes S.faults S.never_fails_but site result.site }
 {
-    rows_of_a_content_show_its_volumes();
     match play(alloc, job, turns, site, chooser) {
-        Ok(played) => {
-            let Played {
-                mut site,
-                rows,
-                session,
-                end,
-            } = played;
-            let volumes = job.config.volumes.as_slice();
-            let told = tell(alloc, &mut site, &rows, volumes, &session, end, output);
-            JobEnd {
-                site,
-                outcome: Outcome::Ran(session, end, told),
-            }
-        }
+        Ok(played) => put_report(alloc, job, played, output),
         Err((site, refused)) => JobEnd {
             site,
             outcome: Outcome::Untaken(refused),

@@ -6,7 +6,7 @@ use Rattle.core_state.specs.Sessions.{session_data}
 use Rattle.mss_restart.specs.Creations.{WritesOn}
 use Rattle.job_runs.specs.Parties.{seen_site}
 use Rattle.job_runs.specs.Runs.{AreRowsOf, IsPlayed}
-use Rattle.job_runs.proofs.SessionFacts.{played_of, rows_of_core}
+use Rattle.job_runs.proofs.SessionFacts.{played_of, promised_of, rows_of_core}
 use Rattle.job_runs.proofs.run.play_on.Goals as goal
 
 pub returns : goal.returns
@@ -29,7 +29,8 @@ returns g c =
           let law = c.sessions_are_plain.ensures in
           subst (λ (x : g.row.S.Denot × SessionData). IsPlayed (g.C.Choose.may c.args.core.chooser) c.args.job.now c.args.turns.now (record { tells = tells; was = was; now = seen_site told writes faults x.0 }) ran.result.1 x.1) (λ i. (site i, session i))
           (played_of tells (g.C.Choose.may c.args.core.chooser) told writes faults g.S.Site.never_fails_but c.args.job.now c.args.turns.now c.args.core left ran.result.1
-          ran.ensures.goes ran.ensures.follow ran.ensures.reach ran.ensures.leaves c.look.ensures.told c.look.ensures.counted was begun
+          ran.ensures.goes ran.ensures.follow ran.ensures.reach ran.ensures.leaves was begun
+          (promised_of tells told writes faults c.args.core left c.args.job.now.config ran.ensures.leaves.session c.look.ensures.told c.look.ensures.counted was begun
           (λ t over later kept. law.plain c.args.job.now.config was (seen told writes faults c.args.core) (seen told writes faults left) t over later kept)
-          (λ t over later kept. law.stops c.args.job.now.config was (seen told writes faults c.args.core) (seen told writes faults left) t over later kept));
+          (λ t over later kept. law.stops c.args.job.now.config was (seen told writes faults c.args.core) (seen told writes faults left) t over later kept)));
     }
