@@ -1,0 +1,64 @@
+-- What running a job in threads promises.
+use Rattle.std.specs.Prelude.{◌≡◌, List, [], length}
+use Rattle.mss_base.specs.Configs.{ConfigData}
+use Rattle.job_text.specs.Jobs.{JobData}
+use Rattle.seen_book.specs.Books.{AreOfThese}
+use Rattle.core_state.specs.Beginning.{IsLater}
+use Rattle.core_state.specs.CoreValue.{CoreData, DevicesSeen}
+use Rattle.core_state.specs.SessionData.{SessionData, data_of}
+use Rattle.core_state.specs.Sessions.{session_data}
+use Rattle.mss_run.specs.Runs.{EndData, Leaves, hosts_of, run_answer}
+use Rattle.mss_run.specs.declared.ends.RunAnswer.{RunAnswer}
+use Rattle.mss_run.specs.declared.ends.RunAnswer.TheVariants as answer
+use Rattle.serial_driver.specs.declared.answer.DriveAnswer.{DriveAnswer}
+use Rattle.serial_driver.specs.declared.answer.DriveAnswer.TheVariants as ended
+use Rattle.session_report.specs.Answers.{Answer}
+use Rattle.session_report.specs.Parties.{Stream}
+use Rattle.job_runs.specs.Parties.{Devices, since, until}
+use Rattle.job_runs.specs.Runs.{IsBegun, IsPromised, IsReportOf, IsUntaken}
+use Rattle.job_runs.specs.declared.run.Outcome.{Outcome}
+use Rattle.job_runs.specs.declared.run.Outcome.TheVariants.{Untaken, Ran}
+
+-- what ended a run in threads, as it is told of every session
+abbrev pub ended_as : RunAnswer → DriveAnswer
+ended_as answer.Done = ended.Done
+ended_as (answer.Stopped fault) = ended.Stopped fault
+ended_as answer.CommandLimit = ended.CommandLimit
+ended_as answer.Memory = ended.Memory
+
+-- a session from the core that a restart made of the devices to a later one
+pub record IsLedOn (tells : Type 0) (config : ConfigData) (was now : DevicesSeen)
+    (s : SessionData) : Type 0 where
+  pub began : CoreData
+  pub begun : IsBegun tells config was began
+  pub left : CoreData
+  pub later : IsLater tells began left
+  pub devices_ : left.site ≡ now
+  pub session : data_of left ≡ s
+
+-- A session of a job whose hosts and recorders went at once, each in a thread: what every session
+-- promises, and how its hosts ended.
+pub record IsPlayedAtOnce (job : JobData) (site : Devices) (end : DriveAnswer)
+    (hosts : List EndData) (s : SessionData) : Type 0 where
+  pub led : IsLedOn site.tells job.config site.was site.now s
+  pub promised : IsPromised job.config site s
+  -- each entry is of a host of the job
+  pub of_hosts : AreOfThese (hosts_of job.hosts) s.history
+  -- the places of what each was told, which follows its script; for want of memory there are none
+  pub ends : Leaves s.history job.hosts hosts
+  pub ended_ : end ≡ ended_as
+      (run_answer s.stopped (length s.history) (length job.hosts) hosts)
+
+-- such a session and its report
+pub record IsSessionAtOnce (job : JobData) (site : Devices) (sink : Stream) (end : DriveAnswer)
+    (told : Answer) (hosts : List EndData) (s : SessionData) : Type 0 where
+  -- the devices when it ended
+  pub mid : DevicesSeen
+  pub played : IsPlayedAtOnce job (until site mid) end hosts s
+  pub report : IsReportOf job site.was.told (since site mid) sink end told s
+
+-- the site isn't taken up, or a session was run, and its report was put
+abbrev pub Ends : JobData → Devices → Stream → Outcome → List EndData → Type 0
+Ends job site sink (Untaken why) hosts = IsUntaken job site sink why × (hosts ≡ [])
+Ends job site sink (Ran session end told) hosts =
+    IsSessionAtOnce job site sink end told hosts (session_data session)

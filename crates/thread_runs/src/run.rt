@@ -1,0 +1,186 @@
+// A job, run in threads on a site.
+ghost use Rattle.std.specs.Prelude.{◌≡◌, [], Err, IfErr, IfOk};
+ghost use Rattle.core_state.specs.CoreValue.{DevicesSeen, seen};
+ghost use Rattle.core_state.specs.Sessions.{session_data};
+ghost use Rattle.mss_restart.specs.Creations.{WritesOn};
+ghost use Rattle.session_report.specs.Parties.{between};
+ghost use Rattle.job_runs.specs.Parties.{devices, seen_site};
+ghost use Rattle.job_runs.specs.Runs.{AreRowsOf, IsBegun, Opens};
+ghost use Rattle.thread_runs.specs.Runs.{Ends, IsPlayedAtOnce, ended_as};
+
+use core_restart::{Refused, restart};
+use core_state::Core;
+use job_runs::{JobEnd, Outcome, Played, look, put_report};
+use job_text::Job;
+use mss_base::{Sink, Site};
+use mss_run::{Gate, HostEnds, RunAnswer, RunEnd, run_actors};
+use plain_sessions::law::sessions_are_plain;
+use serial_driver::DriveAnswer;
+use std::alloc::Global;
+use std::sync::Wait;
+use std::thread::Threads;
+use victim_choice::Choose;
+
+/// A session that was run in threads, and how each host of its job ended.
+#[derive(Drop)]
+pub struct PlayedAtOnce<S> {
+    pub played: Played<S>,
+    /// The hosts of the job, in its order; none where memory ran out before they began.
+    pub hosts: HostEnds,
+}
+
+/// What became of a job that was run in threads, and how each of its hosts ended.
+#[derive(Drop)]
+pub struct EndAtOnce<S> {
+    pub job: JobEnd<S>,
+    /// The hosts of the job, in its order; none where no session began, or where memory ran out before they did.
+    pub hosts: HostEnds,
+}
+
+/// What ended a run in threads, as it is told of every session.
+fn ended_as(answer: RunAnswer) -> DriveAnswer
+    ensures { result ≡ ended_as answer }
+{
+    match answer {
+        RunAnswer::Done => DriveAnswer::Done,
+        RunAnswer::Stopped { fault } => DriveAnswer::Stopped { fault },
+        RunAnswer::CommandLimit => DriveAnswer::CommandLimit,
+        RunAnswer::Memory => DriveAnswer::Memory,
+    }
+}
+
+/// A core that has just begun on the site, for a job, or the site and why it isn't taken up.
+fn begin<S: Site, C: Choose + Drop>(
+    alloc: Global,
+    job: &Job,
+    site: S,
+    chooser: C,
+) -> Result<Core<S, C>, (S, Refused)>
+    requires able { C.can_choose chooser }
+    ensures begun { IfOk result (λ core. IsBegun S.tells job.now.config
+        (seen_site S.told S.writes S.faults site) (seen S.told S.writes S.faults core)) }
+    ensures devices { IfOk result (λ core.
+        WritesOn S.writes S.faults S.never_fails_but site core.site) }
+    ensures untaken { IfErr result (λ back. Opens job.now.config
+        (devices S.tells S.told S.writes S.faults site back.0) (Err back.1)) }
+    ensures back { IfErr result (λ back.
+        WritesOn S.writes S.faults S.never_fails_but site back.0) }
+{
+    match restart(alloc, site, &job.config, chooser) {
+        Ok(core) => {
+            look(&core);
+            Ok(core)
+        }
+        Err((site, refused)) => Err((site, refused)),
+    }
+}
+
+/// Plays a job in threads on a core that has just begun.
+fn play_on<S: Site + Send, C: Choose + Drop + Send, G: Gate + Sync, R: Threads + Wait + Sync>(
+    rt: &R,
+    alloc: Global,
+    core: Core<S, C>,
+    job: &Job,
+    gate: &G,
+) -> PlayedAtOnce<S>
+    requires empty { core.history ≡ [] }
+    requires config { core.config ≡ job.now.config }
+    requires writes { core.first_write ≡ S.writes core.site }
+    requires faults { core.first_faults ≡ S.faults core.site }
+    ensures session { (was : DevicesSeen) → IsBegun S.tells job.now.config was
+        (seen S.told S.writes S.faults core)
+        → IsPlayedAtOnce job.now (record {
+          tells = S.tells;
+          was = was;
+          now = seen_site S.told S.writes S.faults result.played.site;
+        })
+        result.played.end result.hosts.items (session_data result.played.session) }
+    ensures rows { AreRowsOf S.tells (S.told result.played.site) result.played.session.stopped
+        result.played.rows.items }
+    ensures devices { WritesOn S.writes S.faults S.never_fails_but core.site result.played.site }
+{
+    sessions_are_plain::<S>();
+    let RunEnd {
+        core,
+        hosts,
+        answer,
+    } = run_actors(rt, alloc, core, job, gate);
+    look(&core);
+    let (site, session, rows) = core.into_session();
+    PlayedAtOnce {
+        played: Played {
+            site,
+            rows,
+            session,
+            end: ended_as(answer),
+        },
+        hosts,
+    }
+}
+
+/// Takes up a site and runs a job on it in threads: each host of the job and each recorder in one of its own.
+///
+/// A site that a session left, stopped at whatever moment, is taken up; one with another fault is refused by the
+/// first, untouched, and handed back. The session's history is that of plain volumes, whatever the order in which the
+/// threads came; in it each host's entries are those that it was told of. All actors pass the gate between events.
+pub fn play_at_once<
+    S: Site + Send,
+    C: Choose + Drop + Send,
+    G: Gate + Sync,
+    R: Threads + Wait + Sync,
+>(
+    rt: &R,
+    alloc: Global,
+    job: &Job,
+    site: S,
+    chooser: C,
+    gate: &G,
+) -> Result<PlayedAtOnce<S>, (S, Refused)>
+    requires able { C.can_choose chooser }
+    ensures played { IfOk result (λ p. IsPlayedAtOnce job.now
+        (devices S.tells S.told S.writes S.faults site p.played.site)
+        p.played.end p.hosts.items (session_data p.played.session)) }
+    ensures rows { IfOk result (λ p.
+        AreRowsOf S.tells (S.told p.played.site) p.played.session.stopped p.played.rows.items) }
+    ensures devices { IfOk result (λ p.
+        WritesOn S.writes S.faults S.never_fails_but site p.played.site) }
+    ensures untaken { IfErr result (λ back. Opens job.now.config
+        (devices S.tells S.told S.writes S.faults site back.0) (Err back.1)) }
+    ensures back { IfErr result (λ back.
+        WritesOn S.writes S.faults S.never_fails_but site back.0) }
+{
+    match begin(alloc, job, site, chooser) {
+        Ok(core) => Ok(play_on(rt, alloc, core, job, gate)),
+        Err(untaken) => Err(untaken),
+    }
+}
+
+/// Runs a job in threads on a site, and puts the report.
+pub fn run_at_once<
+    S: Site + Send,
+    C: Choose + Drop + Send,
+    G: Gate + Sync,
+    O: Sink,
+    R: Threads + Wait + Sync,
+>(rt: &R, alloc: Global, job: &Job, site: S, chooser: C, gate: &G, output: &mut O) -> EndAtOnce<S>
+    requires able { C.can_choose chooser }
+    ensures ends { Ends job.now
+        (devices S.tells S.told S.writes S.faults site result.job.site)
+        (between O.tells O.told O.faults output.old output.new)
+        result.job.outcome result.hosts.items }
+    ensures devices { WritesOn S.writes S.faults S.never_fails_but site result.job.site }
+{
+    match play_at_once(rt, alloc, job, site, chooser, gate) {
+        Ok(done) => EndAtOnce {
+            job: put_report(alloc, job, done.played, output),
+            hosts: done.hosts,
+        },
+        Err((site, refused)) => EndAtOnce {
+            job: JobEnd {
+                site,
+                outcome: Outcome::Untaken(refused),
+            },
+            hosts: HostEnds::new(alloc),
+        },
+    }
+}
