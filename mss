@@ -8,7 +8,7 @@ crate=$top/crates/mss_cli
 program=$crate/out/mss_cli
 log=$crate/out/build.log
 
-# Every crate of the repository is one that the program stands on.
+# All crates count. For the few that the program doesn't stand on, `rt` finds that nothing has to be proved or built.
 is_built() {
     [[ -x $program ]] &&
         [[ -z $(find "$top/crates.txt" "$top"/crates/*/{src,specs,proofs} -newer "$program" -print -quit) ]]
@@ -54,6 +54,7 @@ follow() {
 
 if (($# == 0)) || [[ $1 == --help ]]; then
     echo "usage: mss serial <JOB    runs a job, and prints its report; docs/JOBS.md tells how to write one
+       mss threads <JOB   the same, with a thread for each host and each recorder
        mss show           lists the volumes that the jobs so far left in mss.site" >&2
     exit $(($# == 0))
 fi

@@ -2,91 +2,107 @@
 #![tactic(auto)]
 
 mod arguments;
+mod ways;
 
-ghost use Rattle.std.specs.Prelude.{◌≡◌, ◌⊎◌, [], false, true, map, string_bytes};
+ghost use Rattle.std.specs.Prelude.{◌≡◌, ◌⊎◌, List, [], map, string_bytes};
 ghost use Rattle.std.specs.Prelude.{IfOk, OnErr};
 ghost use Rattle.job_runs.specs.Parties.{devices};
 ghost use Rattle.mss_top.specs.Serial.{Ends};
 ghost use Rattle.mss_top.specs.Showing.{EndsShown};
 ghost use Rattle.mss_top.specs.Status.{code_of};
-ghost use Rattle.mss_cli.specs.Words.{ask_to_show};
+ghost use Rattle.mss_run.specs.Runs.{EndData};
+ghost use Rattle.mss_top.specs.Threads.{EndsThreads};
+ghost use Rattle.mss_cli.specs.Words.{way_of};
 ghost use Rattle.session_report.specs.Parties.{between};
 
 use arguments::words;
 use mss_base::{NoMemory, Sink, Site, Source};
-use mss_files::{FileSite, StdSink, StdSource};
-use mss_top::{Ended, Status, serial, show};
-use std::alloc::Global;
+use mss_files::{FileSite, Folder, StdSink, StdSource};
+use mss_run::OpenGate;
+use mss_top::{Ended, Status, serial, show, threads};
 use std::io::{Read, Write};
 use std::process::ExitCode;
+use std::sync::Wait;
+use std::thread::Threads;
 use victim_choice::{Choose, Lru};
+use ways::Way;
 
 /// The folder of the site's files.
 const SITE: &str = "mss.site";
 
 fn main(rt: HostRuntime) -> ExitCode {
-    ExitCode::from(exit_code(outcome(rt)))
+    let ended = match begin(rt) {
+        Ok((words, site)) => run(&rt, &words, rt.stdin(), rt.stdout(), site),
+        Err(want) => Err(want),
+    };
+    ExitCode::from(exit_code(ended.map(|(status, _)| status)))
 }
 
-/// How the run ended that the words ask for, or that memory was wanting before it began.
-fn outcome(rt: HostRuntime) -> Result<Status, NoMemory> {
+/// The words of the command, and the site that it is for.
+fn begin(rt: HostRuntime) -> Result<(Vec<String>, FileSite<Folder<HostRuntime>>), NoMemory> {
     let words = words(&rt, rt.alloc())?;
     let site = FileSite::at(rt, SITE)?;
-    let (status, _) = run(rt.alloc(), &words, rt.stdin(), rt.stdout(), site)?;
-    Ok(status)
+    Ok((words, site))
 }
 
-/// Whether the words ask for a look at the volumes.
-fn ask_to_show(words: &[String]) -> bool
-    ensures { result ≡ ask_to_show (map string_bytes words.now) }
+/// The call that the words ask for, by their first.
+fn way_of(words: &[String]) -> Way
+    ensures { result ≡ way_of (map string_bytes words.now) }
 {
     match words {
-        [word, ..] => word.as_str() == "show",
-        [] => false,
+        [word, ..] if word.as_str() == "show" => Way::Show,
+        [word, ..] if word.as_str() == "threads" => Way::Threads,
+        _ => Way::Serial,
     }
 }
 
 /// Makes the call that the words ask for: a look, or a run.
-fn call<I: Source, O: Sink, S: Site, C: Choose + Drop>(
-    alloc: Global,
-    words: &[String],
-    input: &mut I,
-    output: &mut O,
-    site: S,
-    chooser: C,
-) -> Ended<S>
+fn call<
+    I: Source,
+    O: Sink,
+    S: Site + Send,
+    C: Choose + Drop + Send,
+    R: Threads + Wait + Sync + AllocGlobal,
+>(rt: &R, words: &[String], input: &mut I, output: &mut O, site: S, chooser: C) -> Ended<S>
     requires able { C.can_choose chooser }
-    ensures looks { ask_to_show (map string_bytes words.now) ≡ true
+    ensures looks { way_of (map string_bytes words.now) ≡ Way.Show
         → EndsShown (map string_bytes words.now)
         (devices S.tells S.told S.writes S.faults site result.site)
         (between O.tells O.told O.faults output.old output.new) result.status }
-    ensures runs { ask_to_show (map string_bytes words.now) ≡ false
+    ensures goes_at_once { way_of (map string_bytes words.now) ≡ Way.Threads
+        → (hosts : List EndData) × EndsThreads (map string_bytes words.now)
+        (between I.tells I.left I.faults input.old input.new)
+        (devices S.tells S.told S.writes S.faults site result.site)
+        (between O.tells O.told O.faults output.old output.new)
+        result.status hosts result.session }
+    ensures runs { way_of (map string_bytes words.now) ≡ Way.Serial
         → Ends (map string_bytes words.now) (C.may chooser)
         (between I.tells I.left I.faults input.old input.new)
         (devices S.tells S.told S.writes S.faults site result.site)
         (between O.tells O.told O.faults output.old output.new) result.status result.session }
 {
-    if ask_to_show(words) {
-        return show(alloc, words, output, site);
+    let alloc = rt.alloc();
+    match way_of(words) {
+        Way::Show => show(alloc, words, output, site),
+        Way::Threads => threads(rt, words, input, output, site, chooser, &OpenGate).run,
+        Way::Serial => serial(alloc, words, input, output, site, chooser),
     }
-    serial(alloc, words, input, output, site, chooser)
 }
 
 /// Runs the command of these words on a site. The whole output is written, or the status says that it isn't. Where
 /// memory is wanting before it begins, nothing is put.
-fn run<R: Read + Drop, W: Write + Drop, S: Site + Drop>(
-    alloc: Global,
-    words: &[String],
-    input: R,
-    output: W,
-    site: S,
-) -> Result<(Status, StdSink<W>), NoMemory>
+fn run<
+    I: Read + Drop,
+    W: Write + Drop,
+    S: Site + Drop + Send,
+    R: Threads + Wait + Sync + AllocGlobal,
+>(rt: &R, words: &[String], input: I, output: W, site: S) -> Result<(Status, StdSink<W>), NoMemory>
     ensures { IfOk result (λ ended.
         (ended.0 ≡ Status.OutputFault) ⊎ (ended.1.waiting ≡ [])) }
 {
     let mut input = StdSource::new(input);
-    let mut output = StdSink::new(alloc, output)?;
-    let ended = call(alloc, words, &mut input, &mut output, site, Lru);
+    let mut output = StdSink::new(rt.alloc(), output)?;
+    let ended = call(rt, words, &mut input, &mut output, site, Lru);
     let status = finish(&mut output, ended.status);
     Ok((status, output))
 }

@@ -1,7 +1,7 @@
 -- Why a run is admitted, or isn't; how many actors it has.
-use Rattle.std.proofs.Common.{◌≡◌, ◌≤◌, ◌<◌, inl, inr, ℕ, Bool, true, false, List, [], ◌∷◌, length, map, Option, Some, None, Result, Ok, Err, refl, sym, ◌∙◌, subst, arith}
+use Rattle.std.proofs.Common.{◌≡◌, ◌≤◌, ◌<◌, inl, inr, ℕ, true, List, [], ◌∷◌, length, map, Option, Some, None, Result, Ok, Err, sym, subst, arith}
 use Rattle.std.specs.Prelude.{◌==◌, IfErr, IfOk}
-use Rattle.std.specs.List.{AllByRecursion, IsDistinct, list_any}
+use Rattle.std.specs.List.{AllByRecursion, list_any}
 use Rattle.std.proofs.lemmas.Bool.{eqb-true, or_cases}
 use Rattle.std.proofs.lemmas.Map.Steps.{length-le_from_distinct_below}
 use Rattle.std.proofs.lemmas.List.{length-map}
@@ -11,7 +11,7 @@ use Rattle.draws.specs.Load.{load_job}
 use Rattle.report_text.specs.declared.one_line.OneLine.{OneLine}
 use Rattle.report_text.specs.declared.one_line.OneLine.TheVariants as line
 use Rattle.session_report.specs.Parties.{Stream, IsUntouched}
-use Rattle.mss_top.specs.Admission.{AskInVain, AskToRun, Asks, GivesJob, IsJobless, IsUnread, actors}
+use Rattle.mss_top.specs.Admission.{AskToRun, Asks, GivesJob, IsJobless, IsUnread}
 use Rattle.mss_top.specs.declared.admission.Settings.{Settings}
 
 -- ---- actors

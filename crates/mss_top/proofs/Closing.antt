@@ -1,5 +1,5 @@
 -- A line that is put after nothing was put.
-use Rattle.std.proofs.Common.{◌≡◌, ℕ, List, ◌++◌, ◌∙◌, ap, subst}
+use Rattle.std.proofs.Common.{ℕ, List, ◌++◌, ◌∙◌, ap, subst}
 use Rattle.mss_base.specs.Counts.{Rises}
 use Rattle.mss_base.specs.Puts.{PutsFront}
 use Rattle.report_text.specs.declared.one_line.OneLine.{OneLine}

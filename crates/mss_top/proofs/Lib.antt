@@ -3,5 +3,9 @@ pub mod Taken
 pub mod Admitting
 pub mod Closing
 pub mod Running
+pub mod Threading
+pub mod Fair
 pub mod Completed
+pub mod CompletedThreads
 pub mod Looked
+pub mod OneLook

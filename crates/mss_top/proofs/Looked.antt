@@ -1,5 +1,5 @@
 -- A look at devices of which no call fails.
-use Rattle.std.proofs.Common.{◌≡◌, ◌<◌, ◌≤◌, inl, inr, ℕ, List, [], ◌++◌, Option, Some, None, Result, Ok, Err, refl, sym, ◌∙◌, ap, subst, arith}
+use Rattle.std.proofs.Common.{◌≡◌, ◌<◌, ◌≤◌, inl, inr, ℕ, List, [], ◌++◌, Option, None, Ok, Err, sym, ◌∙◌, ap, subst, arith}
 use Rattle.std.specs.List.{IsDistinct}
 use Rattle.std.specs.List.Sorted.{IsStrictlySortedBy}
 use Rattle.mss_base.specs.Configs.{IsConfig, VolumeData}
@@ -16,19 +16,17 @@ use Rattle.shown_volumes.specs.declared.refused.Refused.{Refused}
 use Rattle.shown_volumes.specs.declared.refused.Refused.TheVariants as refused
 use Rattle.mss_restart.specs.Survey.{IsExact, KeepsFault, Surveys}
 use Rattle.core_restart.specs.TakingUp.{NoneFailed}
-use Rattle.core_state.specs.CoreValue.{DevicesSeen}
 use Rattle.serial_driver.specs.declared.answer.DriveAnswer.TheVariants as ended
 use Rattle.session_report.specs.Answers.{Answer, IsPut, whole as put_whole, broken, cut}
 use Rattle.session_report.specs.Parties.{Devices as ToldDevices, Stream, seen_with}
-use Rattle.session_report.specs.Reports.{Ending, HasReason, IsReported, SiteCounts, Telling, finished, listing_matter, told_answer, told_text, whole, unread}
+use Rattle.session_report.specs.Reports.{AnswersNoRead, Ending, HasReason, IsReported, SiteCounts, Telling, finished, listing_matter, told_answer, told_text, whole, unread}
 use Rattle.session_report.specs.declared.fault.ReportFault.TheVariants as report_fault
 use Rattle.session_report.specs.declared.reporting.Last.TheVariants.{End}
 use Rattle.job_runs.specs.Parties.{Devices, reported, since}
 use Rattle.mss_top.specs.Ending.{line_of}
-use Rattle.mss_top.specs.Showing.{EndsShown, FRAMES, IsFaultPut, IsListed, IsShown, IsSurvey, IsSurveyLine, IsUnlisted, Lists, LooksWell, Put, RowsFound, fault_shown, listing_text, none_asked}
+use Rattle.mss_top.specs.Showing.{EndsShown, FRAMES, IsFaultPut, IsListed, IsShown, IsSurvey, IsSurveyLine, IsUnlisted, Lists, LooksWell, Put, RowsFound, fault_shown, none_asked}
 use Rattle.mss_top.specs.Status.{IsLinePut, whole as line_whole, broken as line_broken, status_of}
 use Rattle.mss_top.specs.declared.status.Status.{Status}
-use Rattle.mss_top.specs.declared.status.Status.TheVariants as status
 
 -- ---- the survey
 
@@ -63,7 +61,14 @@ same_between was mid now (Err (report_fault.Read fault)) none from counted = abs
 same_between was mid now (Err report_fault.Output) none from counted = omega (arith, none.same, from, counted)
 same_between was mid now (Err report_fault.Memory) none from counted = omega (arith, none.same, counted)
 
-none_rises : (was now : ℕ) → NoneFailed was now → Rises was now → ⊥
+-- so no failed read is told
+none_unread : (was now : ℕ) (answer : Answer) → NoneFailed was now → SiteCounts was now answer → AnswersNoRead answer
+none_unread was now (Ok x) none counted = tt
+none_unread was now (Err (report_fault.Read fault)) none counted = absurd (omega (arith, none.same, none.could_rise, counted.rises))
+none_unread was now (Err report_fault.Output) none counted = tt
+none_unread was now (Err report_fault.Memory) none counted = tt
+
+pub none_rises : (was now : ℕ) → NoneFailed was now → Rises was now → ⊥
 none_rises was now none rose = absurd (omega (arith, none.same, none.could_rise, rose))
 
 fault_put : (site : Devices) (why : Refused) (sink : Stream) → site.tells → NoneFailed site.was.faults site.now.faults → IsSurveyLine site (line.RestartRefused why) → Put sink (one_line_text (line.RestartRefused why))
@@ -75,19 +80,19 @@ fault_put site why sink tells none is put = record { why = why; first = is.exact
 
 -- a content without a fault, as it was told
 module _ (c : Content) (sink : Stream) (faultless : fault_shown c ≡ None) (sink_none : Rises sink.faults_was sink.faults_now → ⊥) where
-  telling_shown : (site : ToldDevices) (answer : Answer) → site.tells → (Rises site.faults_was site.faults_now → ⊥) → (telling : Telling) → HasReason (finished End) (listing_matter (shown c)).volumes site.faults_was site.faults_now telling
+  telling_shown : (site : ToldDevices) (answer : Answer) → site.tells → AnswersNoRead answer → (telling : Telling) → HasReason (finished End) (listing_matter (shown c)).volumes site.faults_was site.faults_now telling
       → IsPut (told_answer telling) (told_text (listing_matter (shown c)) telling) (seen_with site sink) answer → IsShown c sink (status_of ended.Done answer)
-  telling_shown site answer tells site_none (whole e) reason (put_whole is bytes) = subst (λ (a : Answer). IsShown c sink (status_of ended.Done a)) (sym is)
+  telling_shown site answer tells read (whole e) reason (put_whole is bytes) = subst (λ (a : Answer). IsShown c sink (status_of ended.Done a)) (sym is)
       (faultless, λ t. bytes (tells, t) ∙ ap (λ (e : Ending). sink.was ++ told_text (listing_matter (shown c)) (whole e)) reason)
-  telling_shown site answer tells site_none (unread place tracks fault) reason (put_whole is bytes) = absurd (site_none reason.3.rises)
-  telling_shown site answer tells site_none telling reason (broken is rose front) = absurd (sink_none rose)
-  telling_shown site answer tells site_none telling reason (cut is front) = subst (λ (a : Answer). IsShown c sink (status_of ended.Done a)) (sym is) tt
+  telling_shown site answer tells read (unread place tracks fault) reason (put_whole is bytes) = absurd (subst (λ (a : Answer). AnswersNoRead a) is read)
+  telling_shown site answer tells read telling reason (broken is rose front) = absurd (sink_none rose)
+  telling_shown site answer tells read telling reason (cut is front) = subst (λ (a : Answer). IsShown c sink (status_of ended.Done a)) (sym is) tt
 
-  lists_shown : (rows : List (Option RowValue)) (site : Devices) (told : Status) → site.tells → (Rises site.was.faults site.now.faults → ⊥) → content site.was.told ≡ c → listed rows ≡ rows_of c → Lists rows site sink told → IsShown c sink told
-  lists_shown rows site told tells site_none holds same lists =
+  pub lists_shown : (rows : List (Option RowValue)) (site : Devices) (told : Status) → site.tells → content site.was.told ≡ c → listed rows ≡ rows_of c → (lists : Lists rows site sink told) → AnswersNoRead lists.answer → IsShown c sink told
+  lists_shown rows site told tells holds same lists read =
       let is : IsReported (listing_matter (shown c)) (finished End) (reported site) sink lists.answer =
       subst (λ (p : RowsOf × Content). IsReported (listing_matter (shown_by p.0 p.1)) (finished End) (reported site) sink lists.answer) (λ i. (same i, holds i)) lists.listing in
-      subst (λ (s : Status). IsShown c sink s) (sym lists.ends) (telling_shown (reported site) lists.answer tells site_none is.telling is.reason is.put)
+      subst (λ (s : Status). IsShown c sink s) (sym lists.ends) (telling_shown (reported site) lists.answer tells read is.telling is.reason is.put)
 
 module _ (words : List (List ℕ)) (site : Devices) (sink : Stream) (well : LooksWell words site sink) (told : Status) where
   line_shown : (said : OneLine) → IsUnlisted words site said → IsLinePut said sink told → IsShown (content site.was.told) sink told
@@ -104,7 +109,7 @@ module _ (words : List (List ℕ)) (site : Devices) (sink : Stream) (well : Look
       let same : is.mid.faults ≡ site.was.faults = same_between _ _ _ is.lists.answer well.site_none is.survey.kept is.lists.counted in
       let exact : IsExact FRAMES none_asked (content site.was.told) (Ok is.rows) = is.survey.exact well.can_see (record { same = same; could_rise = well.site_none.could_rise }) in
       lists_shown (content site.was.told) sink exact.1 (none_rises _ _ well.sink_none) is.rows (since site is.mid) told well.can_see
-      (λ rose. none_rises _ _ well.site_none (subst (λ (n : ℕ). Rises n site.now.faults) same rose)) (ap (λ (log : SiteLog). content log) (is.unwritten well.can_see)) exact.0 is.lists
+      (ap (λ (log : SiteLog). content log) (is.unwritten well.can_see)) exact.0 is.lists (none_unread _ _ is.lists.answer (record { same = well.site_none.same ∙ sym same; could_rise = omega (arith, same, well.site_none.could_rise) }) is.lists.counted)
 
   pub look_complete : EndsShown words site sink told → IsShown (content site.was.told) sink told
   look_complete (inl says) = line_shown says.said says.cause says.put

@@ -1,5 +1,4 @@
 -- How an output ends that is one line.
-use Rattle.std.specs.Prelude.{◌≡◌}
 use Rattle.report_text.specs.declared.one_line.OneLine.{OneLine}
 use Rattle.report_text.specs.declared.one_line.OneLine.TheVariants as line
 use Rattle.shown_volumes.specs.declared.refused.Refused.{Refused}

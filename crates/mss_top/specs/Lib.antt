@@ -4,3 +4,4 @@ pub mod Status
 pub mod Ending
 pub mod Showing
 pub mod Serial
+pub mod Threads

@@ -135,17 +135,21 @@ abbrev pub AsksJob : Option ℕ → ℕ → Stream → JobData → Type 0
 AsksJob (Some programs) order input job = job ≡ load_job order programs
 AsksJob None order input job = input.tells × IsJobText input.was job
 
--- the words ask for a run, this is its job, the devices tell content in which its configuration
--- finds no fault, and no call fails
-pub record GoesWell (words : List Text) (input : Stream) (site : Devices) (sink : Stream)
-    (settings : Settings) (job : JobData) : Type 0 where
-  pub command : AskToRun words settings
-  pub asks : AsksJob settings.load settings.order input job
+-- the devices tell content in which the job's configuration finds no fault, and no call fails
+pub record NothingFails (job : JobData) (input : Stream) (site : Devices) (sink : Stream)
+    : Type 0 where
   pub can_see : site.tells
   pub faultless : IsFaultless job.config (content site.was.told)
   pub input_none : NoneFailed input.faults_was input.faults_now
   pub site_none : NoneFailed site.was.faults site.now.faults
   pub sink_none : NoneFailed sink.faults_was sink.faults_now
+
+-- the words ask for a run, this is its job, and nothing fails
+pub record GoesWell (words : List Text) (input : Stream) (site : Devices) (sink : Stream)
+    (settings : Settings) (job : JobData) : Type 0 where
+  pub command : AskToRun words settings
+  pub asks : AsksJob settings.load settings.order input job
+  pub fair : NothingFails job input site sink
 
 -- the run did and told all that was asked, or came to the limit of entries, or memory ran out
 abbrev pub IsComplete : Status → Type 0

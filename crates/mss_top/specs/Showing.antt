@@ -1,7 +1,8 @@
 -- What a look at the volumes promises.
 use Rattle.std.specs.Prelude.{◌≡◌, ◌≢◌, ◌⊎◌, ◌++◌, ℕ, List, Option, Some, None, Result, Ok, Err}
-use Rattle.mss_base.specs.Content.{Content, content}
+use Rattle.mss_base.specs.Content.{Content, SiteLog, content}
 use Rattle.mss_base.specs.Listing.{Listing}
+use Rattle.mss_base.specs.Sites.{FailingReads}
 use Rattle.volume_table.specs.Row.{RowValue}
 use Rattle.volume_table.specs.Listed.{listed}
 use Rattle.command_words.specs.Options.{Text}
@@ -14,6 +15,7 @@ use Rattle.shown_volumes.specs.Faults.{first_fault}
 use Rattle.shown_volumes.specs.Shown.{shown, shown_by}
 use Rattle.shown_volumes.specs.declared.refused.Refused.{Refused}
 use Rattle.shown_volumes.specs.declared.refused.Refused.TheVariants as refused
+use Rattle.mss_restart.specs.OneCopy.{ArePaired, LosesOneTable}
 use Rattle.mss_restart.specs.Survey.{IsExact, KeepsFault, Surveys}
 use Rattle.core_restart.specs.TakingUp.{NoneFailed}
 use Rattle.core_state.specs.CoreValue.{DevicesSeen}
@@ -142,3 +144,24 @@ IsShown c sink status.Done = (fault_shown c ≡ None) × Put sink (listing_text 
 IsShown c sink status.RestartRefused = IsFaultPut c sink
 IsShown c sink status.Memory = Unit {0}
 IsShown c sink _ = ⊥
+
+-- ---- one copy that can't be read
+
+-- The words ask for a look, the devices tell their content, in which each copy tells its row alone,
+-- reads of one unit of the table may fail, and no other call does.
+pub record LooksByOneCopy {S : Type 0} (words : List Text) (tells : Type 0) (told : S → SiteLog)
+    (never_fails_but : FailingReads S) (site : S) (sink : Stream) : Type 0 where
+  pub command : AskToShow words
+  pub can_see : tells
+  pub paired : ArePaired (content (told site))
+  pub loses : LosesOneTable never_fails_but site
+  pub sink_none : NoneFailed sink.faults_was sink.faults_now
+
+-- what a look finds in a content: the rows of one without a fault, or the first fault; or memory
+-- ran out
+abbrev pub LooksExactly : Content → Looked → Type 0
+LooksExactly c (Ok rows) = IsExact FRAMES none_asked c (Ok rows)
+LooksExactly c (Err line.WantOfMemory) = Unit {0}
+LooksExactly c (Err (line.RestartRefused refused.Memory)) = ⊥
+LooksExactly c (Err (line.RestartRefused why)) = IsExact FRAMES none_asked c (Err why)
+LooksExactly c (Err _) = ⊥

@@ -1,5 +1,5 @@
 -- Statuses, and what a status says of one line that was put.
-use Rattle.std.specs.Prelude.{◌≡◌, ℕ, List, ◌++◌, Ok, Err}
+use Rattle.std.specs.Prelude.{◌≡◌, ℕ, ◌++◌, Ok, Err}
 use Rattle.mss_base.specs.Counts.{Rises}
 use Rattle.mss_base.specs.Puts.{PutsFront}
 use Rattle.report_text.specs.OneLines.{one_line_text}

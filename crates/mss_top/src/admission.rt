@@ -62,7 +62,7 @@ fn job_of_text(alloc: Global, text: &[u8]) -> Result<Job, OneLine>
 }
 
 /// The job of the input, or the line that says why there is none.
-fn job_of_input<I: Source>(alloc: Global, input: &mut I) -> Result<Job, OneLine>
+pub fn job_of_input<I: Source>(alloc: Global, input: &mut I) -> Result<Job, OneLine>
     ensures { TakesText (between I.tells I.left I.faults input.old input.new) result }
 {
     match read_input(alloc, input, READ_LIMIT) {

@@ -1,12 +1,14 @@
 //! What the program does: a whole run, and a look at the volumes.
 //!
 //! `serial` does a run; its clause `ended` (`specs/Serial.antt`) is the promise of this repository. It reads the
-//! words, the job and draws the turns (`admission.rt`), and runs the job on the site by `job_runs`. `show` lists the
-//! volumes of a site (`specs/Showing.antt`). Contracts speak of input, devices and output as parties: what each told
-//! before and after, and its counts of faults.
+//! words, the job and draws the turns (`admission.rt`), and runs the job on the site by `job_runs`. `threads` does one
+//! with a thread for each host and each recorder, by `thread_runs` (`specs/Threads.antt`). `show` lists the volumes of
+//! a site (`specs/Showing.antt`). Contracts speak of input, devices and output as parties: what each told before and
+//! after, and its counts of faults.
 #![tactic(auto)]
 
 mod admission;
+mod at_once;
 mod ending;
 mod input;
 mod run;
@@ -15,6 +17,7 @@ mod status;
 #[cfg(test)]
 mod tests;
 
+pub use at_once::{EndedAtOnce, threads};
 pub use ending::Ended;
 pub use input::{InputFault, read_input};
 pub use run::serial;

@@ -21,7 +21,7 @@ use victim_choice::Choose;
 
 /// Ends the output of a session, and answers with the status: where memory ran out in it, nothing was put yet, and one
 /// line says so.
-fn close<O: Sink>(output: &mut O, end: DriveAnswer, told: Result<(), ReportFault>) -> Status
+pub fn close<O: Sink>(output: &mut O, end: DriveAnswer, told: Result<(), ReportFault>) -> Status
     ensures { Closes end told (between O.tells O.told O.faults output.old output.new) result }
 {
     match end {

@@ -1,11 +1,15 @@
 //! A look at the volumes of a site.
-ghost use Rattle.std.specs.Prelude.{◌≡◌, [], None, length, map, string_bytes, IfOk};
+ghost use Rattle.std.specs.Prelude.{◌≡◌, ◌≢◌, [], None, length, map, string_bytes, IfOk};
 ghost use Rattle.mss_base.specs.Content.{content};
 ghost use Rattle.mss_base.specs.Sites.{OnlyReads};
 ghost use Rattle.session_report.specs.Parties.{between};
 ghost use Rattle.job_runs.specs.Parties.{devices};
-ghost use Rattle.mss_top.specs.Showing.{EndsShown, FRAMES, IsShown, Lists, Looks, LooksWell};
-ghost use Rattle.mss_top.specs.Showing.{SurveysAny, rows_in};
+ghost use Rattle.mss_restart.specs.OneCopy.{ArePaired, LosesOneTable};
+ghost use Rattle.session_report.specs.Parts.{CanReadTracks};
+ghost use Rattle.mss_top.specs.Showing.{AskToShow, EndsShown, FRAMES, IsShown, Lists, Looks};
+ghost use Rattle.mss_top.specs.Showing.{LooksByOneCopy, LooksExactly, LooksWell, SurveysAny};
+ghost use Rattle.mss_top.specs.Showing.{rows_in};
+ghost use Rattle.mss_top.specs.declared.status.Status.TheVariants.{Stopped};
 
 use crate::ending::{Ended, refusal_line, say, status_of};
 use crate::status::Status;
@@ -36,6 +40,9 @@ fn any_config(alloc: Global) -> Config
 fn survey_any<S: Site>(alloc: Global, site: &mut S) -> Result<Rows, OneLine>
     ensures survey { SurveysAny (devices S.tells S.told S.writes S.faults site.old site.new)
         (rows_in result) }
+    ensures one_copy { S.tells → LosesOneTable S.never_fails_but site.old
+        → ArePaired (content (S.told site.old))
+        → LooksExactly (content (S.told site.old)) (rows_in result) }
     ensures whole { IfOk result (λ rows. length rows.items ≡ 32) }
     ensures site { OnlyReads S.tells S.told S.spare S.writes S.faults S.never_fails_but
         site.old site.new }
@@ -50,6 +57,9 @@ fn survey_any<S: Site>(alloc: Global, site: &mut S) -> Result<Rows, OneLine>
 fn look<S: Site>(alloc: Global, words: &[String], site: &mut S) -> Result<Rows, OneLine>
     ensures looks { Looks (map string_bytes words.now)
         (devices S.tells S.told S.writes S.faults site.old site.new) (rows_in result) }
+    ensures one_copy { AskToShow (map string_bytes words.now) → S.tells
+        → LosesOneTable S.never_fails_but site.old → ArePaired (content (S.told site.old))
+        → LooksExactly (content (S.told site.old)) (rows_in result) }
     ensures whole { IfOk result (λ rows. length rows.items ≡ 32) }
     ensures site { OnlyReads S.tells S.told S.spare S.writes S.faults S.never_fails_but
         site.old site.new }
@@ -67,6 +77,7 @@ fn list<S: Site, O: Sink>(alloc: Global, site: &mut S, rows: &Rows, output: &mut
     ensures lists { Lists rows.now.items
         (devices S.tells S.told S.writes S.faults site.old site.new)
         (between O.tells O.told O.faults output.old output.new) result }
+    ensures works { CanReadTracks S.never_fails_but site.old → result ≢ Stopped }
     ensures site { OnlyReads S.tells S.told S.spare S.writes S.faults S.never_fails_but
         site.old site.new }
 {
@@ -84,6 +95,10 @@ fn show_lent<S: Site, O: Sink>(
     ensures ended { EndsShown (map string_bytes words.now)
         (devices S.tells S.told S.writes S.faults site.old site.new)
         (between O.tells O.told O.faults output.old output.new) result }
+    ensures one_copy { LooksByOneCopy (map string_bytes words.now) S.tells S.told
+        S.never_fails_but site.old (between O.tells O.told O.faults output.old output.new)
+        → IsShown (content (S.told site.old))
+        (between O.tells O.told O.faults output.old output.new) result }
     ensures site { OnlyReads S.tells S.told S.spare S.writes S.faults S.never_fails_but
         site.old site.new }
 {
@@ -97,8 +112,8 @@ fn show_lent<S: Site, O: Sink>(
 ///
 /// The words are the command `show`. Nothing is written to the site. One with a fault is told by its first, by one
 /// line; which frames and recorders a run would have, and which volumes its job asks for, doesn't matter. Where one
-/// copy of a row can't be read, the other tells it. Where a read for a track fails, the listing ends before that
-/// track.
+/// unit of the table can't be read, and each copy tells its row alone, that changes nothing. Where a read for a track
+/// fails, the listing ends before that track.
 pub fn show<S: Site, O: Sink>(
     alloc: Global,
     words: &[String],
@@ -111,6 +126,10 @@ pub fn show<S: Site, O: Sink>(
     ensures complete { LooksWell (map string_bytes words.now)
         (devices S.tells S.told S.writes S.faults site result.site)
         (between O.tells O.told O.faults output.old output.new)
+        → IsShown (content (S.told site))
+        (between O.tells O.told O.faults output.old output.new) result.status }
+    ensures one_copy { LooksByOneCopy (map string_bytes words.now) S.tells S.told
+        S.never_fails_but site (between O.tells O.told O.faults output.old output.new)
         → IsShown (content (S.told site))
         (between O.tells O.told O.faults output.old output.new) result.status }
     ensures site { OnlyReads S.tells S.told S.spare S.writes S.faults S.never_fails_but

@@ -1,4 +1,4 @@
-use Rattle.std.proofs.Common.{◌≡◌, subst}
+use Rattle.std.proofs.Common.{subst}
 use Rattle.job_runs.specs.Parties.{Devices, devices}
 use Rattle.job_runs.specs.declared.run.Outcome.{Outcome}
 use Rattle.session_report.specs.Parties.{Stream, between}

@@ -1,0 +1,5 @@
+use Rattle.mss_top.proofs.OneLook.{read_unstopped}
+use Rattle.mss_top.proofs.showing.list.Goals as goal
+
+pub returns-clause-works : goal.returns-clause-works
+returns-clause-works g c = λ reads. read_unstopped c.listing-told.result c.status_of.result c.status_of.ensures (c.listing-told.ensures.works reads)

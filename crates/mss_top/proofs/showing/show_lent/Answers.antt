@@ -1,0 +1,19 @@
+use Rattle.std.proofs.Common.{ap}
+use Rattle.mss_base.specs.Content.{SiteLog, content}
+use Rattle.session_report.specs.Parties.{between}
+use Rattle.job_runs.specs.Parties.{devices}
+use Rattle.mss_restart.proofs.OneTable.{loses_on, reads_tracks}
+use Rattle.mss_top.proofs.OneLook.{line_by_one, listing_by_one}
+use Rattle.mss_top.proofs.showing.show_lent.Goals as goal
+
+pub returns-in-Ok-clause-one_copy : goal.returns-in-Ok-clause-one_copy
+returns-in-Ok-clause-one_copy g c = λ looks.
+    listing_by_one (content (g.S.Site.told c.args.site.now)) (between g.O.Sink.tells g.O.Sink.told g.O.Sink.faults c.args.output.now c.list.new.output) looks.sink_none c.in-Ok.rows.items
+    (devices g.S.Site.tells g.S.Site.told g.S.Site.writes g.S.Site.faults c.look.new.site c.list.new.site) c.list.result looks.can_see (ap (λ (log : SiteLog). content log) (c.in-Ok.ensures.site.log looks.can_see))
+    (c.in-Ok.ensures.one_copy looks.command looks.can_see looks.loses looks.paired) c.list.ensures.lists
+    (c.list.ensures.works (reads_tracks g.S.Site.never_fails_but c.look.new.site (loses_on g.S.Site.never_fails_but c.args.site.now c.look.new.site c.in-Ok.ensures.site.sound looks.loses)))
+
+pub returns-in-Err-clause-one_copy : goal.returns-in-Err-clause-one_copy
+returns-in-Err-clause-one_copy g c = λ looks.
+    line_by_one (content (g.S.Site.told c.args.site.now)) (between g.O.Sink.tells g.O.Sink.told g.O.Sink.faults c.args.output.now c.say.new.output) looks.sink_none c.in-Err.line c.say.result
+    (c.in-Err.ensures.one_copy looks.command looks.can_see looks.loses looks.paired) c.say.ensures.put

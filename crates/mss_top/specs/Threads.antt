@@ -1,0 +1,107 @@
+-- What a run of `threads` promises.
+use Rattle.std.specs.Prelude.{◌≡◌, ◌≢◌, ◌⊎◌, List, [], Option, Some, Result, Ok, Err}
+use Rattle.command_words.specs.Options.{Text}
+use Rattle.command_words.specs.Words.{meaning}
+use Rattle.command_words.specs.declared.command.Command.TheVariants as command
+use Rattle.job_text.specs.Jobs.{JobData}
+use Rattle.report_text.specs.declared.one_line.OneLine.{OneLine}
+use Rattle.report_text.specs.declared.one_line.OneLine.TheVariants as line
+use Rattle.core_state.specs.SessionData.{SessionData}
+use Rattle.core_state.specs.declared.session.Session.{Session}
+use Rattle.mss_run.specs.Runs.{EndData}
+use Rattle.serial_driver.specs.declared.answer.DriveAnswer.{DriveAnswer}
+use Rattle.session_report.specs.Answers.{Answer}
+use Rattle.session_report.specs.Parties.{Stream, IsUntouched}
+use Rattle.job_runs.specs.Parties.{Devices}
+use Rattle.thread_runs.specs.Runs.{IsSessionAtOnce}
+use Rattle.mss_top.specs.Admission.{IsJobText, IsNoJob, Reads}
+use Rattle.mss_top.specs.Ending.{SaysWhy}
+use Rattle.mss_top.specs.Serial.{Closes, EndsAs, IsUntaken, NothingFails, Output, since, until}
+use Rattle.mss_top.specs.declared.status.Status.{Status}
+
+-- ---- which run is admitted
+
+-- the words ask for a run in threads
+abbrev pub AskForThreads : List Text → Type 0
+AskForThreads words = meaning words ≡ Some command.Threads
+
+-- and the input has this job
+pub record IsThreadsJob (words : List Text) (input : Stream) (job : JobData) : Type 0 where
+  pub command : AskForThreads words
+  pub text : Reads input (λ text. IsJobText text job)
+
+-- Why no run in threads is admitted: the words, or the input. Of want of memory nothing is said.
+abbrev pub IsThreadless : List Text → Stream → OneLine → Type 0
+IsThreadless words input line.WordsRefused =
+    (meaning words ≢ Some command.Threads) × IsUntouched input
+IsThreadless words input line.WantOfMemory = Unit {0}
+IsThreadless words input said = AskForThreads words × IsNoJob input said
+
+abbrev pub AdmitsThreads : List Text → Stream → Result JobData OneLine → Type 0
+AdmitsThreads words input (Ok job) = IsThreadsJob words input job
+AdmitsThreads words input (Err said) = IsThreadless words input said
+
+-- ---- a run without a session
+
+-- no run is admitted, and the devices are untouched
+pub record IsKeptOut (words : List Text) (input : Stream) (site : Devices) (said : OneLine)
+    : Type 0 where
+  pub threadless : IsThreadless words input said
+  pub devices_ : site.now ≡ site.was
+
+-- the restart for the job doesn't take up the devices
+pub record IsTurnedBack (words : List Text) (input : Stream) (site : Devices) (said : OneLine)
+    : Type 0 where
+  pub job : JobData
+  pub admitted : IsThreadsJob words input job
+  pub untaken : IsUntaken job site said
+
+-- no session began, and so no host came to an end
+pub record BeganNone (words : List Text) (input : Stream) (site : Devices) (sink : Stream)
+    (told : Status) (hosts : List EndData) : Type 0 where
+  pub says : SaysWhy
+      (λ said. IsKeptOut words input site said ⊎ IsTurnedBack words input site said) sink told
+  pub none : hosts ≡ []
+
+-- ---- a run with one
+
+-- a session in threads was told, and the run closed
+pub record IsThreadsRunOf (job : JobData) (site : Devices) (sink : Stream) (told : Status)
+    (hosts : List EndData) (s : SessionData) : Type 0 where
+  pub end : DriveAnswer
+  pub answer : Answer
+  -- the output behind the report
+  pub mid : Output
+  pub session : IsSessionAtOnce job site (until sink mid) end answer hosts s
+  pub closes : Closes end answer (since sink mid) told
+
+-- a run in threads was admitted and done
+pub record IsThreadsRun (words : List Text) (input : Stream) (site : Devices) (sink : Stream)
+    (told : Status) (hosts : List EndData) (s : SessionData) : Type 0 where
+  pub job : JobData
+  pub admitted : IsThreadsJob words input job
+  pub done : IsThreadsRunOf job site sink told hosts s
+
+-- ---- a run
+
+-- a run that has its job
+abbrev pub EndsJob : JobData → Devices → Stream → Status → List EndData → Option Session → Type 0
+EndsJob job site sink told hosts session =
+    EndsAs (SaysWhy (IsUntaken job site) sink told × (hosts ≡ []))
+    (IsThreadsRunOf job site sink told hosts) session
+
+abbrev pub EndsThreads : List Text → Stream → Devices → Stream → Status → List EndData
+    → Option Session → Type 0
+EndsThreads words input site sink told hosts session =
+    EndsAs (BeganNone words input site sink told hosts)
+    (IsThreadsRun words input site sink told hosts) session
+
+-- ---- completeness
+
+-- the words ask for a run in threads, the input has this job, and nothing fails
+pub record GoesWellAtOnce (words : List Text) (input : Stream) (site : Devices) (sink : Stream)
+    (job : JobData) : Type 0 where
+  pub command : AskForThreads words
+  pub can_read : input.tells
+  pub text : IsJobText input.was job
+  pub fair : NothingFails job input site sink

@@ -1,0 +1,121 @@
+//! A run in threads: words, input, job, session, report.
+ghost use Rattle.std.specs.Prelude.{[], map, string_bytes};
+ghost use Rattle.job_text.specs.Jobs.{JobData};
+ghost use Rattle.mss_restart.specs.Creations.{WritesOn};
+ghost use Rattle.session_report.specs.Parties.{between};
+ghost use Rattle.job_runs.specs.Parties.{devices};
+ghost use Rattle.mss_top.specs.Serial.{IsComplete};
+ghost use Rattle.mss_top.specs.Threads.{AdmitsThreads, EndsJob, EndsThreads, GoesWellAtOnce};
+
+use crate::admission::job_of_input;
+use crate::ending::{Ended, refusal_line, refuse};
+use crate::run::close;
+use command_words::{Command, CommandFault, read_command};
+use job_runs::{JobEnd, Outcome};
+use job_text::Job;
+use mss_base::{Sink, Site, Source};
+use mss_run::{Gate, HostEnds};
+use report_text::OneLine;
+use std::alloc::Global;
+use std::sync::Wait;
+use std::thread::Threads;
+use thread_runs::{EndAtOnce, run_at_once};
+use victim_choice::Choose;
+
+/// What a run in threads leaves.
+#[derive(Drop)]
+pub struct EndedAtOnce<S> {
+    pub run: Ended<S>,
+    /// How the hosts of the job ended, in its order; none where no session began.
+    pub hosts: HostEnds,
+}
+
+/// The job of a run in threads, or the line that says why there is none.
+fn admit_threads<I: Source>(alloc: Global, words: &[String], input: &mut I) -> Result<Job, OneLine>
+    ensures admits { AdmitsThreads (map string_bytes words.now)
+        (between I.tells I.left I.faults input.old input.new) result }
+{
+    match read_command(alloc, words) {
+        Ok(Command::Threads) => job_of_input(alloc, input),
+        Ok(_) | Err(CommandFault::Refused) => Err(OneLine::WordsRefused),
+        Err(CommandFault::Memory) => Err(OneLine::WantOfMemory),
+    }
+}
+
+/// Runs the job in threads on the site, or puts the line that says why the site isn't taken up.
+fn run_job_at_once<
+    O: Sink,
+    S: Site + Send,
+    C: Choose + Drop + Send,
+    G: Gate + Sync,
+    R: Threads + Wait + Sync + AllocGlobal,
+>(rt: &R, job: &Job, output: &mut O, site: S, chooser: C, gate: &G) -> EndedAtOnce<S>
+    requires able { C.can_choose chooser }
+    ensures ended { EndsJob job.now
+        (devices S.tells S.told S.writes S.faults site result.run.site)
+        (between O.tells O.told O.faults output.old output.new)
+        result.run.status result.hosts.items result.run.session }
+    ensures devices { WritesOn S.writes S.faults S.never_fails_but site result.run.site }
+{
+    let EndAtOnce { job, hosts } = run_at_once(rt, rt.alloc(), job, site, chooser, gate, output);
+    let JobEnd { site, outcome } = job;
+    match outcome {
+        Outcome::Untaken(refused) => EndedAtOnce {
+            run: refuse(output, site, refusal_line(&refused)),
+            hosts,
+        },
+        Outcome::Ran(session, end, told) => EndedAtOnce {
+            run: Ended {
+                status: close(output, end, told),
+                site,
+                session: Some(session),
+            },
+            hosts,
+        },
+    }
+}
+
+/// Does the run in threads that the words ask for on the site, with its report: each host of the job and each recorder
+/// goes in a thread of its own.
+///
+/// The words are the command `threads`, which has no options. The input is read to its end, or to one byte past the
+/// longest job text, before anything is looked at; a text that is no job, and a site that isn't taken up, are refused
+/// as by `serial`. The order in which the threads come is the system's: the history is that of plain volumes for each.
+/// All actors pass the gate between events. Whether and when the threads get on no clause says.
+pub fn threads<
+    I: Source,
+    O: Sink,
+    S: Site + Send,
+    C: Choose + Drop + Send,
+    G: Gate + Sync,
+    R: Threads + Wait + Sync + AllocGlobal,
+>(
+    rt: &R,
+    words: &[String],
+    input: &mut I,
+    output: &mut O,
+    site: S,
+    chooser: C,
+    gate: &G,
+) -> EndedAtOnce<S>
+    requires able { C.can_choose chooser }
+    ensures ended { EndsThreads (map string_bytes words.now)
+        (between I.tells I.left I.faults input.old input.new)
+        (devices S.tells S.told S.writes S.faults site result.run.site)
+        (between O.tells O.told O.faults output.old output.new)
+        result.run.status result.hosts.items result.run.session }
+    ensures complete { (job : JobData) → GoesWellAtOnce (map string_bytes words.now)
+        (between I.tells I.left I.faults input.old input.new)
+        (devices S.tells S.told S.writes S.faults site result.run.site)
+        (between O.tells O.told O.faults output.old output.new) job
+        → IsComplete result.run.status }
+    ensures devices { WritesOn S.writes S.faults S.never_fails_but site result.run.site }
+{
+    match admit_threads(rt.alloc(), words, input) {
+        Ok(job) => run_job_at_once(rt, &job, output, site, chooser, gate),
+        Err(line) => EndedAtOnce {
+            run: refuse(output, site, line),
+            hosts: HostEnds::new(rt.alloc()),
+        },
+    }
+}
