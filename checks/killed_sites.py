@@ -2,6 +2,7 @@
 
 Whatever the moment, the listing has to show the volumes after the first so many entries of the run's history, or those
 within the entry that comes next: a write that formats a track leaves the track of before, or cut before the new record.
+Of a run in threads, whose hosts each have volumes of their own, that has to hold of each volume.
 """
 
 import random
@@ -63,6 +64,18 @@ def listed(text):
     return told
 
 
+def on_volume(tracks, number):
+    return {place: records for place, records in tracks.items() if place[0] == number}
+
+
+def are_moments(told, allowed, is_one_history):
+    """Whether these volumes are those of one of the moments, all at once or each for itself."""
+    if told is None or is_one_history:
+        return told in allowed
+    volumes = {place[0] for tracks in (told, *allowed) for place in tracks}
+    return all(any(on_volume(told, number) == on_volume(at, number) for at in allowed) for number in volumes)
+
+
 def kill_one(program, words, text, longest, draw):
     """Kills a run on a new site at a random moment, and lists what is left: how the run ended, and the listing."""
     with new_folder() as folder:
@@ -81,8 +94,9 @@ def main(top, program, name, count, *words):
     text = job_path.read_bytes()
     job = read_job(text)
     with new_folder() as folder:
+        whole = run_on_blank([program, "serial"], text, folder)
         start = time.monotonic()
-        whole = subprocess.run([program, *words], input=text, capture_output=True, cwd=folder, check=False)
+        run_on_blank([program, *words], text, folder)
         longest = time.monotonic() - start
     allowed = moments(job, read_report(whole.stdout))
     draw = random.Random(SEED)
@@ -90,7 +104,7 @@ def main(top, program, name, count, *words):
     for number in range(int(count)):
         ended, shown = kill_one(program, words, text, longest, draw)
         killed += ended == -signal.SIGKILL
-        if shown.returncode != 0 or listed(shown.stdout) not in allowed:
+        if shown.returncode != 0 or not are_moments(listed(shown.stdout), allowed, words[0] == "serial"):
             failed = 1
             print(f"checks/killed_sites.py: kill {number}: {shown.stdout[:300]}", file=sys.stderr)
     print(f"{name}: {killed} of {count} runs were killed, in up to {longest:.2f} s", file=sys.stderr)
@@ -104,6 +118,6 @@ if __name__ == "__main__":
     from formats.plain import Machine
     from formats.replaying import reply
     from formats.reports import read_report
-    from runs import new_folder
+    from runs import new_folder, run_on_blank
 
     sys.exit(main(*sys.argv[1:]))

@@ -24,16 +24,17 @@ def hexadecimal(number, length):
 class Drawing:
     """A job that is drawn from a number."""
 
-    def __init__(self, number, recorders=None):
+    def __init__(self, number, recorders=None, hosts=(1, 4)):
         self.draw = random.Random(number)
         self.recorders = recorders or self.draw.randint(1, 3)
+        self.hosts = hosts  # at least so many, and at most
 
     def job(self):
         draw = self.draw
         volumes = draw.randint(1, 4)
         lines = [f"mss 1 frames {draw.randint(1, 4)} recorders {self.recorders}"]
         lines += [f"volume {volume} VOL{volume:03}" for volume in range(volumes)]
-        for host in draw.sample(range(1, 9), draw.randint(1, 4)):
+        for host in draw.sample(range(1, 9), draw.randint(*self.hosts)):
             lines.append(f"host {host}")
             for _ in range(draw.randint(1, 3)):
                 lines += self.stay(draw.randrange(volumes))

@@ -41,6 +41,10 @@ class Following:
             self.program, self.at, self.executed = item, 0, 0
         return self.step(entry)
 
+    def is_done(self):
+        """Whether no item is left."""
+        return self.program is None and next(self.items, None) is None
+
     def step(self, entry):
         words = self.program.words
         reached = self.reached()
@@ -72,8 +76,8 @@ class Following:
             self.at = reached + (2 if status & STATUS_MODIFIER else 1)
 
 
-def sources_of(job, report):
-    """The source of each entry, up to the first that doesn't follow from the job."""
+def followed(job, report):
+    """The source of each entry, up to the first that doesn't follow from the job, and each host behind them."""
     following = {host.number: Following(host.items) for host in job.hosts}
     sources = []
     for entry in report.entries:
@@ -81,4 +85,9 @@ def sources_of(job, report):
         if source is None:
             break
         sources.append(source)
-    return sources
+    return sources, following
+
+
+def sources_of(job, report):
+    """The source of each entry, up to the first that doesn't follow from the job."""
+    return followed(job, report)[0]
