@@ -51,9 +51,8 @@ pub const REPLACEMENT: &str = "mss 1 frames 1 recorders 1\n\
     end\n\
     done\n";
 
-/// Two hosts bind both frames, and a third finds no space until one demounts.
-pub const BOUND: &str = "mss 1 frames 2 recorders 1\n\
-    volume 0 VOL001\n\
+/// Two hosts bind their volumes and search one cylinder each, and the first demounts; the third searches twice.
+const BINDING_HOSTS: &str = "volume 0 VOL001\n\
     volume 1 VOL002\n\
     volume 2 VOL003\n\
     host 1\n\
@@ -74,8 +73,12 @@ pub const BOUND: &str = "mss 1 frames 2 recorders 1\n\
     end\n\
     program\n\
     ccw 31 0000000000\n\
-    end\n\
-    done\n";
+    end\n";
+
+/// Three hosts of which two bind, one recorder, and so many frames.
+pub fn binding_hosts(alloc: Global, frames: u8) -> Result<String, Fail> {
+    Ok(format!(in alloc; "mss 1 frames {frames} recorders 1\n{BINDING_HOSTS}done\n")?)
+}
 
 /// The volumes of the three hosts, and one more.
 const FOUR_VOLUMES: &str = "volume 0 VOL001\n\
@@ -158,3 +161,18 @@ pub fn three_hosts(alloc: Global, frames: u8) -> Result<String, Fail> {
 pub fn four_volumes(alloc: Global, frames: u8) -> Result<String, Fail> {
     Ok(format!(in alloc; "mss 1 frames {frames} recorders 2\n{FOUR_VOLUMES}done\n")?)
 }
+
+/// What the volumes of the three hosts, and the fourth, show at the end.
+pub const THREE_HOSTS_LEFT: &str = "\nvolume 0 VOL001\n\
+    track 1 1\n\
+    record 0001000101 - 484F535431\n\
+    volume 1 VOL002\n\
+    track 2 2\n\
+    record 0002000201 - 484F535432\n\
+    volume 2 VOL003\n\
+    track 3 3\n\
+    record 0003000301 - 484F535433\n\
+    volume 3 VOL004\n\
+    track 1 1\n\
+    record 0001000101 - 484F535431\n\
+    END\n";

@@ -4,6 +4,8 @@
 #![tactic(auto)]
 
 #[cfg(test)]
+mod drives;
+#[cfg(test)]
 mod failures;
 #[cfg(test)]
 mod jobs;
@@ -12,4 +14,8 @@ mod reports;
 #[cfg(test)]
 mod running;
 #[cfg(test)]
+mod stop_tables;
+#[cfg(test)]
 mod stops;
+#[cfg(test)]
+mod turns;
