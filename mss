@@ -64,7 +64,7 @@ if ! is_built; then
         echo "mss: there is no rt on the PATH, which has to prove and build mss_cli first" >&2
         exit 125
     fi
-    echo "mss: building mss_cli, proved; this takes minutes the first time" >&2
+    echo "mss: building mss_cli, proved; this takes an hour or two the first time" >&2
     mkdir -p "$crate/out"
     build "$(date +%s.%N)" 2>&1 </dev/null | follow
     if ((PIPESTATUS[0] != 0)); then
