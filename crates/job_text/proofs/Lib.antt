@@ -16,3 +16,4 @@ pub mod LineBack
 pub mod TextBack
 pub mod LinesBack
 pub mod Runnable
+pub mod Copies

@@ -1,12 +1,13 @@
 -- The lines of a text as its parts, and the volumes number by number.
-use Rattle.std.proofs.Common.{◌≡◌, ℕ, zero, suc, ◌+◌, ◌≤◌, List, [], ◌∷◌, ◌++◌, map, length, Bor, refl, sym, ap, ◌∙◌, arith, add-zero, zero-add, add-one}
-use Rattle.std.specs.Prelude.{◌==◌, Option, Some, None}
-use Rattle.std.specs.List.{slice_split, filter_map, cons_option, range_with_len}
+use Rattle.std.proofs.Common.{◌≡◌, ℕ, zero, suc, ◌+◌, ◌<◌, ◌≤◌, Bool, true, false, cond, List, [], ◌∷◌, ◌++◌, length, take, drop, take_all, refl, sym, ap, subst, ◌∙◌, arith, add-zero, zero-add, add-one}
+use Rattle.std.specs.Prelude.{◌==◌, nat_lt, Option, Some, None, unwrap_or}
+use Rattle.std.specs.List.{slice_split, position, position_or_len, filter_map, cons_option, range_with_len}
 use Rattle.std.specs.Option.{option_to_list}
+use Rattle.std.proofs.lemmas.Bool.{ltb-true, ltb-false}
+use Rattle.std.proofs.lemmas.List.{drop_all}
 use Rattle.std.proofs.lemmas.List.Elements.{filter_map-append}
-use Rattle.std.proofs.lemmas.List.{map_push, length-map}
-use Rattle.std.proofs.lemmas.List.Splits.{length-slice_split}
-use Rattle.std.proofs.lemmas.List.Sums.{count_by-le-length}
+use Rattle.std.proofs.lemmas.List.Splits.{length-slice_split, slice_split_first, slice_split_none}
+use Rattle.std.proofs.lemmas.List.Sums.{fails_before_first}
 use Rattle.job_text.specs.Words.{lines_of, lines_of_parts}
 
 pub last_empty : (parts : List (List ℕ)) → lines_of_parts (parts ++ [] ∷ []) ≡ parts
@@ -21,33 +22,46 @@ last_full ([] ∷ []) b last = refl
 last_full ((a ∷ part) ∷ []) b last = refl
 last_full (part ∷ next ∷ parts) b last = ap (λ (rest : List (List ℕ)). part ∷ rest) (last_full (next ∷ parts) b last)
 
-without : (parts : List (List ℕ)) (last : List ℕ) → length last ≡ 0 → parts ≡ lines_of_parts (parts ++ last ∷ [])
-without parts [] h = sym (last_empty parts)
-without parts (b ∷ last) h = absurd (omega arith)
+-- a part before others is a line
+before_others : (part : List ℕ) (parts : List (List ℕ)) → 0 < length parts → lines_of_parts (part ∷ parts) ≡ part ∷ lines_of_parts parts
+before_others part [] some = absurd (omega arith)
+before_others [] (next ∷ parts) some = refl
+before_others (b ∷ part) (next ∷ parts) some = refl
 
-within : (parts : List (List ℕ)) (last : List ℕ) → (length last ≡ 0 → ⊥) → parts ++ last ∷ [] ≡ lines_of_parts (parts ++ last ∷ [])
-within parts [] h = absurd (h refl)
-within parts (b ∷ last) h = sym (last_full parts b last)
+alone : (text : List ℕ) → 0 < length text → lines_of_parts (text ∷ []) ≡ text ∷ []
+alone [] some = absurd (omega arith)
+alone (b ∷ text) some = refl
 
-pub lines_without : (text : List ℕ) (all lines : List (Bor (List ℕ))) (last : Bor (List ℕ)) → map (λ l. l.now) all ≡ slice_split (λ b. b == 10) text → all ≡ lines ++ last ∷ [] → length last.now ≡ 0
-    → map (λ l. l.now) lines ≡ lines_of text
-lines_without text all lines last h e empty =
-    let split : map (λ l. l.now) lines ++ last.now ∷ [] ≡ slice_split (λ b. b == 10) text = sym (map_push (λ l. l.now) lines last) ∙ ap (λ ls. map (λ l. l.now) ls) (sym e) ∙ h in
-    without (map (λ l. l.now) lines) last.now empty ∙ ap lines_of_parts split
+abbrev is_feed : ℕ → Bool
+is_feed b = b == 10
 
-pub lines_within : (text : List ℕ) (all lines : List (Bor (List ℕ))) (last : Bor (List ℕ)) → map (λ l. l.now) all ≡ slice_split (λ b. b == 10) text → all ≡ lines ++ last ∷ [] → (length last.now ≡ 0 → ⊥)
-    → map (λ l. l.now) (lines ++ last ∷ []) ≡ lines_of text
-lines_within text all lines last h e full =
-    let split : map (λ l. l.now) lines ++ last.now ∷ [] ≡ slice_split (λ b. b == 10) text = sym (map_push (λ l. l.now) lines last) ∙ ap (λ ls. map (λ l. l.now) ls) (sym e) ∙ h in
-    map_push (λ l. l.now) lines last ∙ within (map (λ l. l.now) lines) last.now full ∙ ap lines_of_parts split
+some_parts : (text : List ℕ) → 0 < length (slice_split is_feed text)
+some_parts text = let count = length-slice_split is_feed text in omega arith
 
-pub lines_count : (text : List ℕ) (all : List (Bor (List ℕ))) → map (λ l. l.now) all ≡ slice_split (λ b. b == 10) text → length all ≤ length text + 1
-lines_count text all h =
-    let split = length-slice_split (λ b. b == 10) text in
-    let count = length-map all (λ l. l.now) in
-    let same = ap length h in
-    let few = count_by-le-length (λ b. b == 10) text in
-    omega arith
+found : (b : Bool) (k at : ℕ) → cond b (Some k) None ≡ Some at → (b ≡ true) × (k ≡ at)
+found true k at h = (refl, ap (λ o. unwrap_or o 0) h)
+found false k at h = absurd (cc)
+
+missed : (b : Bool) (k : ℕ) → cond b (Some k) None ≡ None → b ≡ false
+missed true k h = absurd (cc)
+missed false k h = refl
+
+-- the first line ends at the first line feed
+pub line_found : (text : List ℕ) (at : ℕ) → position is_feed text ≡ Some at → (at < length text) × (lines_of text ≡ take at text ∷ lines_of (drop (at + 1) text))
+line_found text at h =
+    let k : ℕ = position_or_len is_feed text in
+    let t = found (nat_lt k (length text)) k at h in
+    let below : k < length text = ltb-true k (length text) t.0 in
+    let cut = ap lines_of_parts (slice_split_first is_feed text 0 below) ∙ before_others (take k text) (slice_split is_feed (drop (k + 1) text)) (some_parts (drop (k + 1) text)) in
+    subst (λ (i : ℕ). (i < length text) × (lines_of text ≡ take i text ∷ lines_of (drop (i + 1) text))) t.1 (below, cut)
+
+-- a text without a line feed is a line
+pub line_last : (text line after : List ℕ) → 0 < length text → position is_feed text ≡ None → line ≡ take (length text) text → after ≡ drop (length text) text → lines_of text ≡ line ∷ lines_of after
+line_last text line after some h front back =
+    let k : ℕ = position_or_len is_feed text in
+    let past : length text ≤ k = ltb-false k (length text) (missed (nat_lt k (length text)) k h) in
+    let whole = ap lines_of_parts (slice_split_none is_feed text (λ i d below. fails_before_first is_feed text i d (omega (arith, past, below)))) ∙ alone text some in
+    whole ∙ (λ i. sym (front ∙ take_all (length text) text (omega arith)) i ∷ lines_of (sym (back ∙ drop_all (length text) text (omega arith)) i))
 
 range_more : (a n : ℕ) → range_with_len a (suc n) ≡ range_with_len a n ++ (a + n) ∷ []
 range_more a zero = ap (λ m. m ∷ []) (sym (add-zero a))

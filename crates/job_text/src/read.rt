@@ -1,7 +1,7 @@
 //! A text and its job.
-ghost use Rattle.std.specs.Prelude.{◌≡◌, ℕ, ◌<◌, ◌^◌, map, length, IfOk, OnOk, ◌==◌, ◌+◌, ◌≤◌, ◌++◌};
+ghost use Rattle.std.specs.Prelude.{◌≡◌, ℕ, ◌<◌, ◌^◌, length, IfOk, OnOk, ◌==◌, ◌++◌, ◌∷◌};
 ghost use Rattle.std.specs.Option.{option_to_list};
-ghost use Rattle.std.specs.List.{slice_split, find};
+ghost use Rattle.std.specs.List.{find};
 ghost use Rattle.job_text.specs.Words.{lines_of};
 ghost use Rattle.job_text.specs.Jobs.{by_number, IsJob};
 ghost use Rattle.job_text.specs.Grammar.{nothing, lines_after, job_of};
@@ -50,38 +50,34 @@ impl From<NoMemory> for JobFault {
 /// The most bytes of a text.
 const TEXT_LIMIT: usize = 4_194_304;
 
-/// The lines of a text.
-fn lines_of(alloc: Global, text: &[u8]) -> Result<Vec<&[u8]>, AllocError>
-    ensures lines { IfOk result (λ lines. map (λ line. line.now) lines.items ≡ lines_of text.now) }
-    ensures count { IfOk result (λ lines. length lines.items ≤ length text.now + 1) }
+/// The first line of a text, and what stands behind it.
+fn first_line(text: &[u8]) -> (&[u8], &[u8])
+    requires { 0 < length text.now }
+    ensures lines { lines_of text.now ≡ result.0.now ∷ lines_of result.1.now }
+    ensures less { length result.1.now < length text.now }
 {
-    let mut lines: Vec<&[u8]> = parts_of(alloc, text)?;
-    let Some(last) = lines.pop() else {
-        return Ok(lines);
-    };
-    if last.is_empty() {
-        return Ok(lines);
+    match text.iter().position(|b| *b == b'\n') {
+        Some(at) => {
+            let (line, _) = text.split_at(at);
+            let (_, after) = text.split_at(at + 1);
+            (line, after)
+        }
+        None => text.split_at(text.len()),
     }
-    lines.push(last)?;
-    Ok(lines)
 }
 
-fn parts_of(alloc: Global, text: &[u8]) -> Result<Vec<&[u8]>, AllocError>
-    ensures { IfOk result (λ parts. map (λ p. p.now) parts.items ≡ slice_split (λ b. b == 10) text.now) }
-{
-    text.split(|b| *b == b'\n').collect(alloc)
-}
-
-/// What all lines say.
-fn read_lines(alloc: Global, lines: &[&[u8]]) -> Result<Reading, JobFault>
-    requires { length lines.now < 2 ^ 31 }
-    ensures { Reads so_far result (lines_after nothing 1 (map (λ line. line.now) lines.now)) }
+/// What all lines of a text say.
+fn read_lines(alloc: Global, text: &[u8]) -> Result<Reading, JobFault>
+    requires { length text.now < 2 ^ 31 }
+    ensures { Reads so_far result (lines_after nothing 1 (lines_of text.now)) }
 {
     let mut reading = Reading::new(alloc);
+    let mut words = Vec::new(alloc);
     let mut number = 1u32;
-    let mut rest = lines;
-    while let [line, after @ ..] = rest {
-        match reading.take_line(alloc, line) {
+    let mut rest = text;
+    while !rest.is_empty() {
+        let (line, after) = first_line(rest);
+        match reading.take_line(alloc, &mut words, line) {
             Ok(()) => {}
             Err(LineFault::Bad(kind)) => return Err(JobFault::Bad { line: number, kind }),
             Err(LineFault::Memory) => return Err(JobFault::Memory),
@@ -138,8 +134,7 @@ pub fn read_job(alloc: Global, text: &[u8]) -> Result<Job, JobFault>
             kind: JobKind::TooBig,
         });
     }
-    let lines = lines_of(alloc, text)?;
-    let reading = read_lines(alloc, &lines)?;
+    let reading = read_lines(alloc, text)?;
     let volumes = by_number(alloc, reading.volumes.as_slice())?;
     Ok(Job {
         config: Config {

@@ -12,7 +12,7 @@ ghost use Rattle.job_text.specs.SoFar.{so_far};
 use crate::job::{HostScript, HostScripts, Item, ItemList};
 use crate::kind::{JobKind, Keyword, Place};
 use crate::line::{Line, LineFault, line_of};
-use crate::words::{are_printable, is_skipped, is_word, words_of};
+use crate::words::{are_printable, cut_words, is_skipped, is_word};
 use channel_commands::Ccw;
 use channel_program::Program;
 use mss_base::{Bytes, HostNo, Listed, NoMemory, Serial, VolumeList, VolumeNo};
@@ -330,8 +330,13 @@ impl Reading {
         self.put(alloc, line)
     }
 
-    /// Takes the next line.
-    pub fn take_line(&mut self, alloc: Global, line: &[u8]) -> Result<(), LineFault>
+    /// Takes the next line. Its words are put into the list that is lent.
+    pub fn take_line<'t>(
+        &mut self,
+        alloc: Global,
+        words: &mut Vec<&'t [u8]>,
+        line: &'t [u8],
+    ) -> Result<(), LineFault>
         ensures { Steps result (so_far self.new) (line_after (so_far self.old) line.now) }
     {
         if is_skipped(line) {
@@ -343,7 +348,7 @@ impl Reading {
         if self.place == Place::After {
             return Err(LineFault::Bad(JobKind::After));
         }
-        let words = words_of(alloc, line)?;
-        self.put_words(alloc, &words)
+        cut_words(words, line)?;
+        self.put_words(alloc, words)
     }
 }

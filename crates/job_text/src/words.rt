@@ -8,10 +8,17 @@ ghost use Rattle.job_text.specs.Words.{words_of, is_skipped, is_printable, is_di
 use mss_base::{Bytes, NoMemory, Serial};
 use std::alloc::{AllocError, Global};
 
-pub fn words_of(alloc: Global, line: &[u8]) -> Result<Vec<&[u8]>, AllocError>
-    ensures { IfOk result (λ words. map (λ w. w.now) words.items ≡ words_of line.now) }
+/// Cuts a line into its words, in place of what the list holds.
+///
+/// The list is lent, so that a text of many lines takes memory for it once.
+pub fn cut_words<'t>(words: &mut Vec<&'t [u8]>, line: &'t [u8]) -> Result<(), AllocError>
+    ensures { OnOk result (map (λ w. w.now) words.new.items ≡ words_of line.now) }
 {
-    line.split(|b| *b == b' ').collect(alloc)
+    words.clear();
+    for word in line.split(|b| *b == b' ') {
+        words.push(word)?;
+    }
+    Ok(())
 }
 
 /// Whether a line is empty or begins with `#`.
@@ -147,13 +154,17 @@ pub fn serial(word: &[u8]) -> Option<Serial>
     Serial::of(bytes)
 }
 
-/// Puts a byte behind the others, this many times.
+/// How many copies are put at once.
+const PIECE_BYTES: usize = 256;
+
+/// Puts a byte behind the others, this many times. It goes by pieces, which costs far less than to push each copy.
 pub fn append_copies(bytes: &mut Bytes, byte: u8, count: usize) -> Result<(), NoMemory>
     ensures { OnOk result (bytes.new.items ≡ bytes.old.items ++ replicate count byte) }
 {
     bytes.reserve(count)?;
-    for _ in 0..count {
-        bytes.push(byte);
+    let piece = [byte; PIECE_BYTES];
+    for _ in 0..count / PIECE_BYTES {
+        bytes.append(&piece)?;
     }
-    Ok(())
+    bytes.append(&piece[..count % PIECE_BYTES])
 }
