@@ -1,5 +1,18 @@
 // The lines of a report, each put at the end of a buffer.
-ghost use Rattle.std.specs.Prelude.{◌≡◌, ◌++◌, ◌<◌, ◌∷◌, ℕ, true, OnOk, decimal};
+ghost use Rattle.std.specs.Prelude.{
+  ◌≡◌,
+  ◌++◌,
+  ◌<◌,
+  ◌≤◌,
+  ◌*◌,
+  ◌∷◌,
+  ℕ,
+  true,
+  OnOk,
+  decimal,
+  length,
+  take,
+};
 ghost use Rattle.std.specs.List.{flat_map};
 ghost use Rattle.std.specs.Fmt.{digit_glyph};
 ghost use Rattle.channel_commands.specs.Views.{call_of, reply_of};
@@ -42,14 +55,41 @@ pub fn push_text(out: &mut Bytes, text: &str) -> Result<(), NoMemory>
     out.append(text.as_bytes())
 }
 
-/// Makes room for all digits once, since a track has thousands.
+/// How many bytes are spelled at once.
+const PIECE_BYTES: usize = 32;
+
+/// Spells bytes at the start of a buffer, two digits each.
+fn spell(bytes: &[u8], digits: &mut [u8])
+    requires { 2 * length bytes.now ≤ length digits.old }
+    ensures kept { length digits.new ≡ length digits.old }
+    ensures spelled { take (2 * length bytes.now) digits.new ≡ hex bytes.now }
+{
+    for i in 0..bytes.len() {
+        digits[2 * i] = digit(bytes[i] / 16);
+        digits[2 * i + 1] = digit(bytes[i] % 16);
+    }
+}
+
+fn push_piece(out: &mut Bytes, bytes: &[u8]) -> Result<(), NoMemory>
+    requires { length bytes.now ≤ 32 }
+    ensures { OnOk result (out.new.items ≡ out.old.items ++ hex bytes.now) }
+{
+    let mut digits = [0; 2 * PIECE_BYTES];
+    spell(bytes, &mut digits);
+    out.append(&digits[..2 * bytes.len()])
+}
+
+/// Makes room for all digits once, since a track has thousands. They are spelled piece by piece in a small buffer, which
+/// costs far less than to push each.
 fn push_hex(out: &mut Bytes, bytes: &[u8]) -> Result<(), NoMemory>
     ensures { OnOk result (out.new.items ≡ out.old.items ++ hex bytes.now) }
 {
     out.reserve(2 * bytes.len())?;
-    for byte in bytes {
-        out.push(digit(*byte / 16));
-        out.push(digit(*byte % 16));
+    let mut rest = bytes;
+    while !rest.is_empty() {
+        let (piece, after) = rest.split_at(rest.len().min(PIECE_BYTES));
+        push_piece(out, piece)?;
+        rest = after;
     }
     Ok(())
 }
