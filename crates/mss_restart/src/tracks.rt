@@ -201,7 +201,8 @@ fn check_track_of<S: Site>(
     }
 }
 
-/// Checks the tracks of a cylinder, by head.
+/// Checks the tracks of a cylinder, by head. A blank one that isn't staged has none to look at.
+#[tactic(auto, using(crate::proofs::ListedFacts::blank_cylinder))]
 fn check_cylinder<S: Site>(
     site: &mut S,
     row: &VolumeRow,
@@ -219,6 +220,9 @@ fn check_cylinder<S: Site>(
     ensures devices { OnlyReads S.tells S.told S.spare S.writes S.faults S.never_fails_but
         site.old site.new }
 {
+    if row.state(cylinder) == CylinderState::Blank {
+        return Ok(());
+    }
     for number in 0..HEADS {
         check_track_of(site, row, volume, cylinder, head_at(number), shown, staged)?;
     }

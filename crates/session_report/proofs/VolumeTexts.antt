@@ -1,5 +1,6 @@
 -- How a walk that puts the volumes of a report goes on.
-use Rattle.std.proofs.Common.{◌≡◌, ◌<◌, ℕ, suc, ◌+◌, ◌*◌, List, [], ◌∷◌, ◌++◌, length, take, drop, get_or, Some, Err, refl, sym, ◌∙◌, ap, subst, arith, append_assoc, add-one, drop-cons}
+use Rattle.std.proofs.Common.{◌≡◌, ◌⊎◌, inl, inr, ◌≤◌, ◌<◌, ◌==◌, true, ◌||◌, ℕ, zero, suc, ◌+◌, ◌*◌, List, [], ◌∷◌, ◌++◌, length, take, drop, get_or, Some, Err, refl, sym, ◌∙◌, ap, subst, arith, append_assoc, add-one, drop-cons}
+use Rattle.std.proofs.lemmas.Bool.{eqb-true, or_cases}
 use Rattle.std.proofs.lemmas.List.{append-nil, take-append-drop, take_more, flat_map_more}
 use Rattle.std.proofs.lemmas.List.Concat.{flat_map-append}
 use Rattle.std.proofs.lemmas.Option.{slice_get_read}
@@ -8,9 +9,13 @@ use Rattle.mss_base.specs.Puts.{PutsFront}
 use Rattle.mss_base.specs.Sites.{FailingReads, OnlyReads}
 use Rattle.mss_base.proofs.Putting.{part_stops}
 use Rattle.ckd_track.specs.Data.{Volumes}
+use Rattle.volume_table.specs.Row.{RowValue, state_of}
+use Rattle.shown_volumes.specs.Shown.{track_at}
+use Rattle.shown_volumes.proofs.PlaceFacts.{source_blank}
 use Rattle.report_text.specs.Texts.{track_text, tracks_text, heading_text, volume_text}
-use Rattle.report_text.proofs.TrackTexts.{Tracks, volume_text_is, no_tracks, tracks_go_on, tracks_stop}
-use Rattle.session_report.specs.Parts.{PutsTrack, PutsTracks, PutsVolumes}
+use Rattle.report_text.proofs.LineLemmas.{no_track_text}
+use Rattle.report_text.proofs.TrackTexts.{Tracks, volume_text_is, no_tracks, tracks_text-next, tracks_go_on, tracks_stop}
+use Rattle.session_report.specs.Parts.{row_tracks, PutsTrack, PutsTracks, PutsVolumes}
 use Rattle.session_report.specs.Reports.{volumes_text, begun_text}
 use Rattle.session_report.specs.declared.fault.VolumesFault.{VolumesFault}
 use Rattle.session_report.specs.declared.fault.VolumesFault.TheVariants as volumes_fault
@@ -55,6 +60,29 @@ module _ (tells : Type 0) (track : Tracks) (old now new : List ℕ) (cylinder nu
   pub tracks_left : cylinder < 404 → (e : VolumesFault) → PutsTrack tells (track_text cylinder head (track cylinder head)) now new (Err e) → PutsTracks tells [] track old new (Err e)
   tracks_left low (volumes_fault.Read fault) put = record { tracks = cylinder * 19 + head; few = omega arith; put = λ t. put t ∙ at_head t }
   tracks_left low (volumes_fault.Put fault) put = λ t. tracks_stop track old now new cylinder head 7676 low_head (omega arith) (at_head t) (put t)
+
+-- of a cylinder that a row has as blank, staged or not, each track is blank
+pub blank_in_row : (c : Content) (r : RowValue) (cylinder : ℕ) → ((state_of r cylinder == 0) || (state_of r cylinder == 2)) ≡ true → (head : ℕ) → row_tracks c (Some r) cylinder head ≡ []
+blank_in_row c r cylinder blank head =
+    let state : (state_of r cylinder ≡ 0) ⊎ (state_of r cylinder ≡ 2) =
+        elim (or_cases (state_of r cylinder == 0) (state_of r cylinder == 2) blank) [ inl none ↦ inl (eqb-true _ 0 none) | inr staged ↦ inr (eqb-true _ 2 staged) ] in
+    ap (track_at c) (source_blank r cylinder head state)
+
+-- a cylinder whose tracks are blank has no text
+module _ (track : Tracks) (cylinder : ℕ) (blank : (head : ℕ) → track cylinder head ≡ []) where
+  blank_heads : (k : ℕ) → k ≤ 19 → tracks_text track (cylinder * 19 + k) ≡ tracks_text track (cylinder * 19)
+  blank_heads zero low = let e : cylinder * 19 + 0 ≡ cylinder * 19 = omega arith in ap (tracks_text track) e
+  blank_heads (suc k) low =
+      let next : cylinder * 19 + suc k ≡ cylinder * 19 + k + 1 = omega arith in
+      ap (tracks_text track) next ∙ tracks_text-next track cylinder k (omega (arith, low)) ∙ sym (no_track_text (tracks_text track (cylinder * 19 + k)) cylinder k (track cylinder k) (blank k))
+      ∙ blank_heads k (omega (arith, low))
+
+  -- and was passed over
+  pub cylinder_passed : (old now : List ℕ) (number : ℕ) → cylinder ≡ number → now ≡ old ++ tracks_text track (number * 19) → now ≡ old ++ tracks_text track ((number + 1) * 19)
+  cylinder_passed old now number is so_far =
+      let here : number * 19 ≡ cylinder * 19 = omega (arith, is) in
+      let next : cylinder * 19 + 19 ≡ (number + 1) * 19 = omega (arith, is) in
+      so_far ∙ ap (λ (l : List ℕ). old ++ l) (ap (tracks_text track) here ∙ sym (blank_heads 19 (omega arith)) ∙ ap (tracks_text track) next)
 
 -- ---- the listed volumes
 

@@ -1,6 +1,7 @@
 // Where the track lies that a row shows.
-ghost use Rattle.std.specs.Prelude.{◌≡◌, length};
+ghost use Rattle.std.specs.Prelude.{◌≡◌, ◌==◌, ◌||◌, length};
 ghost use Rattle.volume_table.specs.Listed.{listed};
+ghost use Rattle.volume_table.specs.Row.{state_of};
 ghost use Rattle.shown_volumes.specs.Shown.{in_page, on_cartridge, source};
 
 use mss_base::{BlockPlace, Cylinder, Head, UnitNo, VolumeNo, cartridge_block, frame_block};
@@ -40,6 +41,14 @@ fn in_page(row: &VolumeRow, cylinder: Cylinder, head: Head) -> Option<BlockPlace
         return None;
     };
     Some(frame_block(frame, cylinder, head))
+}
+
+/// Whether a row shows each track of a cylinder as blank.
+pub fn is_blank(row: &VolumeRow, cylinder: Cylinder) -> bool
+    ensures { result ≡ ((state_of row.now cylinder == 0) || (state_of row.now cylinder == 2)) }
+{
+    let state = row.state(cylinder);
+    matches!(state, CylinderState::Blank | CylinderState::StagedBlank)
 }
 
 /// The place of the track that a row shows. There is none where the cylinder is blank.

@@ -10,7 +10,7 @@ ghost use Rattle.session_report.specs.Parts.{CanReadTracks, CountsReads, CountsP
 ghost use Rattle.session_report.specs.Reports.{volumes_text};
 
 use crate::fault::VolumesFault;
-use crate::place::{row_of, shown_place};
+use crate::place::{is_blank, row_of, shown_place};
 use mss_base::{
     BLOCK_BYTES, Bytes, CYLINDERS, Cylinder, HEADS, Head, Serial, Sink, Site, VolumeNo,
 };
@@ -50,7 +50,7 @@ fn put_shown<S: Site, O: Sink>(
     Ok(())
 }
 
-/// Puts the tracks that a row shows, by cylinder and head.
+/// Puts the tracks that a row shows, by cylinder and head. Of a blank cylinder it looks at no head.
 fn put_tracks<S: Site, O: Sink>(
     site: &mut S,
     output: &mut O,
@@ -72,6 +72,9 @@ fn put_tracks<S: Site, O: Sink>(
         let Some(cylinder) = Cylinder::of(cylinder) else {
             unreachable!()
         };
+        if is_blank(row, cylinder) {
+            continue;
+        }
         for head in 0..HEADS {
             let Some(head) = Head::of(head) else {
                 unreachable!()

@@ -1,10 +1,10 @@
-use Rattle.std.proofs.Common.{◌≡◌, ◌++◌, Some, refl, ◌∙◌, ap, subst, arith}
+use Rattle.std.proofs.Common.{◌≡◌, ◌++◌, Some, refl, sym, ◌∙◌, ap, subst, arith}
 use Rattle.std.proofs.lemmas.Result.{err_from_is_err_and}
 use Rattle.mss_base.specs.Content.{SiteLog, content}
 use Rattle.report_text.specs.Texts.{track_text}
 use Rattle.session_report.specs.Parts.{row_tracks}
 use Rattle.session_report.proofs.SiteReads.{reads_none, reads_then, tracks_on}
-use Rattle.session_report.proofs.VolumeTexts.{tracks_begin, tracks_more, tracks_left, track_put_same}
+use Rattle.session_report.proofs.VolumeTexts.{tracks_begin, tracks_more, tracks_left, track_put_same, blank_in_row, cylinder_passed}
 use Rattle.session_report.proofs.volumes.put_tracks.Goals as goal
 
 pub loop-cylinder-init : goal.loop-cylinder-init
@@ -15,6 +15,20 @@ loop-cylinder-init g c = record {
   output_same = refl;
   whole = c.requires;
 }
+
+pub loop-cylinder-preserved-then-is_blank : goal.loop-cylinder-preserved-then-is_blank
+loop-cylinder-preserved-then-is_blank g c =
+    let known = c.loop-cylinder.invariant in
+    let shown = content (g.S.Site.told c.args.site.now) in
+    record {
+      site = known.site;
+      same = known.same;
+      put = λ tells sink_tells.
+          cylinder_passed (row_tracks shown (Some c.args.row.now)) c.in-Some.cylinder (blank_in_row shown c.args.row.now c.in-Some.cylinder (sym c.if-is_blank.ensures))
+          (g.O.Sink.told c.args.output.now) (g.O.Sink.told c.loop-cylinder.output) c.loop-cylinder.cylinder c.in-Some.ensures.value (known.put tells sink_tells);
+      output_same = known.output_same;
+      whole = known.whole;
+    }
 
 pub returns-in_err-put_shown-clause-bytes : goal.returns-in_err-put_shown-clause-bytes
 returns-in_err-put_shown-clause-bytes g c =
