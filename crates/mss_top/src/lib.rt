@@ -15,6 +15,8 @@ mod run;
 mod showing;
 mod status;
 #[cfg(test)]
+mod stream_tests;
+#[cfg(test)]
 mod tests;
 
 pub use at_once::{EndedAtOnce, threads};

@@ -28,7 +28,12 @@ fn fate_of(outcome: &Outcome) -> Option<Fate> {
 }
 
 /// A run on devices like these, of which a call fails, counted from 1.
-fn run_with_fault(alloc: Global, text: &str, site: &MemorySite, call: u64) -> Result<RunEnd, Fail> {
+pub fn run_with_fault(
+    alloc: Global,
+    text: &str,
+    site: &MemorySite,
+    call: u64,
+) -> Result<RunEnd, Fail> {
     let mut failing = copy_of(site)?;
     failing.fail(&[SiteFault::Call(call)])?;
     run(alloc, text, failing)

@@ -6,6 +6,12 @@
 #[cfg(test)]
 mod drives;
 #[cfg(test)]
+mod failing_calls;
+#[cfg(test)]
+mod failing_hosts;
+#[cfg(test)]
+mod failing_replacement;
+#[cfg(test)]
 mod failures;
 #[cfg(test)]
 mod jobs;
@@ -19,3 +25,5 @@ mod stop_tables;
 mod stops;
 #[cfg(test)]
 mod turns;
+#[cfg(test)]
+mod two_faults;

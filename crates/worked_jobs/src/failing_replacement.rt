@@ -1,0 +1,462 @@
+// A frame that goes from one page to another and back, and each call of the devices fails once.
+use crate::failing_calls::{
+    BLANK, CALLS_OF_RESTART, Ending, STOPPED, Worked, ends_before, first_other_ending,
+};
+use crate::jobs::REPLACEMENT;
+use std::test::Fail;
+
+const JOB: Worked = Worked {
+    job: REPLACEMENT,
+    entries: ENTRIES,
+    changes: CHANGES,
+};
+
+const ENTRIES: &str = "entry 1 host 1 mount 0 mounted\n\
+    entry 2 host 1 ccw 07 status 0C\n\
+    entry 3 host 1 ccw 31 status 4C\n\
+    entry 4 host 1 ccw 1D status 0C\n\
+    entry 5 host 1 ccw 07 status 0C\n\
+    entry 6 host 1 ccw 31 status 4C\n\
+    entry 7 host 1 ccw 1D status 0C\n\
+    entry 8 host 1 ccw 07 status 0C\n\
+    entry 9 host 1 ccw 31 status 0C\n\
+    entry 10 host 1 ccw 31 status 4C\n\
+    entry 11 host 1 ccw 06 status 0C data 41\n";
+
+const CHANGES: &str = "change 1 volume 0 create VOL001 0 1\n\
+    change 2 volume 0 assign page 0 frame 0\n\
+    change 3 volume 0 staged cylinder 0\n\
+    change 4 volume 0 changed cylinder 0\n\
+    change 5 volume 0 destaged cylinder 0\n\
+    change 6 volume 0 free page 0 frame 0\n\
+    change 7 volume 0 assign page 1 frame 0\n\
+    change 8 volume 0 staged cylinder 8\n\
+    change 9 volume 0 changed cylinder 8\n\
+    change 10 volume 0 destaged cylinder 8\n\
+    change 11 volume 0 free page 1 frame 0\n\
+    change 12 volume 0 assign page 0 frame 0\n\
+    change 13 volume 0 staged cylinder 0\n";
+
+const FIRST: &str = "volume 0 VOL001\n\
+    track 0 0\n\
+    record 0000000001 - 41\n\
+    END\n";
+
+const SECOND: &str = "volume 0 VOL001\n\
+    track 8 0\n\
+    record 0008000001 - 42\n\
+    END\n";
+
+const BOTH: &str = "volume 0 VOL001\n\
+    track 0 0\n\
+    record 0000000001 - 41\n\
+    track 8 0\n\
+    record 0008000001 - 42\n\
+    END\n";
+
+/// The first search fails. The second record is written, and the third program finds no first one in two passes.
+const NO_FIRST_SEARCH: &str = "entry 3 host 1 ccw 31 equipment check fault 1\n\
+    entry 4 host 1 ccw 07 status 0C\n\
+    entry 5 host 1 ccw 31 status 4C\n\
+    entry 6 host 1 ccw 1D status 0C\n\
+    entry 7 host 1 ccw 07 status 0C\n\
+    entry 8 host 1 ccw 31 status 0C\n\
+    entry 9 host 1 ccw 31 status 0C\n\
+    entry 10 host 1 ccw 31 status 0E\n";
+
+/// The frame goes to the second page and back, though nothing was staged in it, so that nothing is destaged first.
+const SECOND_FROM_AN_UNSTAGED_PAGE: &str = "change 3 volume 0 free page 0 frame 0\n\
+    change 4 volume 0 assign page 1 frame 0\n\
+    change 5 volume 0 staged cylinder 8\n\
+    change 6 volume 0 changed cylinder 8\n\
+    change 7 volume 0 destaged cylinder 8\n\
+    change 8 volume 0 free page 1 frame 0\n\
+    change 9 volume 0 assign page 0 frame 0\n\
+    change 10 volume 0 staged cylinder 0\n\
+    volume 0 VOL001\n\
+    track 8 0\n\
+    record 0008000001 - 42\n\
+    END\n";
+
+/// The same where a blank cylinder was staged.
+const SECOND_FROM_AN_UNCHANGED_PAGE: &str = "change 4 volume 0 free page 0 frame 0\n\
+    change 5 volume 0 assign page 1 frame 0\n\
+    change 6 volume 0 staged cylinder 8\n\
+    change 7 volume 0 changed cylinder 8\n\
+    change 8 volume 0 destaged cylinder 8\n\
+    change 9 volume 0 free page 1 frame 0\n\
+    change 10 volume 0 assign page 0 frame 0\n\
+    change 11 volume 0 staged cylinder 0\n\
+    volume 0 VOL001\n\
+    track 8 0\n\
+    record 0008000001 - 42\n\
+    END\n";
+
+const FIRST_WRITE_STOPPED: &str = "entry 4 host 1 ccw 1D stopped fault 1\n";
+
+/// The first write fails before it changes anything.
+const NO_FIRST_WRITE: &str = "entry 4 host 1 ccw 1D equipment check fault 1\n\
+    entry 5 host 1 ccw 07 status 0C\n\
+    entry 6 host 1 ccw 31 status 4C\n\
+    entry 7 host 1 ccw 1D status 0C\n\
+    entry 8 host 1 ccw 07 status 0C\n\
+    entry 9 host 1 ccw 31 status 0C\n\
+    entry 10 host 1 ccw 31 status 0C\n\
+    entry 11 host 1 ccw 31 status 0E\n";
+
+/// The search on the second page fails. The third program reads the first record.
+const NO_SECOND_SEARCH: &str = "entry 6 host 1 ccw 31 equipment check fault 1\n\
+    entry 7 host 1 ccw 07 status 0C\n\
+    entry 8 host 1 ccw 31 status 0C\n\
+    entry 9 host 1 ccw 31 status 4C\n\
+    entry 10 host 1 ccw 06 status 0C data 41\n";
+
+/// The frame comes back from the second page, of which nothing was staged.
+const FIRST_FROM_AN_UNSTAGED_PAGE: &str = "change 8 volume 0 free page 1 frame 0\n\
+    change 9 volume 0 assign page 0 frame 0\n\
+    change 10 volume 0 staged cylinder 0\n\
+    volume 0 VOL001\n\
+    track 0 0\n\
+    record 0000000001 - 41\n\
+    END\n";
+
+/// The same where a blank cylinder was staged.
+const FIRST_FROM_AN_UNCHANGED_PAGE: &str = "change 9 volume 0 free page 1 frame 0\n\
+    change 10 volume 0 assign page 0 frame 0\n\
+    change 11 volume 0 staged cylinder 0\n\
+    volume 0 VOL001\n\
+    track 0 0\n\
+    record 0000000001 - 41\n\
+    END\n";
+
+const SECOND_WRITE_STOPPED: &str = "entry 7 host 1 ccw 1D stopped fault 1\n";
+
+/// The second write fails before it changes anything.
+const NO_SECOND_WRITE: &str = "entry 7 host 1 ccw 1D equipment check fault 1\n\
+    entry 8 host 1 ccw 07 status 0C\n\
+    entry 9 host 1 ccw 31 status 0C\n\
+    entry 10 host 1 ccw 31 status 4C\n\
+    entry 11 host 1 ccw 06 status 0C data 41\n";
+
+const NO_LAST_SEARCH: &str = "entry 9 host 1 ccw 31 equipment check fault 1\n";
+
+const CUT_BEFORE_BOTH: &str = "volume 0 VOL001\n\
+    STOPPED 1\n";
+
+const CUT_BEFORE_THE_SECOND: &str = "volume 0 VOL001\n\
+    track 0 0\n\
+    record 0000000001 - 41\n\
+    STOPPED 1\n";
+
+const CUT_BEHIND_BOTH: &str = "volume 0 VOL001\n\
+    track 0 0\n\
+    record 0000000001 - 41\n\
+    track 8 0\n\
+    record 0008000001 - 42\n\
+    STOPPED 1\n";
+
+/// As for one record: 6 writes tell the frame, 19 stage the blank cylinder, 6 tell that; a read for the search; 6 writes
+/// tell the changed cylinder; a read and two writes for the record.
+const ON_THE_FIRST_PAGE: &[Ending] = &[
+    Ending {
+        last: 142,
+        entries: 2,
+        then: "",
+        changes: 1,
+        rest: STOPPED,
+        left: BLANK,
+    },
+    Ending {
+        last: 161,
+        entries: 2,
+        then: NO_FIRST_SEARCH,
+        changes: 2,
+        rest: SECOND_FROM_AN_UNSTAGED_PAGE,
+        left: SECOND,
+    },
+    Ending {
+        last: 167,
+        entries: 2,
+        then: "",
+        changes: 2,
+        rest: STOPPED,
+        left: BLANK,
+    },
+    Ending {
+        last: 168,
+        entries: 2,
+        then: NO_FIRST_SEARCH,
+        changes: 3,
+        rest: SECOND_FROM_AN_UNCHANGED_PAGE,
+        left: SECOND,
+    },
+    Ending {
+        last: 174,
+        entries: 3,
+        then: FIRST_WRITE_STOPPED,
+        changes: 3,
+        rest: STOPPED,
+        left: BLANK,
+    },
+    Ending {
+        last: 175,
+        entries: 3,
+        then: NO_FIRST_WRITE,
+        changes: 13,
+        rest: SECOND,
+        left: SECOND,
+    },
+    Ending {
+        last: 176,
+        entries: 3,
+        then: FIRST_WRITE_STOPPED,
+        changes: 4,
+        rest: STOPPED,
+        left: BLANK,
+    },
+    Ending {
+        last: 177,
+        entries: 3,
+        then: FIRST_WRITE_STOPPED,
+        changes: 4,
+        rest: STOPPED,
+        left: FIRST,
+    },
+];
+
+/// The changed cylinder is copied to its cartridge by 19 reads and as many writes. Four changes of the row follow, with the
+/// writes of 19 blank tracks before the last.
+const TO_THE_SECOND_PAGE: &[Ending] = &[
+    Ending {
+        last: 215,
+        entries: 5,
+        then: NO_SECOND_SEARCH,
+        changes: 4,
+        rest: FIRST,
+        left: FIRST,
+    },
+    Ending {
+        last: 221,
+        entries: 5,
+        then: "",
+        changes: 4,
+        rest: STOPPED,
+        left: FIRST,
+    },
+    Ending {
+        last: 227,
+        entries: 5,
+        then: "",
+        changes: 5,
+        rest: STOPPED,
+        left: FIRST,
+    },
+    Ending {
+        last: 233,
+        entries: 5,
+        then: "",
+        changes: 6,
+        rest: STOPPED,
+        left: FIRST,
+    },
+    Ending {
+        last: 252,
+        entries: 5,
+        then: NO_SECOND_SEARCH,
+        changes: 7,
+        rest: FIRST_FROM_AN_UNSTAGED_PAGE,
+        left: FIRST,
+    },
+    Ending {
+        last: 258,
+        entries: 5,
+        then: "",
+        changes: 7,
+        rest: STOPPED,
+        left: FIRST,
+    },
+];
+
+/// A read for the search, 6 writes that tell the changed cylinder, a read and two writes for the record.
+const ON_THE_SECOND_PAGE: &[Ending] = &[
+    Ending {
+        last: 259,
+        entries: 5,
+        then: NO_SECOND_SEARCH,
+        changes: 8,
+        rest: FIRST_FROM_AN_UNCHANGED_PAGE,
+        left: FIRST,
+    },
+    Ending {
+        last: 265,
+        entries: 6,
+        then: SECOND_WRITE_STOPPED,
+        changes: 8,
+        rest: STOPPED,
+        left: FIRST,
+    },
+    Ending {
+        last: 266,
+        entries: 6,
+        then: NO_SECOND_WRITE,
+        changes: 13,
+        rest: FIRST,
+        left: FIRST,
+    },
+    Ending {
+        last: 267,
+        entries: 6,
+        then: SECOND_WRITE_STOPPED,
+        changes: 9,
+        rest: STOPPED,
+        left: FIRST,
+    },
+    Ending {
+        last: 268,
+        entries: 6,
+        then: SECOND_WRITE_STOPPED,
+        changes: 9,
+        rest: STOPPED,
+        left: BOTH,
+    },
+];
+
+/// The second record is copied to its cartridge, and the first comes back from there.
+const BACK_TO_THE_FIRST_PAGE: &[Ending] = &[
+    Ending {
+        last: 306,
+        entries: 8,
+        then: NO_LAST_SEARCH,
+        changes: 9,
+        rest: BOTH,
+        left: BOTH,
+    },
+    Ending {
+        last: 312,
+        entries: 8,
+        then: "",
+        changes: 9,
+        rest: STOPPED,
+        left: BOTH,
+    },
+    Ending {
+        last: 318,
+        entries: 8,
+        then: "",
+        changes: 10,
+        rest: STOPPED,
+        left: BOTH,
+    },
+    Ending {
+        last: 324,
+        entries: 8,
+        then: "",
+        changes: 11,
+        rest: STOPPED,
+        left: BOTH,
+    },
+    Ending {
+        last: 362,
+        entries: 8,
+        then: NO_LAST_SEARCH,
+        changes: 12,
+        rest: BOTH,
+        left: BOTH,
+    },
+    Ending {
+        last: 368,
+        entries: 8,
+        then: "",
+        changes: 12,
+        rest: STOPPED,
+        left: BOTH,
+    },
+];
+
+/// Two reads of the track for the search, and one for the data. For the report the tracks of both cylinders are read.
+const OF_THE_LAST_READ: &[Ending] = &[
+    Ending {
+        last: 369,
+        entries: 8,
+        then: NO_LAST_SEARCH,
+        changes: 13,
+        rest: BOTH,
+        left: BOTH,
+    },
+    Ending {
+        last: 370,
+        entries: 9,
+        then: "entry 10 host 1 ccw 31 equipment check fault 1\n",
+        changes: 13,
+        rest: BOTH,
+        left: BOTH,
+    },
+    Ending {
+        last: 371,
+        entries: 10,
+        then: "entry 11 host 1 ccw 06 equipment check fault 1\n",
+        changes: 13,
+        rest: BOTH,
+        left: BOTH,
+    },
+    Ending {
+        last: 372,
+        entries: 11,
+        then: "",
+        changes: 13,
+        rest: CUT_BEFORE_BOTH,
+        left: BOTH,
+    },
+    Ending {
+        last: 391,
+        entries: 11,
+        then: "",
+        changes: 13,
+        rest: CUT_BEFORE_THE_SECOND,
+        left: BOTH,
+    },
+    Ending {
+        last: 409,
+        entries: 11,
+        then: "",
+        changes: 13,
+        rest: CUT_BEHIND_BOTH,
+        left: BOTH,
+    },
+];
+
+#[test]
+fn a_call_on_the_first_page_fails(rt: HostRuntime) -> Result<(), Fail> {
+    let other = first_other_ending(rt.alloc(), &JOB, CALLS_OF_RESTART, ON_THE_FIRST_PAGE)?;
+    assert_eq!(rt; other, None);
+    Ok(())
+}
+
+#[test]
+fn a_call_on_the_way_to_the_second_page_fails(rt: HostRuntime) -> Result<(), Fail> {
+    let other = first_other_ending(rt.alloc(), &JOB, 177, TO_THE_SECOND_PAGE)?;
+    assert_eq!(rt; other, None);
+    Ok(())
+}
+
+#[test]
+fn a_call_on_the_second_page_fails(rt: HostRuntime) -> Result<(), Fail> {
+    let other = first_other_ending(rt.alloc(), &JOB, 258, ON_THE_SECOND_PAGE)?;
+    assert_eq!(rt; other, None);
+    Ok(())
+}
+
+#[test]
+fn a_call_on_the_way_back_fails(rt: HostRuntime) -> Result<(), Fail> {
+    let other = first_other_ending(rt.alloc(), &JOB, 268, BACK_TO_THE_FIRST_PAGE)?;
+    assert_eq!(rt; other, None);
+    Ok(())
+}
+
+#[test]
+fn a_call_of_the_last_read_fails(rt: HostRuntime) -> Result<(), Fail> {
+    let other = first_other_ending(rt.alloc(), &JOB, 368, OF_THE_LAST_READ)?;
+    assert_eq!(rt; other, None);
+    assert!(rt; ends_before(rt.alloc(), &JOB, 410, BOTH)?);
+    Ok(())
+}
