@@ -14,7 +14,7 @@ use crate::line::LineFault;
 use crate::numbered::volume_with;
 use crate::reading::Reading;
 use mss_base::{Config, NoMemory, Serial, VolumeList, VolumeNo};
-use std::alloc::{AllocError, Global};
+use std::alloc::Global;
 
 /// Why a text has no job.
 #[derive(Clone, Copy, Debug, PartialEq, Eq)]
@@ -23,17 +23,6 @@ pub enum JobFault {
     Bad { line: u32, kind: JobKind },
     /// Memory ran out.
     Memory,
-}
-
-impl From<AllocError> for JobFault {
-    ghost use Rattle.std.specs.Prelude.{◌≡◌};
-    ghost use Rattle.job_text.specs.declared.read.JobFault.TheVariants.{Memory};
-
-    ghost from_gives = { λ _ e. e ≡ Memory };
-
-    fn from(_error: AllocError) -> JobFault {
-        JobFault::Memory
-    }
 }
 
 impl From<NoMemory> for JobFault {

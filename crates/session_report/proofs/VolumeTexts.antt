@@ -62,10 +62,10 @@ module _ (tells : Type 0) (track : Tracks) (old now new : List ℕ) (cylinder nu
   tracks_left low (volumes_fault.Put fault) put = λ t. tracks_stop track old now new cylinder head 7676 low_head (omega arith) (at_head t) (put t)
 
 -- of a cylinder that a row has as blank, staged or not, each track is blank
-pub blank_in_row : (c : Content) (r : RowValue) (cylinder : ℕ) → ((state_of r cylinder == 0) || (state_of r cylinder == 2)) ≡ true → (head : ℕ) → row_tracks c (Some r) cylinder head ≡ []
+pub blank_in_row : (c : Content) (r : RowValue) (cylinder : ℕ) → true ≡ ((state_of r cylinder == 0) || (state_of r cylinder == 2)) → (head : ℕ) → row_tracks c (Some r) cylinder head ≡ []
 blank_in_row c r cylinder blank head =
     let state : (state_of r cylinder ≡ 0) ⊎ (state_of r cylinder ≡ 2) =
-        elim (or_cases (state_of r cylinder == 0) (state_of r cylinder == 2) blank) [ inl none ↦ inl (eqb-true _ 0 none) | inr staged ↦ inr (eqb-true _ 2 staged) ] in
+    elim (or_cases (state_of r cylinder == 0) (state_of r cylinder == 2) (sym blank)) [ inl none ↦ inl (eqb-true _ 0 none) | inr staged ↦ inr (eqb-true _ 2 staged) ] in
     ap (track_at c) (source_blank r cylinder head state)
 
 -- a cylinder whose tracks are blank has no text

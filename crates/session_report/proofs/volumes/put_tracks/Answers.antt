@@ -1,4 +1,4 @@
-use Rattle.std.proofs.Common.{◌≡◌, ◌++◌, Some, refl, sym, ◌∙◌, ap, subst, arith}
+use Rattle.std.proofs.Common.{◌≡◌, ◌++◌, Some, refl, ◌∙◌, ap, subst, arith}
 use Rattle.std.proofs.lemmas.Result.{err_from_is_err_and}
 use Rattle.mss_base.specs.Content.{SiteLog, content}
 use Rattle.report_text.specs.Texts.{track_text}
@@ -24,7 +24,7 @@ loop-cylinder-preserved-then-is_blank g c =
       site = known.site;
       same = known.same;
       put = λ tells sink_tells.
-          cylinder_passed (row_tracks shown (Some c.args.row.now)) c.in-Some.cylinder (blank_in_row shown c.args.row.now c.in-Some.cylinder (sym c.if-is_blank.ensures))
+          cylinder_passed (row_tracks shown (Some c.args.row.now)) c.in-Some.cylinder (blank_in_row shown c.args.row.now c.in-Some.cylinder c.if-is_blank.ensures)
           (g.O.Sink.told c.args.output.now) (g.O.Sink.told c.loop-cylinder.output) c.loop-cylinder.cylinder c.in-Some.ensures.value (known.put tells sink_tells);
       output_same = known.output_same;
       whole = known.whole;
