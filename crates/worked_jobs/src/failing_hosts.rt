@@ -120,16 +120,21 @@ const CHANGES: &str = "change 1 volume 0 create VOL001 0 1\n\
 
 /// How many lines two texts begin with both, and what is behind them in the first.
 fn shared_lines<'a>(text: &'a str, worked: &str) -> (usize, &'a str) {
-    let mut rest = text;
+    let mut at = 0usize;
     let mut count = 0usize;
     for line in worked.lines() {
-        match line_behind(rest, line) {
-            Some(behind) => rest = behind,
-            None => return (count, rest),
-        }
+        let Some(behind) = text_from(text, at, line) else {
+            break;
+        };
+        at = text.len().saturating_sub(behind.len());
         count = count.saturating_add(1);
     }
-    (count, rest)
+    (count, text.get(at..).unwrap_or(""))
+}
+
+/// What is behind this line in a text that has it at a place.
+fn text_from<'a>(text: &'a str, at: usize, line: &str) -> Option<&'a str> {
+    line_behind(text.get(at..)?, line)
 }
 
 /// What is behind this line in a text that begins with it.
