@@ -3,6 +3,7 @@ ghost use Rattle.std.specs.Prelude.{◌≡◌, ℕ, ◌≤◌, ◌↔◌, length
 ghost use Rattle.mss_base.specs.Calls.{FailsNext, after_call, no_calls};
 ghost use Rattle.mss_base.specs.Counts.{HasCause, next_count};
 
+use crate::block::BLOCK_BYTES;
 use crate::calls::Calls;
 use crate::{Failed, NoMemory, Site, UnitNo};
 use std::alloc::Global;
@@ -16,14 +17,19 @@ pub struct SilentSite {
     filler: u8,
     writes: u64,
     calls: Calls,
+    block: Vec<u8>,
 }
 
 impl Model for SilentSite {
+    ghost use Rattle.std.specs.Prelude.{◌≡◌};
+    ghost use Rattle.mss_base.specs.SilentState.{filled};
     ghost use Rattle.mss_base.specs.SilentState.{SilentState};
 
     ghost Value = { SilentState };
 
     ghost view = { λ s. record { filler = s.filler; writes = s.writes; calls = s.calls } };
+
+    ghost invariant = { λ s. s.block.items ≡ filled s.filler };
 }
 
 impl SilentSite {
@@ -39,12 +45,14 @@ impl SilentSite {
             filler,
             writes: 0,
             calls: Calls::new(alloc, failing)?,
+            block: vec![in alloc; filler; BLOCK_BYTES]?,
         })
     }
 }
 
 impl Site for SilentSite {
     ghost use Rattle.std.specs.Prelude.{◌≡◌, []};
+    ghost use Rattle.mss_base.specs.SilentState.{filled, length-filled};
 
     ghost tells = { ⊥ };
 
@@ -58,7 +66,11 @@ impl Site for SilentSite {
 
     ghost never_fails_but = { λ s _. s.calls.failing ≡ [] };
 
+    ghost brought = { λ s. filled s.filler };
+
     ghost whole = { λ _ _ _ none. absurd none };
+
+    ghost full = { λ s. length-filled s.filler };
 
     ghost counted = { λ _ none. absurd none };
 
@@ -78,6 +90,22 @@ impl Site for SilentSite {
         }
         into.fill(self.filler);
         Ok(())
+    }
+
+    fn bring(&mut self, _unit: UnitNo, _block: u32) -> Result<(), Failed>
+        ensures fails { IsErr result ↔ FailsNext self.old.calls }
+        ensures after { self.new
+            ≡ record self.old { calls = after_call (is_err result) self.old.calls } }
+        ensures cause { HasCause self.old.calls.faults self.new.calls.faults result }
+    {
+        if self.calls.next_fails() {
+            return Err(Failed);
+        }
+        Ok(())
+    }
+
+    fn brought(&self) -> &[u8] {
+        &self.block
     }
 
     fn write(

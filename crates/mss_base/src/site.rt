@@ -33,6 +33,9 @@ pub trait Site {
     /// such value.
     ghost never_fails_but: { Self → (UnitNo → Bool) → Type 0 } = { λ _ _. ⊥ };
 
+    /// The bytes of the block that was brought last.
+    ghost brought: { Self → List ℕ };
+
     /// Makes room for so many writes. After want of memory all but the room is as it was.
     fn reserve(&mut self, count: u32) -> Result<(), NoMemory>
         ensures room { OnOk result (count ≤ spare self.new) }
@@ -53,6 +56,22 @@ pub trait Site {
         ensures works { (but : UnitNo → Bool)
             → never_fails_but self.old but → but unit ≡ false → IsOk result }
         ensures sound { StaysSound never_fails_but self.old self.new };
+
+    /// Brings a block to where `brought` shows it, without a copy. It counts as a read. After a failure any block may be
+    /// there.
+    fn bring(&mut self, unit: UnitNo, block: u32) -> Result<(), Failed>
+        ensures block { tells → OnOk result (brought self.new ≡ content (told self.old) unit block) }
+        ensures told { tells → told self.new ≡ told self.old }
+        ensures spare { spare self.new ≡ spare self.old }
+        ensures writes { writes self.new ≡ writes self.old }
+        ensures cause { HasCause (faults self.old) (faults self.new) result }
+        ensures works { (but : UnitNo → Bool)
+            → never_fails_but self.old but → but unit ≡ false → IsOk result }
+        ensures sound { StaysSound never_fails_but self.old self.new };
+
+    /// The block that was brought last. After any other call that may change the site it may be another one.
+    fn brought(&self) -> &[u8]
+        ensures { result.now ≡ brought self.now };
 
     /// Writes into a block, which lasts. After a failure the range may hold anything, and the rest of the block is as it was.
     fn write(&mut self, unit: UnitNo, block: u32, offset: u16, bytes: &[u8]) -> Result<(), Failed>
@@ -82,6 +101,9 @@ pub trait Site {
     /// A block has 16,384 bytes.
     ghost whole: { (s : Self) (unit : UnitNo) (block : ℕ)
         → tells → length (content (told s) unit block) ≡ 16384 };
+
+    /// What was brought is a whole block, whatever the site tells.
+    ghost full: { (s : Self) → length (brought s) ≡ 16384 };
 
     /// The count of writes is the length of the log.
     ghost counted: { (s : Self) → tells → writes s ≡ length (told s).log };

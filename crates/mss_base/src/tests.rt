@@ -14,6 +14,10 @@ fn a_block_reads_as_it_was_written(rt: HostRuntime) -> Result<(), Fail> {
     assert_eq!(rt; site.write(cartridge, 3837, 16381, b"abc"), Ok(()));
     assert_eq!(rt; site.read(cartridge, 3837, &mut block), Ok(()));
     assert_eq!(rt; &block[16378..], b"\0\0\0abc".as_slice());
+    assert_eq!(rt; site.bring(cartridge, 3837), Ok(()));
+    assert_eq!(rt; &site.brought()[16378..], b"\0\0\0abc".as_slice());
+    assert_eq!(rt; site.bring(cartridge, 0), Ok(()));
+    assert_eq!(rt; site.brought()[16381], 0);
     assert_eq!(rt; (site.writes(), site.faults()), (1, 0));
     Ok(())
 }
@@ -67,7 +71,7 @@ fn a_silent_site_forgets(rt: HostRuntime) -> Result<(), Fail> {
         Err(Failed)
     );
     assert_eq!(rt; site.read(UnitNo::Staging(3), 7599, &mut block), Ok(()));
-    assert_eq!(rt; block[0], 193);
+    assert_eq!(rt; (block[0], site.brought()[16383]), (193, 193));
     assert_eq!(rt; (site.writes(), site.faults()), (1, 1));
     Ok(())
 }

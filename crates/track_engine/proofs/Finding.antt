@@ -1,4 +1,4 @@
--- The record at a place, and one look for it at the block that is in the buffer.
+-- The record at a place, and one look for it at the block that is brought.
 use Rattle.std.proofs.Common.{◌≡◌, ℕ, ◌+◌, ◌≤◌, Bool, List, length, None, Ok, Err, sym, ap, ◌∙◌, arith, subst}
 use Rattle.std.specs.Prelude.{slice_index_or}
 use Rattle.std.proofs.lemmas.Option.{get_or_from_slice_get, slice_get_within}
@@ -14,7 +14,7 @@ use Rattle.track_engine.specs.declared.place.NotDone.{NotDone}
 use Rattle.track_engine.specs.declared.place.NotDone.TheVariants.{Refused, Fault}
 use Rattle.track_engine.specs.Found.{found_at, GivesBut}
 
-abbrev track_in : List ℕ → List RecordData
+abbrev pub track_in : List ℕ → List RecordData
 track_in block = (reading block).records
 
 module _ (block : List ℕ) (host : HostState) (number : ℕ) (f : FoundRecord) (is : IsFound number host f (record_at (track_in block) host number)) where
@@ -28,7 +28,12 @@ module _ (block : List ℕ) (host : HostState) (number : ℕ) (f : FoundRecord) 
   pub found_stands : f.number ≤ length (track_in block)
   found_stands = omega (arith, is.number_, slice_get_within (records_of host (track_in block)) number (item_of f) is.item)
 
--- one look, with as many left as looks + 1, where the block of the host's head is in the buffer
+-- what is found in the bytes that a site shows is found in the block that they are
+pub found_shown : (shown block : List ℕ) → shown ≡ block → (host : HostState) (number : ℕ) (f : FoundRecord) → IsFound number host f (record_at (track_in shown) host number)
+    → IsFound number host f (record_at (track_in block) host number)
+found_shown shown block same host number f is = subst (λ (b : List ℕ). IsFound number host f (record_at (track_in b) host number)) same is
+
+-- one look, with as many left as looks + 1, where the block of the host's head is brought
 module _ (left looks number : ℕ) (tracks : Tracks) (host : HostState) (m : ℕ) (multi : Bool) (block : List ℕ)
     (falls : left ≡ looks + 1) (place : number ≡ candidate host.position m) (here : track_in block ≡ tracks host.head) where
   pub look_finds_there : (f : FoundRecord) → IsFound number host f (record_at (track_in block) host number)

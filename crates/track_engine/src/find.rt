@@ -29,8 +29,33 @@ pub struct RecordPlace {
     pub host: HostState,
 }
 
-/// Brings the block of a head into the buffer.
+/// Brings the block of a head to where the site shows it.
 pub fn bring_block<S: Site>(
+    site: &mut S,
+    place: &CylinderPlace,
+    head: Head,
+) -> Result<(), EngineFault>
+    requires { place.now.first_block + HEADS ≤ 2 ^ 32 }
+    ensures block { S.tells
+        → OnOk result (IsBlockOn (S.told site.old) place.now head (S.brought site.new)) }
+    ensures reads { OnlyReads S.tells S.told S.spare S.writes S.faults S.never_fails_but
+        site.old site.new }
+    ensures cause { HasCause (S.faults site.old) (S.faults site.new) result }
+    ensures fault { IfErr result (IsFailedRead (S.faults site.new)) }
+    ensures works { (but : UnitNo → Bool) → S.never_fails_but site.old but
+        → but place.now.unit ≡ false → IsOk result }
+{
+    let at = place.block_of(head);
+    match site.bring(at.unit, at.block) {
+        Ok(()) => Ok(()),
+        Err(Failed) => Err(EngineFault::ReadFailed {
+            fault: site.faults(),
+        }),
+    }
+}
+
+/// Copies the block of a head into the buffer, where it stays as it was while the site is written to.
+pub fn copy_block<S: Site>(
     site: &mut S,
     place: &CylinderPlace,
     buffer: &mut [u8],
@@ -46,13 +71,9 @@ pub fn bring_block<S: Site>(
     ensures works { (but : UnitNo → Bool) → S.never_fails_but site.old but
         → but place.now.unit ≡ false → IsOk result }
 {
-    let at = place.block_of(head);
-    match site.read(at.unit, at.block, buffer) {
-        Ok(()) => Ok(()),
-        Err(Failed) => Err(EngineFault::ReadFailed {
-            fault: site.faults(),
-        }),
-    }
+    bring_block(site, place, head)?;
+    buffer.copy_from_slice(site.brought());
+    Ok(())
 }
 
 /// Record `number` of the host's track, which is that of the block, where it is there.
@@ -97,15 +118,15 @@ pub fn found_in<'a>(block: &'a [u8], at: &RecordPlace) -> FoundRecord<'a>
 fn pass<S: Site>(
     site: &mut S,
     place: &CylinderPlace,
-    buffer: &mut [u8],
     host: &HostState,
     multi: bool,
 ) -> Result<HostState, NotDone>
-    requires buffer { length buffer.old ≡ BLOCK_BYTES }
-    requires place { place.now.first_block + HEADS ≤ 2 ^ 32 }
+    requires { place.now.first_block + HEADS ≤ 2 ^ 32 }
     ensures passed { GivesBut (λ passed. passed) result (pass_index host.now multi) }
-    ensures block { S.tells → IsBlockOn (S.told site.old) place.now host.now.head buffer.old
-        → IfOk result (λ passed. IsBlockOn (S.told site.old) place.now passed.head buffer.new) }
+    ensures block { S.tells
+        → IsBlockOn (S.told site.old) place.now host.now.head (S.brought site.old)
+        → IfOk result (λ passed.
+        IsBlockOn (S.told site.old) place.now passed.head (S.brought site.new)) }
     ensures volume { KeepsVolume (λ passed. passed) host.now.mounted result }
     ensures reads { OnlyReads S.tells S.told S.spare S.writes S.faults S.never_fails_but
         site.old site.new }
@@ -117,24 +138,22 @@ fn pass<S: Site>(
     if passed.head == host.head {
         return Ok(passed);
     }
-    bring_block(site, place, buffer, passed.head)?;
+    bring_block(site, place, passed.head)?;
     Ok(passed)
 }
 
-/// The next record, where `first` is the first that counts. The block that has it is in the buffer then.
+/// The next record, where `first` is the first that counts. The block that has it is brought then.
 pub fn next_record<S: Site>(
     site: &mut S,
     place: &CylinderPlace,
-    buffer: &mut [u8],
     from: &HostState,
     first: u8,
     multi: bool,
 ) -> Result<RecordPlace, NotDone>
-    requires buffer { length buffer.old ≡ BLOCK_BYTES }
-    requires place { place.now.first_block + HEADS ≤ 2 ^ 32 }
-    ensures found { S.tells → GivesBut (found_at buffer.new) result
+    requires { place.now.first_block + HEADS ≤ 2 ^ 32 }
+    ensures found { S.tells → GivesBut (found_at (S.brought site.new)) result
         (next_record (tracks_on (S.told site.old) place.now) from.now first multi) }
-    ensures there { IfOk result (λ at. at.number ≤ length (reading buffer.new).records) }
+    ensures there { IfOk result (λ at. at.number ≤ length (reading (S.brought site.new)).records) }
     ensures volume { KeepsVolume (λ at. at.host) from.now.mounted result }
     ensures reads { OnlyReads S.tells S.told S.spare S.writes S.faults S.never_fails_but
         site.old site.new }
@@ -143,14 +162,14 @@ pub fn next_record<S: Site>(
         → but place.now.unit ≡ false → IfErr result HasNotFailed }
 {
     let mut host = *from;
-    bring_block(site, place, buffer, host.head)?;
+    bring_block(site, place, host.head)?;
     for _ in 0..LOOKS {
         let number = candidate(host.position, first);
-        if let Some(found) = record_in(buffer, &host, number) {
+        if let Some(found) = record_in(site.brought(), &host, number) {
             let number = found.number;
             return Ok(RecordPlace { number, host });
         }
-        host = pass(site, place, buffer, &host, multi)?;
+        host = pass(site, place, &host, multi)?;
     }
     Err(NotDone::Refused(Refusal {
         check: UnitCheck::NoRecordFound,
@@ -181,20 +200,18 @@ pub fn same_record(block: &[u8], host: &HostState, number: u8) -> Result<RecordP
     })
 }
 
-/// The record at hand on the host's track, or else the next from R1. The block that has it is in the buffer then.
+/// The record at hand on the host's track, or else the next from R1. The block that has it is brought then.
 pub fn this_or_next<S: Site>(
     site: &mut S,
     place: &CylinderPlace,
-    buffer: &mut [u8],
     host: &HostState,
     at_hand: Option<u8>,
     multi: bool,
 ) -> Result<RecordPlace, NotDone>
-    requires buffer { length buffer.old ≡ BLOCK_BYTES }
-    requires place { place.now.first_block + HEADS ≤ 2 ^ 32 }
-    ensures found { S.tells → GivesBut (found_at buffer.new) result
+    requires { place.now.first_block + HEADS ≤ 2 ^ 32 }
+    ensures found { S.tells → GivesBut (found_at (S.brought site.new)) result
         (this_or_next at_hand (tracks_on (S.told site.old) place.now) host.now multi) }
-    ensures there { IfOk result (λ at. at.number ≤ length (reading buffer.new).records) }
+    ensures there { IfOk result (λ at. at.number ≤ length (reading (S.brought site.new)).records) }
     ensures volume { KeepsVolume (λ at. at.host) host.now.mounted result }
     ensures reads { OnlyReads S.tells S.told S.spare S.writes S.faults S.never_fails_but
         site.old site.new }
@@ -203,10 +220,10 @@ pub fn this_or_next<S: Site>(
         → but place.now.unit ≡ false → IfErr result HasNotFailed }
 {
     let Some(number) = at_hand else {
-        return next_record(site, place, buffer, host, 1, multi);
+        return next_record(site, place, host, 1, multi);
     };
-    bring_block(site, place, buffer, host.head)?;
-    Ok(same_record(buffer, host, number)?)
+    bring_block(site, place, host.head)?;
+    Ok(same_record(site.brought(), host, number)?)
 }
 
 /// The host at the home address of its track, or of the next. No block is needed for that.

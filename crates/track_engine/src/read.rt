@@ -1,5 +1,5 @@
 // Reads.
-ghost use Rattle.std.specs.Prelude.{◌≤◌, ◌≡◌, ◌≢◌, ◌<◌, ◌+◌, ◌^◌, length, IfOk, IfErr, Bool, true, false};
+ghost use Rattle.std.specs.Prelude.{◌≤◌, ◌≡◌, ◌≢◌, ◌<◌, ◌+◌, ◌^◌, IfOk, IfErr, Bool, true, false};
 ghost use Rattle.mss_base.specs.Content.{content};
 ghost use Rattle.mss_base.specs.Sites.{OnlyReads};
 ghost use Rattle.mss_base.specs.declared.place.UnitNo.{UnitNo};
@@ -14,7 +14,7 @@ use crate::place::{CylinderPlace, NotDone};
 use channel_commands::ReadWhat;
 use ckd_plain::HostState;
 use ckd_plain::steps::{DoneCommand, at_hand, home_read, record_zero_read};
-use mss_base::{BLOCK_BYTES, HEADS, Site};
+use mss_base::{HEADS, Site};
 use std::alloc::Global;
 
 /// A read of a record.
@@ -23,12 +23,10 @@ fn read_record<S: Site>(
     alloc: Global,
     site: &mut S,
     place: &CylinderPlace,
-    buffer: &mut [u8],
     host: &HostState,
     what: ReadWhat,
     multi: bool,
 ) -> Result<DoneCommand, NotDone>
-    requires buffer { length buffer.old ≡ BLOCK_BYTES }
     requires place { place.now.first_block + HEADS ≤ 2 ^ 32 }
     requires no_home { what ≢ ReadWhat.Home }
     requires no_zero { what ≢ ReadWhat.RecordZero }
@@ -43,8 +41,8 @@ fn read_record<S: Site>(
         → but place.now.unit ≡ false → IfErr result HasNotFailed }
 {
     let at_hand = at_hand(what, host.position);
-    let at = this_or_next(site, place, buffer, host, at_hand, multi)?;
-    Ok(found_in(buffer, &at).given(alloc, what)?)
+    let at = this_or_next(site, place, host, at_hand, multi)?;
+    Ok(found_in(site.brought(), &at).given(alloc, what)?)
 }
 
 /// A read of any kind.
@@ -53,13 +51,11 @@ pub fn read<S: Site>(
     alloc: Global,
     site: &mut S,
     place: &CylinderPlace,
-    buffer: &mut [u8],
     host: &HostState,
     what: ReadWhat,
     multi: bool,
 ) -> Result<DoneCommand, NotDone>
-    requires buffer { length buffer.old ≡ BLOCK_BYTES }
-    requires place { place.now.first_block + HEADS ≤ 2 ^ 32 }
+    requires { place.now.first_block + HEADS ≤ 2 ^ 32 }
     ensures done { S.tells → GivesBut effect_of result
         (read (tracks_on (S.told site.old) place.now) host.now what multi) }
     ensures volume { KeepsVolume (λ done. done.host) host.now.mounted result }
@@ -73,6 +69,6 @@ pub fn read<S: Site>(
     match what {
         ReadWhat::Home => Ok(home_read(alloc, &at_home(host, multi)?)?),
         ReadWhat::RecordZero => Ok(record_zero_read(alloc, &at_home(host, multi)?)?),
-        _ => read_record(alloc, site, place, buffer, host, what, multi),
+        _ => read_record(alloc, site, place, host, what, multi),
     }
 }

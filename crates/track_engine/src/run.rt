@@ -35,12 +35,10 @@ fn look<S: Site>(
     alloc: Global,
     site: &mut S,
     place: &CylinderPlace,
-    buffer: &mut [u8],
     host: &HostState,
     command: Command,
     argument: &[u8],
 ) -> Result<DoneCommand, NotDone>
-    requires buffer { length buffer.old ≡ BLOCK_BYTES }
     requires place { place.now.first_block + HEADS ≤ 2 ^ 32 }
     requires long { least command ≤ length argument.now }
     requires data { is_data command ≡ true }
@@ -59,10 +57,10 @@ fn look<S: Site>(
     match command {
         Command::Search { field, test, multi } => match field {
             SearchField::Home => Ok(search_home(alloc, host, multi, argument)?),
-            SearchField::Id => search_id(alloc, site, place, buffer, host, test, multi, argument),
-            SearchField::Key => search_key(alloc, site, place, buffer, host, test, multi, argument),
+            SearchField::Id => search_id(alloc, site, place, host, test, multi, argument),
+            SearchField::Key => search_key(alloc, site, place, host, test, multi, argument),
         },
-        Command::Read { what, multi } => read(alloc, site, place, buffer, host, what, multi),
+        Command::Read { what, multi } => read(alloc, site, place, host, what, multi),
         _ => unreachable!(),
     }
 }
@@ -118,7 +116,7 @@ fn carry_out<S: Site>(
         Command::Write(WriteKind::CountKeyData) => {
             write_count_key_data(alloc, site, place, buffer, host, left, argument)
         }
-        _ => look(alloc, site, place, buffer, host, command, argument),
+        _ => look(alloc, site, place, host, command, argument),
     }
 }
 
@@ -184,7 +182,8 @@ fn run<S: Site>(
 
 /// A search, read or write that passed its checks, on the blocks of the host's cylinder.
 ///
-/// `buffer` is room for one block. After a fault the host is as it was. An update of no bytes reads at most.
+/// `buffer` is room for one block, which a write alone uses. After a fault the host is as it was. An update of no bytes
+/// reads at most.
 pub fn run_command<S: Site>(
     alloc: Global,
     site: &mut S,

@@ -17,7 +17,7 @@ use crate::place::{CylinderPlace, NotDone};
 use channel_commands::SearchTest;
 use ckd_plain::steps::{DoneCommand, home_searched, key_at_hand};
 use ckd_plain::{HostState, Refusal};
-use mss_base::{BLOCK_BYTES, HEADS, Site};
+use mss_base::{HEADS, Site};
 use std::alloc::Global;
 
 /// Search home address equal.
@@ -45,13 +45,11 @@ pub fn search_id<S: Site>(
     alloc: Global,
     site: &mut S,
     place: &CylinderPlace,
-    buffer: &mut [u8],
     host: &HostState,
     test: SearchTest,
     multi: bool,
     argument: &[u8],
 ) -> Result<DoneCommand, NotDone>
-    requires buffer { length buffer.old ≡ BLOCK_BYTES }
     requires place { place.now.first_block + HEADS ≤ 2 ^ 32 }
     requires long { 5 ≤ length argument.now }
     ensures done { S.tells → GivesBut effect_of result
@@ -65,8 +63,8 @@ pub fn search_id<S: Site>(
     ensures works { (but : UnitNo → Bool) → S.never_fails_but site.old but
         → but place.now.unit ≡ false → IfErr result HasNotFailed }
 {
-    let at = next_record(site, place, buffer, host, 0, multi)?;
-    Ok(found_in(buffer, &at).id_searched(alloc, test, argument))
+    let at = next_record(site, place, host, 0, multi)?;
+    Ok(found_in(site.brought(), &at).id_searched(alloc, test, argument))
 }
 
 /// Search key.
@@ -75,14 +73,12 @@ pub fn search_key<S: Site>(
     alloc: Global,
     site: &mut S,
     place: &CylinderPlace,
-    buffer: &mut [u8],
     host: &HostState,
     test: SearchTest,
     multi: bool,
     argument: &[u8],
 ) -> Result<DoneCommand, NotDone>
-    requires buffer { length buffer.old ≡ BLOCK_BYTES }
-    requires place { place.now.first_block + HEADS ≤ 2 ^ 32 }
+    requires { place.now.first_block + HEADS ≤ 2 ^ 32 }
     ensures done { S.tells → GivesBut effect_of result
         (search (tracks_on (S.told site.old) place.now) host.now SearchField.Key test multi
         argument.now) }
@@ -95,6 +91,6 @@ pub fn search_key<S: Site>(
         → but place.now.unit ≡ false → IfErr result HasNotFailed }
 {
     let at_hand = key_at_hand(host.position);
-    let at = this_or_next(site, place, buffer, host, at_hand, multi)?;
-    Ok(found_in(buffer, &at).key_searched(alloc, test, argument))
+    let at = this_or_next(site, place, host, at_hand, multi)?;
+    Ok(found_in(site.brought(), &at).key_searched(alloc, test, argument))
 }

@@ -15,7 +15,7 @@ ghost use Rattle.track_engine.specs.Faults.{HasReadCause, HasNotFailed, HasNoFai
 ghost use Rattle.track_engine.specs.Found.{found_at, GivesBut, KeepsVolume};
 ghost use Rattle.track_engine.specs.Writing.{CarriesOut, Spells, formatted_behind, update_kind, updated_at};
 
-use crate::find::{RecordPlace, bring_block, found_in, same_record};
+use crate::find::{RecordPlace, copy_block, found_in, same_record};
 use crate::place::{CylinderPlace, EngineFault, NotDone};
 use channel_commands::{Command, WriteKind};
 use ckd_plain::steps::{DONE, DoneCommand, FoundRecord, written};
@@ -81,7 +81,7 @@ fn kept_record<S: Site>(
     ensures works { (but : UnitNo → Bool) → S.never_fails_but site.old but
         → but place.now.unit ≡ false → IfErr result HasNotFailed }
 {
-    bring_block(site, place, buffer, host.head)?;
+    copy_block(site, place, buffer, host.head)?;
     let at = same_record(buffer, host, left.number())?;
     let cost = cost_of_front(buffer, at.number) + cost_at(argument, 0);
     if cost > TRACK_COST {
@@ -274,7 +274,7 @@ pub fn write_data<S: Site>(
         → IfErr result HasNoFailedWrite }
 {
     let to = place.block_of(host.head);
-    bring_block(site, place, buffer, host.head)?;
+    copy_block(site, place, buffer, host.head)?;
     let at = same_record(buffer, host, left.number())?;
     let length = updated_length(&found_in(buffer, &at), key_too);
     match first_bytes(argument, length) {

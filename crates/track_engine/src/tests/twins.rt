@@ -9,7 +9,7 @@ ghost use Rattle.track_engine.specs.Tracks.{AreTracks};
 
 use crate::tests::table::{Line, program_of};
 use crate::{CylinderPlace, EngineFault, run_command};
-use channel_commands::{Call, Command, Reply};
+use channel_commands::{Call, Command, DeviceCommand, Reply};
 use ckd_plain::steps::{is_data, opened, refused, run_control};
 use ckd_plain::{HostState, PlainState, Prior, Refusal, UnitCheck, admitted, plain_step};
 use ckd_track::{Record, Track, check_track, read_track};
@@ -186,11 +186,11 @@ impl Twins {
 
     /// A command on the plain machine alone.
     pub fn plain_command(&mut self, line: &Line, chained: bool) -> Result<Reply, Fail> {
-        let call = Call::Command {
+        let call = Call::Command(DeviceCommand {
             code: line.code,
             argument: Bytes::of(self.alloc, &line.argument)?,
             chained,
-        };
+        });
         Ok(plain_step(self.alloc, &mut self.plain, self.number, &call)?)
     }
 

@@ -1,4 +1,4 @@
-use Rattle.std.proofs.Common.{◌≡◌, ◌∙◌, ap, subst, List, ℕ, arith}
+use Rattle.std.proofs.Common.{◌≡◌, ◌∙◌, subst, List, ℕ, arith}
 use Rattle.std.specs.Prelude.{OnOk}
 use Rattle.mss_base.specs.Content.{Write, fitted, written}
 use Rattle.mss_base.specs.Memory.{held}

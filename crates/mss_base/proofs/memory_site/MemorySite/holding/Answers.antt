@@ -7,4 +7,5 @@ pub invariant_of-result : goal.invariant_of-result
 invariant_of-result c = record {
   whole = c.requires.whole;
   kept = λ unit block. (λ i. c.requires.same i unit block) ∙ ap (λ (l : List Write). after (held c.args.start) l unit block) (sym c.new-2.ensures);
+  zeros_ = c.in_ok-zeros.ensures;
 }

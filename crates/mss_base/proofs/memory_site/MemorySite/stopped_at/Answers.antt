@@ -1,8 +1,8 @@
-use Rattle.std.proofs.Common.{◌≡◌, ◌∙◌, ap, length}
-use Rattle.std.specs.Prelude.{option_map}
-use Rattle.mss_base.specs.Content.{SiteLog, content}
-use Rattle.mss_base.specs.Memory.{held}
+use Rattle.std.proofs.Common.{◌≡◌, ◌∙◌, ap, length, Ok, Err, Result}
+use Rattle.std.specs.Prelude.{option_map, IfOk}
+use Rattle.mss_base.specs.Content.{Content, SiteLog, content}
 use Rattle.mss_base.specs.MemorySite.{told_of}
+use Rattle.mss_base.specs.declared.memory_site.MemorySite.{MemorySite}
 use Rattle.mss_base.proofs.ContentLemmas.{length-image}
 use Rattle.mss_base.proofs.MemoryLemmas.{held_clone}
 use Rattle.mss_base.proofs.memory_site.MemorySite.stopped_at.Goals as goal
@@ -15,5 +15,11 @@ holding-requires-clause-whole c unit block =
 pub holding-requires-clause-same : goal.holding-requires-clause-same
 holding-requires-clause-same c = held_clone c.in_ok-start.start c.in_ok-blocks.blocks c.in_ok-blocks.ensures.cases
 
+-- a site of this log has its content
+content_as : {E : Type 0} (log : SiteLog) (d : Content) → content log ≡ d → (r : Result MemorySite E)
+    → IfOk r (λ site. told_of site ≡ log) → IfOk r (λ site. content (told_of site) ≡ d)
+content_as log d is (Ok site) told = ap content told ∙ is
+content_as log d is (Err e) told = tt
+
 pub returns-clause-content : goal.returns-clause-content
-returns-clause-content c = ap content c.holding.ensures.told ∙ c.in_ok-start.ensures
+returns-clause-content c = content_as _ _ c.in_ok-start.ensures c.holding.result c.holding.ensures.told

@@ -11,4 +11,4 @@ invariant_of-self c =
     let kept : held s.blocks ≡ after (held s.start) s.log.items = (λ i unit block. s.kept unit block i) in
     let new : held c.write_block.new.blocks ≡ after (held s.start) c.push.new.self.items =
     c.write_block.ensures.written ∙ ap (λ (d : Content). written d w) kept ∙ sym (after-append (held s.start) s.log.items (w ∷ [])) ∙ ap (λ (l : List Write). after (held s.start) l) (sym c.push.ensures.items) in
-    record { whole = s.whole; kept = λ unit block i. new i unit block }
+    record { whole = s.whole; kept = λ unit block i. new i unit block; zeros_ = s.zeros_ }
