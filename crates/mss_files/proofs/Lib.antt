@@ -1,3 +1,4 @@
 pub mod Transfers
+pub mod Keeping
 pub mod Appending
 pub mod Known

@@ -1,4 +1,5 @@
 pub mod Files
+pub mod KeptBlocks
 pub mod FileSites
 pub mod Paths
 pub mod Output

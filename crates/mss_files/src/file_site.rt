@@ -1,11 +1,13 @@
 // A site whose units are files.
-ghost use Rattle.std.specs.Prelude.{◌≡◌, ◌≤◌, true, length, is_err, IfOk, OnOk};
+ghost use Rattle.std.specs.Prelude.{◌≡◌, ◌+◌, ◌≤◌, true, length, is_err, None, Some};
+ghost use Rattle.std.specs.Prelude.{IfOk, OnOk, OnErr};
 ghost use Rattle.mss_base.specs.Counts.{HasCause, next_count, count_after};
 ghost use Rattle.mss_files.specs.Files.{file_place, bytes_at, ChangesOnly};
 
-use crate::transfer::{read_all, write_all};
+use crate::kept_block::KeptBlock;
 use crate::{Folder, UnitFiles};
-use mss_base::{Failed, NoMemory, Site, UnitNo};
+use mss_base::{BLOCK_BYTES, BlockPlace, Failed, NoMemory, Site, UnitNo};
+use std::alloc::Global;
 use std::fs::File;
 use std::marker::Model;
 use std::rt::Files;
@@ -13,28 +15,31 @@ use std::rt::Files;
 /// A site in files, one for each unit. Block n begins at byte 16,384 n; behind a file's end are
 /// zeros.
 ///
-/// A write is made to last before it is answered. Clauses on bytes speak of files that tell; to the
+/// A write is made to last before it is answered. The block that was brought last is kept, and is
+/// brought again without a call of the files. Clauses on bytes speak of files that tell; to the
 /// layers above no site in files tells.
 #[derive(Drop)]
 pub struct FileSite<F: UnitFiles> {
     files: F,
+    kept: KeptBlock,
     writes: u64,
     faults: u64,
 }
 
 impl<F: UnitFiles> Model for FileSite<F> {
     ghost use Rattle.mss_files.specs.FileSites.{FileSiteValue};
+    ghost use Rattle.mss_files.specs.KeptBlocks.{IsHeld};
 
     ghost Value = { FileSiteValue F };
 
-    ghost view = { λ s. record { files = s.files; writes = s.writes; faults = s.faults } };
-}
+    ghost view = { λ s. record {
+      files = s.files;
+      kept = s.kept;
+      writes = s.writes;
+      faults = s.faults;
+    } };
 
-/// Where a byte of a block stands in its unit's file.
-fn file_place(block: u32, offset: u16) -> u64
-    ensures { result ≡ file_place block offset }
-{
-    block as u64 * 16_384 + offset as u64
+    ghost invariant = { λ s. F.tells → IsHeld (F.byte s.files) s.kept };
 }
 
 impl<R: Files<File = File> + AllocGlobal + Drop> FileSite<Folder<R>> {
@@ -43,22 +48,30 @@ impl<R: Files<File = File> + AllocGlobal + Drop> FileSite<Folder<R>> {
         ensures unwritten { IfOk result (λ site. site.writes ≡ 0) }
         ensures unfailed { IfOk result (λ site. site.faults ≡ 0) }
     {
-        Ok(FileSite::over(Folder::at(rt, folder)?))
+        let alloc = rt.alloc();
+        FileSite::over(alloc, Folder::at(rt, folder)?)
+    }
+}
+
+impl<F: UnitFiles + Drop> FileSite<F> {
+    /// The site in these files. It keeps no block yet.
+    pub fn over(alloc: Global, files: F) -> Result<Self, NoMemory>
+        ensures files { IfOk result (λ site. site.files ≡ files) }
+        ensures kept { IfOk result (λ site. site.kept.place ≡ None) }
+        ensures unwritten { IfOk result (λ site. site.writes ≡ 0) }
+        ensures unfailed { IfOk result (λ site. site.faults ≡ 0) }
+    {
+        let kept = KeptBlock::new(alloc)?;
+        Ok(FileSite {
+            files,
+            kept,
+            writes: 0,
+            faults: 0,
+        })
     }
 }
 
 impl<F: UnitFiles> FileSite<F> {
-    /// The site in these files.
-    pub fn over(files: F) -> Self
-        ensures { result ≡ record { files = files; writes = 0; faults = 0 } }
-    {
-        FileSite {
-            files,
-            writes: 0,
-            faults: 0,
-        }
-    }
-
     fn count_fault(&mut self) -> Failed
         ensures counted { self.new ≡ record self.old { faults = next_count self.old.faults } }
         ensures later { self.old.faults ≤ self.new.faults }
@@ -84,7 +97,11 @@ impl<F: UnitFiles> Site for FileSite<F> {
 
     ghost never_fails_but = { λ s _. F.never_fails s.files };
 
+    ghost brought = { λ s. s.kept.bytes.items };
+
     ghost whole = { λ _ _ _ none. absurd none };
+
+    ghost full = { λ s. s.kept.whole };
 
     ghost counted = { λ _ none. absurd none };
 
@@ -99,10 +116,14 @@ impl<F: UnitFiles> Site for FileSite<F> {
     }
 
     /// Reads a block, as far as the file reaches; the rest is zeros. It fails where a call of the
-    /// files fails.
+    /// files fails. The block that is kept is read without one.
     fn read(&mut self, unit: UnitNo, block: u32, into: &mut [u8]) -> Result<(), Failed>
+        requires { length into.old ≡ BLOCK_BYTES }
         ensures bytes { F.tells → OnOk result (into.new
             ≡ bytes_at (F.byte self.old.files unit) (file_place block 0) (length into.old)) }
+        ensures at_once { self.old.kept.place ≡ Some (record { unit = unit; block = block })
+            → IsOk result × (self.new ≡ self.old) }
+        ensures stays { self.new.kept ≡ self.old.kept }
         ensures kept { F.tells → F.byte self.new.files ≡ F.byte self.old.files }
         ensures writes { self.new.writes ≡ self.old.writes }
         ensures counted { self.new.faults ≡ count_after (is_err result) self.old.faults }
@@ -110,19 +131,51 @@ impl<F: UnitFiles> Site for FileSite<F> {
         ensures works { F.never_fails self.old.files → IsOk result }
         ensures sound { F.never_fails self.old.files → F.never_fails self.new.files }
     {
-        match read_all(&mut self.files, &unit, file_place(block, 0), into) {
+        let place = BlockPlace { unit, block };
+        match self.kept.read(&mut self.files, &place, into) {
             Ok(()) => Ok(()),
             Err(_) => Err(self.count_fault()),
         }
     }
 
-    /// Writes into a block, and makes it last. It fails where a call of the files fails.
+    /// Brings a block, as far as the file reaches; the rest is zeros. It fails where a call of the
+    /// files fails, and then no block is kept. The block that is kept is brought without one.
+    fn bring(&mut self, unit: UnitNo, block: u32) -> Result<(), Failed>
+        ensures bytes { F.tells → OnOk result (self.new.kept.bytes.items
+            ≡ bytes_at (F.byte self.old.files unit) (file_place block 0) 16384) }
+        ensures at_once { self.old.kept.place ≡ Some (record { unit = unit; block = block })
+            → IsOk result × (self.new ≡ self.old) }
+        ensures here { OnOk result
+            (self.new.kept.place ≡ Some (record { unit = unit; block = block })) }
+        ensures lost { OnErr result (self.new.kept.place ≡ None) }
+        ensures kept { F.tells → F.byte self.new.files ≡ F.byte self.old.files }
+        ensures writes { self.new.writes ≡ self.old.writes }
+        ensures counted { self.new.faults ≡ count_after (is_err result) self.old.faults }
+        ensures cause { HasCause self.old.faults self.new.faults result }
+        ensures works { F.never_fails self.old.files → IsOk result }
+        ensures sound { F.never_fails self.old.files → F.never_fails self.new.files }
+    {
+        let place = BlockPlace { unit, block };
+        match self.kept.bring(&mut self.files, &place) {
+            Ok(()) => Ok(()),
+            Err(_) => Err(self.count_fault()),
+        }
+    }
+
+    fn brought(&self) -> &[u8] {
+        self.kept.bytes()
+    }
+
+    /// Writes into a block, and makes it last. It fails where a call of the files fails. The block
+    /// that is kept gets the bytes as well, and isn't kept any more where writing into it failed.
     fn write(&mut self, unit: UnitNo, block: u32, offset: u16, bytes: &[u8]) -> Result<(), Failed>
+        requires inside { offset + length bytes.now ≤ BLOCK_BYTES }
         ensures bytes { F.tells → OnOk result (bytes_at (F.byte self.new.files unit)
             (file_place block offset) (length bytes.now) ≡ bytes.now) }
         ensures only { F.tells → ChangesOnly unit (file_place block offset) (length bytes.now)
             (F.byte self.old.files) (F.byte self.new.files) }
         ensures lasts { F.tells → OnOk result (F.lasts self.new.files unit ≡ true) }
+        ensures stays { OnOk result (self.new.kept.place ≡ self.old.kept.place) }
         ensures writes { self.new.writes ≡ next_count self.old.writes }
         ensures kept { self.old.writes ≤ self.new.writes }
         ensures counted { self.new.faults ≡ count_after (is_err result) self.old.faults }
@@ -131,7 +184,8 @@ impl<F: UnitFiles> Site for FileSite<F> {
         ensures sound { F.never_fails self.old.files → F.never_fails self.new.files }
     {
         self.writes = self.writes.saturating_add(1);
-        match write_all(&mut self.files, &unit, file_place(block, offset), bytes) {
+        let place = BlockPlace { unit, block };
+        match self.kept.write(&mut self.files, &place, offset, bytes) {
             Ok(()) => Ok(()),
             Err(_) => Err(self.count_fault()),
         }

@@ -1,8 +1,9 @@
 // The files of the units in a folder of the system.
 ghost use Rattle.std.specs.Prelude.{◌≡◌, ◌<◌, false, vec_len};
 
+use crate::UnitFiles;
+use crate::paths::FolderPaths;
 use crate::site_file::{SiteFile, guard_standard_descriptors};
-use crate::{UnitFiles, unit_path};
 use mss_base::{NoMemory, UnitNo};
 use std::fs::{File, OpenOptions};
 use std::io::ErrorKind;
@@ -39,11 +40,12 @@ struct UnitFile {
 ///
 /// A missing folder or file is empty, and a write makes it. From its first use on the folder is
 /// locked, so that no two sites work in it at once: where another has the lock, each call fails.
+/// All memory is taken when it is made, so no call fails for want of it.
 #[derive(Drop)]
-pub struct Folder<R: Files<File = File> + AllocGlobal + Drop> {
+pub struct Folder<R: Files<File = File> + Drop> {
     rt: R,
-    path: String,
-    guards: Vec<File>,
+    paths: FolderPaths,
+    guards: [Option<File>; 3],
     access: Access,
     folder_synced: bool,
     names_synced: bool,
@@ -106,32 +108,34 @@ fn enter_folder<R: Files<File = File>>(rt: &R, path: &str) -> io::Result<Access>
 impl<R: Files<File = File> + AllocGlobal + Drop> Folder<R> {
     /// The folder of this path. It touches no file before the first read or write.
     pub fn at(rt: R, path: &str) -> Result<Self, NoMemory> {
-        let path = String::from_str(rt.alloc(), path)?;
+        let paths = FolderPaths::of(rt.alloc(), path)?;
         let mut slots = Vec::new(rt.alloc());
         for _ in 0..SLOTS {
             slots.push(None)?;
         }
         Ok(Folder {
-            guards: Vec::new(rt.alloc()),
             rt,
-            path,
+            paths,
+            guards: [None, None, None],
             access: Access::Untouched,
             folder_synced: false,
             names_synced: false,
             slots,
         })
     }
+}
 
+impl<R: Files<File = File> + Drop> Folder<R> {
     /// Looks for the folder at the first use, and makes it where that is wanted.
     fn enter(&mut self, make: bool) -> io::Result<()> {
         if matches!(self.access, Access::Untouched) {
             self.access = Access::Refused;
             guard_standard_descriptors(&self.rt, &mut self.guards)?;
-            self.access = enter_folder(&self.rt, self.path.as_str())?;
+            self.access = enter_folder(&self.rt, self.paths.folder())?;
         }
         if make && matches!(self.access, Access::Absent) {
             self.access = Access::Refused;
-            self.access = Access::Held(make_folder(&self.rt, self.path.as_str())?);
+            self.access = Access::Held(make_folder(&self.rt, self.paths.folder())?);
         }
         Ok(())
     }
@@ -167,14 +171,15 @@ impl<R: Files<File = File> + AllocGlobal + Drop> Folder<R> {
                 return Err(io::Error::from(ErrorKind::WouldBlock));
             }
         };
-        if !folder.is_at(&self.rt, self.path.as_str())? {
+        if !folder.is_at(&self.rt, self.paths.folder())? {
             return Err(io::Error::from(ErrorKind::NotFound));
         }
-        let path = unit_path(self.rt.alloc(), self.path.as_str(), unit)?;
-        let mut file = open_there(&self.rt, path.as_str())?;
+        self.paths.spell(unit);
+        let path = self.paths.spelled();
+        let mut file = open_there(&self.rt, path)?;
         if make && file.is_none() {
             self.names_synced = false;
-            file = Some(make_file(&self.rt, path.as_str())?);
+            file = Some(make_file(&self.rt, path)?);
         }
         let slot = slot_of(unit);
         self.slots[slot] = Some(UnitFile { unit: *unit, file });
@@ -192,15 +197,14 @@ impl<R: Files<File = File> + AllocGlobal + Drop> Folder<R> {
             self.names_synced = true;
         }
         if !self.folder_synced {
-            let parent = format!(in self.rt.alloc(); "{}/..", self.path)?;
-            File::open(&self.rt, parent)?.sync_all()?;
+            File::open(&self.rt, self.paths.above())?.sync_all()?;
             self.folder_synced = true;
         }
         Ok(())
     }
 }
 
-impl<R: Files<File = File> + AllocGlobal + Drop> UnitFiles for Folder<R> {
+impl<R: Files<File = File> + Drop> UnitFiles for Folder<R> {
     ghost use Rattle.std.specs.Prelude.{false};
 
     ghost tells = { ⊥ };

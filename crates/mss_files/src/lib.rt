@@ -3,14 +3,17 @@
 //! `FileSite` is a site whose units are files. It tells nothing, so the layers above rely on
 //! nothing but `Site`'s counts. Below that its work is proved over any files (`UnitFiles`): it
 //! fails only where a call of the files fails, and where they tell what they hold
-//! (`specs/Files.antt`), it reads and writes the right bytes and makes each write last. That real
-//! files (`Folder`) are such files is trusted. `StdSource` and `StdSink` are a reader and a writer
-//! as a source and a sink, which tell where the reader and the writer do. What lies in the folder:
+//! (`specs/Files.antt`), it reads and writes the right bytes and makes each write last. The block
+//! that it brought last is kept, and goes on being what the files hold (`specs/KeptBlocks.antt`).
+//! That real files (`Folder`) are such files is trusted. All memory is taken when the site is made,
+//! so no call fails for want of it. `StdSource` and `StdSink` are a reader and a writer as a source
+//! and a sink, which tell where the reader and the writer do. What lies in the folder:
 //! docs/SITES.md.
 #![tactic(auto)]
 
 mod file_site;
 mod folder;
+mod kept_block;
 mod paths;
 mod site_file;
 mod std_sink;
@@ -22,7 +25,7 @@ mod unit_files;
 
 pub use file_site::FileSite;
 pub use folder::Folder;
-pub use paths::unit_path;
+pub use paths::FolderPaths;
 pub use std_sink::StdSink;
 pub use std_source::StdSource;
 pub use unit_files::UnitFiles;

@@ -79,14 +79,14 @@ impl SiteFile {
 /// descriptor: input and output that aren't there stay faults.
 pub fn guard_standard_descriptors<R: Files<File = File>>(
     rt: &R,
-    guards: &mut Vec<File>,
+    guards: &mut [Option<File>; 3],
 ) -> io::Result<()> {
-    for _ in 0..3 {
+    for guard in guards.iter_mut() {
         let root = File::open(rt, "/")?;
         if root.as_raw_fd() > 2 {
             return Ok(());
         }
-        guards.push(root)?;
+        *guard = Some(root);
     }
     Ok(())
 }

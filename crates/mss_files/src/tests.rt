@@ -1,4 +1,6 @@
 // A site in a folder: written, held against a second one, made anew, and read.
+mod kept_blocks;
+
 use crate::{FileSite, Folder};
 use mss_base::{CartridgeNo, Failed, Site, UnitNo};
 use std::alloc::Global;
