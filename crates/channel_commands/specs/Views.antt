@@ -1,6 +1,8 @@
 -- What calls, replies and command words of the code stand for.
+use Rattle.std.specs.Prelude.{ℕ, Bool, List}
 use Rattle.channel_commands.specs.declared.call.Call.{Call}
 use Rattle.channel_commands.specs.declared.call.Call.TheVariants as call
+use Rattle.channel_commands.specs.declared.call.DeviceCommand.{DeviceCommand}
 use Rattle.channel_commands.specs.declared.ccw.Ccw.{Ccw}
 use Rattle.channel_commands.specs.declared.ccw.Ccw.TheVariants as ccw
 use Rattle.channel_commands.specs.declared.call.Reply.{Reply}
@@ -22,11 +24,19 @@ reply_of reply.EquipmentCheck = equipment_check
 reply_of reply.NoSpace = no_space
 reply_of reply.Stopped = stopped
 
+-- what a function of a code, an argument and a chaining gives for a device command
+abbrev pub for_command : {X : Type 0} → (ℕ → List ℕ → Bool → X) → DeviceCommand → X
+for_command f c = f c.code c.argument.items c.chained
+
+-- a device command as plain data
+abbrev pub asked_of : DeviceCommand → CallData
+asked_of = for_command command
+
 -- a call as plain data
 abbrev pub call_of : Call → CallData
 call_of (call.Mount volume bind) = mount volume bind
 call_of call.Demount = demount
-call_of (call.Command code argument chained) = command code argument.items chained
+call_of (call.Command c) = asked_of c
 call_of (call.Break cause) = break cause
 
 -- a command word as plain data

@@ -10,27 +10,26 @@ pub enum BreakCause {
     Limit,
 }
 
+/// A device command of a host.
+#[derive(Drop)]
+pub struct DeviceCommand {
+    pub code: u8,
+    /// The bytes that the channel moves to the device; those past what the command needs are ignored.
+    pub argument: Bytes,
+    /// Whether a further command is to follow in the same chain.
+    pub chained: bool,
+}
+
 /// What a host asks.
 #[derive(Drop)]
 pub enum Call {
     /// Mounts a volume; with `bind` its staged pages keep their frames while it is mounted.
-    Mount {
-        volume: VolumeNo,
-        bind: bool,
-    },
+    Mount { volume: VolumeNo, bind: bool },
     /// Gives back the mounted volume.
     Demount,
-    /// A command by its code, with the bytes that the channel moves to the device; those past what the command needs
-    /// are ignored. With `chained` a further command is to follow in the same chain.
-    Command {
-        code: u8,
-        argument: Bytes,
-        chained: bool,
-    },
+    Command(DeviceCommand),
     /// Ends the chain, for a program that broke off.
-    Break {
-        cause: BreakCause,
-    },
+    Break { cause: BreakCause },
 }
 
 /// What a host is told.

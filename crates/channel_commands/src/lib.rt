@@ -12,7 +12,7 @@ mod command;
 #[cfg(test)]
 mod tests;
 
-pub use call::{BreakCause, Call, Reply};
+pub use call::{BreakCause, Call, DeviceCommand, Reply};
 pub use ccw::Ccw;
 pub use codes::{UnknownCode, command_of, least};
 pub use command::{Command, ReadWhat, SearchField, SearchTest, SeekKind, WriteKind};

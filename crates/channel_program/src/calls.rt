@@ -8,7 +8,7 @@ ghost use Rattle.channel_program.specs.Views.{standing_of, HoldsCommand, IsNextC
 ghost use Rattle.channel_program.specs.Calls.{GoesOn, NextIs};
 
 use crate::cursor::{Cursor, NextCall, Program, command_at, next};
-use channel_commands::{BreakCause, Call, Reply};
+use channel_commands::{BreakCause, Call, DeviceCommand, Reply};
 use mss_base::{Bytes, NoMemory};
 use std::alloc::Global;
 
@@ -16,7 +16,7 @@ use std::alloc::Global;
 pub fn is_command(call: &Call) -> bool
     ensures { result ≡ is_command (call_of call.now) }
 {
-    matches!(call, Call::Command { .. })
+    matches!(call, Call::Command(_))
 }
 
 /// A copy of the command at a word.
@@ -33,11 +33,11 @@ pub fn command_call(
 {
     let (code, argument) = command_at(program, word);
     let argument = Bytes::of(alloc, argument)?;
-    Ok(Call::Command {
+    Ok(Call::Command(DeviceCommand {
         code,
         argument,
         chained,
-    })
+    }))
 }
 
 /// The next call of a program, after the reply to its last; none where it is finished. With no last reply the program

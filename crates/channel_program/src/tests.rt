@@ -127,17 +127,12 @@ fn calls_come_one_by_one(rt: HostRuntime) -> Result<(), Fail> {
         return Err(Fail::from("no call"));
     };
     assert!(rt; is_command(&call));
-    let Call::Command {
-        code,
-        argument,
-        chained,
-    } = call
-    else {
+    let Call::Command(command) = call else {
         return Err(Fail::from("no command"));
     };
-    assert_eq!(rt; code, 0x31);
-    assert_eq!(rt; argument.as_slice(), [1, 2].as_slice());
-    assert!(rt; chained);
+    assert_eq!(rt; command.code, 0x31);
+    assert_eq!(rt; command.argument.as_slice(), [1, 2].as_slice());
+    assert!(rt; command.chained);
     let done = Reply::Done {
         status: STATUS,
         bytes: Bytes::new(alloc),

@@ -1,7 +1,7 @@
 // Replies that need no track.
 ghost use Rattle.std.specs.Prelude.{◌≡◌, Bool, [], false, IfOk, OnErr};
-ghost use Rattle.channel_commands.specs.Data.{mount, demount, command, is_command};
-ghost use Rattle.channel_commands.specs.Views.{call_of, reply_of};
+ghost use Rattle.channel_commands.specs.Data.{mount, demount, is_command};
+ghost use Rattle.channel_commands.specs.Views.{asked_of, call_of, reply_of};
 ghost use Rattle.ckd_plain.specs.Plain.{NeedsNoTrack, responded, break_reply, checked};
 
 use crate::answer::{opened, refused_by, sense_of};
@@ -9,7 +9,7 @@ use crate::checks::admitted;
 use crate::control::run_control;
 use crate::host::{HostState, Prior};
 use crate::unit_check::UnitCheck;
-use channel_commands::{BreakCause, Call, Reply};
+use channel_commands::{BreakCause, Call, DeviceCommand, Reply};
 use mss_base::{NoMemory, VolumeNo};
 use std::alloc::Global;
 
@@ -84,7 +84,7 @@ pub fn respond(host: &HostState, there: bool, call: &Call) -> (Reply, HostState)
             };
             (break_reply(*cause), ended)
         }
-        Call::Command { .. } => unreachable!(),
+        Call::Command(_) => unreachable!(),
     }
 }
 
@@ -93,20 +93,19 @@ pub fn respond(host: &HostState, there: bool, call: &Call) -> (Reply, HostState)
 /// After want of memory the host is as it was.
 pub fn respond_command(
     alloc: Global,
-    code: u8,
-    argument: &[u8],
-    chained: bool,
+    command: &DeviceCommand,
     host: &mut HostState,
 ) -> Result<Reply, NoMemory>
-    requires { NeedsNoTrack host.old (command code argument.now chained) }
+    requires { NeedsNoTrack host.old (asked_of command.now) }
     ensures answer { IfOk result (λ reply. (there : Bool)
         → (reply_of reply, host.new)
-        ≡ responded host.old there (command code argument.now chained)) }
+        ≡ responded host.old there (asked_of command.now)) }
     ensures host_stays { OnErr result (host.new ≡ host.old) }
 {
     let mut now = opened(host);
-    match admitted(&now, code, argument) {
-        Ok(command) => run_control(alloc, command, argument, chained, host),
+    let argument = command.argument.as_slice();
+    match admitted(&now, command.code, argument) {
+        Ok(kind) => run_control(alloc, kind, argument, command.chained, host),
         Err(check) => {
             let reply = refused_by(alloc, check, &mut now);
             *host = now;

@@ -1,6 +1,7 @@
 // A command on the tracks of a cylinder.
 ghost use Rattle.std.specs.Prelude.{◌≡◌, ◌≤◌, length, IsTrue, IfOk, OnErr};
 ghost use Rattle.channel_commands.specs.Codes.{least};
+ghost use Rattle.channel_commands.specs.Views.{for_command};
 ghost use Rattle.ckd_plain.specs.Checks.{is_address, is_prior_permitted, Passes};
 ghost use Rattle.ckd_plain.specs.Effects.{effect, write_};
 ghost use Rattle.ckd_plain.specs.Plain.{performed, run};
@@ -15,7 +16,7 @@ use crate::read::read;
 use crate::search::search;
 use crate::trouble::Trouble;
 use crate::write::write;
-use channel_commands::{Command, Reply, WriteKind};
+use channel_commands::{Command, DeviceCommand, Reply, WriteKind};
 use ckd_track::Track;
 use mss_base::{HEADS, NoMemory};
 use std::alloc::Global;
@@ -103,20 +104,19 @@ pub fn run_command(
     alloc: Global,
     tracks: &mut [Track],
     host: &mut HostState,
-    code: u8,
-    argument: &[u8],
-    chained: bool,
+    command: &DeviceCommand,
 ) -> Result<Reply, NoMemory>
     requires cylinder { length tracks.old ≡ HEADS }
     ensures answer { IfOk result (Answers
-        (run (cylinder_of tracks.old) host.old code argument.now chained)
+        (for_command (run (cylinder_of tracks.old) host.old) command.now)
         host.old tracks.old tracks.new host.new) }
     ensures host_stays { OnErr result (host.new ≡ host.old) }
     ensures tracks_stay { OnErr result (tracks.new ≡ tracks.old) }
 {
     let mut now = opened(host);
-    let reply = match admitted(&now, code, argument) {
-        Ok(command) => performed(alloc, tracks, &mut now, command, argument, chained)?,
+    let argument = command.argument.as_slice();
+    let reply = match admitted(&now, command.code, argument) {
+        Ok(kind) => performed(alloc, tracks, &mut now, kind, argument, command.chained)?,
         Err(check) => refused_by(alloc, check, &mut now),
     };
     *host = now;

@@ -1,14 +1,14 @@
 // The state of the plain machine, and its step.
 ghost use Rattle.std.specs.Prelude.{◌≡◌, ◌≢◌, ◌<◌, [], length, replicate, slice_set, is_some, AllPairs, IfOk, OnErr, IsNone, IfSome, ◌↔◌, None, Some, false};
-ghost use Rattle.channel_commands.specs.Data.{command, is_command};
-ghost use Rattle.channel_commands.specs.Views.{call_of, reply_of};
+ghost use Rattle.channel_commands.specs.Data.{is_command};
+ghost use Rattle.channel_commands.specs.Views.{asked_of, call_of, reply_of};
 ghost use Rattle.ckd_plain.specs.Plain.{plain, there_for, with_host, start_of, blank_volumes, fresh_host};
 ghost use Rattle.ckd_plain.specs.StateData.{state_of};
 
 use crate::host::HostState;
 use crate::response::respond;
 use crate::volume::{PlainVolume, run_under};
-use channel_commands::{Call, Reply};
+use channel_commands::{Call, DeviceCommand, Reply};
 use ckd_track::Track;
 use mss_base::{Cylinder, Head, HostNo, NoMemory, Serial, VolumeNo};
 use std::alloc::Global;
@@ -129,16 +129,14 @@ impl PlainState {
         &mut self,
         alloc: Global,
         host: HostNo,
-        code: u8,
-        argument: &[u8],
-        chained: bool,
+        command: &DeviceCommand,
     ) -> Result<Reply, NoMemory>
         ensures answer { IfOk result (λ reply. (reply_of reply, state_of self.new)
-            ≡ plain (state_of self.old) host (command code argument.now chained)) }
+            ≡ plain (state_of self.old) host (asked_of command.now)) }
         ensures unchanged { OnErr result (self.new ≡ self.old) }
     {
         let mut now = *self.host(host);
-        let reply = run_under(alloc, &mut self.volumes, &mut now, code, argument, chained)?;
+        let reply = run_under(alloc, &mut self.volumes, &mut now, command)?;
         self.set_host(host, now);
         Ok(reply)
     }
@@ -158,11 +156,7 @@ pub fn plain_step(
     ensures unchanged { OnErr result (state.new ≡ state.old) }
 {
     match call {
-        Call::Command {
-            code,
-            argument,
-            chained,
-        } => state.command(alloc, host, *code, argument.as_slice(), *chained),
+        Call::Command(command) => state.command(alloc, host, command),
         _ => Ok(state.respond(host, call)),
     }
 }

@@ -1,6 +1,6 @@
 // The first record, keys, and what the checks refuse, as `plain_step` answers them.
 use crate::{PlainState, Position, plain_step};
-use channel_commands::{Call, Reply};
+use channel_commands::{Call, DeviceCommand, Reply};
 use mss_base::{Bytes, Cylinder, Head, HostNo, Serial, VolumeNo};
 use std::alloc::Global;
 use std::process::Abort;
@@ -41,11 +41,11 @@ impl Machine {
 
     fn command(&mut self, code: u8, argument: &[u8], chained: bool) -> Result<(u8, Bytes), Fail> {
         let argument = Bytes::of(self.alloc, argument)?;
-        let call = Call::Command {
+        let call = Call::Command(DeviceCommand {
             code,
             argument,
             chained,
-        };
+        });
         match plain_step(self.alloc, &mut self.state, self.host, &call)? {
             Reply::Done { status, bytes } => Ok((status, bytes)),
             _ => Err("not done")?,

@@ -1,13 +1,13 @@
 // Volumes of the plain machine, with every track.
 ghost use Rattle.std.specs.Prelude.{◌≡◌, ◌<◌, [], length, replicate, slice_set, slice_index_or, IfOk, OnErr};
-ghost use Rattle.channel_commands.specs.Views.{reply_of};
+ghost use Rattle.channel_commands.specs.Views.{for_command, reply_of};
 ghost use Rattle.ckd_plain.specs.Plain.{run, tracks_under};
 ghost use Rattle.ckd_plain.specs.StateData.{volumes_of, AnswersOn, Responds};
 ghost use Rattle.ckd_plain.specs.Views.{cylinder_of, Answers};
 
 use crate::host::HostState;
 use crate::run::run_command;
-use channel_commands::Reply;
+use channel_commands::{DeviceCommand, Reply};
 use ckd_track::{Records, Track};
 use mss_base::{CYLINDERS, Cylinder, HEADS, Head, NoMemory, Serial};
 use std::alloc::Global;
@@ -55,19 +55,17 @@ impl CylinderTracks {
         &mut self,
         alloc: Global,
         host: &mut HostState,
-        code: u8,
-        argument: &[u8],
-        chained: bool,
+        command: &DeviceCommand,
     ) -> Result<Reply, NoMemory>
         ensures answer { IfOk result (Answers
-            (run (cylinder_of self.old) host.old code argument.now chained)
+            (for_command (run (cylinder_of self.old) host.old) command.now)
             host.old self.old self.new host.new) }
         ensures host_stays { OnErr result (host.new ≡ host.old) }
         ensures tracks_stay { OnErr result (self.new ≡ self.old) }
         ensures head { host.old.head < length self.old }
     {
         let _head = host.head.get();
-        run_command(alloc, &mut self.tracks, host, code, argument, chained)
+        run_command(alloc, &mut self.tracks, host, command)
     }
 }
 
@@ -114,16 +112,14 @@ impl PlainVolume {
         &mut self,
         alloc: Global,
         host: &mut HostState,
-        code: u8,
-        argument: &[u8],
-        chained: bool,
+        command: &DeviceCommand,
     ) -> Result<Reply, NoMemory>
         ensures serial { self.new.serial ≡ self.old.serial }
         ensures cylinders { let c = host.old.cylinder in
             self.new.cylinders ≡ slice_set self.old.cylinders c (slice_index_or self.new.cylinders c []) }
         ensures answer { let old = slice_index_or self.old.cylinders host.old.cylinder [] in
             let new = slice_index_or self.new.cylinders host.old.cylinder [] in
-            IfOk result (Answers (run (cylinder_of old) host.old code argument.now chained)
+            IfOk result (Answers (for_command (run (cylinder_of old) host.old) command.now)
             host.old old new host.new) }
         ensures host_stays { OnErr result (host.new ≡ host.old) }
         ensures tracks_stay { OnErr result (self.new ≡ self.old) }
@@ -133,7 +129,7 @@ impl PlainVolume {
     {
         let place = usize::from(host.cylinder.get());
         let cylinder = &mut self.cylinders[place];
-        cylinder.run(alloc, host, code, argument, chained)
+        cylinder.run(alloc, host, command)
     }
 }
 
@@ -141,16 +137,14 @@ impl PlainVolume {
 fn run_blank(
     alloc: Global,
     host: &mut HostState,
-    code: u8,
-    argument: &[u8],
-    chained: bool,
+    command: &DeviceCommand,
 ) -> Result<Reply, NoMemory>
     ensures answer { IfOk result (Responds
-        (run (λ head. []) host.old code argument.now chained) host.new) }
+        (for_command (run (λ head. []) host.old) command.now) host.new) }
     ensures host_stays { OnErr result (host.new ≡ host.old) }
 {
     let mut blank = CylinderTracks::blank(alloc)?;
-    blank.run(alloc, host, code, argument, chained)
+    blank.run(alloc, host, command)
 }
 
 /// A command of a host, on the volume that it has mounted among all volumes.
@@ -158,22 +152,20 @@ pub fn run_under(
     alloc: Global,
     volumes: &mut [Option<PlainVolume>],
     host: &mut HostState,
-    code: u8,
-    argument: &[u8],
-    chained: bool,
+    command: &DeviceCommand,
 ) -> Result<Reply, NoMemory>
     requires { length volumes.old ≡ 32 }
     ensures answer { IfOk result (AnswersOn
-        (run (tracks_under (volumes_of volumes.old) host.old) host.old code argument.now chained)
+        (for_command (run (tracks_under (volumes_of volumes.old) host.old) host.old) command.now)
         host.old volumes.old volumes.new host.new) }
     ensures host_stays { OnErr result (host.new ≡ host.old) }
     ensures volumes_stay { OnErr result (volumes.new ≡ volumes.old) }
 {
     let Some((number, _)) = host.mounted else {
-        return run_blank(alloc, host, code, argument, chained);
+        return run_blank(alloc, host, command);
     };
     match &mut volumes[usize::from(number.get())] {
-        Some(volume) => volume.run(alloc, host, code, argument, chained),
-        None => run_blank(alloc, host, code, argument, chained),
+        Some(volume) => volume.run(alloc, host, command),
+        None => run_blank(alloc, host, command),
     }
 }

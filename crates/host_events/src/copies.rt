@@ -1,15 +1,25 @@
 // Copies that an event takes before it changes anything.
 ghost use Rattle.std.specs.Prelude.{◌≡◌, ◌≤◌, ◌+◌, length, IfOk, IsOk};
-ghost use Rattle.channel_commands.specs.Views.{call_of, reply_of};
+ghost use Rattle.channel_commands.specs.Views.{asked_of, call_of, reply_of};
 ghost use Rattle.ckd_plain.specs.History.{count_of_host};
 ghost use Rattle.ckd_plain.specs.Laws.{HasNoBytes};
 ghost use Rattle.core_state.specs.Counted.{AreEntries};
 ghost use Rattle.core_state.specs.declared.session.TheConstants.{ENTRY_LIMIT};
 
-use channel_commands::{Call, Reply};
+use channel_commands::{Call, DeviceCommand, Reply};
 use ckd_plain::Entry;
 use mss_base::{Bytes, HostNo, NoMemory};
 use std::alloc::Global;
+
+fn copy_of_command(alloc: Global, command: &DeviceCommand) -> Result<DeviceCommand, NoMemory>
+    ensures { IfOk result (λ copy. asked_of copy ≡ asked_of command.now) }
+{
+    Ok(DeviceCommand {
+        code: command.code,
+        argument: Bytes::of(alloc, command.argument.as_slice())?,
+        chained: command.chained,
+    })
+}
 
 /// A copy of a call. Only the argument of a command takes memory.
 pub fn copy_of_call(alloc: Global, call: &Call) -> Result<Call, NoMemory>
@@ -21,15 +31,7 @@ pub fn copy_of_call(alloc: Global, call: &Call) -> Result<Call, NoMemory>
             bind: *bind,
         },
         Call::Demount => Call::Demount,
-        Call::Command {
-            code,
-            argument,
-            chained,
-        } => Call::Command {
-            code: *code,
-            argument: Bytes::of(alloc, argument.as_slice())?,
-            chained: *chained,
-        },
+        Call::Command(command) => Call::Command(copy_of_command(alloc, command)?),
         Call::Break { cause } => Call::Break { cause: *cause },
     })
 }

@@ -43,16 +43,11 @@ fn response(
     ensures { IfOk result (λ answer. (reply_of answer.0, answer.1)
         ≡ responded host.now there (call_of call.now)) }
 {
-    let Call::Command {
-        code,
-        argument,
-        chained,
-    } = call
-    else {
+    let Call::Command(command) = call else {
         return Ok(respond(host, there, call));
     };
     let mut now = *host;
-    let reply = respond_command(alloc, *code, argument.as_slice(), *chained, &mut now)?;
+    let reply = respond_command(alloc, command, &mut now)?;
     Ok((reply, now))
 }
 

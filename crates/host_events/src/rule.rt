@@ -51,18 +51,18 @@ struct Asked<'a> {
 fn is_command(call: &Call) -> bool
     ensures { result ≡ is_command (call_of call.now) }
 {
-    matches!(call, Call::Command { .. })
+    matches!(call, Call::Command(_))
 }
 
 /// The search, read or write that a call is, where it passes the checks.
 fn data_command(host: &HostState, call: &Call) -> Option<Command>
     ensures { result ≡ data_command host.now (call_of call.now) }
 {
-    let Call::Command { code, argument, .. } = call else {
+    let Call::Command(command) = call else {
         return None;
     };
-    match admitted(&opened(host), *code, argument.as_slice()) {
-        Ok(command) if is_data(command) => Some(command),
+    match admitted(&opened(host), command.code, command.argument.as_slice()) {
+        Ok(kind) if is_data(kind) => Some(kind),
         _ => None,
     }
 }

@@ -112,17 +112,13 @@ fn run_in<S: Site>(
     ensures only_reads_fail { (but : UnitNo → Bool) → S.never_fails_but site.old but
         → IfErr result IsNoFailedWrite }
 {
-    let Call::Command {
-        argument,
-        chained,
-        ..
-    } = call
-    else {
+    let Call::Command(asked) = call else {
         unreachable!()
     };
-    let bytes = argument.as_slice();
+    let bytes = asked.argument.as_slice();
+    let chained = asked.chained;
     let place = place_in(frame, host);
-    let reply = run_command(alloc, site, &place, buffer, command, bytes, *chained, host)?;
+    let reply = run_command(alloc, site, &place, buffer, command, bytes, chained, host)?;
     let reply = bare(alloc, command, reply);
     let Ok(copy) = copy_of_reply(alloc, &reply) else {
         return Err(EngineFault::Memory);

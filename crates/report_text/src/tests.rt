@@ -1,6 +1,6 @@
 // A report of a mount and a read, and outputs of one line.
 use crate::*;
-use channel_commands::{Call, Reply};
+use channel_commands::{Call, DeviceCommand, Reply};
 use ckd_plain::Entry;
 use job_text::JobKind;
 use mss_base::{
@@ -33,11 +33,11 @@ fn mount_entry() -> Result<Entry, Fail> {
 }
 
 fn read_entry(alloc: Global) -> Result<Entry, Fail> {
-    let call = Call::Command {
+    let call = Call::Command(DeviceCommand {
         code: 0x06,
         argument: Bytes::new(alloc),
         chained: false,
-    };
+    });
     let reply = Reply::Done {
         status: 0x0C,
         bytes: Bytes::of(alloc, b"ABC")?,

@@ -136,9 +136,9 @@ fn push_call(out: &mut Bytes, call: &Call) -> Result<(), NoMemory>
             push_text(out, if *bind { " bind" } else { "" })
         }
         Call::Demount => push_text(out, "demount"),
-        Call::Command { code, .. } => {
+        Call::Command(command) => {
             push_text(out, "ccw ")?;
-            push_hex_byte(out, *code)
+            push_hex_byte(out, command.code)
         }
         Call::Break { .. } => push_text(out, "break"),
     }

@@ -1,6 +1,6 @@
 // Reports and listings of a volume that has one record, in a frame.
 use crate::*;
-use channel_commands::{Call, Reply};
+use channel_commands::{Call, DeviceCommand, Reply};
 use ckd_plain::Entry;
 use core_state::{Message, MessageList, Session};
 use mss_base::{
@@ -76,11 +76,11 @@ fn read_entry(alloc: Global) -> Result<Entry, Fail> {
     Ok(Entry {
         host: HostNo::of(1).ok_or("host")?,
         number: 1,
-        call: Call::Command {
+        call: Call::Command(DeviceCommand {
             code: 0x06,
             argument: Bytes::new(alloc),
             chained: false,
-        },
+        }),
         reply: Reply::Done {
             status: 0x0C,
             bytes: Bytes::of(alloc, b"ABC")?,

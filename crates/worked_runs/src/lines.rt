@@ -30,13 +30,13 @@ fn is_demounted(entry: &Entry) -> bool {
 }
 
 fn is_run(entry: &Entry, asked: u8, told: u8, read: &[u8]) -> bool {
-    let Call::Command { code, .. } = &entry.call else {
+    let Call::Command(command) = &entry.call else {
         return false;
     };
     let Reply::Done { status, bytes } = &entry.reply else {
         return false;
     };
-    *code == asked && *status == told && bytes.as_slice() == read
+    command.code == asked && *status == told && bytes.as_slice() == read
 }
 
 fn is_line(entry: &Entry, line: &Line) -> bool {

@@ -4,7 +4,7 @@ ghost use Rattle.core_state.specs.CoreValue.{seen};
 ghost use Rattle.mss_run.specs.Beginning.{OpensWith};
 
 use crate::sessions::{begin, job_of};
-use channel_commands::{Call, Reply};
+use channel_commands::{Call, DeviceCommand, Reply};
 use core_state::{Core, Waiting, WorkAnswer, WorkKind};
 use host_events::HostAnswer;
 use mss_base::{Bytes, HostNo, RecorderNo, Site, VolumeNo};
@@ -114,11 +114,11 @@ fn mount() -> Result<Call, Fail> {
 
 fn command(alloc: Global, code: u8, argument: &[u8], chained: bool) -> Result<Call, Fail> {
     let argument = Bytes::of(alloc, argument)?;
-    Ok(Call::Command {
+    Ok(Call::Command(DeviceCommand {
         code,
         argument,
         chained,
-    })
+    }))
 }
 
 /// The passes of hosts 1 and 2, each of which is out only within a call.

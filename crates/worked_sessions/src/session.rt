@@ -1,5 +1,5 @@
 // One session, step by step.
-use channel_commands::{Call, Reply};
+use channel_commands::{Call, DeviceCommand, Reply};
 use core_restart::restart;
 use core_state::looks::state_in;
 use core_state::{Core, Waiting, WorkAnswer, WorkKind};
@@ -97,11 +97,11 @@ fn fail(core: &mut Session, list: &[SiteFault]) -> Result<(), Fail> {
 
 fn command(alloc: Global, code: u8, argument: &[u8], chained: bool) -> Result<Call, Fail> {
     let argument = Bytes::of(alloc, argument)?;
-    Ok(Call::Command {
+    Ok(Call::Command(DeviceCommand {
         code,
         argument,
         chained,
-    })
+    }))
 }
 
 fn mount(volume: u8, bind: bool) -> Result<Call, Fail> {

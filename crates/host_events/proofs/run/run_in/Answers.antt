@@ -1,11 +1,11 @@
 -- What the engine did is what the events say of it.
-use Rattle.std.proofs.Common.{◌≡◌, ℕ, Bool, true, refl, sym, ◌∙◌, ap, subst}
-use Rattle.mss_base.specs.Listing.{Listing}
+use Rattle.std.proofs.Common.{◌≡◌, true, refl, sym, ◌∙◌, ap, subst}
 use Rattle.mss_base.specs.Places.{frame_block}
 use Rattle.channel_commands.specs.Data.{is_command}
 use Rattle.channel_commands.specs.Views.{call_of}
 use Rattle.channel_commands.specs.declared.call.Call.{Call}
 use Rattle.channel_commands.specs.declared.call.Call.TheVariants.{Mount, Demount, Command, Break}
+use Rattle.channel_commands.specs.declared.call.DeviceCommand.{DeviceCommand}
 use Rattle.ckd_plain.specs.Checks.{Passes}
 use Rattle.ckd_plain.specs.Plain.{opened}
 use Rattle.host_events.specs.Runs.{argument_of, is_chained}
@@ -13,8 +13,8 @@ use Rattle.host_events.proofs.RanFacts.{run_on, look_still}
 use Rattle.host_events.proofs.run.run_in.Goals as goal
 
 -- a command is no other call
-not_command : (call : Call) → is_command (call_of call) ≡ true → ((k : ℕ) (a : Listing ℕ) (b : Bool) → call ≡ Command k a b → ⊥) → ⊥
-not_command (Command k a b) is none = none k a b refl
+not_command : (call : Call) → is_command (call_of call) ≡ true → ((c : DeviceCommand) → call ≡ Command c → ⊥) → ⊥
+not_command (Command c) is none = none c refl
 not_command (Mount volume bind) is none = cc
 not_command Demount is none = cc
 not_command (Break cause) is none = cc
@@ -30,7 +30,7 @@ pub returns-clause-comes : goal.returns-clause-comes
 returns-clause-comes g c =
     let S = g.S.Site in (
       run_on S.tells S.told S.spare S.writes S.faults S.never_fails_but c.args.command.now (call_of c.args.call.now)
-          c.as_slice-bytes.result.now (c.as_slice-bytes.ensures ∙ sym (ap (λ (k : Call). argument_of (call_of k)) c.in-Command.is)) c.in-Command.chained (sym (ap (λ (k : Call). is_chained (call_of k)) c.in-Command.is))
+          c.as_slice-bytes.result.now (c.as_slice-bytes.ensures ∙ sym (ap (λ (k : Call). argument_of (call_of k)) c.in-Command.is)) c.in-Command.asked.chained (sym (ap (λ (k : Call). is_chained (call_of k)) c.in-Command.is))
           c.place_in-place.result (frame_block c.args.frame c.args.host.now.cylinder 0)
           c.place_in-place.ensures.unit c.place_in-place.ensures.block c.args.host.now c.run_command.new.host c.args.site.now c.run_command.new.site c.in_ok-reply.reply
           c.in_ok-reply.ensures.runs c.in_ok-reply.ensures.host_ c.in_ok-reply.ensures.site_ _ c.bare-reply.ensures,
@@ -41,7 +41,7 @@ pub returns-in_default-copy_of_reply-clause-comes : goal.returns-in_default-copy
 returns-in_default-copy_of_reply-clause-comes g c =
     let S = g.S.Site in
     look_still S.tells S.told S.spare S.writes S.faults S.never_fails_but c.args.command.now (call_of c.args.call.now)
-    c.as_slice-bytes.result.now (c.as_slice-bytes.ensures ∙ sym (ap (λ (k : Call). argument_of (call_of k)) c.in-Command.is)) c.in-Command.chained (sym (ap (λ (k : Call). is_chained (call_of k)) c.in-Command.is))
+    c.as_slice-bytes.result.now (c.as_slice-bytes.ensures ∙ sym (ap (λ (k : Call). argument_of (call_of k)) c.in-Command.is)) c.in-Command.asked.chained (sym (ap (λ (k : Call). is_chained (call_of k)) c.in-Command.is))
     c.place_in-place.result (frame_block c.args.frame c.args.host.now.cylinder 0)
     c.place_in-place.ensures.unit c.place_in-place.ensures.block c.args.host.now c.run_command.new.host c.args.site.now c.run_command.new.site c.in_ok-reply.reply
     c.in_ok-reply.ensures.runs c.in_ok-reply.ensures.host_ c.in_ok-reply.ensures.site_ _ c.bare-reply.ensures c.copy_of_reply.result _ c.in_default-copy_of_reply.is c.copy_of_reply.ensures.none

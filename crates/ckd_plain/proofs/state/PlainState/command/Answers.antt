@@ -1,8 +1,7 @@
 -- The command is the plain machine's on the state that the fields stand for.
 use Rattle.std.proofs.Common.{◌≡◌, ◌++◌, List, length, take, drop, Option, sym, ap, ◌∙◌, arith}
 use Rattle.std.proofs.lemmas.List.{take_at}
-use Rattle.channel_commands.specs.Data.{command}
-use Rattle.channel_commands.specs.Views.{reply_of}
+use Rattle.channel_commands.specs.Views.{asked_of, reply_of}
 use Rattle.ckd_plain.specs.Data.{State}
 use Rattle.ckd_plain.specs.Plain.{Replied, plain, with_host}
 use Rattle.ckd_plain.specs.StateData.{StateData, VolumeData, state_of, hosts_of}
@@ -18,4 +17,4 @@ returns-clause-answer c =
     ap (λ (s : State). let p : Replied = (reply_of c.in_ok-reply.reply, s) in p) c.set_host.ensures
     ∙ ap (λ (vs : List (Option VolumeData)). let p : Replied = (reply_of c.in_ok-reply.reply, with_host (state_of (record { hosts = c.self.inside.hosts; volumes = vs })) c.args.host c.run_under.new.host) in p) kept
     ∙ command_is c.self.inside.hosts c.self.inside.volumes.items c.run_under.new.volumes c.args.host _ _ _ c.host.result.now c.run_under.new.host c.in_ok-reply.reply now answers
-    ∙ ap (λ (s : StateData). plain (state_of s) c.args.host (command c.args.code c.args.argument.now c.args.chained)) c.self.view_is
+    ∙ ap (λ (s : StateData). plain (state_of s) c.args.host (asked_of c.args.command.now)) c.self.view_is
