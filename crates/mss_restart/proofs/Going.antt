@@ -1,5 +1,5 @@
 -- How walks that only read go on.
-use Rattle.std.proofs.Common.{◌≡◌, ℕ, ◌+◌, ◌<◌, Option, Some, None, Result, Err, refl, sym, ◌∙◌, subst, arith}
+use Rattle.std.proofs.Common.{◌≡◌, ℕ, ◌+◌, ◌<◌, Option, Some, None, Result, Err, sym, ◌∙◌, subst}
 use Rattle.mss_base.specs.Sites.{FailingReads, OnlyReads}
 use Rattle.mss_base.specs.Content.{Content, SiteLog, content}
 use Rattle.shown_volumes.specs.declared.refused.Refused.{Refused}
@@ -7,20 +7,6 @@ use Rattle.shown_volumes.specs.declared.refused.Refused.TheVariants.{RowUnread}
 use Rattle.mss_base.specs.Firsts.{first_below}
 use Rattle.mss_base.proofs.FirstFacts.{none_next, found_first}
 use Rattle.mss_restart.specs.Survey.{FindsFault, Finds, CountsFaults}
-
--- reads one after the other
-module _ {S : Type 0} (tells : Type 0) (told : S → SiteLog) (spare writes faults : S → ℕ) (never_fails_but : FailingReads S) where
-  pub nothing_read : (s : S) → OnlyReads tells told spare writes faults never_fails_but s s
-  nothing_read s = record { log = λ _. refl; room = refl; unwritten = refl; later = omega arith; sound = λ but so. so }
-
-  pub read_on : (a b c : S) → OnlyReads tells told spare writes faults never_fails_but a b → OnlyReads tells told spare writes faults never_fails_but b c → OnlyReads tells told spare writes faults never_fails_but a c
-  read_on a b c first second = record {
-    log = λ so. second.log so ∙ first.log so;
-    room = second.room ∙ first.room;
-    unwritten = second.unwritten ∙ first.unwritten;
-    later = omega (arith, first.later, second.later);
-    sound = λ but so. second.sound but (first.sound but so);
-  }
 
 -- what a walk keeps of its site and its two buffers, and what it knows so far
 pub record IsGoing {S : Type 0} (tells : Type 0) (told : S → SiteLog) (spare writes faults : S → ℕ) (never_fails_but : FailingReads S) (begun now : S) (shown staged : ℕ) (Known : Content → Type 0) : Type 0 where

@@ -17,3 +17,4 @@ pub mod Completed
 pub mod Finishing
 pub mod OneCopy
 pub mod OneTable
+pub mod LostTable

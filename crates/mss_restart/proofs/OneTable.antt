@@ -8,14 +8,15 @@ use Rattle.mss_base.specs.declared.place.UnitNo.{UnitNo}
 use Rattle.mss_base.specs.declared.place.UnitNo.TheVariants.{TableA, TableB, Staging, Cartridge}
 use Rattle.volume_table.specs.Row.{RowValue}
 use Rattle.table_pair.specs.Pair.{RowReading, known, unknown, reading, is_table}
-use Rattle.table_pair.specs.Reads.{IsReadable, MissesNone, ReadsRow, Tells}
+use Rattle.table_pair.specs.Reads.{IsReadable, CanReadTracks, MissesNone, ReadsRow, Tells}
+use Rattle.table_pair.proofs.SiteLemmas.{readable_on}
 use Rattle.table_pair.specs.declared.copy.RowRead.{RowRead}
 use Rattle.table_pair.specs.declared.copy.RowTrouble.{RowTrouble}
 use Rattle.table_pair.specs.declared.copy.RowTrouble.TheVariants as trouble
 use Rattle.shown_volumes.specs.Faults.{is_same_list, serial_fault}
 use Rattle.shown_volumes.specs.declared.refused.Refused.{Refused}
 use Rattle.shown_volumes.specs.declared.refused.Refused.TheVariants.{SerialDiffers}
-use Rattle.mss_restart.specs.OneCopy.{IsPaired, CanReadTracks, LosesOneTable}
+use Rattle.mss_restart.specs.OneCopy.{IsPaired, LosesOneTable}
 use Rattle.mss_restart.specs.Survey.{IsNoFailure, IsReading, NeverFails}
 use Rattle.mss_restart.proofs.OneCopy.{paired}
 
@@ -37,13 +38,7 @@ reads_tracks never_fails_but s loses unit outside = loses.others unit (λ same. 
 pub all_read_tracks : {S : Type 0} (never_fails_but : FailingReads S) (s : S) → NeverFails never_fails_but s → CanReadTracks never_fails_but s
 all_read_tracks never_fails_but s never unit outside = ((λ _. false), never, refl)
 
--- what can be read goes on so
-pub readable_on : {S : Type 0} (never_fails_but : FailingReads S) (old new : S) → StaysSound never_fails_but old new → (unit : UnitNo) → IsReadable never_fails_but old unit → IsReadable never_fails_but new unit
-readable_on never_fails_but old new sound unit can = (can.0, sound can.0 can.1, can.2)
-
-pub tracks_on : {S : Type 0} (never_fails_but : FailingReads S) (old new : S) → StaysSound never_fails_but old new → CanReadTracks never_fails_but old → CanReadTracks never_fails_but new
-tracks_on never_fails_but old new sound can unit outside = readable_on never_fails_but old new sound unit (can unit outside)
-
+-- what is lost is all that is lost later
 pub loses_on : {S : Type 0} (never_fails_but : FailingReads S) (old new : S) → StaysSound never_fails_but old new → LosesOneTable never_fails_but old → LosesOneTable never_fails_but new
 loses_on never_fails_but old new sound loses = record {
   lost = loses.lost;

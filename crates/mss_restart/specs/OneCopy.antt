@@ -27,11 +27,6 @@ ArePaired c = (volume : ℕ) → volume < 32 → IsPaired volume c
 
 -- ---- the devices
 
--- no read of a frame or a cartridge fails
-abbrev pub CanReadTracks : {S : Type 0} → FailingReads S → S → Type 0
-CanReadTracks never_fails_but s =
-    (unit : UnitNo) → is_table unit ≡ false → IsReadable never_fails_but s unit
-
 -- reads of one of the two units of the table may fail, and no others
 pub record LosesOneTable {S : Type 0} (never_fails_but : FailingReads S) (s : S) : Type 0 where
   pub lost : UnitNo

@@ -2,17 +2,21 @@
 //! repaired, and volumes that have none get one.
 //!
 //! The layers above rely on `survey` and on `open_rows`, which answer over every content and every failing device. The
-//! survey writes nothing. Where no read failed its answer is exactly `first_fault` of `shown_volumes`; where one failed it
-//! is that of the rows as they were read. `specs/Survey.antt` says both, and which count of faults `RowUnread` and
+//! survey writes nothing. Where no read failed its answer is exactly `first_fault` of `shown_volumes`; where one failed
+//! it is that of the rows as they were read. `specs/Survey.antt` says both, and which count of faults `RowUnread` and
 //! `Stopped` keep; `specs/Opening.antt` says what an opened site is, and what it shows at each moment within. A survey
-//! takes memory for the rows and for two blocks, and reads each block that is shown once. Where each copy of a row tells
-//! it alone, one unit of the table that can't be read changes nothing (`specs/OneCopy.antt`); lemmas on that, which the
-//! layers above cite, are `proofs/OneCopy.antt` and `proofs/OneTable.antt`.
+//! takes memory for the rows and for two blocks, and reads each block that is shown once. Where each copy of a row
+//! tells it alone, one unit of the table that can't be read changes nothing (`specs/OneCopy.antt`); `law` shows that
+//! devices can be so, and lemmas on it, which the layers above cite, are `proofs/OneCopy.antt` and
+//! `proofs/OneTable.antt`.
 #![tactic(auto)]
 
 mod cartridges;
 mod creations;
 mod halves;
+pub mod law;
+#[cfg(test)]
+mod lost_table_tests;
 mod numbers;
 #[cfg(test)]
 mod open_tests;

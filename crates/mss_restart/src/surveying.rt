@@ -4,8 +4,9 @@ ghost use Rattle.mss_base.specs.Content.{content};
 ghost use Rattle.mss_base.specs.Sites.{OnlyReads};
 ghost use Rattle.ckd_plain.specs.Plain.{serial_in};
 ghost use Rattle.volume_table.specs.Listed.{listed};
+ghost use Rattle.table_pair.specs.Reads.{CanReadTracks};
 ghost use Rattle.mss_restart.specs.Walks.{rest_fault};
-ghost use Rattle.mss_restart.specs.OneCopy.{ArePaired, CanReadTracks, LosesOneTable};
+ghost use Rattle.mss_restart.specs.OneCopy.{ArePaired, LosesOneTable};
 ghost use Rattle.mss_restart.specs.Survey.{
   AreRead,
   CountsFaults,

@@ -4,6 +4,7 @@ ghost use Rattle.mss_base.specs.Content.{content};
 ghost use Rattle.mss_base.specs.Sites.{OnlyReads};
 ghost use Rattle.ckd_track.specs.Track.{reading};
 ghost use Rattle.volume_table.specs.Row.{frame_of, state_of};
+ghost use Rattle.table_pair.specs.Reads.{CanReadTracks};
 ghost use Rattle.shown_volumes.specs.Shown.{block_at, on_cartridge};
 ghost use Rattle.mss_base.specs.Firsts.{where_so, first_below};
 ghost use Rattle.shown_volumes.specs.Faults.{is_torn, is_blank, is_same_list, row_track_fault, track_fault, cylinder_fault, tracks_fault};
@@ -11,7 +12,6 @@ ghost use Rattle.shown_volumes.specs.declared.refused.Refused.TheVariants.{TornT
 ghost use Rattle.volume_table.specs.Listed.{listed};
 ghost use Rattle.mss_restart.specs.Walks.{row_cylinder_fault, row_tracks_fault};
 ghost use Rattle.table_pair.specs.Reads.{IsReadable};
-ghost use Rattle.mss_restart.specs.OneCopy.{CanReadTracks};
 ghost use Rattle.mss_restart.specs.Survey.{FindsFault, Finds, CountsFaults, TellsNoFailure};
 ghost use Rattle.shown_volumes.specs.declared.refused.Refused.{Refused};
 

@@ -5,7 +5,7 @@ ghost use Rattle.mss_base.specs.Sites.{OnlyReads};
 ghost use Rattle.session_report.specs.Parties.{between};
 ghost use Rattle.job_runs.specs.Parties.{devices};
 ghost use Rattle.mss_restart.specs.OneCopy.{ArePaired, LosesOneTable};
-ghost use Rattle.session_report.specs.Parts.{CanReadTracks};
+ghost use Rattle.table_pair.specs.Reads.{CanReadTracks};
 ghost use Rattle.mss_top.specs.Showing.{AskToShow, EndsShown, FRAMES, IsShown, Lists, Looks};
 ghost use Rattle.mss_top.specs.Showing.{LooksByOneCopy, LooksExactly, LooksWell, SurveysAny};
 ghost use Rattle.mss_top.specs.Showing.{rows_in};

@@ -1,15 +1,11 @@
 -- What putting the volumes of a report says, or a part of them.
-use Rattle.std.specs.Prelude.{◌≡◌, ◌<◌, ◌≤◌, ℕ, false, List, ◌++◌, length, Option, Result, Ok, Err}
+use Rattle.std.specs.Prelude.{◌≡◌, ◌<◌, ◌≤◌, ℕ, List, ◌++◌, length, Option, Result, Ok, Err}
 use Rattle.std.specs.Option.{option_and_then}
 use Rattle.mss_base.specs.Content.{Content}
 use Rattle.mss_base.specs.Counts.{Rises, IsFaultSince}
 use Rattle.mss_base.specs.Puts.{PutsFront}
-use Rattle.mss_base.specs.Sites.{FailingReads}
-use Rattle.mss_base.specs.declared.place.UnitNo.{UnitNo}
 use Rattle.ckd_track.specs.Data.{RecordData, Volumes}
 use Rattle.volume_table.specs.Row.{RowValue}
-use Rattle.table_pair.specs.Pair.{is_table}
-use Rattle.table_pair.specs.Reads.{IsReadable}
 use Rattle.shown_volumes.specs.Shown.{source, track_at}
 use Rattle.report_text.specs.Texts.{tracks_text}
 use Rattle.report_text.specs.declared.report.ReportFault.TheVariants as part
@@ -86,11 +82,6 @@ PutsVolumes tells shown volumes text old new (Err (volumes_fault.Put fault)) =
 abbrev pub CountsReads : ℕ → ℕ → Told → Type 0
 CountsReads before now (Err (volumes_fault.Read fault)) = IsFaultSince before now fault
 CountsReads before now _ = now ≡ before
-
--- no read of a frame or a cartridge fails
-abbrev pub CanReadTracks : {S : Type 0} → FailingReads S → S → Type 0
-CanReadTracks never_fails_but s =
-    (unit : UnitNo) → is_table unit ≡ false → IsReadable never_fails_but s unit
 
 -- no failed read is told
 abbrev pub TellsNoRead : Told → Type 0

@@ -7,7 +7,7 @@ ghost use Rattle.volume_table.specs.Listed.{listed};
 ghost use Rattle.shown_volumes.specs.Shown.{shown_by};
 ghost use Rattle.session_report.specs.Answers.{SinkCounts};
 ghost use Rattle.session_report.specs.Parties.{between};
-ghost use Rattle.session_report.specs.Parts.{CanReadTracks};
+ghost use Rattle.table_pair.specs.Reads.{CanReadTracks};
 ghost use Rattle.session_report.specs.Reports.{AnswersNoRead, IsReported, SiteCounts};
 ghost use Rattle.session_report.specs.Reports.{finished, listing_matter};
 ghost use Rattle.session_report.specs.Reports.{heading_of, volumes_below};

@@ -6,7 +6,8 @@ ghost use Rattle.volume_table.specs.Listed.{listed};
 ghost use Rattle.shown_volumes.specs.Shown.{shown_by};
 ghost use Rattle.report_text.specs.Texts.{track_text, heading_text};
 ghost use Rattle.session_report.specs.Parts.{row_tracks, PutsTrack, PutsTracks, PutsVolumes};
-ghost use Rattle.session_report.specs.Parts.{CanReadTracks, CountsReads, CountsPuts, TellsNoRead};
+ghost use Rattle.table_pair.specs.Reads.{CanReadTracks};
+ghost use Rattle.session_report.specs.Parts.{CountsReads, CountsPuts, TellsNoRead};
 ghost use Rattle.session_report.specs.Reports.{volumes_text};
 
 use crate::fault::VolumesFault;

@@ -1,22 +1,28 @@
 -- One call after another: what each leaves of a site.
-use Rattle.std.proofs.Common.{◌≡◌, ◌≤◌, ℕ, ◌∙◌, arith}
+use Rattle.std.proofs.Common.{◌≡◌, ◌≤◌, ℕ, refl, ◌∙◌, arith}
 use Rattle.mss_base.specs.Content.{SiteLog}
 use Rattle.mss_base.specs.Sites.{FailingReads, StaysSound, OnlyReads, MayWrite}
 use Rattle.mss_base.specs.declared.place.UnitNo.{UnitNo}
-use Rattle.table_pair.specs.Reads.{IsReadable}
+use Rattle.table_pair.specs.Reads.{IsReadable, CanReadTracks}
 use Rattle.table_pair.specs.Repairs.{LeavesSite}
 
-module _ {S : Type 0} (tells : Type 0) (told : S → SiteLog) (spare writes faults : S → ℕ) (never_fails_but : FailingReads S) where
-  -- what can be read can be read later
-  pub later_readable : (old new : S) (unit : UnitNo) → StaysSound never_fails_but old new → IsReadable never_fails_but old unit → IsReadable never_fails_but new unit
-  later_readable old new unit sound is = (is.0, sound is.0 is.1, is.2)
+-- what can be read goes on so
+pub readable_on : {S : Type 0} (never_fails_but : FailingReads S) (old new : S) → StaysSound never_fails_but old new → (unit : UnitNo) → IsReadable never_fails_but old unit → IsReadable never_fails_but new unit
+readable_on never_fails_but old new sound unit can = (can.0, sound can.0 can.1, can.2)
 
+pub tracks_on : {S : Type 0} (never_fails_but : FailingReads S) (old new : S) → StaysSound never_fails_but old new → CanReadTracks never_fails_but old → CanReadTracks never_fails_but new
+tracks_on never_fails_but old new sound can unit outside = readable_on never_fails_but old new sound unit (can unit outside)
+
+module _ {S : Type 0} (tells : Type 0) (told : S → SiteLog) (spare writes faults : S → ℕ) (never_fails_but : FailingReads S) where
   pub sound_then : (s r t : S) → StaysSound never_fails_but s r → StaysSound never_fails_but r t → StaysSound never_fails_but s t
   sound_then s r t first second = λ but never. second but (first but never)
 
-  -- two reads
-  pub read_then : (s r t : S) → OnlyReads tells told spare writes faults never_fails_but s r → OnlyReads tells told spare writes faults never_fails_but r t → OnlyReads tells told spare writes faults never_fails_but s t
-  read_then s r t first second = record {
+  -- no read, and reads one after the other
+  pub reads_none : (s : S) → OnlyReads tells told spare writes faults never_fails_but s s
+  reads_none s = record { log = λ _. refl; room = refl; unwritten = refl; later = omega arith; sound = λ but so. so }
+
+  pub reads_then : (s r t : S) → OnlyReads tells told spare writes faults never_fails_but s r → OnlyReads tells told spare writes faults never_fails_but r t → OnlyReads tells told spare writes faults never_fails_but s t
+  reads_then s r t first second = record {
     log = λ yes. second.log yes ∙ first.log yes;
     room = second.room ∙ first.room;
     unwritten = second.unwritten ∙ first.unwritten;

@@ -12,7 +12,7 @@ use Rattle.table_pair.specs.declared.copy.RowRead.{RowRead}
 use Rattle.table_pair.specs.declared.copy.RowTrouble.{RowTrouble}
 use Rattle.table_pair.specs.declared.copy.RowTrouble.TheVariants as trouble
 use Rattle.table_pair.specs.Copies.{copy_at}
-use Rattle.table_pair.specs.Pair.{CopyRead, unread, closed, opened, read_of, RowReading, known, damaged, unknown, reading}
+use Rattle.table_pair.specs.Pair.{CopyRead, unread, closed, opened, read_of, RowReading, known, damaged, unknown, reading, is_table}
 
 abbrev pub seen : CopyState → CopyRead
 seen (state.Unread fault) = unread
@@ -26,6 +26,11 @@ is_opened _ = false
 -- no read of this unit fails
 abbrev pub IsReadable : {S : Type 0} → FailingReads S → S → UnitNo → Type 0
 IsReadable never_fails_but s unit = (but : UnitNo → Bool) × never_fails_but s but × (but unit ≡ false)
+
+-- no read of a frame or a cartridge fails
+abbrev pub CanReadTracks : {S : Type 0} → FailingReads S → S → Type 0
+CanReadTracks never_fails_but s =
+    (unit : UnitNo) → is_table unit ≡ false → IsReadable never_fails_but s unit
 
 -- a copy was read, and the count of faults stayed, or its read failed, and the count rose
 abbrev pub IsReadOf : ℕ → ℕ → List ℕ → CopyRead → Type 0

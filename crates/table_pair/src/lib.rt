@@ -3,7 +3,7 @@
 //! Block v of the table's copy A and block v of its copy B each have a gate, the row's body and a made mark.
 //! `specs/Pair.antt` says which row two copies tell, also where one of them can't be read, and what holds at each
 //! moment of a change. The layers above rely on `read_row`, `change_row`, `create_row` and `repair`, over every site,
-//! on `law`, and on the lemmas of `proofs/PairFacts.antt`.
+//! on `law`, and on the lemmas of `proofs/PairFacts.antt` and `proofs/SiteLemmas.antt`.
 #![tactic(auto)]
 
 mod change;

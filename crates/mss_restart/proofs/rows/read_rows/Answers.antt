@@ -4,13 +4,13 @@ use Rattle.std.proofs.lemmas.Result.{err_from_is_err_and}
 use Rattle.mss_base.specs.Content.{Content, content}
 use Rattle.ckd_plain.specs.Plain.{serial_in}
 use Rattle.volume_table.specs.Row.{RowValue}
+use Rattle.table_pair.proofs.SiteLemmas.{reads_none, reads_then}
 use Rattle.shown_volumes.specs.Faults.{serial_fault}
 use Rattle.shown_volumes.specs.Sound.{HasSerialsAsked}
 use Rattle.shown_volumes.specs.declared.refused.Refused.{Refused}
 use Rattle.mss_restart.specs.declared.rows.RowsRead.{RowsRead}
 use Rattle.volume_table.specs.Listed.{listed}
 use Rattle.mss_restart.specs.Survey.{ReadsRows, KeepsFirst, KeepsRows}
-use Rattle.mss_restart.proofs.Going.{nothing_read, read_on}
 use Rattle.mss_restart.proofs.RowLemmas.{cause_since}
 use Rattle.mss_restart.proofs.ReadRows.{SoFar, none_read, all_read, row_read, row_ends, rows_end, named, first_kept, one_longer, serials_on, no_serials}
 use Rattle.mss_restart.specs.OneCopy.{IsPaired}
@@ -25,7 +25,7 @@ loop-number-init g c = let o = c.in_ok-reserve.ensures.ok in let n = c.new-rows.
   room = search rules;
   counts = refl;
   works = λ never. refl;
-  devices = nothing_read g.S.Site.tells g.S.Site.told g.S.Site.spare g.S.Site.writes g.S.Site.faults g.S.Site.never_fails_but c.args.site.now;
+  devices = reads_none g.S.Site.tells g.S.Site.told g.S.Site.spare g.S.Site.writes g.S.Site.faults g.S.Site.never_fails_but c.args.site.now;
 }
 
 pub returns-in_err-read-clause-read : goal.returns-in_err-read-clause-read
@@ -78,7 +78,7 @@ loop-number-preserved g c =
       room = omega (arith, known.room, c.push.ensures.spare);
       counts = subst (λ (u : Option ℕ). KeepsFirst begun now u) (sym c.or-unread.ensures) (first_kept begun mid now c.loop-number.unread read.unread known.counts known.devices.later c.in_ok-read.ensures.devices.later c.in_ok-read.ensures.counts);
       works = λ never. c.or-unread.ensures ∙ (λ i. option_or (known.works never i) (c.in_ok-read.ensures.works (known.devices.sound _ never) i));
-      devices = read_on g.S.Site.tells g.S.Site.told g.S.Site.spare g.S.Site.writes g.S.Site.faults g.S.Site.never_fails_but c.args.site.now c.loop-number.site c.read_volume.new.site known.devices c.in_ok-read.ensures.devices;
+      devices = reads_then g.S.Site.tells g.S.Site.told g.S.Site.spare g.S.Site.writes g.S.Site.faults g.S.Site.never_fails_but c.args.site.now c.loop-number.site c.read_volume.new.site known.devices c.in_ok-read.ensures.devices;
     }
 
 pub returns-clause-read : goal.returns-clause-read

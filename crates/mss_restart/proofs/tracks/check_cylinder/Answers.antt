@@ -1,16 +1,16 @@
 use Rattle.std.proofs.Common.{refl, ap, Err, ◌∙◌, arith, ℕ}
 use Rattle.std.proofs.lemmas.Result.{err_from_is_err_and}
 use Rattle.mss_base.specs.Content.{Content, content}
+use Rattle.table_pair.proofs.SiteLemmas.{reads_none, reads_then, tracks_on}
 use Rattle.shown_volumes.specs.Faults.{row_track_fault}
 use Rattle.mss_base.proofs.FirstFacts.{none_yet}
-use Rattle.mss_restart.proofs.Going.{nothing_read, read_on, goes_on, ends_at}
-use Rattle.mss_restart.proofs.OneTable.{tracks_on}
+use Rattle.mss_restart.proofs.Going.{goes_on, ends_at}
 use Rattle.mss_restart.proofs.tracks.check_cylinder.Goals as goal
 
 pub loop-number-init : goal.loop-number-init
 loop-number-init g c = record {
   known = λ tells. none_yet ((λ (k : Content). λ (h : ℕ). row_track_fault k c.args.volume c.args.cylinder h c.args.row.now) (content (g.S.Site.told c.args.site.now)));
-  devices = nothing_read g.S.Site.tells g.S.Site.told g.S.Site.spare g.S.Site.writes g.S.Site.faults g.S.Site.never_fails_but c.args.site.now;
+  devices = reads_none g.S.Site.tells g.S.Site.told g.S.Site.spare g.S.Site.writes g.S.Site.faults g.S.Site.never_fails_but c.args.site.now;
   count = refl;
   shown_whole = c.requires.shown;
   staged_whole = c.requires.staged;
@@ -29,7 +29,7 @@ loop-number-preserved g c =
     record {
       known = λ tells. goes_on (λ (k : Content). λ (h : ℕ). row_track_fault k c.args.volume c.args.cylinder h c.args.row.now) (g.S.Site.told c.args.site.now) (g.S.Site.told c.loop-number.site) c.loop-number.number c.head_at.result (known.devices.log tells) c.head_at.ensures (known.known tells)
           (c.in_ok-check_track_of.ensures.finds tells);
-      devices = read_on g.S.Site.tells g.S.Site.told g.S.Site.spare g.S.Site.writes g.S.Site.faults g.S.Site.never_fails_but c.args.site.now c.loop-number.site c.check_track_of.new.site known.devices c.check_track_of.ensures.devices;
+      devices = reads_then g.S.Site.tells g.S.Site.told g.S.Site.spare g.S.Site.writes g.S.Site.faults g.S.Site.never_fails_but c.args.site.now c.loop-number.site c.check_track_of.new.site known.devices c.check_track_of.ensures.devices;
       count = c.in_ok-check_track_of.ensures.counts ∙ known.count;
       shown_whole = omega (arith, known.shown_whole, c.check_track_of.auto.shown);
       staged_whole = omega (arith, known.staged_whole, c.check_track_of.auto.staged);

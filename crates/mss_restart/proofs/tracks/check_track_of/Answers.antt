@@ -1,7 +1,7 @@
 use Rattle.std.proofs.Common.{refl, sym, subst}
 use Rattle.mss_base.specs.declared.place.BlockPlace.{BlockPlace}
 use Rattle.table_pair.specs.Reads.{IsReadable}
-use Rattle.mss_restart.proofs.OneTable.{readable_on}
+use Rattle.table_pair.proofs.SiteLemmas.{readable_on}
 use Rattle.mss_restart.proofs.tracks.check_track_of.Goals as goal
 
 pub returns-in_ok-check_shown-in-Staged-clause-works : goal.returns-in_ok-check_shown-in-Staged-clause-works

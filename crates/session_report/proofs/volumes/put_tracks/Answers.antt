@@ -3,7 +3,7 @@ use Rattle.std.proofs.lemmas.Result.{err_from_is_err_and}
 use Rattle.mss_base.specs.Content.{SiteLog, content}
 use Rattle.report_text.specs.Texts.{track_text}
 use Rattle.session_report.specs.Parts.{row_tracks}
-use Rattle.session_report.proofs.SiteReads.{reads_none, reads_then, tracks_on}
+use Rattle.table_pair.proofs.SiteLemmas.{reads_none, reads_then, tracks_on}
 use Rattle.session_report.proofs.VolumeTexts.{tracks_begin, tracks_more, tracks_left, track_put_same, blank_in_row, cylinder_passed}
 use Rattle.session_report.proofs.volumes.put_tracks.Goals as goal
 

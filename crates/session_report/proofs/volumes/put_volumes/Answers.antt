@@ -5,7 +5,7 @@ use Rattle.report_text.specs.Texts.{heading_text, tracks_text}
 use Rattle.volume_table.specs.Listed.{listed}
 use Rattle.shown_volumes.specs.Shown.{shown_by}
 use Rattle.session_report.specs.Parts.{row_tracks}
-use Rattle.session_report.proofs.SiteReads.{reads_then, tracks_on}
+use Rattle.table_pair.proofs.SiteLemmas.{reads_then, tracks_on}
 use Rattle.session_report.proofs.VolumeTexts.{volumes_go_on, volumes_left, tracks_put_same}
 use Rattle.session_report.proofs.volumes.put_volumes.Goals as goal
 

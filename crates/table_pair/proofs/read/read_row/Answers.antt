@@ -6,7 +6,7 @@ use Rattle.mss_base.specs.declared.place.UnitNo.TheVariants.{TableB}
 use Rattle.table_pair.specs.Pair.{closed, unread}
 use Rattle.table_pair.specs.Reads.{seen, IsReadable, IsReadOf}
 use Rattle.table_pair.proofs.ReadLemmas.{memory_row, memory_later, open_row, both_row, there_keeps, memory_keeps, memory_misses, closed_there, open_there, shut_alone}
-use Rattle.table_pair.proofs.SiteLemmas.{later_readable, read_then}
+use Rattle.table_pair.proofs.SiteLemmas.{readable_on, reads_then}
 use Rattle.table_pair.proofs.read.read_row.Goals as goal
 
 pub returns-in_err-block-clause-row : goal.returns-in_err-block-clause-row
@@ -60,7 +60,7 @@ returns-clause-row g c = λ tells.
     let a_there = subst (λ (at : BlockPlace). IsReadable g.S.Site.never_fails_but c.args.site.now at.unit → seen c.in_ok-a.a ≢ unread) c.place_of.ensures c.in_ok-a.ensures.works in
     let b_there = subst (λ (at : BlockPlace). IsReadable g.S.Site.never_fails_but c.read_copy.new.site at.unit → seen c.in_ok-b.b ≢ unread) c.place_of-2.ensures c.in_ok-b.ensures.works in
     both_row _ before now c.args.volume old c.by_table-2.result mid then (seen c.in_ok-a.a) (seen c.in_ok-b.b) c.read_copy.ensures.devices.later c.read_copy-2.ensures.devices.later (ap content (c.read_copy.ensures.devices.log tells)) a b a_there
-    (λ readable. b_there (later_readable g.S.Site.tells g.S.Site.told g.S.Site.spare g.S.Site.writes g.S.Site.faults g.S.Site.never_fails_but c.args.site.now c.read_copy.new.site TableB c.read_copy.ensures.devices.sound readable)) c.by_table-2.ensures.told
+    (λ readable. b_there (readable_on g.S.Site.never_fails_but c.args.site.now c.read_copy.new.site c.read_copy.ensures.devices.sound TableB readable)) c.by_table-2.ensures.told
 
 pub returns-clause-kept : goal.returns-clause-kept
 returns-clause-kept g c =
@@ -90,15 +90,15 @@ returns-in_err-b-clause-works g c = λ a_readable _.
 
 pub returns-in_err-b-clause-devices : goal.returns-in_err-b-clause-devices
 returns-in_err-b-clause-devices g c =
-    read_then g.S.Site.tells g.S.Site.told g.S.Site.spare g.S.Site.writes g.S.Site.faults g.S.Site.never_fails_but c.args.site.now c.read_copy.new.site c.read_copy-2.new.site c.read_copy.ensures.devices c.read_copy-2.ensures.devices
+    reads_then g.S.Site.tells g.S.Site.told g.S.Site.spare g.S.Site.writes g.S.Site.faults g.S.Site.never_fails_but c.args.site.now c.read_copy.new.site c.read_copy-2.new.site c.read_copy.ensures.devices c.read_copy-2.ensures.devices
 
 pub returns-clause-works : goal.returns-clause-works
 returns-clause-works g c = λ a_readable b_readable.
     let a_there = subst (λ (at : BlockPlace). IsReadable g.S.Site.never_fails_but c.args.site.now at.unit → seen c.in_ok-a.a ≢ unread) c.place_of.ensures c.in_ok-a.ensures.works a_readable in
-    let later = later_readable g.S.Site.tells g.S.Site.told g.S.Site.spare g.S.Site.writes g.S.Site.faults g.S.Site.never_fails_but c.args.site.now c.read_copy.new.site TableB c.read_copy.ensures.devices.sound b_readable in
+    let later = readable_on g.S.Site.never_fails_but c.args.site.now c.read_copy.new.site c.read_copy.ensures.devices.sound TableB b_readable in
     let b_there = subst (λ (at : BlockPlace). IsReadable g.S.Site.never_fails_but c.read_copy.new.site at.unit → seen c.in_ok-b.b ≢ unread) c.place_of-2.ensures c.in_ok-b.ensures.works later in
     record { none = c.by_table-2.ensures.there a_there b_there; count = there_keeps _ _ c.in_ok-b.b b_there c.in_ok-b.ensures.kept ∙ there_keeps _ _ c.in_ok-a.a a_there c.in_ok-a.ensures.kept }
 
 pub returns-clause-devices : goal.returns-clause-devices
 returns-clause-devices g c =
-    read_then g.S.Site.tells g.S.Site.told g.S.Site.spare g.S.Site.writes g.S.Site.faults g.S.Site.never_fails_but c.args.site.now c.read_copy.new.site c.read_copy-2.new.site c.read_copy.ensures.devices c.read_copy-2.ensures.devices
+    reads_then g.S.Site.tells g.S.Site.told g.S.Site.spare g.S.Site.writes g.S.Site.faults g.S.Site.never_fails_but c.args.site.now c.read_copy.new.site c.read_copy-2.new.site c.read_copy.ensures.devices c.read_copy-2.ensures.devices

@@ -8,7 +8,7 @@ use Rattle.table_pair.specs.Pair.{row_of}
 use Rattle.table_pair.specs.Reads.{IsReadable}
 use Rattle.table_pair.specs.Repairs.{NeedsNoRepair, KeepsRepairFault}
 use Rattle.table_pair.proofs.FollowLemmas.{lent_back}
-use Rattle.table_pair.proofs.SiteLemmas.{got_room, room_read, room_may, room_leaves, room_write, later_readable}
+use Rattle.table_pair.proofs.SiteLemmas.{got_room, room_read, room_may, room_leaves, room_write, readable_on}
 use Rattle.table_pair.proofs.RepairLemmas.{unwritten, since, kept_since, memory_count, never_err}
 use Rattle.table_pair.proofs.repairs.repair.Goals as goal
 
@@ -132,7 +132,7 @@ returns-in_err-read_block-clause-devices g c =
 
 pub returns-in_err-read_block-clause-works : goal.returns-in_err-read_block-clause-works
 returns-in_err-read_block-clause-works g c = λ a_readable _.
-    let later = later_readable g.S.Site.tells g.S.Site.told g.S.Site.spare g.S.Site.writes g.S.Site.faults g.S.Site.never_fails_but c.args.site.now c.reserve.new.self TableA c.reserve.ensures.sound a_readable in
+    let later = readable_on g.S.Site.never_fails_but c.args.site.now c.reserve.new.self c.reserve.ensures.sound TableA a_readable in
     let there = subst (λ (at : BlockPlace). IsReadable g.S.Site.never_fails_but c.reserve.new.self at.unit) (sym c.place_of.ensures) later in
     never_err (Unit {0}) c.in_err-read_block.field-0.0 _ (c.in_err-read_block.ensures.works there)
 
@@ -156,7 +156,7 @@ pub returns-in_err-read_block-2-clause-works : goal.returns-in_err-read_block-2-
 returns-in_err-read_block-2-clause-works g c = λ _ b_readable.
     let r0 = got_room g.S.Site.tells g.S.Site.told g.S.Site.spare g.S.Site.writes g.S.Site.faults g.S.Site.never_fails_but c.args.site.now c.reserve.new.self c.reserve.ensures.told c.reserve.ensures.spare c.reserve.ensures.writes c.reserve.ensures.faults c.reserve.ensures.sound in
     let r1 = room_read g.S.Site.tells g.S.Site.told g.S.Site.spare g.S.Site.writes g.S.Site.faults g.S.Site.never_fails_but c.args.site.now c.reserve.new.self c.read_block.new.site r0 c.read_block.ensures.devices in
-    let later = later_readable g.S.Site.tells g.S.Site.told g.S.Site.spare g.S.Site.writes g.S.Site.faults g.S.Site.never_fails_but c.args.site.now c.read_block.new.site TableB r1.sound b_readable in
+    let later = readable_on g.S.Site.never_fails_but c.args.site.now c.read_block.new.site r1.sound TableB b_readable in
     let there = subst (λ (at : BlockPlace). IsReadable g.S.Site.never_fails_but c.read_block.new.site at.unit) (sym c.place_of-2.ensures) later in
     never_err (Unit {0}) c.in_err-read_block-2.field-0.0 _ (c.in_err-read_block-2.ensures.works there)
 
