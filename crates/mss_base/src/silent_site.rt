@@ -104,7 +104,10 @@ impl Site for SilentSite {
         Ok(())
     }
 
-    fn brought(&self) -> &[u8] {
+    fn brought(&self) -> &[u8]
+        ensures shown { result.now ≡ filled self.now.filler }
+        ensures whole { length result.now ≡ BLOCK_BYTES }
+    {
         &self.block
     }
 
