@@ -1,6 +1,6 @@
 // A site whose units are files.
 ghost use Rattle.std.specs.Prelude.{◌≡◌, ◌+◌, ◌≤◌, true, length, is_err, None, Some};
-ghost use Rattle.std.specs.Prelude.{IfOk, OnOk, OnErr};
+ghost use Rattle.std.specs.Prelude.{IfOk, OnOk, OnErr, string_bytes};
 ghost use Rattle.mss_base.specs.Counts.{HasCause, next_count, count_after};
 ghost use Rattle.mss_files.specs.Files.{file_place, bytes_at, ChangesOnly};
 
@@ -45,6 +45,9 @@ impl<F: UnitFiles> Model for FileSite<F> {
 impl<R: Files<File = File> + AllocGlobal + Drop> FileSite<Folder<R>> {
     /// The site in this folder. It touches no file before the first read or write.
     pub fn at(rt: R, folder: &str) -> Result<Self, NoMemory>
+        ensures path { IfOk result
+            (λ site. string_bytes site.files.paths.folder ≡ folder.now) }
+        ensures kept { IfOk result (λ site. site.kept.place ≡ None) }
         ensures unwritten { IfOk result (λ site. site.writes ≡ 0) }
         ensures unfailed { IfOk result (λ site. site.faults ≡ 0) }
     {

@@ -1,5 +1,6 @@
 // The files of the units in a folder of the system.
-ghost use Rattle.std.specs.Prelude.{◌≡◌, ◌<◌, false, vec_len};
+ghost use Rattle.std.specs.Prelude.{◌≡◌, ◌≢◌, ◌<◌, ◌≤◌, true, false, length, vec_len, string_bytes};
+ghost use Rattle.std.specs.Prelude.{IfOk, OnOk, OnErr};
 
 use crate::UnitFiles;
 use crate::paths::FolderPaths;
@@ -106,8 +107,16 @@ fn enter_folder<R: Files<File = File>>(rt: &R, path: &str) -> io::Result<Access>
 }
 
 impl<R: Files<File = File> + AllocGlobal + Drop> Folder<R> {
-    /// The folder of this path. It touches no file before the first read or write.
-    pub fn at(rt: R, path: &str) -> Result<Self, NoMemory> {
+    ghost use Rattle.mss_files.specs.declared.folder.Access.TheVariants.{Untouched};
+
+    /// The folder of this path. It touches no file before the first read or write, and knows of no
+    /// name yet that it lasts.
+    pub fn at(rt: R, path: &str) -> Result<Self, NoMemory>
+        ensures path { IfOk result (λ folder. string_bytes folder.paths.folder ≡ path.now) }
+        ensures untouched { IfOk result (λ folder. folder.access ≡ Untouched) }
+        ensures unsynced { IfOk result (λ folder.
+            (folder.names_synced ≡ false) × (folder.folder_synced ≡ false)) }
+    {
         let paths = FolderPaths::of(rt.alloc(), path)?;
         let mut slots = Vec::new(rt.alloc());
         for _ in 0..SLOTS {
@@ -126,8 +135,14 @@ impl<R: Files<File = File> + AllocGlobal + Drop> Folder<R> {
 }
 
 impl<R: Files<File = File> + Drop> Folder<R> {
-    /// Looks for the folder at the first use, and makes it where that is wanted.
-    fn enter(&mut self, make: bool) -> io::Result<()> {
+    ghost use Rattle.mss_files.specs.declared.folder.Access.TheVariants.{Untouched, Refused};
+
+    /// Looks for the folder at the first use, and makes it where that is wanted. Where that fails, it
+    /// is refused from then on.
+    fn enter(&mut self, make: bool) -> io::Result<()>
+        ensures fails { OnErr result (self.new.access ≡ Refused) }
+        ensures refused { self.old.access ≡ Refused → self.new.access ≡ Refused }
+    {
         if matches!(self.access, Access::Untouched) {
             self.access = Access::Refused;
             guard_standard_descriptors(&self.rt, &mut self.guards)?;
@@ -159,11 +174,13 @@ impl<R: Files<File = File> + Drop> Folder<R> {
 
     /// Opens the file of this unit, if it is there; a file that isn't there is made where that is
     /// wanted. A folder that was moved away is an error: none of its files is missing.
-    fn open_unit(&mut self, unit: &UnitNo, make: bool) -> io::Result<()> {
-        if self.is_known(unit, make) {
-            return Ok(());
-        }
+    fn open_unit(&mut self, unit: &UnitNo, make: bool) -> io::Result<()>
+        ensures fails { self.old.access ≡ Refused → OnOk result ⊥ }
+        ensures looked { OnOk result (self.new.access ≢ Untouched) }
+        ensures refused { self.old.access ≡ Refused → self.new.access ≡ Refused }
+    {
         self.enter(make)?;
+        let known = self.is_known(unit, make);
         let folder = match &self.access {
             Access::Held(folder) => folder,
             Access::Absent => return Ok(()),
@@ -171,6 +188,9 @@ impl<R: Files<File = File> + Drop> Folder<R> {
                 return Err(io::Error::from(ErrorKind::WouldBlock));
             }
         };
+        if known {
+            return Ok(());
+        }
         if !folder.is_at(&self.rt, self.paths.folder())? {
             return Err(io::Error::from(ErrorKind::NotFound));
         }
@@ -186,26 +206,40 @@ impl<R: Files<File = File> + Drop> Folder<R> {
         Ok(())
     }
 
-    /// Makes the names of the folder and of its files last, where that isn't known: at the first
-    /// write, since an earlier run may have ended before it did so, and where a file was made.
-    fn keep_names(&mut self) -> io::Result<()> {
-        let Access::Held(folder) = &self.access else {
+    /// Makes the names of the files in the folder last, where that isn't known: at the first write,
+    /// since an earlier run may have ended before it did so, and where a file was made.
+    fn keep_files(&mut self) -> io::Result<()>
+        ensures files { OnOk result (self.new.names_synced ≡ true) }
+        ensures access { self.new.access ≡ self.old.access }
+    {
+        if self.names_synced {
             return Ok(());
-        };
-        if !self.names_synced {
-            folder.sync_all()?;
-            self.names_synced = true;
         }
-        if !self.folder_synced {
-            File::open(&self.rt, self.paths.above())?.sync_all()?;
-            self.folder_synced = true;
+        match &self.access {
+            Access::Held(folder) => folder.sync_all()?,
+            _ => return Err(io::Error::from(ErrorKind::WouldBlock)),
         }
+        self.names_synced = true;
+        Ok(())
+    }
+
+    /// Makes the name of the folder last, at the first write.
+    fn keep_folder(&mut self) -> io::Result<()>
+        ensures folder { OnOk result (self.new.folder_synced ≡ true) }
+        ensures files { self.new.names_synced ≡ self.old.names_synced }
+        ensures access { self.new.access ≡ self.old.access }
+    {
+        if self.folder_synced {
+            return Ok(());
+        }
+        File::open(&self.rt, self.paths.above())?.sync_all()?;
+        self.folder_synced = true;
         Ok(())
     }
 }
 
 impl<R: Files<File = File> + Drop> UnitFiles for Folder<R> {
-    ghost use Rattle.std.specs.Prelude.{false};
+    ghost use Rattle.mss_files.specs.declared.folder.Access.TheVariants.{Untouched, Refused};
 
     ghost tells = { ⊥ };
 
@@ -213,7 +247,13 @@ impl<R: Files<File = File> + Drop> UnitFiles for Folder<R> {
 
     ghost lasts = { λ _ _. false };
 
-    fn read_some(&mut self, unit: &UnitNo, at: u64, into: &mut [u8]) -> io::Result<usize> {
+    /// The folder is looked for first. Where it was refused, each call fails, and it stays so.
+    fn read_some(&mut self, unit: &UnitNo, at: u64, into: &mut [u8]) -> io::Result<usize>
+        ensures within { IfOk result (λ n. n ≤ length into.old) }
+        ensures fails { self.old.access ≡ Refused → OnOk result ⊥ }
+        ensures looked { OnOk result (self.new.access ≢ Untouched) }
+        ensures refused { self.old.access ≡ Refused → self.new.access ≡ Refused }
+    {
         self.open_unit(unit, false)?;
         match self.file(unit) {
             Some(file) => file.read_at(into, at),
@@ -221,16 +261,28 @@ impl<R: Files<File = File> + Drop> UnitFiles for Folder<R> {
         }
     }
 
-    fn write_some(&mut self, unit: &UnitNo, at: u64, bytes: &[u8]) -> io::Result<usize> {
+    /// Writes into a file whose name lasts, and that of its folder. The folder is looked for first.
+    /// Where it was refused, each call fails, and it stays so.
+    fn write_some(&mut self, unit: &UnitNo, at: u64, bytes: &[u8]) -> io::Result<usize>
+        ensures within { IfOk result (λ n. n ≤ length bytes.now) }
+        ensures named { OnOk result
+            ((self.new.names_synced ≡ true) × (self.new.folder_synced ≡ true)) }
+        ensures fails { self.old.access ≡ Refused → OnOk result ⊥ }
+        ensures looked { OnOk result (self.new.access ≢ Untouched) }
+        ensures refused { self.old.access ≡ Refused → self.new.access ≡ Refused }
+    {
         self.open_unit(unit, true)?;
-        self.keep_names()?;
+        self.keep_files()?;
+        self.keep_folder()?;
         match self.file(unit) {
             Some(file) => file.write_at(bytes, at),
             None => Ok(0),
         }
     }
 
-    fn sync(&mut self, unit: &UnitNo) -> io::Result<()> {
+    fn sync(&mut self, unit: &UnitNo) -> io::Result<()>
+        ensures refused { self.old.access ≡ Refused → self.new.access ≡ Refused }
+    {
         match self.file(unit) {
             Some(file) => file.sync_data(),
             None => Err(io::Error::from(ErrorKind::NotFound)),

@@ -53,6 +53,8 @@ impl<W: Write + Drop> StdSink<W> {
     pub fn flush(&mut self) -> Result<(), Failed>
         ensures written { OnOk result (self.new.waiting ≡ []) }
         ensures kept { Keeps self.old.contents self.new.contents }
+        ensures told { AlwaysKnown W.contents
+            → known self.new.contents ≡ known self.old.contents }
         ensures counted { self.new.faults ≡ count_after (is_err result) self.old.faults }
         ensures cause { HasCause self.old.faults self.new.faults result }
     {
