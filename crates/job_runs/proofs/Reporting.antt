@@ -19,7 +19,7 @@ module _ (opening : List ℕ) (volumes : List Heading) (site : Devices) (sink : 
         → IsPut (told_answer telling) (told_text (about b) telling) (seen_with site sink) answer
     put_alike telling same (put_whole is bytes) = put_whole is (λ t. bytes t ∙ ap (λ (text : List ℕ). sink.was ++ text) (same t.0))
     put_alike telling same (broken is rose front) = broken is rose (λ t. subst (PutsFront sink.was sink.now) (same t.0) (front t))
-    put_alike telling same (cut is front) = cut is (λ t. subst (PutsFront sink.was sink.now) (same t.0) (front t))
+    put_alike telling same (cut is counted front) = cut is counted (λ t. subst (PutsFront sink.was sink.now) (same t.0) (front t))
 
     -- a session that wasn't stopped, where the volumes are the same
     finished_alike : (l : Last) → (site.tells → a ≡ b) → IsReported (about a) (finished l) site sink answer → IsReported (about b) (finished l) site sink answer

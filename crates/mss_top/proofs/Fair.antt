@@ -52,7 +52,7 @@ module _ (m : Matter) (ending : Ending) (end : DriveAnswer) (site : ToldDevices)
   telling_complete (whole e) reason (put_whole is bytes) = subst (λ (a : Answer). IsComplete (status_of end a)) (sym is) complete
   telling_complete (unread place tracks fault) reason (put_whole is bytes) = absurd (site_none reason.3.rises)
   telling_complete telling reason (broken is rose front) = absurd (sink_none rose)
-  telling_complete telling reason (cut is front) = subst (λ (a : Answer). IsComplete (status_of end a)) (sym is) tt
+  telling_complete telling reason (cut is counted front) = subst (λ (a : Answer). IsComplete (status_of end a)) (sym is) tt
 
   report_complete : IsReported m ending site sink report → IsComplete (status_of end report)
   report_complete is = telling_complete is.telling is.reason is.put
@@ -61,7 +61,7 @@ module _ (m : Matter) (ending : Ending) (end : DriveAnswer) (site : ToldDevices)
 summary_complete : (text : List ℕ) (end : DriveAnswer) (sink : Stream) (answer : Answer) → (Rises sink.faults_was sink.faults_now → ⊥) → IsComplete (end_status end) → IsPut (Ok tt) text sink answer → IsComplete (status_of end answer)
 summary_complete text end sink answer none complete (put_whole is bytes) = subst (λ (a : Answer). IsComplete (status_of end a)) (sym is) complete
 summary_complete text end sink answer none complete (broken is rose front) = absurd (none rose)
-summary_complete text end sink answer none complete (cut is front) = subst (λ (a : Answer). IsComplete (status_of end a)) (sym is) tt
+summary_complete text end sink answer none complete (cut is counted front) = subst (λ (a : Answer). IsComplete (status_of end a)) (sym is) tt
 
 module _ (job : JobData) (input : Stream) (site : Devices) (sink : Stream) (fair : NothingFails job input site sink) where
   pub no_job_complete : (said : OneLine) → input.tells → IsJobText input.was job → IsNoJob input said → IsComplete (line_status said)

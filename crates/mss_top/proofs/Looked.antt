@@ -86,7 +86,7 @@ module _ (c : Content) (sink : Stream) (faultless : fault_shown c ≡ None) (sin
       (faultless, λ t. bytes (tells, t) ∙ ap (λ (e : Ending). sink.was ++ told_text (listing_matter (shown c)) (whole e)) reason)
   telling_shown site answer tells read (unread place tracks fault) reason (put_whole is bytes) = absurd (subst (λ (a : Answer). AnswersNoRead a) is read)
   telling_shown site answer tells read telling reason (broken is rose front) = absurd (sink_none rose)
-  telling_shown site answer tells read telling reason (cut is front) = subst (λ (a : Answer). IsShown c sink (status_of ended.Done a)) (sym is) tt
+  telling_shown site answer tells read telling reason (cut is counted front) = subst (λ (a : Answer). IsShown c sink (status_of ended.Done a)) (sym is) tt
 
   pub lists_shown : (rows : List (Option RowValue)) (site : Devices) (told : Status) → site.tells → content site.was.told ≡ c → listed rows ≡ rows_of c → (lists : Lists rows site sink told) → AnswersNoRead lists.answer → IsShown c sink told
   lists_shown rows site told tells holds same lists read =

@@ -40,7 +40,7 @@ fn kind_name(kind: JobKind) -> &'static str
     }
 }
 
-/// Puts an output of one line, by at most eleven calls. It wants no memory, since it tells want of memory too.
+/// Puts an output of one line, by at most twelve calls. It wants no memory, since it tells want of memory too.
 #[tactic(auto, unfolding(crate::specs::OneLines::one_line_text))]
 pub fn put_line<O: Sink>(output: &mut O, line: &OneLine) -> Result<(), Failed>
     ensures bytes { O.tells → Puts result (O.told output.old) (O.told output.new)

@@ -262,7 +262,7 @@ fn put_frame_twice<O: Sink>(
     )
 }
 
-/// Puts the line of a refusal, by at most eleven calls. It wants no memory, since it tells want of memory too.
+/// Puts the line of a refusal, by at most twelve calls. It wants no memory, since it tells want of memory too.
 #[tactic(auto, unfolding(crate::specs::Refusals::refusal_text))]
 pub fn put_refusal<O: Sink>(output: &mut O, refused: &Refused) -> Result<(), Failed>
     ensures bytes { O.tells → Puts result (O.told output.old) (O.told output.new)

@@ -46,11 +46,11 @@ volumes_fail tells shown volumes line old new (volumes_fault.Put fault) put = λ
 -- ---- how it was told
 
 -- memory ran out before anything was put
-pub untold : (m : Matter) (ending : Ending) (site : Devices) (sink : Stream) (answer : Answer) → answer ≡ Err report_fault.Memory → sink.now ≡ sink.was → IsReported m ending site sink answer
-untold m ending site sink answer is same = record {
+pub untold : (m : Matter) (ending : Ending) (site : Devices) (sink : Stream) (answer : Answer) → answer ≡ Err report_fault.Memory → sink.faults_now ≡ sink.faults_was → sink.now ≡ sink.was → IsReported m ending site sink answer
+untold m ending site sink answer is counted same = record {
   telling = whole ending;
   reason = refl;
-  put = cut is (λ t. subst (λ (now : List ℕ). PutsFront sink.was now (told_text m (whole ending))) (sym same) (puts_nothing sink.was (told_text m (whole ending))));
+  put = cut is counted (λ t. subst (λ (now : List ℕ). PutsFront sink.was now (told_text m (whole ending))) (sym same) (puts_nothing sink.was (told_text m (whole ending))));
 }
 
 -- a count that rose behind a call in which it didn't fall
@@ -80,15 +80,18 @@ module _ (shown : Volumes) (volumes : List Heading) (site : Devices) (sink : Str
   told_whole is bytes = record { telling = whole (finished l); reason = refl; put = put_whole is bytes }
 
   -- a fault cut the text
-  cut_by : (fault : PartFault) → answer ≡ Err (fault_of fault) → (fault ≡ part.Output → Rises sink.faults_was sink.faults_now) → (Both → PutsFront sink.was sink.now due) → Reported
-  cut_by part.Output is rose front = record { telling = whole (finished l); reason = refl; put = broken is (rose refl) front }
-  cut_by part.Memory is rose front = record { telling = whole (finished l); reason = refl; put = cut is front }
+  cut_by : (fault : PartFault) → answer ≡ Err (fault_of fault) → (fault ≡ part.Output → Rises sink.faults_was sink.faults_now) → (fault ≡ part.Memory → sink.faults_now ≡ sink.faults_was)
+      → (Both → PutsFront sink.was sink.now due) → Reported
+  cut_by part.Output is rose counted front = record { telling = whole (finished l); reason = refl; put = broken is (rose refl) front }
+  cut_by part.Memory is rose counted front = record { telling = whole (finished l); reason = refl; put = cut is (counted refl) front }
 
   pub told_fault : (e : VolumesFault) (fault : PartFault) → e ≡ volumes_fault.Put fault → answer ≡ Err (fault_of fault)
       → (◌≡◌ {A = Told} (Err e) (Err (volumes_fault.Put part.Output)) → Rises sink.faults_was sink.faults_now)
+      → (◌≡◌ {A = Told} (Err e) (Err (volumes_fault.Put part.Memory)) → sink.faults_now ≡ sink.faults_was)
       → PutsVolumes Both shown volumes due sink.was sink.now (Err e) → Reported
-  told_fault e fault e_is is rose put =
+  told_fault e fault e_is is rose counted put =
       cut_by fault is (λ output. rose (ap (λ (x : VolumesFault). Err x) (e_is ∙ ap volumes_fault.Put output)))
+      (λ memory. counted (ap (λ (x : VolumesFault). Err x) (e_is ∙ ap volumes_fault.Put memory)))
       (subst (λ (x : VolumesFault). PutsVolumes Both shown volumes due sink.was sink.now (Err x)) e_is put)
 
   module _ (e : VolumesFault) (fault : ℕ) (mid : List ℕ) (e_is : e ≡ volumes_fault.Read fault) (counted : CountsReads site.faults_was site.faults_now (Err e))
@@ -134,7 +137,7 @@ module _ (opening : List ℕ) (shown : Volumes) (volumes : List Heading) where
       put_behind answered text (put_whole is bytes) = put_whole is (λ t. puts_after {T = Unit {0}} {E = Unit {0}} (Ok tt) sink.was mid sink.now opening text (first t.1) (bytes t))
       put_behind answered text (broken is rose front) =
           broken is (subst (λ (n : ℕ). Rises n sink.faults_now) same rose) (λ t. puts_after {T = Unit {0}} {E = Unit {0}} (Err tt) sink.was mid sink.now opening text (first t.1) (front t))
-      put_behind answered text (cut is front) = cut is (λ t. puts_after {T = Unit {0}} {E = Unit {0}} (Err tt) sink.was mid sink.now opening text (first t.1) (front t))
+      put_behind answered text (cut is counted front) = cut is (counted ∙ same) (λ t. puts_after {T = Unit {0}} {E = Unit {0}} (Err tt) sink.was mid sink.now opening text (first t.1) (front t))
 
       -- the opening was put, and the rest was told
       pub opened : IsReported (untitled volumes shown) ending site late answer → IsReported titled ending site sink answer
@@ -154,15 +157,17 @@ module _ (opening : List ℕ) (shown : Volumes) (volumes : List Heading) where
     whole_is (stopped fault) = refl
 
     -- of the opening a front was put
-    pub unopened : (fault : PartFault) → answer ≡ Err (fault_of fault) → (fault ≡ part.Output → Rises sink.faults_was sink.faults_now) → (sink.tells → PutsFront sink.was sink.now opening)
+    pub unopened : (fault : PartFault) → answer ≡ Err (fault_of fault) → (fault ≡ part.Output → Rises sink.faults_was sink.faults_now)
+        → (fault ≡ part.Memory → sink.faults_now ≡ sink.faults_was) → (sink.tells → PutsFront sink.was sink.now opening)
         → IsReported titled ending site sink answer
-    unopened fault is rose front = record {
+    unopened fault is rose counted front = record {
       telling = whole ending;
       reason = refl;
-      put = by fault is rose (λ t. subst (λ (text : List ℕ). PutsFront sink.was sink.now text) (whole_is ending) (puts_stops sink.was sink.now opening (rest_of ending) (front t.1)));
+      put = by fault is rose counted (λ t. subst (λ (text : List ℕ). PutsFront sink.was sink.now text) (whole_is ending) (puts_stops sink.was sink.now opening (rest_of ending) (front t.1)));
     }
       where
-        by : (fault : PartFault) → answer ≡ Err (fault_of fault) → (fault ≡ part.Output → Rises sink.faults_was sink.faults_now) → (site.tells × sink.tells → PutsFront sink.was sink.now (told_text titled (whole ending)))
+        by : (fault : PartFault) → answer ≡ Err (fault_of fault) → (fault ≡ part.Output → Rises sink.faults_was sink.faults_now)
+            → (fault ≡ part.Memory → sink.faults_now ≡ sink.faults_was) → (site.tells × sink.tells → PutsFront sink.was sink.now (told_text titled (whole ending)))
             → IsPut (told_answer (whole ending)) (told_text titled (whole ending)) (seen_with site sink) answer
-        by part.Output is rose front = broken is (rose refl) front
-        by part.Memory is rose front = cut is front
+        by part.Output is rose counted front = broken is (rose refl) front
+        by part.Memory is rose counted front = cut is (counted refl) front

@@ -93,9 +93,10 @@ abbrev pub IsUnput : Told → Type 0
 IsUnput (Err (volumes_fault.Put fault)) = Unit {0}
 IsUnput _ = ⊥
 
--- the sink is told to have failed only where its count rose, and where each part was put the count
--- stays
+-- the sink is told to have failed only where its count rose; where each part was put, or memory ran
+-- out, the count stays
 pub record CountsPuts (before now : ℕ) (told : Told) : Type 0 where
   pub later : before ≤ now
   pub failed : told ≡ Err (volumes_fault.Put part.Output) → Rises before now
+  pub memory : told ≡ Err (volumes_fault.Put part.Memory) → now ≡ before
   pub same : (IsUnput told → ⊥) → now ≡ before

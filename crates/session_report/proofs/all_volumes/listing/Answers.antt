@@ -15,14 +15,14 @@ use Rattle.session_report.proofs.all_volumes.listing.Goals as goal
 pub returns-in_err-volumes-clause-report : goal.returns-in_err-volumes-clause-report
 returns-in_err-volumes-clause-report g c =
     let p = err_from_is_err_and c.from_residual.result c.from_residual.ensures.1 in
-    untold _ (finished End) _ _ c.from_residual.result (p.1 ∙ ap Err p.2) refl
+    untold _ (finished End) _ _ c.from_residual.result (p.1 ∙ ap Err p.2) refl refl
 
 pub returns-in_err-put_title-clause-report : goal.returns-in_err-put_title-clause-report
 returns-in_err-put_title-clause-report g c =
     let p = err_from_is_err_and c.from_residual-in_err-put_title.result c.from_residual-in_err-put_title.ensures.1 in
     let shown : Volumes = shown_by (listed c.args.rows.now) (content (g.S.Site.told c.args.site.now)) in
     unopened listing_title shown (volumes_below 32 shown.serial) (finished End) _ _ c.from_residual-in_err-put_title.result part.Output (p.1 ∙ ap Err p.2)
-    (λ output. c.in_err-put_title.ensures.cause.failed) c.in_err-put_title.ensures.bytes
+    (λ output. c.in_err-put_title.ensures.cause.failed) (λ memory. absurd cc) c.in_err-put_title.ensures.bytes
 
 pub returns-clause-report : goal.returns-clause-report
 returns-clause-report g c =

@@ -10,7 +10,7 @@ use Rattle.session_report.proofs.reporting.put_ending.Goals as goal
 pub returns-in_err-block-clause-report : goal.returns-in_err-block-clause-report
 returns-in_err-block-clause-report g c =
     let p = err_from_is_err_and c.from_residual.result c.from_residual.ensures.1 in
-    untold _ (finished c.args.last) _ _ c.from_residual.result (p.1 ∙ ap Err p.2) refl
+    untold _ (finished c.args.last) _ _ c.from_residual.result (p.1 ∙ ap Err p.2) refl refl
 
 pub returns-in-Ok-clause-report : goal.returns-in-Ok-clause-report
 returns-in-Ok-clause-report g c = told_whole _ _ _ _ c.args.last _ refl c.in-Ok.ensures.bytes
@@ -29,4 +29,4 @@ returns-in-Err-Read-clause-report g c =
 
 pub returns-clause-report : goal.returns-clause-report
 returns-clause-report g c =
-    told_fault _ _ _ _ c.args.last _ c.in-Err-Put.field-0 c.in-Err-Put.fault c.in-Err-Put.field-0-is (ap Err (c.from.ensures ∙ ap fault_of c.in-Err-Put.fault-is)) c.in-Err-Put.ensures.output.failed c.in-Err-Put.ensures.bytes
+    told_fault _ _ _ _ c.args.last _ c.in-Err-Put.field-0 c.in-Err-Put.fault c.in-Err-Put.field-0-is (ap Err (c.from.ensures ∙ ap fault_of c.in-Err-Put.fault-is)) c.in-Err-Put.ensures.output.failed c.in-Err-Put.ensures.output.memory c.in-Err-Put.ensures.bytes

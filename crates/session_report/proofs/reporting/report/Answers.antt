@@ -14,7 +14,7 @@ pub returns-in_err-put_opening-clause-report : goal.returns-in_err-put_opening-c
 returns-in_err-put_opening-clause-report g c =
     let p = err_from_is_err_and c.from_residual.result c.from_residual.ensures.1 in
     unopened (opening_text (session_data c.args.session.now)) _ c.args.volumes.now (ending_of c.args.session.now.stopped c.args.last) _ _ c.from_residual.result c.in_err-put_opening.field-0.0 (p.1 ∙ ap Err p.2)
-    (λ output. c.in_err-put_opening.ensures.cause.output (ap Err output)) c.in_err-put_opening.ensures.bytes
+    (λ output. c.in_err-put_opening.ensures.cause.output (ap Err output)) (λ memory. c.in_err-put_opening.ensures.cause.memory (ap Err memory)) c.in_err-put_opening.ensures.bytes
 
 pub returns-in_err-put_stopped-in-Some-clause-report : goal.returns-in_err-put_stopped-in-Some-clause-report
 returns-in_err-put_stopped-in-Some-clause-report g c =

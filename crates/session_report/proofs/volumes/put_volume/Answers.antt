@@ -1,10 +1,20 @@
 use Rattle.std.proofs.Common.{Option, subst}
+use Rattle.std.proofs.lemmas.Result.{err_from_is_err_and}
 use Rattle.mss_base.specs.Content.{content}
 use Rattle.volume_table.specs.Row.{RowValue}
-use Rattle.report_text.specs.Texts.{heading_text}
+use Rattle.volume_table.specs.Listed.{listed}
+use Rattle.mss_base.proofs.Putting.{puts_stops}
+use Rattle.report_text.specs.Texts.{heading_text, tracks_text}
 use Rattle.session_report.specs.Parts.{row_tracks, PutsTracks}
 use Rattle.session_report.proofs.Told.{volume_put}
 use Rattle.session_report.proofs.volumes.put_volume.Goals as goal
+
+pub returns-in_err-put_heading-clause-bytes : goal.returns-in_err-put_heading-clause-bytes
+returns-in_err-put_heading-clause-bytes g c =
+    let p = err_from_is_err_and c.from_residual.result c.from_residual.ensures.1 in
+    rw (p.1, p.2)
+    (λ t. puts_stops (g.O.Sink.told c.args.output.now) (g.O.Sink.told c.put_heading.new.output) (heading_text c.args.volume c.args.serial.now)
+    (tracks_text (row_tracks (content (g.S.Site.told c.args.site.now)) (listed c.args.rows.now c.args.volume)) 7676) (c.in_err-put_heading.ensures.bytes t.1))
 
 pub returns-clause-bytes : goal.returns-clause-bytes
 returns-clause-bytes g c =
