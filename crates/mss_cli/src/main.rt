@@ -7,11 +7,16 @@ mod ways;
 ghost use Rattle.std.specs.Prelude.{◌≡◌, ◌⊎◌, List, [], map, string_bytes};
 ghost use Rattle.std.specs.Prelude.{IfOk, OnErr};
 ghost use Rattle.job_runs.specs.Parties.{devices};
-ghost use Rattle.mss_top.specs.Serial.{Ends};
-ghost use Rattle.mss_top.specs.Showing.{EndsShown};
+ghost use Rattle.job_text.specs.Jobs.{JobData};
+ghost use Rattle.mss_base.specs.Content.{content};
+ghost use Rattle.mss_files.specs.Output.{AlwaysKnown, known};
+ghost use Rattle.mss_top.specs.Serial.{Ends, GoesWell, IsComplete};
+ghost use Rattle.mss_top.specs.Showing.{EndsShown, IsShown, LooksWell};
 ghost use Rattle.mss_top.specs.Status.{code_of};
 ghost use Rattle.mss_run.specs.Runs.{EndData};
-ghost use Rattle.mss_top.specs.Threads.{EndsThreads};
+ghost use Rattle.mss_top.specs.Threads.{EndsThreads, GoesWellAtOnce};
+ghost use Rattle.mss_top.specs.declared.admission.Settings.{Settings};
+ghost use Rattle.mss_cli.specs.Runs.{IsDone, IsFlushed, fresh_input, output_of};
 ghost use Rattle.mss_cli.specs.Words.{way_of};
 ghost use Rattle.session_report.specs.Parties.{between};
 
@@ -39,7 +44,10 @@ fn main(rt: HostRuntime) -> ExitCode {
 }
 
 /// The words of the command, and the site that it is for.
-fn begin(rt: HostRuntime) -> Result<(Vec<String>, FileSite<Folder<HostRuntime>>), NoMemory> {
+fn begin(rt: HostRuntime) -> Result<(Vec<String>, FileSite<Folder<HostRuntime>>), NoMemory>
+    ensures unwritten { IfOk result (λ begun. begun.1.writes ≡ 0) }
+    ensures unfailed { IfOk result (λ begun. begun.1.faults ≡ 0) }
+{
     let words = words(&rt, rt.alloc())?;
     let site = FileSite::at(rt, SITE)?;
     Ok((words, site))
@@ -80,6 +88,24 @@ fn call<
         (between I.tells I.left I.faults input.old input.new)
         (devices S.tells S.told S.writes S.faults site result.site)
         (between O.tells O.told O.faults output.old output.new) result.status result.session }
+    ensures looks_well { way_of (map string_bytes words.now) ≡ Way.Show
+        → LooksWell (map string_bytes words.now)
+        (devices S.tells S.told S.writes S.faults site result.site)
+        (between O.tells O.told O.faults output.old output.new)
+        → IsShown (content (S.told site))
+        (between O.tells O.told O.faults output.old output.new) result.status }
+    ensures goes_well_at_once { way_of (map string_bytes words.now) ≡ Way.Threads
+        → (job : JobData) → GoesWellAtOnce (map string_bytes words.now)
+        (between I.tells I.left I.faults input.old input.new)
+        (devices S.tells S.told S.writes S.faults site result.site)
+        (between O.tells O.told O.faults output.old output.new) job
+        → IsComplete result.status }
+    ensures goes_well { way_of (map string_bytes words.now) ≡ Way.Serial
+        → (settings : Settings) (job : JobData) → GoesWell (map string_bytes words.now)
+        (between I.tells I.left I.faults input.old input.new)
+        (devices S.tells S.told S.writes S.faults site result.site)
+        (between O.tells O.told O.faults output.old output.new) settings job
+        → IsComplete result.status }
 {
     let alloc = rt.alloc();
     match way_of(words) {
@@ -89,16 +115,20 @@ fn call<
     }
 }
 
-/// Runs the command of these words on a site. The whole output is written, or the status says that it isn't. Where
-/// memory is wanting before it begins, nothing is put.
+/// Runs the command of these words on a site: makes the call that they ask for, and writes what it put. The whole
+/// output is written, or the status says that it isn't. Where memory is wanting before it begins, nothing is put.
 fn run<
     I: Read + Drop,
     W: Write + Drop,
     S: Site + Drop + Send,
     R: Threads + Wait + Sync + AllocGlobal,
 >(rt: &R, words: &[String], input: I, output: W, site: S) -> Result<(Status, StdSink<W>), NoMemory>
-    ensures { IfOk result (λ ended.
+    ensures written { IfOk result (λ ended.
         (ended.0 ≡ Status.OutputFault) ⊎ (ended.1.waiting ≡ [])) }
+    ensures does { IfOk result (λ ended. IsDone (way_of (map string_bytes words.now))
+        (map string_bytes words.now) (fresh_input I.remaining input)
+        (devices S.tells S.told S.writes S.faults site site)
+        (output_of W.contents output ended.1) ended.1.waiting ended.0) }
 {
     let mut input = StdSource::new(input);
     let mut output = StdSink::new(rt.alloc(), output)?;
@@ -112,6 +142,9 @@ fn finish<W: Write + Drop>(output: &mut StdSink<W>, due: Status) -> Status
     ensures status { (result ≡ due) ⊎ (result ≡ Status.OutputFault) }
     ensures written { (result ≡ Status.OutputFault) ⊎ (output.new.waiting ≡ []) }
     ensures failed { (result ≡ Status.OutputFault) ⊎ (output.new.faults ≡ output.old.faults) }
+    ensures flushed { IsFlushed due output.old.faults output.new.faults output.new.waiting result }
+    ensures told { AlwaysKnown W.contents
+        → known output.new.contents ≡ known output.old.contents }
 {
     if output.flush().is_err() {
         return Status::OutputFault;
