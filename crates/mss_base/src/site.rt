@@ -57,10 +57,11 @@ pub trait Site {
             → never_fails_but self.old but → but unit ≡ false → IsOk result }
         ensures sound { StaysSound never_fails_but self.old self.new };
 
-    /// Brings a block to where `brought` shows it, without a copy. It counts as a read. After a failure any block may be
-    /// there.
+    /// Brings a block to where `brought` shows it, without a copy. It counts as a read. After a failure any block may
+    /// be there.
     fn bring(&mut self, unit: UnitNo, block: u32) -> Result<(), Failed>
-        ensures block { tells → OnOk result (brought self.new ≡ content (told self.old) unit block) }
+        ensures block { tells
+            → OnOk result (brought self.new ≡ content (told self.old) unit block) }
         ensures told { tells → told self.new ≡ told self.old }
         ensures spare { spare self.new ≡ spare self.old }
         ensures writes { writes self.new ≡ writes self.old }

@@ -12,7 +12,8 @@ use Rattle.table_pair.specs.declared.copy.RowRead.{RowRead}
 use Rattle.table_pair.specs.declared.copy.RowTrouble.{RowTrouble}
 use Rattle.table_pair.specs.declared.copy.RowTrouble.TheVariants as trouble
 use Rattle.table_pair.specs.Copies.{copy_at}
-use Rattle.table_pair.specs.Pair.{CopyRead, unread, closed, opened, read_of, RowReading, known, damaged, unknown, reading, is_table}
+use Rattle.table_pair.specs.Pair.{CopyRead, unread, closed, opened, read_of, is_table}
+use Rattle.table_pair.specs.Pair.{RowReading, known, damaged, unknown, reading}
 
 abbrev pub seen : CopyState → CopyRead
 seen (state.Unread fault) = unread
