@@ -5,3 +5,4 @@ pub mod FormatLemmas
 pub mod StepLemmas
 pub mod UpdateLemmas
 pub mod UpdateSteps
+pub mod PlaceLemmas

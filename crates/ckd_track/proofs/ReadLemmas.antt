@@ -16,6 +16,10 @@ closed_ends (suc most) number place spent b closed =
 pub closed_byte_ends : (most number place spent : ℕ) (b : List ℕ) → (get_or b (128 + number) 0 ≡ 193 → ⊥) → reading_from most number place spent b ≡ reading_of []
 closed_byte_ends most number place spent b shut = closed_ends most number place spent b (ne_eqb _ _ shut)
 
+reached_dear : (past : Bool) (number : ℕ) (r : RecordData) (rest : Reading) → length (reached true past true number r rest).records ≡ 0
+reached_dear true number r rest = refl
+reached_dear false number r rest = refl
+
 -- an open gate, at a record that can be reached
 module _ (number place spent : ℕ) (b : List ℕ) (more : number ≤ 98) (opened : get_or b (128 + number) 0 ≡ 193) where
   abbrev later : Reading
@@ -31,6 +35,12 @@ module _ (number place spent : ℕ) (b : List ℕ) (more : number ≤ 98) (opene
 
   pub runs_past : length b < place + record_length place b → reading_from (99 - number) number place spent b ≡ stopped_at (record { number = number; cause = RunsPast })
   runs_past past = opened_gate ∙ (λ i. reached true (lt-ltb _ _ past i) (nat_lt 13165 (spent + cost_at place b)) number (record_at place b) later)
+
+  -- a record that costs too much is none, whether or not it runs past the block
+  pub dear_ends : 13165 < spent + cost_at place b → length (reading_from (99 - number) number place spent b).records ≡ 0
+  dear_ends over =
+      ap (λ (r : Reading). length r.records) (opened_gate ∙ (λ i. reached true (nat_lt (length b) (place + record_length place b)) (lt-ltb _ _ over i) number (record_at place b) later))
+      ∙ reached_dear (nat_lt (length b) (place + record_length place b)) number (record_at place b) later
 
   module _ (inside : place + record_length place b ≤ length b) where
     pub overfull : 13165 < spent + cost_at place b → reading_from (99 - number) number place spent b ≡ stopped_at (record { number = number; cause = Overfull })

@@ -1,7 +1,8 @@
 -- Records where they stand in a block, and a walk over them.
-use Rattle.std.specs.Prelude.{◌≡◌, ◌≤◌, ◌+◌, ◌-◌, ◌*◌, length}
+use Rattle.std.specs.Prelude.{◌≡◌, ◌≤◌, ◌+◌, ◌-◌, ◌*◌, ℕ, List, length}
 use Rattle.ckd_track.specs.Data.{RecordData, HasCount}
-use Rattle.ckd_track.specs.Track.{Reading, reading_from}
+use Rattle.ckd_track.specs.Track.{Reading, record_length, record_at, cost_at, before, reading_from}
+use Rattle.ckd_track.specs.declared.layout.TheConstants.{TRACK_COST}
 use Rattle.ckd_track.specs.declared.stored.StoredRecord.TheInside.{Inside as Record}
 use Rattle.ckd_track.specs.declared.stored.StoredRecords.TheInside.{Inside as Walk}
 
@@ -24,3 +25,11 @@ pub record walk_holds (w : Walk) : Type 0 where
   pub few : 135 * w.number ≤ w.spent + 135
   pub cheap : w.spent ≤ 13165
   pub near : w.place ≤ 256 + w.spent
+
+-- a walk goes on behind a record of the track, which with those before it costs this
+pub record GoesOn (number place cost_before : ℕ) (block : List ℕ) (cost_with : ℕ) : Type 0 where
+  pub cost_ : cost_with ≡ cost_before + cost_at place block
+  pub cheap : cost_with ≤ TRACK_COST
+  pub rest : reading_from (99 - number) number place cost_before block
+      ≡ before (record_at place block)
+      (reading_from (99 - (number + 1)) (number + 1) (place + record_length place block) cost_with block)

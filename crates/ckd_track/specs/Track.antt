@@ -1,5 +1,6 @@
 -- The track of a block: the records from byte 256 on, record k while the gate at byte 128 + k is open.
-use Rattle.std.specs.Prelude.{ℕ, zero, suc, ◌+◌, ◌*◌, ◌<◌, ◌==◌, nat_lt, Bool, true, false, List, [], ◌∷◌, length, take, drop, slice_index, Option, Some, None}
+use Rattle.std.specs.Prelude.{◌≡◌, ℕ, zero, suc, ◌+◌, ◌-◌, ◌*◌, ◌≤◌, ◌<◌, ◌==◌, nat_lt, Bool, true, false}
+use Rattle.std.specs.Prelude.{List, [], ◌∷◌, length, take, drop, slice_index, slice_get, Option, Some, None}
 use Rattle.mss_base.specs.declared.block.TheConstants.{OPEN}
 use Rattle.ckd_track.specs.Data.{RecordData, cost_of_lengths}
 use Rattle.ckd_track.specs.declared.layout.TheConstants.{TRACK_COST}
@@ -73,6 +74,12 @@ reading block = reading_from 98 1 256 0 block
 unfoldable pub place_after : ℕ → ℕ → List ℕ → ℕ
 place_after zero place block = place
 place_after (suc n) place block = place_after n (place + record_length place block) block
+
+-- record k of a block's track begins at this place
+pub record BeginsAt (k place : ℕ) (block : List ℕ) : Type 0 where
+  pub item : slice_get (reading block).records (k - 1) ≡ Some (record_at place block)
+  pub inside : place + record_length place block ≤ length block
+  pub behind : place ≡ place_after (k - 1) 256 block
 
 -- each number is a byte
 abbrev pub AreBytes : List ℕ → Type 0

@@ -166,7 +166,7 @@ fn open_gate<S: Site>(
 }
 
 /// The place of the record behind `before` others.
-pub fn record_place(block: &[u8], before: u8) -> u16
+fn record_place(block: &[u8], before: u8) -> u16
     requires whole { length block.now ≡ BLOCK_BYTES }
     requires there { before ≤ length (reading block.now).records }
     ensures { result ≡ place_after before 256 block.now }

@@ -1,10 +1,12 @@
 // What a block's track is, found by walking over its counts: nothing is copied, and no memory is taken.
-ghost use Rattle.std.specs.Prelude.{◌≡◌, ◌≤◌, ◌-◌, ◌↔◌, [], None, Some, IsTrue, IsOk, IfErr, length, take, slice_get};
+ghost use Rattle.std.specs.Prelude.{◌≡◌, ◌≤◌, ◌<◌, ◌+◌, ◌-◌, ◌↔◌, [], None, Some, length, take};
+ghost use Rattle.std.specs.Prelude.{IsTrue, IsOk, IfErr, MatchOption};
 ghost use Rattle.ckd_track.specs.Data.{IsTrack, cost};
-ghost use Rattle.ckd_track.specs.Track.{reading, reading_of};
+ghost use Rattle.ckd_track.specs.Track.{reading, reading_of, reading_from, BeginsAt};
+ghost use Rattle.ckd_track.specs.Stored.{GoesOn};
 
-use crate::layout::{GATES, TRACK_COST};
-use crate::{BadRecord, StoredRecord, stored_records};
+use crate::layout::{FIRST_PLACE, GATES, TRACK_COST, cost_at, record_length};
+use crate::{BadRecord, stored_records};
 use mss_base::{BLOCK_BYTES, OPEN};
 
 /// Whether a block of 16,384 bytes is a track, or its first record that is no part of one.
@@ -29,13 +31,43 @@ pub fn is_blank(block: &[u8]) -> bool
     block[GATES as usize + 1] != OPEN
 }
 
-/// Record `number` of a block's track. R0 stands in no block.
-pub fn find_record(block: &[u8], number: u8) -> Option<StoredRecord<'_>>
+/// What the records up to this one cost together, where it is one of the track.
+///
+/// One that the track has room for ends inside the block, so its cost is all that is looked at behind its gate.
+fn cost_up_to(block: &[u8], number: u8, place: usize, cost_before: u32) -> Option<u32>
+    requires whole { length block.now ≡ BLOCK_BYTES }
+    requires few { number ≤ 98 }
+    requires cheap { cost_before ≤ TRACK_COST }
+    requires near { place ≤ FIRST_PLACE + cost_before }
+    ensures { MatchOption result
+        (length (reading_from (99 - number) number place cost_before block.now).records ≡ 0)
+        (GoesOn number place cost_before block.now) }
+{
+    if block[GATES as usize + number as usize] != OPEN {
+        return None;
+    }
+    let cost = cost_before + cost_at(block, place);
+    if cost > TRACK_COST {
+        return None;
+    }
+    Some(cost)
+}
+
+/// Where record `number` of a block's track begins: the place of its count. R0 stands in no block.
+pub fn find_place(block: &[u8], number: u8) -> Option<u16>
     requires whole { length block.now ≡ BLOCK_BYTES }
     requires first { 1 ≤ number }
-    ensures { result ≡ slice_get (reading block.now).records (number - 1) }
+    ensures { MatchOption result (length (reading block.now).records < number)
+        (λ place. BeginsAt number place block.now) }
 {
-    stored_records(block).nth(number as usize - 1)
+    let mut place = FIRST_PLACE;
+    let mut cost = 0;
+    for earlier in 1..number {
+        cost = cost_up_to(block, earlier, place, cost)?;
+        place += record_length(block, place);
+    }
+    cost_up_to(block, number, place, cost)?;
+    Some(place as u16)
 }
 
 /// How many records there are on a block's track.

@@ -92,11 +92,12 @@ pub fn stored_records(block: &[u8]) -> StoredRecords<'_>
     }
 }
 
-/// The record at a place.
-fn stored_record(block: &[u8], place: usize) -> StoredRecord<'_>
+/// The record that begins at a place (`find_place`). Those before it aren't looked at.
+pub fn record_at(block: &[u8], place: u16) -> StoredRecord<'_>
     requires { place + record_length place block.now ≤ length block.now }
     ensures { result ≡ record_at place block.now }
 {
+    let place = place as usize;
     let id = [
         block[place],
         block[place + 1],
@@ -142,7 +143,7 @@ impl<'a> StoredRecords<'a> {
         self.number += 1;
         self.place = end;
         self.spent = spent;
-        Ok(Some(stored_record(block, place)))
+        Ok(Some(record_at(block, place as u16)))
     }
 }
 

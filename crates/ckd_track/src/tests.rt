@@ -20,11 +20,13 @@ fn reads_a_record_made_by_hand(rt: HostRuntime) -> Result<(), Fail> {
     check_track(&block)?;
     assert_eq!(rt; record_count(&block), 1);
     assert_eq!(rt; cost_of_front(&block, 1), 138);
-    let found = find_record(&block, 1).ok_or("no record")?;
+    let place = find_place(&block, 1).ok_or("no record")?;
+    assert_eq!(rt; place, 256);
+    let found = record_at(&block, place);
     assert_eq!(rt; found.id, [0, 5, 0, 3, 1]);
     assert!(rt; found.key.is_empty());
     assert_eq!(rt; found.body, b"ABC".as_slice());
-    assert!(rt; find_record(&block, 2).is_none());
+    assert_eq!(rt; find_place(&block, 2), None);
 
     for track in [
         read_track(rt.alloc(), &block)?,
@@ -78,14 +80,15 @@ fn a_torn_update_shows_its_bytes(rt: HostRuntime) -> Result<(), Fail> {
     site.read(at.unit, at.block, &mut block)?;
     check_track(&block)?;
     assert_eq!(rt; record_count(&block), 1);
-    let found = find_record(&block, 1).ok_or("no record")?;
+    let place = find_place(&block, 1).ok_or("no record")?;
+    let found = record_at(&block, place);
     assert_eq!(rt; found.body, b"ABC".as_slice());
     assert_eq!(rt; site.writes(), 2);
 
-    update_record(&mut site, &at, &block, 1, false, b"XYZ")?;
+    update_record(&mut site, &at, &block, 1, place, false, b"XYZ")?;
     site.read(at.unit, at.block, &mut block)?;
-    let found = find_record(&block, 1).ok_or("no record")?;
-    assert_eq!(rt; found.body, b"XYZ".as_slice());
+    let place = find_place(&block, 1).ok_or("no record")?;
+    assert_eq!(rt; record_at(&block, place).body, b"XYZ".as_slice());
     assert_eq!(rt; site.writes(), 3);
 
     let tear = Some([0xFF, 0, 0xFF].as_slice());

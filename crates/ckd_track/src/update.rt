@@ -3,38 +3,37 @@ ghost use Rattle.std.specs.Prelude.{◌≡◌, ◌≤◌, ◌<◌, ◌+◌, ◌-
 ghost use Rattle.mss_base.specs.Counts.{HasCause, Rises};
 ghost use Rattle.mss_base.specs.Sites.{MayWrite};
 ghost use Rattle.mss_base.specs.declared.place.UnitNo.{UnitNo};
-ghost use Rattle.ckd_track.specs.Track.{reading, place_after};
+ghost use Rattle.ckd_track.specs.Track.{reading, record_length, BeginsAt};
 ghost use Rattle.ckd_track.specs.Formatting.{block_of, WritesBlock};
 ghost use Rattle.ckd_track.specs.Updating.{IsUpdating, updated_length, record_behind, updated, bytes_place};
 
-use crate::format::record_place;
 use crate::layout::key_length;
 use mss_base::{BLOCK_BYTES, BlockPlace, Failed, Site};
 
-/// The place of the data, or of the key and data, of the record behind `before` others.
-fn bytes_place(block: &[u8], before: u8, key_too: bool) -> u16
+/// The place of the data, or of the key and data, of the record at a place.
+fn bytes_place(block: &[u8], place: u16, key_too: bool) -> u16
     requires whole { length block.now ≡ BLOCK_BYTES }
-    requires there { before < length (reading block.now).records }
-    ensures { result ≡ bytes_place key_too (place_after before 256 block.now) block.now }
+    requires inside { place + record_length place block.now ≤ length block.now }
+    ensures { result ≡ bytes_place key_too place block.now }
 {
-    let place = record_place(block, before) as usize;
     let key_place = place + 8;
     if key_too {
-        return key_place as u16;
+        return key_place;
     }
-    (key_place + key_length(block, place) as usize) as u16
+    key_place + key_length(block, place as usize) as u16
 }
 
 /// Updates record `number` with bytes for its data, or with `key_too` for its key and data.
 ///
-/// `block` is what stands at the place, and `bytes` are as many as the record has there. It makes one
-/// write, or none of no bytes. At any moment the track is the old one with some bytes of that length in
-/// the record. Where it fails, the site's count of faults has risen.
+/// `block` is what stands there, `place` is where the record begins in it (`find_place`), and `bytes` are as
+/// many as the record has. It makes one write, or none of no bytes. At any moment the track is the old one
+/// with some bytes of that length in the record. Where it fails, the site's count of faults has risen.
 pub fn update_record<S: Site>(
     site: &mut S,
     at: &BlockPlace,
     block: &[u8],
     number: u8,
+    place: u16,
     key_too: bool,
     bytes: &[u8],
 ) -> Result<(), Failed>
@@ -42,6 +41,7 @@ pub fn update_record<S: Site>(
     requires told { S.tells → block_of (S.told site.old) at.now ≡ block.now }
     requires first { 1 ≤ number }
     requires there { number ≤ length (reading block.now).records }
+    requires found { BeginsAt number place block.now }
     requires long { length bytes.now
         ≡ updated_length key_too (record_behind (number - 1) (reading block.now).records) }
     requires room { 1 ≤ S.spare site.old }
@@ -60,7 +60,7 @@ pub fn update_record<S: Site>(
     ensures counted { OnErr result (Rises (S.writes site.old) (S.writes site.new)) }
     ensures works { (but : UnitNo → Bool) → S.never_fails_but site.old but → IsOk result }
 {
-    let offset = bytes_place(block, number - 1, key_too);
+    let offset = bytes_place(block, place, key_too);
     if bytes.is_empty() {
         return Ok(());
     }

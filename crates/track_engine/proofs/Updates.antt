@@ -25,7 +25,7 @@ use Rattle.ckd_plain.specs.Views.{effect_of, found_of, item_of}
 use Rattle.track_engine.specs.declared.find.RecordPlace.{RecordPlace}
 use Rattle.track_engine.specs.declared.place.NotDone.TheVariants.{Fault}
 use Rattle.track_engine.specs.declared.place.EngineFault.TheVariants.{WriteFailed}
-use Rattle.track_engine.specs.Found.{found_at}
+use Rattle.track_engine.specs.Found.{found_at, IsPlaceOf}
 use Rattle.track_engine.specs.Writing.{IsBetween, IsStep, CarriesOut, update_kind, updated_at}
 
 -- ---- what the plain machine gives
@@ -67,12 +67,12 @@ module _ (key_too : Bool) (block : List ℕ) (host : HostState) (left : Prior) (
   pub update_refused : (refusal : Refusal) → same_record track host number ≡ Err refusal → given key_too there host left argument ≡ Err refusal
   update_refused refusal is = given_there ∙ ap (λ (r : Result Found Refusal). r >>= λ found. plain_updated track found (with_argument key_too found.item argument)) is
 
-  module _ (at : RecordPlace) (itself : at ≡ record { number = number; host = host }) (first : 1 ≤ prior_number left) (is : same_record track host number ≡ Ok (found_at block at)) where
+  module _ (at : RecordPlace) (itself : IsPlaceOf number host block at) (first : 1 ≤ prior_number left) (is : same_record track host number ≡ Ok (found_at block at)) where
     abbrev old : RecordData
     old = record_behind (at.number - 1) track
 
     pub number_at_hand : at.number ≡ prior_number left
-    number_at_hand = ap (λ (x : RecordPlace). x.number) itself ∙ number_is
+    number_at_hand = itself.number_ ∙ number_is
 
     found_is : found_at block at ≡ record { number = at.number; item = old; host = at.host }
     found_is = (λ i. record { number = at.number; item = item_behind track at.host at.number (omega (arith, number_at_hand)) i; host = at.host })

@@ -1,31 +1,35 @@
 // Where a command finds its record.
-ghost use Rattle.std.specs.Prelude.{◌≡◌, ◌≤◌, ◌<◌, ◌+◌, ◌^◌, length, Ok, Err, IfOk, IsOk, OnOk, IfErr, IfSome, MatchResult, Bool, false};
+ghost use Rattle.std.specs.Prelude.{◌≡◌, ◌≤◌, ◌<◌, ◌+◌, ◌^◌, Bool, false, Ok, Err, None, length};
+ghost use Rattle.std.specs.Prelude.{IfOk, IsOk, OnOk, IfErr, MatchOption, MatchResult};
 ghost use Rattle.mss_base.specs.Content.{content};
 ghost use Rattle.mss_base.specs.Counts.{HasCause};
 ghost use Rattle.mss_base.specs.Sites.{OnlyReads};
 ghost use Rattle.mss_base.specs.declared.place.UnitNo.{UnitNo};
 ghost use Rattle.ckd_track.specs.Data.{HasCount};
 ghost use Rattle.ckd_track.specs.Track.{reading};
-ghost use Rattle.ckd_plain.specs.Views.{item_of, found_of, IsRecordAt};
+ghost use Rattle.ckd_plain.specs.Views.{item_of, found_of};
 ghost use Rattle.ckd_plain.specs.Index.{record_at, pass_index, next_record, same_record, to_home};
 ghost use Rattle.ckd_plain.specs.Effects.{this_or_next};
 ghost use Rattle.track_engine.specs.Tracks.{tracks_on, IsBlockOn};
 ghost use Rattle.track_engine.specs.Faults.{HasReadCause, HasNotFailed, IsFailedRead};
-ghost use Rattle.track_engine.specs.Found.{found_at, GivesBut, KeepsVolume};
+ghost use Rattle.track_engine.specs.Found.{found_at, StandsIn, IsPlaceOf, GivesBut, KeepsVolume};
 
 use crate::place::{CylinderPlace, EngineFault, NotDone};
 use ckd_plain::steps::{FoundRecord, candidate, pass_index, to_home};
 use ckd_plain::{HostState, Refusal, UnitCheck};
-use ckd_track::find_record;
+use ckd_track::{find_place, record_at};
 use mss_base::{BLOCK_BYTES, Failed, HEADS, Head, Site};
 
 /// How many tracks a command may look at.
 const LOOKS: u8 = 20;
 
-/// The number of a record on the host's track.
+/// A record that was found on the host's track, and where it begins in the block: at 0 R0, which stands in none.
+///
+/// The block is lent by its site, so the record itself can't be kept while a command goes on.
 #[derive(Clone, Copy)]
 pub struct RecordPlace {
     pub number: u8,
+    pub begins_at: u16,
     pub host: HostState,
 }
 
@@ -76,41 +80,49 @@ pub fn copy_block<S: Site>(
     Ok(())
 }
 
-/// Record `number` of the host's track, which is that of the block, where it is there.
-pub fn record_in<'a>(block: &'a [u8], host: &HostState, number: usize) -> Option<FoundRecord<'a>>
+/// The place of record `number` of the host's track, which is that of the block, where it is there.
+fn place_in(block: &[u8], host: &HostState, number: usize) -> Option<RecordPlace>
     requires { length block.now ≡ BLOCK_BYTES }
-    ensures item { IsRecordAt number host.now result
-        (record_at (reading block.now).records host.now number) }
-    ensures small { IfSome result (λ _. number ≤ 97) }
-    ensures counted { IfSome result (λ found. HasCount (item_of found)) }
+    ensures { MatchOption result
+        (record_at (reading block.now).records host.now number ≡ None)
+        (IsPlaceOf number host.now block.now) }
 {
     if number == 0 {
-        return Some(FoundRecord::zero(host));
+        return Some(RecordPlace {
+            number: 0,
+            begins_at: 0,
+            host: *host,
+        });
     }
     if number > 97 {
         return None;
     }
     let number = number as u8;
-    let stored = find_record(block, number)?;
-    Some(FoundRecord {
+    let begins_at = find_place(block, number)?;
+    Some(RecordPlace {
         number,
-        id: stored.id,
-        key: stored.key,
-        body: stored.body,
+        begins_at,
         host: *host,
     })
 }
 
-/// The record at a place, where one is.
+/// The record at a place in its block.
 pub fn found_in<'a>(block: &'a [u8], at: &RecordPlace) -> FoundRecord<'a>
     requires whole { length block.now ≡ BLOCK_BYTES }
-    requires there { at.now.number ≤ length (reading block.now).records }
+    requires there { StandsIn block.now at.now }
     ensures found { found_of result ≡ found_at block.now at.now }
     ensures counted { HasCount (item_of result) }
 {
-    match record_in(block, &at.host, usize::from(at.number)) {
-        Some(found) => found,
-        None => unreachable!(),
+    if at.number == 0 {
+        return FoundRecord::zero(&at.host);
+    }
+    let stored = record_at(block, at.begins_at);
+    FoundRecord {
+        number: at.number,
+        id: stored.id,
+        key: stored.key,
+        body: stored.body,
+        host: at.host,
     }
 }
 
@@ -153,7 +165,7 @@ pub fn next_record<S: Site>(
     requires { place.now.first_block + HEADS ≤ 2 ^ 32 }
     ensures found { S.tells → GivesBut (found_at (S.brought site.new)) result
         (next_record (tracks_on (S.told site.old) place.now) from.now first multi) }
-    ensures there { IfOk result (λ at. at.number ≤ length (reading (S.brought site.new)).records) }
+    ensures there { IfOk result (StandsIn (S.brought site.new)) }
     ensures volume { KeepsVolume (λ at. at.host) from.now.mounted result }
     ensures reads { OnlyReads S.tells S.told S.spare S.writes S.faults S.never_fails_but
         site.old site.new }
@@ -165,9 +177,8 @@ pub fn next_record<S: Site>(
     bring_block(site, place, host.head)?;
     for _ in 0..LOOKS {
         let number = candidate(host.position, first);
-        if let Some(found) = record_in(site.brought(), &host, number) {
-            let number = found.number;
-            return Ok(RecordPlace { number, host });
+        if let Some(at) = place_in(site.brought(), &host, number) {
+            return Ok(at);
         }
         host = pass(site, place, &host, multi)?;
     }
@@ -184,20 +195,16 @@ pub fn same_record(block: &[u8], host: &HostState, number: u8) -> Result<RecordP
     ensures found { MatchResult result
         (λ at. same_record (reading block.now).records host.now number ≡ Ok (found_at block.now at))
         (λ refusal. same_record (reading block.now).records host.now number ≡ Err refusal) }
-    ensures there { IfOk result (λ at. at.number ≤ length (reading block.now).records) }
-    ensures itself { IfOk result (λ at. at ≡ record { number = number; host = host.now }) }
+    ensures itself { IfOk result (IsPlaceOf number host.now block.now) }
     ensures volume { IfErr result (λ refusal. refusal.host ≡ host.now) }
 {
-    if record_in(block, host, usize::from(number)).is_none() {
+    let Some(at) = place_in(block, host, usize::from(number)) else {
         return Err(Refusal {
             check: UnitCheck::NoRecordFound,
             host: *host,
         });
-    }
-    Ok(RecordPlace {
-        number,
-        host: *host,
-    })
+    };
+    Ok(at)
 }
 
 /// The record at hand on the host's track, or else the next from R1. The block that has it is brought then.
@@ -211,7 +218,7 @@ pub fn this_or_next<S: Site>(
     requires { place.now.first_block + HEADS ≤ 2 ^ 32 }
     ensures found { S.tells → GivesBut (found_at (S.brought site.new)) result
         (this_or_next at_hand (tracks_on (S.told site.old) place.now) host.now multi) }
-    ensures there { IfOk result (λ at. at.number ≤ length (reading (S.brought site.new)).records) }
+    ensures there { IfOk result (StandsIn (S.brought site.new)) }
     ensures volume { KeepsVolume (λ at. at.host) host.now.mounted result }
     ensures reads { OnlyReads S.tells S.told S.spare S.writes S.faults S.never_fails_but
         site.old site.new }

@@ -12,7 +12,7 @@ ghost use Rattle.ckd_plain.specs.Effects.{effect_with, is_ending, new_record, pr
 ghost use Rattle.ckd_plain.specs.Views.{effect_of, item_of};
 ghost use Rattle.track_engine.specs.Tracks.{tracks_on, AreTracksOn, IsBlockOn};
 ghost use Rattle.track_engine.specs.Faults.{HasReadCause, HasNotFailed, HasNoFailedWrite, IsUndone};
-ghost use Rattle.track_engine.specs.Found.{found_at, GivesBut, KeepsVolume};
+ghost use Rattle.track_engine.specs.Found.{found_at, StandsIn, IsPlaceOf, GivesBut, KeepsVolume};
 ghost use Rattle.track_engine.specs.Writing.{CarriesOut, Spells, formatted_behind, update_kind, updated_at};
 
 use crate::find::{RecordPlace, copy_block, found_in, same_record};
@@ -69,9 +69,7 @@ fn kept_record<S: Site>(
         host.now left WriteKind.CountKeyData argument.now) }
     ensures fits { IfOk result (λ at. cost (take at.number (reading buffer.new).records)
         + cost_of (new_record argument.now) ≤ TRACK_COST) }
-    ensures itself { IfOk result (λ at.
-        at ≡ record { number = prior_number left; host = host.now }) }
-    ensures there { IfOk result (λ at. at.number ≤ length (reading buffer.new).records) }
+    ensures itself { IfOk result (IsPlaceOf (prior_number left) host.now buffer.new) }
     ensures block { S.tells → OnOk result
         (IsBlockOn (S.told site.old) place.now host.now.head buffer.new) }
     ensures volume { KeepsVolume (λ at. at.host) host.now.mounted result }
@@ -206,7 +204,7 @@ fn update_at<S: Site>(
     requires told { S.tells → content (S.told site.old) to.now.unit to.now.block ≡ block.now }
     requires good { S.tells → (reading block.now).bad ≡ None }
     requires first { 1 ≤ at.now.number }
-    requires there { at.now.number ≤ length (reading block.now).records }
+    requires there { StandsIn block.now at.now }
     requires long { length bytes.now ≡ updated_length key_too
         (record_behind (at.now.number - 1) (reading block.now).records) }
     requires room { 1 ≤ S.spare site.old }
@@ -227,7 +225,7 @@ fn update_at<S: Site>(
         → IfErr result HasNotFailed }
 {
     let status = found_in(block, at).status();
-    match update_record(site, to, block, at.number, key_too, bytes) {
+    match update_record(site, to, block, at.number, at.begins_at, key_too, bytes) {
         Ok(()) => Ok(written(alloc, &at.host, status, at.number, at.host.prior)),
         Err(Failed) => Err(NotDone::Fault(EngineFault::WriteFailed {
             fault: site.faults(),

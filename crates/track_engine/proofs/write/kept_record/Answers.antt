@@ -5,7 +5,6 @@ use Rattle.ckd_track.specs.Data.{RecordData}
 use Rattle.ckd_track.specs.Track.{reading}
 use Rattle.ckd_plain.specs.Index.{same_record}
 use Rattle.ckd_plain.specs.Effects.{write_}
-use Rattle.track_engine.specs.declared.find.RecordPlace.{RecordPlace}
 use Rattle.track_engine.proofs.Spelling.{cost_of-new_record}
 use Rattle.track_engine.proofs.Formats.{format_refused, format_fits, format_overfull}
 use Rattle.track_engine.proofs.write.kept_record.Goals as goal
@@ -24,7 +23,7 @@ returns-then-cost-gt-TRACK_COST-clause-format g c = λ tells.
     let here = ap (λ (n : ℕ). same_record track c.args.host.now n) (sym c.number.ensures) ∙ c.in_ok-at.ensures.found in
     ap (λ (t : List RecordData). write_ t c.args.host.now c.args.left write.CountKeyData c.args.argument.now) (sym (c.in_ok-copy_block.ensures.block tells).records)
     ∙ format_overfull track c.args.host.now c.args.left c.args.argument.now c.copy_block.new.buffer c.in_ok-at.at here
-    _ (ap (λ (at : RecordPlace). at.host) c.in_ok-at.ensures.itself) (omega (arith, c.cost_of_front.ensures.cost, c.cost_at.ensures, cost_of-new_record c.args.argument.now c.requires.long))
+    _ c.in_ok-at.ensures.itself.host_ (omega (arith, c.cost_of_front.ensures.cost, c.cost_at.ensures, cost_of-new_record c.args.argument.now c.requires.long))
 
 pub returns-clause-fits : goal.returns-clause-fits
 returns-clause-fits g c = omega (arith, c.cost_of_front.ensures.cost, c.cost_at.ensures, cost_of-new_record c.args.argument.now c.requires.long)

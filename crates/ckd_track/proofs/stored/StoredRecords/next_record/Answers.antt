@@ -17,4 +17,4 @@ pub returns-clause-next : goal.returns-clause-next
 returns-clause-next c =
     sym c.self.view_is
     ∙ one_read _ _ _ _ (omega arith) c.if-block-number.false (omega (arith, c.record_length.ensures)) _ (c.self.inside.place + c.record_length.result) (c.self.inside.spent + c.cost_at.result)
-    c.stored_record.ensures (omega (arith, c.record_length.ensures)) (omega (arith, c.cost_at.ensures)) (omega arith)
+    c.record_at.ensures (omega (arith, c.record_length.ensures)) (omega (arith, c.cost_at.ensures)) (omega arith)
