@@ -17,3 +17,4 @@ pub mod TextBack
 pub mod LinesBack
 pub mod Runnable
 pub mod Copies
+pub mod Digits

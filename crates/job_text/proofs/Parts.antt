@@ -1,14 +1,16 @@
 -- The lines of a text as its parts, and the volumes number by number.
-use Rattle.std.proofs.Common.{◌≡◌, ℕ, zero, suc, ◌+◌, ◌<◌, ◌≤◌, Bool, true, false, cond, List, [], ◌∷◌, ◌++◌, length, take, drop, take_all, refl, sym, ap, subst, ◌∙◌, arith, add-zero, zero-add, add-one}
-use Rattle.std.specs.Prelude.{◌==◌, nat_lt, Option, Some, None, unwrap_or}
-use Rattle.std.specs.List.{slice_split, position, position_or_len, filter_map, cons_option, range_with_len}
+use Rattle.std.proofs.Common.{◌≡◌, ℕ, zero, suc, ◌+◌, ◌<◌, ◌≤◌, Bool, true, false, cond, List, [], ◌∷◌, ◌++◌, length, take, drop, take_all, get_or, refl, sym, ap, subst, ◌∙◌, arith, inl, inr, add-zero, zero-add, add-one}
+use Rattle.std.specs.Prelude.{◌==◌, not, nat_lt, Option, Some, None, unwrap_or}
+use Rattle.std.specs.List.{list_all, slice_split, position, position_or_len, filter_map, cons_option, range_with_len}
 use Rattle.std.specs.Option.{option_to_list}
-use Rattle.std.proofs.lemmas.Bool.{ltb-true, ltb-false}
+use Rattle.std.proofs.lemmas.Bool.{ltb-true, ltb-false, lt-ltb, eqb-true, and_from, cases_Bool}
 use Rattle.std.proofs.lemmas.List.{drop_all}
 use Rattle.std.proofs.lemmas.List.Elements.{filter_map-append}
 use Rattle.std.proofs.lemmas.List.Splits.{length-slice_split, slice_split_first, slice_split_none}
-use Rattle.std.proofs.lemmas.List.Sums.{fails_before_first}
-use Rattle.job_text.specs.Words.{lines_of, lines_of_parts}
+use Rattle.std.proofs.lemmas.List.Sums.{fails_before_first, position_or_len_is}
+use Rattle.std.proofs.lemmas.List.Folds.{list_all_more}
+use Rattle.std.proofs.lemmas.List.Quantifiers.{position-Some}
+use Rattle.job_text.specs.Words.{lines_of, lines_of_parts, is_printable}
 
 pub last_empty : (parts : List (List ℕ)) → lines_of_parts (parts ++ [] ∷ []) ≡ parts
 last_empty [] = refl
@@ -54,6 +56,44 @@ line_found text at h =
     let below : k < length text = ltb-true k (length text) t.0 in
     let cut = ap lines_of_parts (slice_split_first is_feed text 0 below) ∙ before_others (take k text) (slice_split is_feed (drop (k + 1) text)) (some_parts (drop (k + 1) text)) in
     subst (λ (i : ℕ). (i < length text) × (lines_of text ≡ take i text ∷ lines_of (drop (i + 1) text))) t.1 (below, cut)
+
+front_passes : (p : ℕ → Bool) (text : List ℕ) (n : ℕ) → n ≤ length text → ((k : ℕ) → k < n → p (get_or text k 0) ≡ true) → list_all p (take n text) ≡ true
+front_passes p text zero h each = refl
+front_passes p text (suc n) h each =
+    let below : n < length text = omega arith in
+    let e : n + 1 ≡ suc n = omega arith in
+    let before = front_passes p text n (omega arith) (λ k lt. each k (omega arith)) in
+    subst (λ m. list_all p (take m text) ≡ true) e (list_all_more p text n 0 below ∙ and_from _ _ before (each n (omega arith)))
+
+passes : (b : Bool) → not b ≡ false → b ≡ true
+passes true h = refl
+passes false h = absurd (cc)
+
+not_feed : (b : ℕ) → not (is_printable b) ≡ false → is_feed b ≡ false
+not_feed b h =
+    elim (cases_Bool (b == 10)) [
+      | inl t ↦ let bad : true ≡ false = subst (λ n. not (is_printable n) ≡ false) (eqb-true b 10 t) h in absurd (cc)
+      | inr f ↦ f
+    ]
+
+-- a line feed at the head is an empty line
+pub line_empty : (text : List ℕ) → 0 < length text → get_or text 0 0 ≡ 10 → lines_of text ≡ take 0 text ∷ lines_of (drop 1 text)
+line_empty text some feed =
+    let first : position_or_len is_feed text ≡ 0 = position_or_len_is is_feed text 0 0 (omega arith) (λ k lt. absurd (omega arith)) (λ lt. ap is_feed feed) in
+    let there : nat_lt 0 (length text) ≡ true = lt-ltb 0 (length text) some in
+    let place : position is_feed text ≡ Some 0 = rw (first, there) refl in
+    (line_found text 0 place).1
+
+-- where the first byte that isn't printable is a line feed, the line ends there, and all its bytes are printable
+pub line_printable : (text : List ℕ) (at : ℕ) → position (λ b. not (is_printable b)) text ≡ Some at → get_or text at 0 ≡ 10
+    → (at < length text) × (lines_of text ≡ take at text ∷ lines_of (drop (at + 1) text)) × (list_all is_printable (take at text) ≡ true)
+line_printable text at h feed =
+    let p = position-Some (λ b. not (is_printable b)) text at 0 h in
+    let first : position_or_len is_feed text ≡ at = position_or_len_is is_feed text at 0 (omega (arith, p.0)) (λ k lt. not_feed (get_or text k 0) (p.2 k lt)) (λ lt. ap is_feed feed) in
+    let below : at < length text = p.0 in
+    let there : nat_lt at (length text) ≡ true = lt-ltb at (length text) below in
+    let place : position is_feed text ≡ Some at = rw (first, there) refl in
+    (below, (line_found text at place).1, front_passes is_printable text at (omega arith) (λ k lt. passes (is_printable (get_or text k 0)) (p.2 k lt)))
 
 -- a text without a line feed is a line
 pub line_last : (text line after : List ℕ) → 0 < length text → position is_feed text ≡ None → line ≡ take (length text) text → after ≡ drop (length text) text → lines_of text ≡ line ∷ lines_of after

@@ -1,14 +1,14 @@
 //! The forms of a line.
 ghost use Rattle.std.specs.Prelude.{◌≡◌, ◌≤◌, ℕ, nat_le, ◌&&◌, [], ◌∷◌, length, map};
 ghost use Rattle.std.specs.Str.{bytes_eq};
-ghost use Rattle.job_text.specs.Words.{is_number, number_of, is_serial, is_hex, is_hex_byte, byte_of};
+ghost use Rattle.job_text.specs.Words.{is_number, number_of, is_serial, is_hex_byte, byte_of};
 ghost use Rattle.job_text.specs.declared.kind.Keyword.TheVariants.{Mss, Volume, Host, Mount, Ccw, Tic};
 ghost use Rattle.job_text.specs.Lines.{line_of};
 ghost use Rattle.job_text.specs.Outcomes.{Gives, Tests};
 ghost use Rattle.job_text.specs.Views.{said};
 
 use crate::kind::{JobKind, Keyword};
-use crate::words::{append_copies, byte, bytes_of, is_hex, is_word, number, serial};
+use crate::words::{append_copies, byte, bytes_of, is_word, number, serial};
 use mss_base::{Bytes, HostNo, NoMemory, Serial, VolumeNo};
 use std::alloc::{AllocError, AllocFailed, Global};
 
@@ -91,16 +91,6 @@ fn spelled_byte(word: &[u8]) -> Result<u8, LineFault>
     match byte(word) {
         Some(byte) => Ok(byte),
         None => Err(LineFault::Bad(JobKind::Shape)),
-    }
-}
-
-fn spelled_hex(word: &[u8]) -> Result<(), LineFault>
-    ensures { Tests result (is_hex word.now) JobKind.Shape (λ _. Unit {0}) }
-{
-    if is_hex(word) {
-        Ok(())
-    } else {
-        Err(LineFault::Bad(JobKind::Shape))
     }
 }
 
@@ -212,8 +202,9 @@ fn ccw_hex_line(alloc: Global, code: &[u8], hex: &[u8]) -> Result<Line, LineFaul
     ensures { Gives said result (line_of Ccw (code.now ∷ hex.now ∷ [])) }
 {
     let code = spelled_byte(code)?;
-    spelled_hex(hex)?;
-    let argument = bytes_of(alloc, hex)?;
+    let Some(argument) = bytes_of(alloc, hex)? else {
+        return Err(LineFault::Bad(JobKind::Shape));
+    };
     Ok(Line::Ccw { code, argument })
 }
 
@@ -247,12 +238,13 @@ fn ccw_hex_fill_line(
     ensures { Gives said result (line_of Ccw (code.now ∷ hex.now ∷ fill.now ∷ byte.now ∷ count.now ∷ [])) }
 {
     let code = spelled_byte(code)?;
-    spelled_hex(hex)?;
+    let Some(mut argument) = bytes_of(alloc, hex)? else {
+        return Err(LineFault::Bad(JobKind::Shape));
+    };
     spelled_as(fill, "fill")?;
     let byte = spelled_byte(byte)?;
     let count = spelled_number(count)?;
     in_range(count, 1, 65_798)?;
-    let mut argument = bytes_of(alloc, hex)?;
     append_copies(&mut argument, byte, count as usize)?;
     Ok(Line::Ccw { code, argument })
 }

@@ -1,8 +1,8 @@
 //! A text and its job.
-ghost use Rattle.std.specs.Prelude.{◌≡◌, ℕ, ◌<◌, ◌^◌, length, IfOk, OnOk, ◌==◌, ◌++◌, ◌∷◌};
+ghost use Rattle.std.specs.Prelude.{◌≡◌, ℕ, ◌<◌, ◌^◌, length, IfOk, OnOk, ◌==◌, ◌++◌, ◌∷◌, ◌+◌, take, drop};
 ghost use Rattle.std.specs.Option.{option_to_list};
-ghost use Rattle.std.specs.List.{find};
-ghost use Rattle.job_text.specs.Words.{lines_of};
+ghost use Rattle.std.specs.List.{find, list_all};
+ghost use Rattle.job_text.specs.Words.{lines_of, is_printable};
 ghost use Rattle.job_text.specs.Jobs.{by_number, IsJob};
 ghost use Rattle.job_text.specs.Grammar.{nothing, lines_after, job_of};
 ghost use Rattle.job_text.specs.Outcomes.{Reads};
@@ -13,6 +13,7 @@ use crate::kind::{JobKind, Place};
 use crate::line::LineFault;
 use crate::numbered::volume_with;
 use crate::reading::Reading;
+use crate::words::{are_printable, is_printable};
 use mss_base::{Config, NoMemory, Serial, VolumeList, VolumeNo};
 use std::alloc::Global;
 
@@ -39,20 +40,50 @@ impl From<NoMemory> for JobFault {
 /// The most bytes of a text.
 const TEXT_LIMIT: usize = 4_194_304;
 
+/// What stands before the line feed at this place, and behind it.
+fn parted_at(text: &[u8], feed: usize) -> (&[u8], &[u8])
+    requires { feed < length text.now }
+    ensures front { result.0.now ≡ take feed text.now }
+    ensures back { result.1.now ≡ drop (feed + 1) text.now }
+{
+    let (line, _) = text.split_at(feed);
+    let (_, after) = text.split_at(feed + 1);
+    (line, after)
+}
+
 /// The first line of a text, and what stands behind it.
-fn first_line(text: &[u8]) -> (&[u8], &[u8])
+fn line_of_any_bytes(text: &[u8]) -> (&[u8], &[u8])
     requires { 0 < length text.now }
     ensures lines { lines_of text.now ≡ result.0.now ∷ lines_of result.1.now }
     ensures less { length result.1.now < length text.now }
 {
     match text.iter().position(|b| *b == b'\n') {
-        Some(at) => {
-            let (line, _) = text.split_at(at);
-            let (_, after) = text.split_at(at + 1);
-            (line, after)
-        }
+        Some(feed) => parted_at(text, feed),
         None => text.split_at(text.len()),
     }
+}
+
+/// The first line of a text, whether its bytes are all printable, and what stands behind it.
+///
+/// The first byte that isn't printable is mostly the line feed, so that each byte is looked at once.
+fn first_line(text: &[u8]) -> (&[u8], bool, &[u8])
+    requires { 0 < length text.now }
+    ensures lines { lines_of text.now ≡ result.0.now ∷ lines_of result.2.now }
+    ensures printable { result.1 ≡ list_all is_printable result.0.now }
+    ensures less { length result.2.now < length text.now }
+{
+    if text[0] == b'\n' {
+        let (line, after) = parted_at(text, 0);
+        return (line, true, after);
+    }
+    if let Some(at) = text.iter().position(|b| !is_printable(*b)) {
+        if text[at] == b'\n' {
+            let (line, after) = parted_at(text, at);
+            return (line, true, after);
+        }
+    }
+    let (line, after) = line_of_any_bytes(text);
+    (line, are_printable(line), after)
 }
 
 /// What all lines of a text say.
@@ -65,8 +96,8 @@ fn read_lines(alloc: Global, text: &[u8]) -> Result<Reading, JobFault>
     let mut number = 1u32;
     let mut rest = text;
     while !rest.is_empty() {
-        let (line, after) = first_line(rest);
-        match reading.take_line(alloc, &mut words, line) {
+        let (line, printable, after) = first_line(rest);
+        match reading.take_line(alloc, &mut words, line, printable) {
             Ok(()) => {}
             Err(LineFault::Bad(kind)) => return Err(JobFault::Bad { line: number, kind }),
             Err(LineFault::Memory) => return Err(JobFault::Memory),

@@ -1,7 +1,8 @@
 //! What the lines so far said, and the next line.
 ghost use Rattle.std.specs.Prelude.{◌≡◌, ◌==◌, ◌||◌, ℕ, List, [], ◌∷◌, ◌++◌, map, length, false, Some, None, Ok, OnOk, OnErr};
 ghost use Rattle.std.specs.Option.{option_map, option_map_or};
-ghost use Rattle.std.specs.List.{list_any, find};
+ghost use Rattle.std.specs.List.{list_all, list_any, find};
+ghost use Rattle.job_text.specs.Words.{is_printable};
 ghost use Rattle.std.specs.Str.{bytes_eq};
 ghost use Rattle.job_text.specs.Lines.{spelling, allowed, keyword_at, mss, volume, host, done, mount, demount, program, ccw, tic, end};
 ghost use Rattle.job_text.specs.Grammar.{nothing, judged, spoken, line_after, scripts, is_twice, number_of_serial};
@@ -12,7 +13,7 @@ ghost use Rattle.job_text.specs.SoFar.{so_far};
 use crate::job::{HostScript, HostScripts, Item, ItemList};
 use crate::kind::{JobKind, Keyword, Place};
 use crate::line::{Line, LineFault, line_of};
-use crate::words::{are_printable, cut_words, is_skipped, is_word};
+use crate::words::{cut_words, is_skipped, is_word};
 use channel_commands::Ccw;
 use channel_program::Program;
 use mss_base::{Bytes, HostNo, Listed, NoMemory, Serial, VolumeList, VolumeNo};
@@ -48,13 +49,14 @@ pub fn spelling(keyword: Keyword) -> &'static str
     }
 }
 
-fn keyword_among(keywords: &[Keyword], word: &[u8]) -> Option<Keyword>
-    ensures { result ≡ find (λ k. bytes_eq (spelling k) word.now) keywords.now }
+fn keyword_if(keyword: Keyword, word: &[u8]) -> Option<Keyword>
+    ensures { result ≡ find (λ k. bytes_eq (spelling k) word.now) (keyword ∷ []) }
 {
-    keywords
-        .iter()
-        .copied()
-        .find(|k| is_word(word, spelling(*k)))
+    if is_word(word, spelling(keyword)) {
+        Some(keyword)
+    } else {
+        None
+    }
 }
 
 /// The keyword that the word is, of those that are allowed at the place.
@@ -62,19 +64,18 @@ fn keyword_at(place: Place, word: &[u8]) -> Option<Keyword>
     ensures { result ≡ keyword_at place word.now }
 {
     match place {
-        Place::Head => keyword_among(&[Keyword::Mss], word),
-        Place::Volumes => keyword_among(&[Keyword::Volume, Keyword::Host, Keyword::Done], word),
-        Place::Host => keyword_among(
-            &[
-                Keyword::Host,
-                Keyword::Done,
-                Keyword::Mount,
-                Keyword::Demount,
-                Keyword::Program,
-            ],
-            word,
-        ),
-        Place::Program => keyword_among(&[Keyword::Ccw, Keyword::Tic, Keyword::End], word),
+        Place::Head => keyword_if(Keyword::Mss, word),
+        Place::Volumes => keyword_if(Keyword::Volume, word)
+            .or_else(|| keyword_if(Keyword::Host, word))
+            .or_else(|| keyword_if(Keyword::Done, word)),
+        Place::Host => keyword_if(Keyword::Host, word)
+            .or_else(|| keyword_if(Keyword::Done, word))
+            .or_else(|| keyword_if(Keyword::Mount, word))
+            .or_else(|| keyword_if(Keyword::Demount, word))
+            .or_else(|| keyword_if(Keyword::Program, word)),
+        Place::Program => keyword_if(Keyword::Ccw, word)
+            .or_else(|| keyword_if(Keyword::Tic, word))
+            .or_else(|| keyword_if(Keyword::End, word)),
         Place::After => None,
     }
 }
@@ -330,19 +331,22 @@ impl Reading {
         self.put(alloc, line)
     }
 
-    /// Takes the next line. Its words are put into the list that is lent.
+    /// Takes the next line, of which is told whether its bytes are all printable. Its words are put into the list that
+    /// is lent.
     pub fn take_line<'t>(
         &mut self,
         alloc: Global,
         words: &mut Vec<&'t [u8]>,
         line: &'t [u8],
+        printable: bool,
     ) -> Result<(), LineFault>
+        requires { printable ≡ list_all is_printable line.now }
         ensures { Steps result (so_far self.new) (line_after (so_far self.old) line.now) }
     {
         if is_skipped(line) {
             return Ok(());
         }
-        if !are_printable(line) {
+        if !printable {
             return Err(LineFault::Bad(JobKind::BadByte));
         }
         if self.place == Place::After {

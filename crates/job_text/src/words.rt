@@ -1,8 +1,9 @@
 //! The words of a line, and how they are spelled.
-ghost use Rattle.std.specs.Prelude.{◌≡◌, ℕ, ◌+◌, ◌*◌, ◌<◌, ◌==◌, Option, Some, None, MatchOption, IfOk, OnOk, ◌++◌, replicate, false, IfSome, length, map, unwrap_or, true};
+ghost use Rattle.std.specs.Prelude.{◌≡◌, ℕ, ◌<◌, ◌==◌, ◌++◌, [], ◌∷◌, true, false, Option, Some, None, length, map};
+ghost use Rattle.std.specs.Prelude.{replicate, IfOk, IfSome, OnOk, MatchOption};
 ghost use Rattle.std.specs.List.{list_all, slice_split};
 ghost use Rattle.std.specs.Str.{bytes_eq};
-ghost use Rattle.hex.specs.Hex.{is_hex_digit, hex_digit_value};
+ghost use Rattle.hex.specs.Hex.{hex_digit_value};
 ghost use Rattle.job_text.specs.Words.{words_of, is_skipped, is_printable, is_digit, is_number, number_of, number_word, is_hex, bytes_of, is_hex_byte, byte_of, byte_word, is_serial};
 
 use mss_base::{Bytes, NoMemory, Serial};
@@ -28,7 +29,7 @@ pub fn is_skipped(line: &[u8]) -> bool
     line.is_empty() || line[0] == b'#'
 }
 
-fn is_printable(b: u8) -> bool
+pub fn is_printable(b: u8) -> bool
     ensures { result ≡ is_printable b }
 {
     0x20 <= b && b <= 0x7e
@@ -87,49 +88,63 @@ pub fn number(word: &[u8]) -> Option<u32>
     }
 }
 
+/// What the table of digits has for a byte that is none.
+const NO_DIGIT: u8 = 255;
+
+/// The value of each byte as a hexadecimal digit. It is looked up, since a branch on data is guessed wrongly.
+const DIGIT_VALUES: [u8; 256] = [
+    255, 255, 255, 255, 255, 255, 255, 255, 255, 255, 255, 255, 255, 255, 255, 255, 255, 255, 255,
+    255, 255, 255, 255, 255, 255, 255, 255, 255, 255, 255, 255, 255, 255, 255, 255, 255, 255, 255,
+    255, 255, 255, 255, 255, 255, 255, 255, 255, 255, 0, 1, 2, 3, 4, 5, 6, 7, 8, 9, 255, 255, 255,
+    255, 255, 255, 255, 10, 11, 12, 13, 14, 15, 255, 255, 255, 255, 255, 255, 255, 255, 255, 255,
+    255, 255, 255, 255, 255, 255, 255, 255, 255, 255, 255, 255, 255, 255, 255, 255, 10, 11, 12, 13,
+    14, 15, 255, 255, 255, 255, 255, 255, 255, 255, 255, 255, 255, 255, 255, 255, 255, 255, 255,
+    255, 255, 255, 255, 255, 255, 255, 255, 255, 255, 255, 255, 255, 255, 255, 255, 255, 255, 255,
+    255, 255, 255, 255, 255, 255, 255, 255, 255, 255, 255, 255, 255, 255, 255, 255, 255, 255, 255,
+    255, 255, 255, 255, 255, 255, 255, 255, 255, 255, 255, 255, 255, 255, 255, 255, 255, 255, 255,
+    255, 255, 255, 255, 255, 255, 255, 255, 255, 255, 255, 255, 255, 255, 255, 255, 255, 255, 255,
+    255, 255, 255, 255, 255, 255, 255, 255, 255, 255, 255, 255, 255, 255, 255, 255, 255, 255, 255,
+    255, 255, 255, 255, 255, 255, 255, 255, 255, 255, 255, 255, 255, 255, 255, 255, 255, 255, 255,
+    255, 255, 255, 255, 255, 255, 255, 255, 255, 255, 255, 255, 255, 255, 255, 255, 255, 255, 255,
+    255, 255, 255,
+];
+
 fn digit_value(b: u8) -> Option<u8>
     ensures value { result ≡ hex_digit_value b }
     ensures small { IfSome result (λ v. v < 16) }
 {
-    match b {
-        b'A'..=b'F' => Some(b - 55),
-        b'a'..=b'f' => Some(b - 87),
-        b'0'..=b'9' => Some(b - 48),
-        _ => None,
+    let value = DIGIT_VALUES[usize::from(b)];
+    if value == NO_DIGIT { None } else { Some(value) }
+}
+
+/// The byte that two digits say.
+fn pair_value(high: u8, low: u8) -> Option<u8>
+    ensures { result ≡ byte_word (high ∷ low ∷ []) }
+{
+    let high = digit_value(high)?;
+    let low = digit_value(low)?;
+    Some(high * 16 + low)
+}
+
+/// The bytes that the pairs of a word say, if it is pairs of hexadecimal digits.
+pub fn bytes_of(alloc: Global, word: &[u8]) -> Result<Option<Bytes>, NoMemory>
+    ensures { IfOk result (λ read. MatchOption read (is_hex word.now ≡ false)
+        (λ bytes. (is_hex word.now ≡ true) × (bytes.items ≡ bytes_of word.now))) }
+{
+    if word.is_empty() || word.len() % 2 != 0 {
+        return Ok(None);
     }
-}
-
-fn are_hex_digits(word: &[u8]) -> bool
-    ensures { result ≡ list_all is_hex_digit word.now }
-{
-    word.iter().all(|b| digit_value(*b).is_some())
-}
-
-/// Whether a word is pairs of hexadecimal digits.
-pub fn is_hex(word: &[u8]) -> bool
-    ensures { result ≡ is_hex word.now }
-{
-    1 <= word.len() && word.len() % 2 == 0 && are_hex_digits(word)
-}
-
-fn pair_value(high: u8, low: u8) -> u8
-    ensures { result ≡ unwrap_or (hex_digit_value high) 0 * 16 + unwrap_or (hex_digit_value low) 0 }
-{
-    digit_value(high).unwrap_or(0) * 16 + digit_value(low).unwrap_or(0)
-}
-
-/// The bytes that the pairs of a word say.
-pub fn bytes_of(alloc: Global, word: &[u8]) -> Result<Bytes, NoMemory>
-    ensures { IfOk result (λ bytes. bytes.items ≡ bytes_of word.now) }
-{
     let mut bytes = Bytes::new(alloc);
     bytes.reserve(word.len() / 2)?;
     let mut rest = word;
     while let [high, low, after @ ..] = rest {
-        bytes.push(pair_value(*high, *low));
+        let Some(byte) = pair_value(*high, *low) else {
+            return Ok(None);
+        };
+        bytes.push(byte);
         rest = after;
     }
-    Ok(bytes)
+    Ok(Some(bytes))
 }
 
 /// The byte that a word of one pair says.
@@ -137,7 +152,7 @@ pub fn byte(word: &[u8]) -> Option<u8>
     ensures { result ≡ byte_word word.now }
 {
     match word {
-        [high, low] if is_hex(word) => Some(pair_value(*high, *low)),
+        [high, low] => pair_value(*high, *low),
         _ => None,
     }
 }

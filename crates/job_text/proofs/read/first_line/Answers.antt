@@ -1,17 +1,22 @@
-use Rattle.std.proofs.Common.{ℕ, ◌∙◌, ◌∷◌, sym, rules, tests}
-use Rattle.std.specs.Prelude.{◌==◌}
+use Rattle.std.proofs.Common.{ℕ, ◌∙◌, ◌∷◌, sym, ap, rules, tests}
+use Rattle.std.specs.Prelude.{not}
+use Rattle.std.specs.List.{list_all}
 use Rattle.std.proofs.lemmas.Iterator.{YieldsList-from_slice}
 use Rattle.std.proofs.lemmas.Iterator.Search.{position_from_yields_List}
-use Rattle.job_text.specs.Words.{lines_of}
-use Rattle.job_text.proofs.Parts.{line_found, line_last}
+use Rattle.job_text.specs.Words.{lines_of, is_printable}
+use Rattle.job_text.proofs.Parts.{line_empty, line_printable}
 use Rattle.job_text.proofs.read.first_line.Goals as goal
 
-pub returns-in-Some-clause-lines : goal.returns-in-Some-clause-lines
-returns-in-Some-clause-lines c =
-    let first = position_from_yields_List (λ (b : ℕ). b == 10) c.position.new.self _ c.position.result c.position.ensures.ran (YieldsList-from_slice c.args.text.now c.iter.ensures.rest) (λ x b q k. search (rules, tests)) in
-    (line_found c.args.text.now c.in-Some.at (sym first ∙ c.in-Some.is)).1 ∙ (λ i. sym c.split_at.ensures.front i ∷ lines_of (sym c.split_at-in-Some.ensures.back i))
+pub returns-then-text-at-eq10-clause-lines : goal.returns-then-text-at-eq10-clause-lines
+returns-then-text-at-eq10-clause-lines c =
+    let first = position_from_yields_List (λ (b : ℕ). not (is_printable b)) c.position.new.self _ c.position.result c.position.ensures.ran (YieldsList-from_slice c.args.text.now c.iter.ensures.rest) (λ x b q k. search (rules, tests)) in
+    (line_printable c.args.text.now c.in-Some.at (sym first ∙ c.in-Some.is) c.if-text-at-eq10.true).1 ∙ (λ i. sym c.parted_at-then-text-at-eq10.ensures.front i ∷ lines_of (sym c.parted_at-then-text-at-eq10.ensures.back i))
 
-pub returns-in-None-clause-lines : goal.returns-in-None-clause-lines
-returns-in-None-clause-lines c =
-    let first = position_from_yields_List (λ (b : ℕ). b == 10) c.position.new.self _ c.position.result c.position.ensures.ran (YieldsList-from_slice c.args.text.now c.iter.ensures.rest) (λ x b q k. search (rules, tests)) in
-    line_last c.args.text.now c.split_at-in-None.result.0.now c.split_at-in-None.result.1.now c.requires (sym first ∙ c.in-None.is) c.split_at-in-None.ensures.front c.split_at-in-None.ensures.back
+pub returns-then-text-at-eq10-clause-printable : goal.returns-then-text-at-eq10-clause-printable
+returns-then-text-at-eq10-clause-printable c =
+    let first = position_from_yields_List (λ (b : ℕ). not (is_printable b)) c.position.new.self _ c.position.result c.position.ensures.ran (YieldsList-from_slice c.args.text.now c.iter.ensures.rest) (λ x b q k. search (rules, tests)) in
+    sym (ap (list_all is_printable) c.parted_at-then-text-at-eq10.ensures.front ∙ (line_printable c.args.text.now c.in-Some.at (sym first ∙ c.in-Some.is) c.if-text-at-eq10.true).2)
+
+pub returns-then-text-eq10-clause-lines : goal.returns-then-text-eq10-clause-lines
+returns-then-text-eq10-clause-lines c =
+    line_empty c.args.text.now c.requires c.if-text-eq10.true ∙ (λ i. sym c.parted_at.ensures.front i ∷ lines_of (sym c.parted_at.ensures.back i))
