@@ -179,18 +179,25 @@ impl<R: Files<File = File> + Drop> Folder<R> {
         ensures looked { OnOk result (self.new.access ≢ Untouched) }
         ensures refused { self.old.access ≡ Refused → self.new.access ≡ Refused }
     {
-        self.enter(make)?;
-        let known = self.is_known(unit, make);
-        let folder = match &self.access {
-            Access::Held(folder) => folder,
-            Access::Absent => return Ok(()),
-            Access::Untouched | Access::Refused => {
-                return Err(io::Error::from(ErrorKind::WouldBlock));
-            }
-        };
-        if known {
-            return Ok(());
+        if !matches!(self.access, Access::Held(_)) {
+            self.enter(make)?;
         }
+        match &self.access {
+            Access::Held(_) if self.is_known(unit, make) => Ok(()),
+            Access::Held(_) => self.look_for(unit, make),
+            Access::Absent => Ok(()),
+            Access::Untouched | Access::Refused => Err(io::Error::from(ErrorKind::WouldBlock)),
+        }
+    }
+
+    /// Looks for the file of this unit in the folder that is held.
+    fn look_for(&mut self, unit: &UnitNo, make: bool) -> io::Result<()>
+        ensures held { OnOk result (self.old.access ≢ Refused) }
+        ensures access { self.new.access ≡ self.old.access }
+    {
+        let Access::Held(folder) = &self.access else {
+            return Err(io::Error::from(ErrorKind::WouldBlock));
+        };
         if !folder.is_at(&self.rt, self.paths.folder())? {
             return Err(io::Error::from(ErrorKind::NotFound));
         }
