@@ -153,38 +153,67 @@ fn bit(place: u8) -> u8
     1 << place
 }
 
+fn is_wait(answer: &HostAnswer) -> bool {
+    matches!(answer, HostAnswer::Wait(_))
+}
+
 /// What one hold of an actor does: one event, or it counts, or it ends the run.
 impl<N: Setup, S: Site, C: Choose> Held<N, S, C> {
-    /// One event of the pass's host, unless the run has ended.
+    /// How many events changed the core.
+    fn events(&self) -> usize {
+        self.core.events().as_slice().len()
+    }
+
+    /// One event of the pass's host, unless the run has ended. Where that is a wait that changed nothing, one of a
+    /// recorder whose own worker isn't in follows, and is answered too: idle, where no such recorder has work.
     pub fn step(
         &mut self,
         word: &Word<N>,
         pass: HostPass<N>,
         call: &Call,
-    ) -> (HostPass<N>, Option<HostAnswer>)
+    ) -> (HostPass<N>, Option<HostAnswer>, Option<WorkAnswer>)
         ensures { Stepped (call_of call.now) pass result.1 result.0 }
     {
         if self.ended {
-            return (pass, None);
+            return (pass, None, None);
         }
+        let before = self.events();
         let (pass, answer) = self.command(word, pass, call);
-        (pass, Some(answer))
+        if is_wait(&answer) && self.events() == before {
+            let helped = self.help();
+            return (pass, Some(answer), Some(helped));
+        }
+        (pass, Some(answer), None)
     }
 
-    /// One event of a recorder by its own worker, unless the run has ended.
+    /// One event of the first recorder that has one and whose own worker isn't in.
+    fn help(&mut self) -> WorkAnswer {
+        for number in 0..recorders_of(&self.core) {
+            let Some(recorder) = RecorderNo::of(number) else {
+                break;
+            };
+            if self.workers_in & bit(number) != 0 {
+                continue;
+            }
+            let answer = self.work(recorder);
+            if answer != WorkAnswer::Idle {
+                return answer;
+            }
+        }
+        WorkAnswer::Idle
+    }
+
+    /// One event of a recorder by its own worker. None where that is counted out: the recorder is idle and no host is
+    /// in, or the run has ended. It is one hold: so no host that is in loses a worker.
     pub fn turn(&mut self, recorder: RecorderNo) -> Option<WorkAnswer> {
-        if self.ended {
-            return None;
+        if !self.ended {
+            let answer = self.work(recorder);
+            if answer != WorkAnswer::Idle || self.hosts_in != 0 {
+                return Some(answer);
+            }
         }
-        Some(self.work(recorder))
-    }
-
-    /// One event of a recorder by a host that waits. None where the recorder's own worker is in, or the run has ended.
-    pub fn help(&mut self, recorder: RecorderNo) -> Option<WorkAnswer> {
-        if self.ended || self.workers_in & bit(recorder.get()) != 0 {
-            return None;
-        }
-        Some(self.work(recorder))
+        self.workers_in &= !bit(recorder.get());
+        None
     }
 
     /// Counts a host in.
@@ -200,16 +229,6 @@ impl<N: Setup, S: Site, C: Choose> Held<N, S, C> {
     /// Counts a recorder's worker in.
     pub fn enter_worker(&mut self, recorder: RecorderNo) {
         self.workers_in |= bit(recorder.get());
-    }
-
-    /// Counts a recorder's worker out, if no host is in or the run has ended. It is one hold: so no host that is in loses
-    /// a worker.
-    pub fn leave_worker(&mut self, recorder: RecorderNo) -> bool {
-        let leaves = self.ended || self.hosts_in == 0;
-        if leaves {
-            self.workers_in &= !bit(recorder.get());
-        }
-        leaves
     }
 
     /// Ends the run, for every actor.

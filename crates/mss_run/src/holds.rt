@@ -1,7 +1,14 @@
 // The holds of actors: `Held` says what each does.
+//
+// What an actor finds to do is a function of what the lock keeps. One that finds nothing sleeps from that very hold on,
+// and each hold that may give another something to do wakes all: an event, the leave of a host, the end of the run. So
+// nobody sleeps who would find something. Who comes in wakes nobody, since a host that is in only keeps workers from
+// leaving, and a worker takes over what hosts that wait would do. `command` and `work` wake nobody either: no actor
+// shares a core with their callers.
 ghost use Rattle.channel_commands.specs.Views.{call_of};
 ghost use Rattle.mss_run.specs.Answers.{Stepped};
 
+use crate::held::Held;
 use crate::setup::Setup;
 use crate::shared::Shared;
 use channel_commands::Call;
@@ -9,27 +16,49 @@ use core_state::WorkAnswer;
 use host_events::HostAnswer;
 use mss_base::{HostNo, RecorderNo, Site};
 use seen_book::HostPass;
-use std::sync::Wait;
+use std::sync::{MutexGuard, Wait};
 use victim_choice::Choose;
 
 impl<N: Setup, S: Site, C: Choose> Shared<N, S, C> {
+    /// Lets go of the lock and sleeps, until another actor wakes all.
+    fn sleep<R: Wait>(&self, rt: &R, held: MutexGuard<'_, Held<N, S, C>>) {
+        let held = self.changed.wait(rt, held);
+        drop(held);
+    }
+
+    /// Lets go of the lock and wakes all that sleep.
+    fn wake(&self, held: MutexGuard<'_, Held<N, S, C>>) {
+        drop(held);
+        self.changed.notify_all();
+    }
+
+    /// A host that found nothing to do, for itself or for a recorder, has slept.
     pub(crate) fn step<R: Wait>(
         &self,
         rt: &R,
         pass: HostPass<N>,
         call: &Call,
-    ) -> (HostPass<N>, Option<HostAnswer>)
+    ) -> (HostPass<N>, Option<HostAnswer>, Option<WorkAnswer>)
         ensures { Stepped (call_of call.now) pass result.1 result.0 }
     {
-        self.held.lock(rt).step(&self.word, pass, call)
+        let mut held = self.held.lock(rt);
+        let (pass, answer, helped) = held.step(&self.word, pass, call);
+        match helped {
+            Some(WorkAnswer::Idle) => self.sleep(rt, held),
+            _ => self.wake(held),
+        }
+        (pass, answer, helped)
     }
 
+    /// A worker that found nothing to do has slept.
     pub(crate) fn turn<R: Wait>(&self, rt: &R, recorder: RecorderNo) -> Option<WorkAnswer> {
-        self.held.lock(rt).turn(recorder)
-    }
-
-    pub(crate) fn help<R: Wait>(&self, rt: &R, recorder: RecorderNo) -> Option<WorkAnswer> {
-        self.held.lock(rt).help(recorder)
+        let mut held = self.held.lock(rt);
+        let answer = held.turn(recorder);
+        match answer {
+            Some(WorkAnswer::Idle) => self.sleep(rt, held),
+            _ => self.wake(held),
+        }
+        answer
     }
 
     pub(crate) fn enter_host<R: Wait>(&self, rt: &R, host: HostNo) {
@@ -37,18 +66,18 @@ impl<N: Setup, S: Site, C: Choose> Shared<N, S, C> {
     }
 
     pub(crate) fn leave_host<R: Wait>(&self, rt: &R, host: HostNo) {
-        self.held.lock(rt).leave_host(host);
+        let mut held = self.held.lock(rt);
+        held.leave_host(host);
+        self.wake(held);
     }
 
     pub(crate) fn enter_worker<R: Wait>(&self, rt: &R, recorder: RecorderNo) {
         self.held.lock(rt).enter_worker(recorder);
     }
 
-    pub(crate) fn leave_worker<R: Wait>(&self, rt: &R, recorder: RecorderNo) -> bool {
-        self.held.lock(rt).leave_worker(recorder)
-    }
-
     pub(crate) fn end<R: Wait>(&self, rt: &R) {
-        self.held.lock(rt).end();
+        let mut held = self.held.lock(rt);
+        held.end();
+        self.wake(held);
     }
 }

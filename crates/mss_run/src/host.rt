@@ -9,12 +9,11 @@ use crate::setup::Setup;
 use channel_commands::{Call, Reply};
 use core_state::WorkAnswer;
 use host_events::HostAnswer;
-use mss_base::{HostNo, RecorderNo, Site};
+use mss_base::{HostNo, Site};
 use seen_book::{HostPass, Name};
 use std::alloc::Global;
 use std::marker::Model;
 use std::sync::Wait;
-use std::thread;
 use victim_choice::Choose;
 
 /// A reply, and its place in the history.
@@ -80,29 +79,24 @@ impl<N: Name> Running<N> {
 }
 
 impl<N: Setup, S: Site, C: Choose, G: Gate, R: Wait> Run<'_, N, S, C, G, R> {
-    /// A host that waits works for each recorder whose own worker isn't in, once in turn. False where the run has to end.
-    fn help(&self, host: HostNo) -> bool {
-        for number in 0..self.shared.recorders() {
-            let Some(recorder) = RecorderNo::of(number) else {
-                break;
-            };
-            match self.shared.help(self.rt, recorder) {
-                Some(WorkAnswer::Did(kind)) => {
-                    self.gate.pass(Actor::Host(host), Point::Work(kind));
-                }
-                Some(WorkAnswer::Stopped { .. } | WorkAnswer::Memory) => return false,
-                Some(WorkAnswer::Idle) | None => {}
+    /// Passes the gate after what a host did for a recorder, if it did anything. False where the run has to end.
+    fn pass_helped(&self, host: HostNo, helped: Option<WorkAnswer>) -> bool {
+        match helped {
+            Some(WorkAnswer::Did(kind)) => {
+                self.gate.pass(Actor::Host(host), Point::Work(kind));
+                true
             }
+            Some(WorkAnswer::Stopped { .. } | WorkAnswer::Memory) => false,
+            Some(WorkAnswer::Idle) | None => true,
         }
-        true
     }
 
-    /// Tries a call once. A host that is told to wait works for the recorders that nobody works for.
+    /// Tries a call once. A host that is told to wait works for a recorder that nobody works for, or sleeps.
     fn try_call(&self, pass: HostPass<N>, call: &Call) -> (HostPass<N>, Attempt)
         ensures { Attempted (call_of call.now) pass result.1 result.0 }
     {
         let host = pass.host();
-        let (pass, answer) = self.shared.step(self.rt, pass, call);
+        let (pass, answer, helped) = self.shared.step(self.rt, pass, call);
         let Some(answer) = answer else {
             return (pass, Attempt::Halted);
         };
@@ -116,11 +110,10 @@ impl<N: Setup, S: Site, C: Choose, G: Gate, R: Wait> Run<'_, N, S, C, G, R> {
                 (pass, Attempt::Again)
             }
             HostAnswer::Wait(_) => {
-                if !self.help(host) {
+                if !self.pass_helped(host, helped) {
                     self.shared.end(self.rt);
                     return (pass, Attempt::Halted);
                 }
-                thread::yield_now();
                 (pass, Attempt::Again)
             }
             HostAnswer::Stopped { .. } | HostAnswer::CommandLimit | HostAnswer::Memory => {

@@ -16,7 +16,7 @@ use core_state::{Core, WorkAnswer};
 use host_events::HostAnswer;
 use mss_base::{RecorderNo, Site};
 use seen_book::{Book, HostPass, PassList, Word, close};
-use std::sync::{Mutex, Wait};
+use std::sync::{Condvar, Mutex, Wait};
 use victim_choice::Choose;
 
 /// A core that hosts and recorders share. Each call does what it does in one hold of the one lock.
@@ -24,6 +24,8 @@ use victim_choice::Choose;
 pub struct Shared<N: Setup, S: Site, C: Choose> {
     pub(crate) word: Word<N>,
     pub(crate) held: Mutex<Held<N, S, C>>,
+    /// Where actors that find nothing to do sleep.
+    pub(crate) changed: Condvar,
     recorders: u8,
 }
 
@@ -38,6 +40,7 @@ impl<N: Setup, S: Site, C: Choose> Shared<N, S, C> {
         Shared {
             word,
             held: Mutex::new(Held::new(core, book)),
+            changed: Condvar::new(),
             recorders,
         }
     }

@@ -4,7 +4,6 @@ use crate::setup::Setup;
 use core_state::WorkAnswer;
 use mss_base::{RecorderNo, Site};
 use std::sync::Wait;
-use std::thread;
 use victim_choice::Choose;
 
 impl<N: Setup, S: Site, C: Choose, G: Gate, R: Wait> Run<'_, N, S, C, G, R> {
@@ -16,15 +15,11 @@ impl<N: Setup, S: Site, C: Choose, G: Gate, R: Wait> Run<'_, N, S, C, G, R> {
             match self.shared.turn(self.rt, recorder) {
                 Some(WorkAnswer::Did(kind)) => {
                     self.gate.pass(Actor::Recorder(recorder), Point::Work(kind));
-                    continue;
                 }
                 Some(WorkAnswer::Stopped { .. } | WorkAnswer::Memory) => self.shared.end(self.rt),
-                Some(WorkAnswer::Idle) | None => {}
+                Some(WorkAnswer::Idle) => {}
+                None => break,
             }
-            if self.shared.leave_worker(self.rt, recorder) {
-                break;
-            }
-            thread::yield_now();
         }
         self.gate.pass(Actor::Recorder(recorder), Point::Leave);
     }
