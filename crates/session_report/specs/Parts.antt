@@ -1,12 +1,16 @@
 -- What putting the volumes of a report says, or a part of them.
-use Rattle.std.specs.Prelude.{◌≡◌, ◌<◌, ◌≤◌, ℕ, List, ◌++◌, length, Option, Result, Ok, Err}
+use Rattle.std.specs.Prelude.{◌≡◌, ◌<◌, ◌≤◌, ℕ, List, ◌++◌, length, Option, Some}
+use Rattle.std.specs.Prelude.{Result, Ok, Err}
 use Rattle.std.specs.Option.{option_and_then}
 use Rattle.mss_base.specs.Content.{Content}
 use Rattle.mss_base.specs.Counts.{Rises, IsFaultSince}
 use Rattle.mss_base.specs.Puts.{PutsFront}
+use Rattle.mss_base.specs.Sites.{FailingReads}
+use Rattle.mss_base.specs.declared.place.BlockPlace.{BlockPlace}
 use Rattle.ckd_track.specs.Data.{RecordData, Volumes}
 use Rattle.volume_table.specs.Row.{RowValue}
-use Rattle.shown_volumes.specs.Shown.{source, track_at}
+use Rattle.table_pair.specs.Reads.{IsReadable}
+use Rattle.shown_volumes.specs.Shown.{RowsOf, source, track_at}
 use Rattle.report_text.specs.Texts.{tracks_text}
 use Rattle.report_text.specs.declared.report.ReportFault.TheVariants as part
 use Rattle.session_report.specs.declared.fault.VolumesFault.{VolumesFault}
@@ -20,6 +24,16 @@ TracksOfVolume = ℕ → ℕ → List RecordData
 -- the tracks that a row shows over a content; without a row each is blank
 abbrev pub row_tracks : Content → Option RowValue → TracksOfVolume
 row_tracks c row cylinder head = track_at c (option_and_then (λ r. source r cylinder head) row)
+
+-- no read of a block that a row shows fails; without a row none is shown
+abbrev pub CanReadRow : {S : Type 0} → FailingReads S → S → Option RowValue → Type 0
+CanReadRow never_fails_but s row = (cylinder head : ℕ) (place : BlockPlace)
+    → option_and_then (λ r. source r cylinder head) row ≡ Some place
+    → IsReadable never_fails_but s place.unit
+
+-- no read of a block that one of these rows shows fails
+abbrev pub CanReadShown : {S : Type 0} → FailingReads S → S → RowsOf → Type 0
+CanReadShown never_fails_but s rows = (volume : ℕ) → CanReadRow never_fails_but s (rows volume)
 
 -- what is answered when volumes were put
 abbrev pub Told : Type 0

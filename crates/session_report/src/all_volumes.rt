@@ -5,9 +5,9 @@ ghost use Rattle.mss_base.specs.Content.{content};
 ghost use Rattle.mss_base.specs.Sites.{OnlyReads};
 ghost use Rattle.volume_table.specs.Listed.{listed};
 ghost use Rattle.shown_volumes.specs.Shown.{shown_by};
+ghost use Rattle.session_report.specs.Parts.{CanReadShown};
 ghost use Rattle.session_report.specs.Answers.{SinkCounts};
 ghost use Rattle.session_report.specs.Parties.{between};
-ghost use Rattle.table_pair.specs.Reads.{CanReadTracks};
 ghost use Rattle.session_report.specs.Reports.{AnswersNoRead, IsReported, SiteCounts};
 ghost use Rattle.session_report.specs.Reports.{finished, listing_matter};
 ghost use Rattle.session_report.specs.Reports.{heading_of, volumes_below};
@@ -70,7 +70,8 @@ pub fn listing<S: Site, O: Sink>(
         (between S.tells S.told S.faults site.old site.new)
         (between O.tells O.told O.faults output.old output.new) result }
     ensures counted { SiteCounts (S.faults site.old) (S.faults site.new) result }
-    ensures works { CanReadTracks S.never_fails_but site.old → AnswersNoRead result }
+    ensures works { CanReadShown S.never_fails_but site.old (listed rows.now)
+        → AnswersNoRead result }
     ensures site { OnlyReads S.tells S.told S.spare S.writes S.faults S.never_fails_but
         site.old site.new }
     ensures output { SinkCounts (O.faults output.old) (O.faults output.new) result }

@@ -11,8 +11,7 @@ ghost use Rattle.report_text.specs.Causes.{HasOutputCause};
 ghost use Rattle.session_report.specs.Answers.{SinkCounts};
 ghost use Rattle.session_report.specs.Parties.{between};
 ghost use Rattle.session_report.specs.Parts.{PutsVolumes, CountsReads, CountsPuts};
-ghost use Rattle.table_pair.specs.Reads.{CanReadTracks};
-ghost use Rattle.session_report.specs.Parts.{TellsNoRead};
+ghost use Rattle.session_report.specs.Parts.{CanReadShown, TellsNoRead};
 ghost use Rattle.session_report.specs.Reports.{AnswersNoRead, IsReported, SiteCounts};
 ghost use Rattle.session_report.specs.Reports.{ending_of, finished};
 ghost use Rattle.session_report.specs.Reports.{last_text, opening_text, report_matter};
@@ -77,7 +76,8 @@ fn put_to_end<S: Site, O: Sink>(
         (volumes_text shown volumes.now ++ last_text last)
         (O.told output.old) (O.told output.new) result }
     ensures counted { CountsReads (S.faults site.old) (S.faults site.new) result }
-    ensures works { CanReadTracks S.never_fails_but site.old → TellsNoRead result }
+    ensures works { CanReadShown S.never_fails_but site.old (listed rows.now)
+        → TellsNoRead result }
     ensures site { OnlyReads S.tells S.told S.spare S.writes S.faults S.never_fails_but
         site.old site.new }
     ensures output { CountsPuts (O.faults output.old) (O.faults output.new) result }
@@ -112,7 +112,8 @@ pub fn put_ending<S: Site, O: Sink>(
         (between S.tells S.told S.faults site.old site.new)
         (between O.tells O.told O.faults output.old output.new) result }
     ensures counted { SiteCounts (S.faults site.old) (S.faults site.new) result }
-    ensures works { CanReadTracks S.never_fails_but site.old → AnswersNoRead result }
+    ensures works { CanReadShown S.never_fails_but site.old (listed rows.now)
+        → AnswersNoRead result }
     ensures site { OnlyReads S.tells S.told S.spare S.writes S.faults S.never_fails_but
         site.old site.new }
     ensures output { SinkCounts (O.faults output.old) (O.faults output.new) result }
@@ -150,7 +151,8 @@ pub fn report<S: Site, O: Sink>(
         (between S.tells S.told S.faults site.old site.new)
         (between O.tells O.told O.faults output.old output.new) result }
     ensures counted { SiteCounts (S.faults site.old) (S.faults site.new) result }
-    ensures works { CanReadTracks S.never_fails_but site.old → AnswersNoRead result }
+    ensures works { CanReadShown S.never_fails_but site.old (listed rows.now)
+        → AnswersNoRead result }
     ensures site { OnlyReads S.tells S.told S.spare S.writes S.faults S.never_fails_but
         site.old site.new }
     ensures output { SinkCounts (O.faults output.old) (O.faults output.new) result }

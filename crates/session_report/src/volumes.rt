@@ -6,8 +6,8 @@ ghost use Rattle.volume_table.specs.Listed.{listed};
 ghost use Rattle.shown_volumes.specs.Shown.{shown_by};
 ghost use Rattle.report_text.specs.Texts.{track_text, heading_text};
 ghost use Rattle.session_report.specs.Parts.{row_tracks, PutsTrack, PutsTracks, PutsVolumes};
-ghost use Rattle.table_pair.specs.Reads.{CanReadTracks};
 ghost use Rattle.session_report.specs.Parts.{CountsReads, CountsPuts, TellsNoRead};
+ghost use Rattle.session_report.specs.Parts.{CanReadRow, CanReadShown};
 ghost use Rattle.session_report.specs.Reports.{volumes_text};
 
 use crate::fault::VolumesFault;
@@ -34,7 +34,7 @@ fn put_shown<S: Site, O: Sink>(
         PutsTrack (S.tells × O.tells) (track_text cylinder head (tracks cylinder head))
         (O.told output.old) (O.told output.new) result }
     ensures counted { CountsReads (S.faults site.old) (S.faults site.new) result }
-    ensures works { CanReadTracks S.never_fails_but site.old → TellsNoRead result }
+    ensures works { CanReadRow S.never_fails_but site.old (Some row.now) → TellsNoRead result }
     ensures site { OnlyReads S.tells S.told S.spare S.writes S.faults S.never_fails_but
         site.old site.new }
     ensures output { CountsPuts (O.faults output.old) (O.faults output.new) result }
@@ -64,7 +64,7 @@ fn put_tracks<S: Site, O: Sink>(
         (row_tracks (content (S.told site.old)) (Some row.now))
         (O.told output.old) (O.told output.new) result }
     ensures counted { CountsReads (S.faults site.old) (S.faults site.new) result }
-    ensures works { CanReadTracks S.never_fails_but site.old → TellsNoRead result }
+    ensures works { CanReadRow S.never_fails_but site.old (Some row.now) → TellsNoRead result }
     ensures site { OnlyReads S.tells S.told S.spare S.writes S.faults S.never_fails_but
         site.old site.new }
     ensures output { CountsPuts (O.faults output.old) (O.faults output.new) result }
@@ -99,7 +99,7 @@ fn put_row<S: Site, O: Sink>(
         (row_tracks (content (S.told site.old)) row.now)
         (O.told output.old) (O.told output.new) result }
     ensures counted { CountsReads (S.faults site.old) (S.faults site.new) result }
-    ensures works { CanReadTracks S.never_fails_but site.old → TellsNoRead result }
+    ensures works { CanReadRow S.never_fails_but site.old row.now → TellsNoRead result }
     ensures site { OnlyReads S.tells S.told S.spare S.writes S.faults S.never_fails_but
         site.old site.new }
     ensures output { CountsPuts (O.faults output.old) (O.faults output.new) result }
@@ -126,7 +126,8 @@ fn put_volume<S: Site, O: Sink>(
         (row_tracks (content (S.told site.old)) (listed rows.now volume))
         (O.told output.old) (O.told output.new) result }
     ensures counted { CountsReads (S.faults site.old) (S.faults site.new) result }
-    ensures works { CanReadTracks S.never_fails_but site.old → TellsNoRead result }
+    ensures works { CanReadRow S.never_fails_but site.old (listed rows.now volume)
+        → TellsNoRead result }
     ensures site { OnlyReads S.tells S.told S.spare S.writes S.faults S.never_fails_but
         site.old site.new }
     ensures output { CountsPuts (O.faults output.old) (O.faults output.new) result }
@@ -152,7 +153,7 @@ pub fn put_volumes<S: Site, O: Sink>(
         PutsVolumes (S.tells × O.tells) shown volumes.now (volumes_text shown volumes.now)
         (O.told output.old) (O.told output.new) result }
     ensures counted { CountsReads (S.faults site.old) (S.faults site.new) result }
-    ensures works { CanReadTracks S.never_fails_but site.old → TellsNoRead result }
+    ensures works { CanReadShown S.never_fails_but site.old (listed rows.now) → TellsNoRead result }
     ensures site { OnlyReads S.tells S.told S.spare S.writes S.faults S.never_fails_but
         site.old site.new }
     ensures output { CountsPuts (O.faults output.old) (O.faults output.new) result }

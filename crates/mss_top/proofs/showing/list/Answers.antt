@@ -1,5 +1,7 @@
+use Rattle.volume_table.specs.Listed.{listed}
+use Rattle.session_report.proofs.SiteReads.{shown_readable}
 use Rattle.mss_top.proofs.OneLook.{read_unstopped}
 use Rattle.mss_top.proofs.showing.list.Goals as goal
 
 pub returns-clause-works : goal.returns-clause-works
-returns-clause-works g c = λ reads. read_unstopped c.listing-told.result c.status_of.result c.status_of.ensures (c.listing-told.ensures.works reads)
+returns-clause-works g c = λ reads. read_unstopped c.listing-told.result c.status_of.result c.status_of.ensures (c.listing-told.ensures.works (shown_readable g.S.Site.never_fails_but c.args.site.now reads (listed c.as_slice.result.now)))

@@ -1,8 +1,10 @@
-use Rattle.std.proofs.Common.{List, ℕ, ◌++◌, sym, ap, ◌∙◌}
+use Rattle.std.proofs.Common.{List, Option, ℕ, ◌++◌, sym, ap, ◌∙◌, subst}
 use Rattle.std.specs.Option.{option_and_then}
 use Rattle.std.proofs.lemmas.List.{append-nil}
 use Rattle.mss_base.specs.Content.{content}
+use Rattle.volume_table.specs.Row.{RowValue}
 use Rattle.shown_volumes.specs.Shown.{source, track_at}
+use Rattle.session_report.specs.Parts.{CanReadRow, TellsNoRead}
 use Rattle.session_report.proofs.Told.{blank_tracks}
 use Rattle.session_report.proofs.volumes.put_row.Goals as goal
 
@@ -11,3 +13,8 @@ returns-in_default-clause-bytes g c = λ tells.
     sym (ap (λ (text : List ℕ). g.O.Sink.told c.args.output.now ++ text)
     (blank_tracks _ (λ cylinder head. ap (λ row. track_at (content (g.S.Site.told c.args.site.now)) (option_and_then (λ r. source r cylinder head) row)) c.in_default.is) 7676)
     ∙ append-nil (g.O.Sink.told c.args.output.now))
+
+pub returns-clause-works : goal.returns-clause-works
+returns-clause-works g c =
+    subst (λ (row : Option RowValue). CanReadRow g.S.Site.never_fails_but c.args.site.now row → TellsNoRead c.put_tracks.result)
+    (sym c.in-Some.is) c.put_tracks.ensures.works

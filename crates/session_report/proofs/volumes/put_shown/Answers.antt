@@ -2,7 +2,7 @@ use Rattle.std.proofs.Common.{sym, ap, ◌∙◌}
 use Rattle.mss_base.specs.Content.{content}
 use Rattle.shown_volumes.specs.Shown.{track_at}
 use Rattle.report_text.proofs.LineLemmas.{no_track_text}
-use Rattle.session_report.proofs.SiteReads.{never_failed, shown_readable}
+use Rattle.session_report.proofs.SiteReads.{never_failed}
 use Rattle.session_report.proofs.volumes.put_shown.Goals as goal
 
 pub returns-in_default-clause-bytes : goal.returns-in_default-clause-bytes
@@ -12,5 +12,5 @@ returns-in_default-clause-bytes g c = λ tells.
 
 pub returns-then-is_err-clause-works : goal.returns-then-is_err-clause-works
 returns-then-is_err-clause-works g c = λ reads.
-    let can = shown_readable g.S.Site.never_fails_but c.args.site.now reads c.args.row.now c.args.cylinder c.args.head c.in-Some.place (sym c.shown_place.ensures ∙ c.in-Some.is) in
+    let can = reads c.args.cylinder c.args.head c.in-Some.place (sym c.shown_place.ensures ∙ c.in-Some.is) in
     never_failed c.read.result (c.read.ensures.works can.0 can.1 can.2) (sym c.is_err.ensures.value ∙ c.if-is_err.true)

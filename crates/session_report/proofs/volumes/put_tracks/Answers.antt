@@ -3,7 +3,8 @@ use Rattle.std.proofs.lemmas.Result.{err_from_is_err_and}
 use Rattle.mss_base.specs.Content.{SiteLog, content}
 use Rattle.report_text.specs.Texts.{track_text}
 use Rattle.session_report.specs.Parts.{row_tracks}
-use Rattle.table_pair.proofs.SiteLemmas.{reads_none, reads_then, tracks_on}
+use Rattle.table_pair.proofs.SiteLemmas.{reads_none, reads_then}
+use Rattle.session_report.proofs.SiteReads.{row_on}
 use Rattle.session_report.proofs.VolumeTexts.{tracks_begin, tracks_more, tracks_left, track_put_same, blank_in_row, cylinder_passed}
 use Rattle.session_report.proofs.volumes.put_tracks.Goals as goal
 
@@ -56,4 +57,4 @@ loop-head-preserved g c = record {
 pub returns-in_err-put_shown-clause-works : goal.returns-in_err-put_shown-clause-works
 returns-in_err-put_shown-clause-works g c = λ reads.
     let p = err_from_is_err_and c.from_residual.result c.from_residual.ensures.1 in
-    rw (p.1, p.2) (c.in_err-put_shown.ensures.works (tracks_on g.S.Site.never_fails_but c.args.site.now c.loop-head.site c.loop-head.invariant.site.sound reads))
+    rw (p.1, p.2) (c.in_err-put_shown.ensures.works (row_on g.S.Site.never_fails_but c.args.site.now c.loop-head.site c.loop-head.invariant.site.sound (Some c.args.row.now) reads))

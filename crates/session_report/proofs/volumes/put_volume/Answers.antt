@@ -5,7 +5,7 @@ use Rattle.volume_table.specs.Row.{RowValue}
 use Rattle.volume_table.specs.Listed.{listed}
 use Rattle.mss_base.proofs.Putting.{puts_stops}
 use Rattle.report_text.specs.Texts.{heading_text, tracks_text}
-use Rattle.session_report.specs.Parts.{row_tracks, PutsTracks}
+use Rattle.session_report.specs.Parts.{row_tracks, CanReadRow, PutsTracks, TellsNoRead}
 use Rattle.session_report.proofs.Told.{volume_put}
 use Rattle.session_report.proofs.volumes.put_volume.Goals as goal
 
@@ -22,3 +22,8 @@ returns-clause-bytes g c =
     c.row_of.ensures
     (volume_put (g.S.Site.tells × g.O.Sink.tells) (heading_text c.args.volume c.args.serial.now) _ (g.O.Sink.told c.args.output.now) (g.O.Sink.told c.put_heading.new.output) (g.O.Sink.told c.put_row.new.output) c.put_row.result
     (λ t. c.in_ok-put_heading.ensures.bytes t.1) c.put_row.ensures.bytes)
+
+pub returns-clause-works : goal.returns-clause-works
+returns-clause-works g c =
+    subst (λ (row : Option RowValue). CanReadRow g.S.Site.never_fails_but c.args.site.now row → TellsNoRead c.put_row.result)
+    c.row_of.ensures c.put_row.ensures.works

@@ -5,7 +5,8 @@ use Rattle.report_text.specs.Texts.{heading_text, tracks_text}
 use Rattle.volume_table.specs.Listed.{listed}
 use Rattle.shown_volumes.specs.Shown.{shown_by}
 use Rattle.session_report.specs.Parts.{row_tracks}
-use Rattle.table_pair.proofs.SiteLemmas.{reads_then, tracks_on}
+use Rattle.table_pair.proofs.SiteLemmas.{reads_then}
+use Rattle.session_report.proofs.SiteReads.{row_on}
 use Rattle.session_report.proofs.VolumeTexts.{volumes_go_on, volumes_left, tracks_put_same}
 use Rattle.session_report.proofs.volumes.put_volumes.Goals as goal
 
@@ -39,4 +40,4 @@ loop-entry-preserved g c = record {
 pub returns-in_err-put_volume-clause-works : goal.returns-in_err-put_volume-clause-works
 returns-in_err-put_volume-clause-works g c = λ reads.
     let p = err_from_is_err_and c.from_residual.result c.from_residual.ensures.1 in
-    rw (p.1, p.2) (c.in_err-put_volume.ensures.works (tracks_on g.S.Site.never_fails_but c.args.site.now c.loop-entry.site c.loop-entry.invariant.site.sound reads))
+    rw (p.1, p.2) (c.in_err-put_volume.ensures.works (row_on g.S.Site.never_fails_but c.args.site.now c.loop-entry.site c.loop-entry.invariant.site.sound (listed c.args.rows.now c.entry-item.result.0) (reads c.entry-item.result.0)))
