@@ -18,3 +18,5 @@ pub mod LinesBack
 pub mod Runnable
 pub mod Copies
 pub mod Digits
+pub mod Commands
+pub mod Taking

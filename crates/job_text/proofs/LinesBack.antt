@@ -13,7 +13,7 @@ use Rattle.job_text.proofs.TextBack.{text_back, printable_join, words_plain}
 no_feed : (b : ℕ) → is_printable b ≡ true → (b == 10) ≡ false
 no_feed b h = let low = leb-true 32 b (and_parts _ _ h).0 in ne_eqb b 10 (λ (e : b ≡ 10). omega arith)
 
-split_line : (line rest : List ℕ) → list_all is_printable line ≡ true → slice_split (λ b. b == 10) (line ++ 10 ∷ rest) ≡ line ∷ slice_split (λ b. b == 10) rest
+pub split_line : (line rest : List ℕ) → list_all is_printable line ≡ true → slice_split (λ b. b == 10) (line ++ 10 ∷ rest) ≡ line ∷ slice_split (λ b. b == 10) rest
 split_line [] rest h = refl
 split_line (x ∷ line) rest h =
     let t = and_parts _ _ h in

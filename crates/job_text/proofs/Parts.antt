@@ -25,7 +25,7 @@ last_full ((a ∷ part) ∷ []) b last = refl
 last_full (part ∷ next ∷ parts) b last = ap (λ (rest : List (List ℕ)). part ∷ rest) (last_full (next ∷ parts) b last)
 
 -- a part before others is a line
-before_others : (part : List ℕ) (parts : List (List ℕ)) → 0 < length parts → lines_of_parts (part ∷ parts) ≡ part ∷ lines_of_parts parts
+pub before_others : (part : List ℕ) (parts : List (List ℕ)) → 0 < length parts → lines_of_parts (part ∷ parts) ≡ part ∷ lines_of_parts parts
 before_others part [] some = absurd (omega arith)
 before_others [] (next ∷ parts) some = refl
 before_others (b ∷ part) (next ∷ parts) some = refl
@@ -34,10 +34,10 @@ alone : (text : List ℕ) → 0 < length text → lines_of_parts (text ∷ []) �
 alone [] some = absurd (omega arith)
 alone (b ∷ text) some = refl
 
-abbrev is_feed : ℕ → Bool
+abbrev pub is_feed : ℕ → Bool
 is_feed b = b == 10
 
-some_parts : (text : List ℕ) → 0 < length (slice_split is_feed text)
+pub some_parts : (text : List ℕ) → 0 < length (slice_split is_feed text)
 some_parts text = let count = length-slice_split is_feed text in omega arith
 
 found : (b : Bool) (k at : ℕ) → cond b (Some k) None ≡ Some at → (b ≡ true) × (k ≡ at)

@@ -16,13 +16,13 @@ use Rattle.job_text.proofs.Spelling.{digits_of_decimal}
 use Rattle.job_text.proofs.LineBack.{line_back}
 
 -- a byte of a word
-abbrev plain : ℕ → Bool
+abbrev pub plain : ℕ → Bool
 plain b = is_printable b && not (b == 32)
 
-plain_between : (b : ℕ) → 33 ≤ b → b ≤ 126 → plain b ≡ true
+pub plain_between : (b : ℕ) → 33 ≤ b → b ≤ 126 → plain b ≡ true
 plain_between b low high = and_from _ _ (and_from _ _ (le-leb 32 b (omega arith)) (le-leb b 126 high)) (ap not (ne_eqb b 32 (λ (e : b ≡ 32). omega arith)))
 
-all_more : (p q : ℕ → Bool) → ((b : ℕ) → p b ≡ true → q b ≡ true) → (xs : List ℕ) → list_all p xs ≡ true → list_all q xs ≡ true
+pub all_more : (p q : ℕ → Bool) → ((b : ℕ) → p b ≡ true → q b ≡ true) → (xs : List ℕ) → list_all p xs ≡ true → list_all q xs ≡ true
 all_more p q f [] h = refl
 all_more p q f (x ∷ xs) h = let t = and_parts _ _ h in and_from _ _ (f x t.0) (all_more p q f xs t.1)
 
@@ -57,7 +57,7 @@ number_plain n h = all_more is_digit plain digit_plain (decimal n) (digits_of_de
 word_plain : (s : List ℕ) → is_serial s ≡ true → list_all plain s ≡ true
 word_plain s h = all_more is_serial_byte plain serial_plain s (and_parts _ _ h).1
 
-abbrev ArePlain : List (List ℕ) → Type 0
+abbrev pub ArePlain : List (List ℕ) → Type 0
 ArePlain words = AllByRecursion (λ w. list_all plain w ≡ true) words
 
 pub words_plain : (line : LineData) → IsLine line → ArePlain (spelling (keyword_of line) ∷ words_said line)
@@ -92,7 +92,7 @@ split_last (x ∷ w) h =
     let e : (x == 32) ≡ false = not_true _ (and_parts _ _ t.0).1 in
     rw e (ap (onto_first x) (split_last w t.1))
 
-split_join : (w : List ℕ) (ws : List (List ℕ)) → ArePlain (w ∷ ws) → words_of (join_with_byte 32 (w ∷ ws)) ≡ w ∷ ws
+pub split_join : (w : List ℕ) (ws : List (List ℕ)) → ArePlain (w ∷ ws) → words_of (join_with_byte 32 (w ∷ ws)) ≡ w ∷ ws
 split_join w [] h = split_last w h.0
 split_join w (v ∷ ws) h = split_word w (join_with_byte 32 (v ∷ ws)) h.0 ∙ ap (λ (r : List (List ℕ)). w ∷ r) (split_join v ws h.1)
 
@@ -104,7 +104,7 @@ pub printable_join : (w : List ℕ) (ws : List (List ℕ)) → ArePlain (w ∷ w
 printable_join w [] h = all_more plain is_printable (λ b p. (and_parts _ _ p).0) w h.0
 printable_join w (v ∷ ws) h = printable_append w (32 ∷ join_with_byte 32 (v ∷ ws)) h.0 (printable_join v ws h.1)
 
-not_skipped : (b : ℕ) (rest : List ℕ) → (b == 0x23) ≡ false → is_skipped (b ∷ rest) ≡ false
+pub not_skipped : (b : ℕ) (rest : List ℕ) → (b == 0x23) ≡ false → is_skipped (b ∷ rest) ≡ false
 not_skipped b rest h = rw (ne_eqb (suc (length rest)) 0 (λ (e : suc (length rest) ≡ 0). omega arith), h) refl
 
 said_not_skipped : (line : LineData) → is_skipped (line_bytes line) ≡ false
@@ -128,10 +128,10 @@ not_after place.Host word k h = refl
 not_after place.Program word k h = refl
 not_after place.After word k h = cc
 
-line_steps : (s : SoFar) (text : List ℕ) (words : List (List ℕ)) → is_skipped text ≡ false → list_all is_printable text ≡ true → is_after s.place ≡ false → words_of text ≡ words → line_after s text ≡ spoken s words
+pub line_steps : (s : SoFar) (text : List ℕ) (words : List (List ℕ)) → is_skipped text ≡ false → list_all is_printable text ≡ true → is_after s.place ≡ false → words_of text ≡ words → line_after s text ≡ spoken s words
 line_steps s text words a b c d = rw (a, b, c, d) refl
 
-spoken_steps : (s : SoFar) (first : List ℕ) (rest : List (List ℕ)) (k : Keyword) (line : LineData) → keyword_at s.place first ≡ Some k → line_of k rest ≡ Ok line → spoken s (first ∷ rest) ≡ judged s line
+pub spoken_steps : (s : SoFar) (first : List ℕ) (rest : List (List ℕ)) (k : Keyword) (line : LineData) → keyword_at s.place first ≡ Some k → line_of k rest ≡ Ok line → spoken s (first ∷ rest) ≡ judged s line
 spoken_steps s first rest k line e f = ap (λ o. spoken_by s o rest) e ∙ ap (λ r. r >>= judged s) f
 
 pub text_back : (s : SoFar) (line : LineData) → IsLine line → IsAllowed s.place (keyword_of line) → line_after s (line_bytes line) ≡ judged s line

@@ -6,3 +6,4 @@ pub mod Outcomes
 pub mod Views
 pub mod SoFar
 pub mod Canonical
+pub mod FirstLine

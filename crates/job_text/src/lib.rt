@@ -5,10 +5,12 @@
 //! A job's programs and items are those of `channel_program`, so that following a script speaks of the same lists.
 #![tactic(auto)]
 
+mod command;
 mod job;
 mod kind;
 mod law;
 mod line;
+mod lines;
 mod numbered;
 mod read;
 mod reading;

@@ -6,14 +6,16 @@ ghost use Rattle.job_text.specs.Words.{lines_of, is_printable};
 ghost use Rattle.job_text.specs.Jobs.{by_number, IsJob};
 ghost use Rattle.job_text.specs.Grammar.{nothing, lines_after, job_of};
 ghost use Rattle.job_text.specs.Outcomes.{Reads};
+ghost use Rattle.job_text.specs.FirstLine.{Takes};
 ghost use Rattle.job_text.specs.SoFar.{so_far};
 
+use crate::command::command_at;
 use crate::job::Job;
 use crate::kind::{JobKind, Place};
 use crate::line::LineFault;
+use crate::lines::first_line;
 use crate::numbered::volume_with;
 use crate::reading::Reading;
-use crate::words::{are_printable, is_printable};
 use mss_base::{Config, NoMemory, Serial, VolumeList, VolumeNo};
 use std::alloc::Global;
 
@@ -40,50 +42,25 @@ impl From<NoMemory> for JobFault {
 /// The most bytes of a text.
 const TEXT_LIMIT: usize = 4_194_304;
 
-/// What stands before the line feed at this place, and behind it.
-fn parted_at(text: &[u8], feed: usize) -> (&[u8], &[u8])
-    requires { feed < length text.now }
-    ensures front { result.0.now ≡ take feed text.now }
-    ensures back { result.1.now ≡ drop (feed + 1) text.now }
-{
-    let (line, _) = text.split_at(feed);
-    let (_, after) = text.split_at(feed + 1);
-    (line, after)
-}
-
-/// The first line of a text, and what stands behind it.
-fn line_of_any_bytes(text: &[u8]) -> (&[u8], &[u8])
+/// Takes the first line of a text, and gives the text behind it.
+fn take_first<'t>(
+    alloc: Global,
+    reading: &mut Reading,
+    words: &mut Vec<&'t [u8]>,
+    text: &'t [u8],
+) -> Result<&'t [u8], LineFault>
     requires { 0 < length text.now }
-    ensures lines { lines_of text.now ≡ result.0.now ∷ lines_of result.1.now }
-    ensures less { length result.1.now < length text.now }
+    ensures { Takes result (so_far reading.old) text.now (so_far reading.new) }
 {
-    match text.iter().position(|b| *b == b'\n') {
-        Some(feed) => parted_at(text, feed),
-        None => text.split_at(text.len()),
-    }
-}
-
-/// The first line of a text, whether its bytes are all printable, and what stands behind it.
-///
-/// The first byte that isn't printable is mostly the line feed, so that each byte is looked at once.
-fn first_line(text: &[u8]) -> (&[u8], bool, &[u8])
-    requires { 0 < length text.now }
-    ensures lines { lines_of text.now ≡ result.0.now ∷ lines_of result.2.now }
-    ensures printable { result.1 ≡ list_all is_printable result.0.now }
-    ensures less { length result.2.now < length text.now }
-{
-    if text[0] == b'\n' {
-        let (line, after) = parted_at(text, 0);
-        return (line, true, after);
-    }
-    if let Some(at) = text.iter().position(|b| !is_printable(*b)) {
-        if text[at] == b'\n' {
-            let (line, after) = parted_at(text, at);
-            return (line, true, after);
+    if reading.place == Place::Program {
+        if let Some(command) = command_at(alloc, text)? {
+            reading.put_ccw(command.code, command.argument)?;
+            return Ok(command.behind);
         }
     }
-    let (line, after) = line_of_any_bytes(text);
-    (line, are_printable(line), after)
+    let (line, printable, behind) = first_line(text);
+    reading.take_line(alloc, words, line, printable)?;
+    Ok(behind)
 }
 
 /// What all lines of a text say.
@@ -96,14 +73,12 @@ fn read_lines(alloc: Global, text: &[u8]) -> Result<Reading, JobFault>
     let mut number = 1u32;
     let mut rest = text;
     while !rest.is_empty() {
-        let (line, printable, after) = first_line(rest);
-        match reading.take_line(alloc, &mut words, line, printable) {
-            Ok(()) => {}
+        match take_first(alloc, &mut reading, &mut words, rest) {
+            Ok(behind) => rest = behind,
             Err(LineFault::Bad(kind)) => return Err(JobFault::Bad { line: number, kind }),
             Err(LineFault::Memory) => return Err(JobFault::Memory),
         }
         number += 1;
-        rest = after;
     }
     if reading.place != Place::After {
         return Err(JobFault::Bad {

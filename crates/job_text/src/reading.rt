@@ -261,7 +261,8 @@ impl Reading {
         Ok(())
     }
 
-    fn put_ccw(&mut self, code: u8, argument: Bytes) -> Result<(), LineFault>
+    /// Puts a command into the program.
+    pub fn put_ccw(&mut self, code: u8, argument: Bytes) -> Result<(), LineFault>
         ensures { Steps result (so_far self.new) (judged (so_far self.old) (ccw code argument.items)) }
     {
         let length = argument.as_slice().len();
@@ -274,7 +275,8 @@ impl Reading {
         if self.total > TOTAL_LIMIT - length {
             return Err(LineFault::Bad(JobKind::Count));
         }
-        push(&mut self.words, Ccw::Device { code, argument })?;
+        self.words.reserve(1)?;
+        self.words.push(Ccw::Device { code, argument });
         self.total += length;
         Ok(())
     }

@@ -118,7 +118,7 @@ fn digit_value(b: u8) -> Option<u8>
 }
 
 /// The byte that two digits say.
-fn pair_value(high: u8, low: u8) -> Option<u8>
+pub fn pair_value(high: u8, low: u8) -> Option<u8>
     ensures { result ≡ byte_word (high ∷ low ∷ []) }
 {
     let high = digit_value(high)?;

@@ -5,7 +5,7 @@ use Rattle.std.proofs.lemmas.Iterator.{YieldsList-from_slice}
 use Rattle.std.proofs.lemmas.Iterator.Search.{position_from_yields_List}
 use Rattle.job_text.specs.Words.{lines_of, is_printable}
 use Rattle.job_text.proofs.Parts.{line_empty, line_printable}
-use Rattle.job_text.proofs.read.first_line.Goals as goal
+use Rattle.job_text.proofs.lines.first_line.Goals as goal
 
 pub returns-then-text-at-eq10-clause-lines : goal.returns-then-text-at-eq10-clause-lines
 returns-then-text-at-eq10-clause-lines c =

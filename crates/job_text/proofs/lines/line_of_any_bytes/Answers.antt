@@ -4,7 +4,7 @@ use Rattle.std.proofs.lemmas.Iterator.{YieldsList-from_slice}
 use Rattle.std.proofs.lemmas.Iterator.Search.{position_from_yields_List}
 use Rattle.job_text.specs.Words.{lines_of}
 use Rattle.job_text.proofs.Parts.{line_found, line_last}
-use Rattle.job_text.proofs.read.line_of_any_bytes.Goals as goal
+use Rattle.job_text.proofs.lines.line_of_any_bytes.Goals as goal
 
 pub returns-in-Some-clause-lines : goal.returns-in-Some-clause-lines
 returns-in-Some-clause-lines c =

@@ -1,0 +1,15 @@
+use Rattle.std.proofs.Common.{sym, ◌∙◌}
+use Rattle.job_text.proofs.Commands.{bare_command, argued_command}
+use Rattle.job_text.proofs.command.command_at.Goals as goal
+
+pub returns-then-next-eq10 : goal.returns-then-next-eq10
+returns-then-next-eq10 c =
+    bare_command c.args.text.now c.in-Some.rest.now c.new.result.items c.in-Some.high c.in-Some.low c.in-Some.next c.in-Some-pair_value.code
+    c.in-Some.ensures c.if-next-eq10.true (sym c.pair_value.ensures ∙ c.in-Some-pair_value.is) c.new.ensures
+
+pub returns : goal.returns
+returns c =
+    let read = rw c.in-Some-2.is at c.in_ok-argument.ensures in
+    argued_command c.args.text.now c.in-Some.rest.now c.in-Some-last_word.digits.now c.in-Some-last_word.behind.now c.in-Some-2.argument.items
+    c.in-Some.high c.in-Some.low c.in-Some.next c.in-Some-pair_value.code
+    c.in-Some.ensures c.if-next-ne32.false c.in-Some-last_word.ensures (sym c.pair_value.ensures ∙ c.in-Some-pair_value.is) read.0 read.1
