@@ -1,14 +1,14 @@
 -- Commands that stand at the head of a text, as the grammar reads them.
-use Rattle.std.proofs.Common.{◌≡◌, ℕ, ◌+◌, ◌-◌, ◌<◌, ◌≤◌, Bool, true, false, List, [], ◌∷◌, ◌++◌, length, length-append, Ok, refl, sym, ap, subst, ◌∙◌, arith, inl, inr, append_assoc}
-use Rattle.std.specs.Prelude.{codes, nat_le, Option, Some, None, ◌==◌, ◌&&◌}
+use Rattle.std.proofs.Common.{◌≡◌, ℕ, ◌≤◌, true, false, List, [], ◌∷◌, ◌++◌, length, length-append, Ok, refl, sym, ap, ◌∙◌, arith, inl, inr}
+use Rattle.std.specs.Prelude.{codes, Some}
 use Rattle.std.specs.List.{list_all, slice_split, join_with_byte}
-use Rattle.std.proofs.lemmas.Bool.{and_from, and_parts, cases_Bool, leb-true}
+use Rattle.std.proofs.lemmas.Bool.{and_from, and_parts, cases_Bool}
 use Rattle.std.proofs.lemmas.Bool.Decides.{nat_tests}
 use Rattle.hex.specs.Hex.{is_hex_digit}
 use Rattle.job_text.specs.declared.kind.Keyword.TheVariants.{Ccw}
 use Rattle.job_text.specs.declared.kind.Place.{Place}
 use Rattle.job_text.specs.declared.kind.Place.TheVariants as place
-use Rattle.job_text.specs.Words.{lines_of, lines_of_parts, words_of, is_printable, is_hex, is_hex_byte, byte_of, byte_word, bytes_of}
+use Rattle.job_text.specs.Words.{lines_of, lines_of_parts, is_printable, is_hex, is_hex_byte, byte_of, byte_word, bytes_of}
 use Rattle.job_text.specs.Lines.{LineData, ccw, byte, hex, line_of, keyword_at}
 use Rattle.job_text.specs.Grammar.{SoFar, judged, is_after, line_after}
 use Rattle.job_text.specs.FirstLine.{BeginsWith}

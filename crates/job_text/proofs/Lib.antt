@@ -19,4 +19,3 @@ pub mod Runnable
 pub mod Copies
 pub mod Digits
 pub mod Commands
-pub mod Taking

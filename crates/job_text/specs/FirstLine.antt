@@ -20,8 +20,9 @@ pub record GoesOn (s : SoFar) (text : List ℕ) (t : SoFar) (behind : List ℕ) 
   pub lines : (n : ℕ) → lines_after s n (lines_of text) ≡ lines_after t (n + 1) (lines_of behind)
   pub shorter : length behind < length text
 
--- what taking the first line of a text answers: what stands behind it, or the kind of that line, unless memory ran out
+-- what taking the first line of a text answers: what stands behind it, or why it is bad, unless memory ran out
 abbrev pub Takes : Result (Bor (List ℕ)) LineFault → SoFar → List ℕ → SoFar → Type 0
 Takes (Ok behind) s text t = GoesOn s text t behind.now
-Takes (Err (fault.Bad kind)) s text t = (n : ℕ) → lines_after s n (lines_of text) ≡ Err (record { line = n; kind = kind })
+Takes (Err (fault.Bad kind)) s text t =
+    (n : ℕ) → lines_after s n (lines_of text) ≡ Err (record { line = n; kind = kind })
 Takes (Err fault.Memory) s text t = Unit {0}

@@ -1,7 +1,7 @@
 //! Commands of a program in their commonest spelling: `ccw XY` and `ccw XY DIGITS`, with a line feed behind.
 //!
 //! Most lines of a long job are such. Their words stand at known places, so they needn't be cut out and looked up.
-ghost use Rattle.std.specs.Prelude.{◌≡◌, ℕ, ◌++◌, ◌∷◌, codes, IfOk, IfSome};
+ghost use Rattle.std.specs.Prelude.{◌≡◌, ◌++◌, ◌∷◌, codes, IfOk, IfSome};
 ghost use Rattle.job_text.specs.Lines.{ccw};
 ghost use Rattle.job_text.specs.FirstLine.{BeginsWith};
 

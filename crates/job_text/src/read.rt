@@ -1,8 +1,8 @@
 //! A text and its job.
-ghost use Rattle.std.specs.Prelude.{◌≡◌, ℕ, ◌<◌, ◌^◌, length, IfOk, OnOk, ◌==◌, ◌++◌, ◌∷◌, ◌+◌, take, drop};
+ghost use Rattle.std.specs.Prelude.{◌≡◌, ◌<◌, ◌^◌, length, IfOk, OnOk, ◌==◌, ◌++◌};
 ghost use Rattle.std.specs.Option.{option_to_list};
-ghost use Rattle.std.specs.List.{find, list_all};
-ghost use Rattle.job_text.specs.Words.{lines_of, is_printable};
+ghost use Rattle.std.specs.List.{find};
+ghost use Rattle.job_text.specs.Words.{lines_of};
 ghost use Rattle.job_text.specs.Jobs.{by_number, IsJob};
 ghost use Rattle.job_text.specs.Grammar.{nothing, lines_after, job_of};
 ghost use Rattle.job_text.specs.Outcomes.{Reads};
@@ -42,7 +42,8 @@ impl From<NoMemory> for JobFault {
 /// The most bytes of a text.
 const TEXT_LIMIT: usize = 4_194_304;
 
-/// Takes the first line of a text, and gives the text behind it.
+/// Takes the first line of a text, and gives the text behind it. The words of the line are put into the list that is
+/// lent, where they have to be cut.
 fn take_first<'t>(
     alloc: Global,
     reading: &mut Reading,

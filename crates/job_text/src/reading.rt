@@ -261,7 +261,7 @@ impl Reading {
         Ok(())
     }
 
-    /// Puts a command into the program.
+    /// Puts a command into the open program.
     pub fn put_ccw(&mut self, code: u8, argument: Bytes) -> Result<(), LineFault>
         ensures { Steps result (so_far self.new) (judged (so_far self.old) (ccw code argument.items)) }
     {

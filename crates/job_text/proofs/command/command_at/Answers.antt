@@ -1,11 +1,9 @@
-use Rattle.std.proofs.Common.{sym, ◌∙◌}
+use Rattle.std.proofs.Common.{rules, sym, ◌∙◌}
 use Rattle.job_text.proofs.Commands.{bare_command, argued_command}
 use Rattle.job_text.proofs.command.command_at.Goals as goal
 
 pub returns-then-next-eq10 : goal.returns-then-next-eq10
-returns-then-next-eq10 c =
-    bare_command c.args.text.now c.in-Some.rest.now c.new.result.items c.in-Some.high c.in-Some.low c.in-Some.next c.in-Some-pair_value.code
-    c.in-Some.ensures c.if-next-eq10.true (sym c.pair_value.ensures ∙ c.in-Some-pair_value.is) c.new.ensures
+returns-then-next-eq10 c = search (rules, bare_command)
 
 pub returns : goal.returns
 returns c =
