@@ -25,8 +25,6 @@ mod run;
 mod search;
 mod state;
 pub mod steps;
-#[cfg(test)]
-mod tests;
 mod trouble;
 mod unit_check;
 mod volume;

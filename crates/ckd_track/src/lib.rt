@@ -26,6 +26,3 @@ pub use record::{Record, Records, Track};
 pub use stored::{StoredRecord, StoredRecords, record_at, stored_records};
 pub use track::{BadRecord, TrackCause};
 pub use update::update_record;
-
-#[cfg(test)]
-mod tests;

@@ -10,8 +10,6 @@ mod place;
 mod read;
 mod run;
 mod search;
-#[cfg(test)]
-mod tests;
 mod write;
 
 pub use place::{CylinderPlace, EngineFault};
