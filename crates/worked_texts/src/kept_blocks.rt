@@ -1,0 +1,106 @@
+// The block that a site keeps: brought again, written into, and lost.
+use mss_base::{Failed, Site, UnitNo};
+use mss_files::{FileSite, UnitFiles};
+use std::alloc::Global;
+use std::io;
+use std::io::ErrorKind;
+use std::process::Abort;
+
+/// Files of sevens that forget what is written. The first read of them succeeds, and no other;
+/// each write does, but those of the table's second copy.
+#[derive(Drop)]
+struct ReadOnce {
+    was_read: bool,
+}
+
+type OnceSite = FileSite<ReadOnce>;
+
+impl UnitFiles for ReadOnce {
+    ghost use Rattle.std.specs.Prelude.{false};
+
+    ghost tells = { ⊥ };
+
+    ghost byte = { λ _ _ _. 0 };
+
+    ghost lasts = { λ _ _. false };
+
+    fn read_some(&mut self, _unit: &UnitNo, _at: u64, into: &mut [u8]) -> io::Result<usize> {
+        if self.was_read {
+            return Err(io::Error::from(ErrorKind::PermissionDenied));
+        }
+        self.was_read = true;
+        into.fill(7);
+        Ok(into.len())
+    }
+
+    fn write_some(&mut self, unit: &UnitNo, _at: u64, bytes: &[u8]) -> io::Result<usize> {
+        match unit {
+            UnitNo::TableB => Err(io::Error::from(ErrorKind::PermissionDenied)),
+            _ => Ok(bytes.len()),
+        }
+    }
+
+    fn sync(&mut self, _unit: &UnitNo) -> io::Result<()> {
+        Ok(())
+    }
+}
+
+fn site_of_sevens(rt: &impl Abort, alloc: Global) -> OnceSite {
+    let files = ReadOnce { was_read: false };
+    FileSite::over(alloc, files).expect(rt, "a site")
+}
+
+/// Whether a block can be brought, and begins with these bytes.
+fn brings(site: &mut OnceSite, unit: UnitNo, block: u32, expected: &[u8]) -> bool {
+    site.bring(unit, block).is_ok() && site.brought().starts_with(expected)
+}
+
+/// Whether a block can be read, and begins with these bytes.
+fn reads(alloc: Global, site: &mut OnceSite, unit: UnitNo, block: u32, expected: &[u8]) -> bool {
+    let Ok(mut bytes) = vec![in alloc; 0u8; 16384] else {
+        return false;
+    };
+    site.read(unit, block, &mut bytes).is_ok() && bytes.as_slice().starts_with(expected)
+}
+
+#[test]
+fn a_kept_block_is_brought_and_read_without_a_call(rt: HostRuntime) {
+    let mut site = site_of_sevens(&rt, rt.alloc());
+    assert!(rt; brings(&mut site, UnitNo::TableA, 3, &[7, 7, 7]));
+    assert!(rt; brings(&mut site, UnitNo::TableA, 3, &[7, 7, 7]));
+    assert!(rt; reads(rt.alloc(), &mut site, UnitNo::TableA, 3, &[7, 7, 7]));
+    assert_eq!(rt; site.faults(), 0);
+}
+
+#[test]
+fn a_kept_block_has_what_is_written_into_it(rt: HostRuntime) {
+    let mut site = site_of_sevens(&rt, rt.alloc());
+    assert!(rt; brings(&mut site, UnitNo::TableA, 3, &[7, 7, 7]));
+    assert_eq!(rt; site.write(UnitNo::TableA, 3, 1, b"row"), Ok(()));
+    assert!(rt; brings(&mut site, UnitNo::TableA, 3, b"\x07row\x07"));
+    assert_eq!(rt; site.write(UnitNo::TableA, 4, 1, b"next"), Ok(()));
+    assert_eq!(rt; site.write(UnitNo::Staging(0), 3, 1, b"disk"), Ok(()));
+    assert!(rt; brings(&mut site, UnitNo::TableA, 3, b"\x07row\x07"));
+    assert_eq!(rt; site.faults(), 0);
+}
+
+#[test]
+fn a_block_that_cannot_be_brought_is_not_kept(rt: HostRuntime) {
+    let mut site = site_of_sevens(&rt, rt.alloc());
+    assert!(rt; brings(&mut site, UnitNo::TableA, 3, &[7, 7, 7]));
+    assert_eq!(rt; site.bring(UnitNo::TableA, 4), Err(Failed));
+    assert_eq!(rt; site.bring(UnitNo::TableA, 4), Err(Failed));
+    assert_eq!(rt; site.bring(UnitNo::TableA, 3), Err(Failed));
+    assert_eq!(rt; site.faults(), 3);
+}
+
+#[test]
+fn a_block_that_cannot_be_written_is_not_kept(rt: HostRuntime) {
+    let mut site = site_of_sevens(&rt, rt.alloc());
+    assert!(rt; brings(&mut site, UnitNo::TableB, 0, &[7, 7, 7]));
+    assert_eq!(rt; site.write(UnitNo::TableB, 1, 0, b"row"), Err(Failed));
+    assert!(rt; brings(&mut site, UnitNo::TableB, 0, &[7, 7, 7]));
+    assert_eq!(rt; site.write(UnitNo::TableB, 0, 0, b"row"), Err(Failed));
+    assert_eq!(rt; site.bring(UnitNo::TableB, 0), Err(Failed));
+    assert_eq!(rt; site.faults(), 3);
+}
