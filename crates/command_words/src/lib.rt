@@ -11,8 +11,6 @@ mod command;
 mod digits;
 mod parser;
 mod read;
-#[cfg(test)]
-mod tests;
 
 pub use command::{Command, CommandFault};
 pub use read::read_command;

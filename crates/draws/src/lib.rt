@@ -7,8 +7,6 @@
 
 mod load;
 mod program;
-#[cfg(test)]
-mod tests;
 mod turns;
 
 pub use load::load_job;

@@ -11,8 +11,6 @@
 mod load;
 mod run;
 mod telling;
-#[cfg(test)]
-mod tests;
 
 pub use load::run_load;
 pub use run::{JobEnd, Outcome, Played, look, play, put_report, run_job};

@@ -14,8 +14,6 @@ mod lines;
 mod numbered;
 mod read;
 mod reading;
-#[cfg(test)]
-mod tests;
 mod words;
 mod write;
 

@@ -18,8 +18,6 @@ mod paths;
 mod site_file;
 mod std_sink;
 mod std_source;
-#[cfg(test)]
-mod tests;
 mod transfer;
 mod unit_files;
 

@@ -12,8 +12,6 @@ mod one_line;
 mod pieces;
 mod refusal;
 mod report;
-#[cfg(test)]
-mod tests;
 mod text;
 
 pub use one_line::{OneLine, put_line};

@@ -17,8 +17,6 @@ pub mod law;
 mod place;
 mod reporting;
 mod summing;
-#[cfg(test)]
-mod tests;
 mod volumes;
 
 pub use all_volumes::listing;

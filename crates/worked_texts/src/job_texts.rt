@@ -37,7 +37,7 @@ fn the_first_job_is_read_and_written(rt: HostRuntime) -> Result<(), Fail> {
     Ok(())
 }
 
-const REFUSALS: [(&str, u32, JobKind); 11] = [
+const REFUSALS: [(&str, u32, JobKind); 16] = [
     ("mss 1 frames 1 recorders 1\nhost\t1\n", 2, JobKind::BadByte),
     (
         "mss 1 frames 1 recorders 1\ndone\n\nhost 1\n",
@@ -69,6 +69,32 @@ const REFUSALS: [(&str, u32, JobKind); 11] = [
         JobKind::Count,
     ),
     ("mss 1 frames 1 recorders 1\nhost 1\n", 3, JobKind::Ended),
+    // Lines that begin like a command in its commonest spelling.
+    (
+        "mss 1 frames 1 recorders 1\nhost 1\nccw 03\n",
+        3,
+        JobKind::Unknown,
+    ),
+    (
+        "mss 1 frames 1 recorders 1\nhost 1\nprogram\nccw 0300\n",
+        4,
+        JobKind::Shape,
+    ),
+    (
+        "mss 1 frames 1 recorders 1\nhost 1\nprogram\nccw 03 0\n",
+        4,
+        JobKind::Shape,
+    ),
+    (
+        "mss 1 frames 1 recorders 1\nhost 1\nprogram\nccw 03  00\n",
+        4,
+        JobKind::Shape,
+    ),
+    (
+        "mss 1 frames 1 recorders 1\nhost 1\nprogram\nccw 03 fill 00 1\n",
+        5,
+        JobKind::Ended,
+    ),
 ];
 
 #[test]
