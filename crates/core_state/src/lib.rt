@@ -54,8 +54,6 @@ mod room;
 mod rule;
 mod session;
 mod task;
-#[cfg(test)]
-mod tests;
 
 pub use change::write_change;
 pub use ckd_plain::Entry;

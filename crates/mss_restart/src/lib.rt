@@ -15,20 +15,12 @@ mod cartridges;
 mod creations;
 mod halves;
 pub mod law;
-#[cfg(test)]
-mod lost_table_tests;
 mod numbers;
-#[cfg(test)]
-mod open_tests;
 mod opening;
 mod pages;
 mod repairs;
 mod rows;
-#[cfg(test)]
-mod survey_tables;
 mod surveying;
-#[cfg(test)]
-mod tests;
 mod tracks;
 
 pub use creations::{Creation, Creations};

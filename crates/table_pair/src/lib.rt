@@ -12,8 +12,6 @@ mod create;
 pub mod law;
 mod read;
 mod repairs;
-#[cfg(test)]
-mod tests;
 mod write;
 
 pub use change::{CHANGE_WRITES, change_row};

@@ -8,8 +8,6 @@
 
 mod copy;
 pub mod law;
-#[cfg(test)]
-mod tests;
 mod transfer;
 
 pub use copy::copy_track;

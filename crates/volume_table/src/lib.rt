@@ -15,8 +15,6 @@ mod layout;
 mod lists;
 mod row;
 mod state;
-#[cfg(test)]
-mod tests;
 
 pub use changes::{Change, apply, is_allowed};
 pub use decode::{check_row, decode_row};
