@@ -66,37 +66,6 @@ fn names_the_bad_record(rt: HostRuntime) -> Result<(), Fail> {
     Ok(())
 }
 
-#[test]
-fn a_torn_update_shows_its_bytes(rt: HostRuntime) -> Result<(), Fail> {
-    let mut site = MemorySite::new(rt.alloc())?;
-    site.reserve(5)?;
-    let at = BlockPlace {
-        unit: UnitNo::Staging(0),
-        block: 7,
-    };
-    let mut block = [0; 16384];
-    site.read(at.unit, at.block, &mut block)?;
-    format_record(&mut site, &at, &block, 1, &COUNT_DATA)?;
-    site.read(at.unit, at.block, &mut block)?;
-    check_track(&block)?;
-    assert_eq!(rt; record_count(&block), 1);
-    let place = find_place(&block, 1).ok_or("no record")?;
-    let found = record_at(&block, place);
-    assert_eq!(rt; found.body, b"ABC".as_slice());
-    assert_eq!(rt; site.writes(), 2);
-
-    update_record(&mut site, &at, &block, 1, place, false, b"XYZ")?;
-    site.read(at.unit, at.block, &mut block)?;
-    let place = find_place(&block, 1).ok_or("no record")?;
-    assert_eq!(rt; record_at(&block, place).body, b"XYZ".as_slice());
-    assert_eq!(rt; site.writes(), 3);
-
-    let tear = Some([0xFF, 0, 0xFF].as_slice());
-    assert_left(&rt, &site, &at, (2, None), &[b"ABC"])?;
-    assert_left(&rt, &site, &at, (2, tear), &[&[0xFF, 0, 0xFF]])?;
-    assert_left(&rt, &site, &at, (3, tear), &[b"XYZ"])
-}
-
 // A record of cylinder 5, head 3, without a key.
 fn record_of(number: u8, data: &[u8; 3]) -> [u8; 11]
     ensures { IsRecord result }
@@ -117,6 +86,22 @@ fn format(site: &mut MemorySite, at: &BlockPlace, number: u8, data: &[u8; 3]) ->
         return Err("the cost of the record".into());
     }
     format_record(site, at, &block, number, &record)?;
+    Ok(())
+}
+
+// Writes data of three bytes over those of the first record.
+fn update(site: &mut MemorySite, at: &BlockPlace, data: &[u8; 3]) -> Result<(), Fail> {
+    let mut block = [0; 16384];
+    site.reserve(1)?;
+    site.read(at.unit, at.block, &mut block)?;
+    if record_count(&block) < 1 {
+        return Err("no record".into());
+    }
+    let place = find_place(&block, 1).ok_or("no record")?;
+    if record_at(&block, place).body.len() != 3 {
+        return Err("the length of the data".into());
+    }
+    update_record(site, at, &block, 1, place, false, data)?;
     Ok(())
 }
 
@@ -141,7 +126,24 @@ fn assert_left(
     Ok(())
 }
 
-// Three records take two writes each. The second is formatted again: its gate and the next are closed, it is put, its gate opened.
+#[test]
+fn a_torn_update_shows_its_bytes(rt: HostRuntime) -> Result<(), Fail> {
+    let mut site = MemorySite::new(rt.alloc())?;
+    let at = BlockPlace {
+        unit: UnitNo::Staging(0),
+        block: 7,
+    };
+    format(&mut site, &at, 1, b"ABC")?;
+    assert_left(&rt, &site, &at, (2, None), &[b"ABC"])?;
+    update(&mut site, &at, b"XYZ")?;
+    assert_eq!(rt; site.writes(), 3);
+    let tear = Some([0xFF, 0, 0xFF].as_slice());
+    assert_left(&rt, &site, &at, (2, tear), &[&[0xFF, 0, 0xFF]])?;
+    assert_left(&rt, &site, &at, (3, tear), &[b"XYZ"])
+}
+
+// Three records take two writes each. The second is formatted again: its gate and the next are
+// closed, it is put, its gate opened.
 #[test]
 fn a_stop_within_a_format_ends_the_track_before_its_record(rt: HostRuntime) -> Result<(), Fail> {
     let mut site = MemorySite::new(rt.alloc())?;
