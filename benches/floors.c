@@ -161,6 +161,23 @@ static void fill(const long *numbers) {
     free(kept);
 }
 
+// lists N LENGTH BYTES: so many lists, each of which grows by doubling to so many items of so many bytes.
+static void lists(const long *numbers) {
+    char **kept = malloc(numbers[0] * sizeof *kept);
+    for (long list = 0; list < numbers[0]; list++) {
+        char *items = NULL;
+        for (long number = 0, room = 0; number < numbers[1]; number++) {
+            if (number == room)
+                items = realloc(items, (room = room ? 2 * room : 4) * numbers[2]);
+            memset(items + number * numbers[2], (int)number, numbers[2]);
+        }
+        kept[list] = items;
+    }
+    for (long list = 0; list < numbers[0]; list++)
+        free(kept[list]);
+    free(kept);
+}
+
 // keep N BYTES: so many bytes of the block, copied N times, as a history keeps what a command was given or gave.
 static void keep(const long *numbers) {
     for (long number = 0; number < numbers[0]; number++)
@@ -310,6 +327,7 @@ static const struct step {
     {"survey", survey, 2}, {"stage", stage, 1},     {"mark", mark, 1},       {"search", search, 2},
     {"scan", scan, 2},     {"again", again, 1},     {"update", update, 2},   {"format", format, 3},
     {"entries", entries, 1}, {"changes", changes, 1}, {"data", data, 2},     {"tell", tell, 2},
+    {"lists", lists, 3},
 };
 
 // Runs a program and waits for its end. A small process does so, since a child has its parent's memory until it runs a
