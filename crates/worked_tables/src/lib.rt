@@ -8,11 +8,15 @@
 #[cfg(test)]
 mod changes;
 #[cfg(test)]
+mod lost_copies;
+#[cfg(test)]
 mod lost_table;
 #[cfg(test)]
 mod openings;
 #[cfg(test)]
 mod refusals;
+#[cfg(test)]
+mod restarts;
 #[cfg(test)]
 mod row_copies;
 #[cfg(test)]
