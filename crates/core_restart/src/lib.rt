@@ -15,10 +15,6 @@ mod owners;
 mod parts;
 mod restarting;
 mod rows;
-#[cfg(test)]
-mod survey_tests;
-#[cfg(test)]
-mod tests;
 
 pub use mss_restart::Refused;
 pub use restarting::restart;
