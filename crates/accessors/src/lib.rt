@@ -7,8 +7,6 @@
 
 mod places;
 mod rail;
-#[cfg(test)]
-mod tests;
 
 pub use places::{CELL_PLACES, RAIL_END, cell_place, recorder_place};
 pub use rail::{Accessor, MovePlan, Rail, plan_move};

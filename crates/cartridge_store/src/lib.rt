@@ -5,7 +5,5 @@
 #![tactic(auto)]
 
 mod store;
-#[cfg(test)]
-mod tests;
 
 pub use store::{CARTRIDGES, MoveFault, Place, Store};

@@ -9,8 +9,6 @@ mod call;
 mod ccw;
 mod codes;
 mod command;
-#[cfg(test)]
-mod tests;
 
 pub use call::{BreakCause, Call, DeviceCommand, Reply};
 pub use ccw::Ccw;

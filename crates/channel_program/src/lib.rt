@@ -9,8 +9,6 @@
 mod calls;
 mod cursor;
 mod law;
-#[cfg(test)]
-mod tests;
 
 pub use calls::{command_call, is_command, next_call};
 pub use cursor::{Cursor, NextCall, Program, command_at, next};

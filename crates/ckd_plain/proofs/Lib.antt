@@ -5,8 +5,6 @@ pub mod IndexFacts
 pub mod CommandFacts
 pub mod LooksFacts
 pub mod Entries
-pub mod StateFacts
-pub mod BlankFacts
 pub mod HostFacts
 pub mod VolumeFacts
 pub mod CheckFacts

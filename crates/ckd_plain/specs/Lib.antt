@@ -6,5 +6,4 @@ pub mod Plain
 pub mod History
 pub mod Near
 pub mod Views
-pub mod StateData
 pub mod Laws

@@ -7,7 +7,7 @@ ghost use Rattle.ckd_plain.specs.Checks.{is_address, Passes};
 ghost use Rattle.ckd_plain.specs.Effects.{is_data, is_ending, effect, seek_done};
 ghost use Rattle.ckd_plain.specs.Index.{Tracks};
 ghost use Rattle.ckd_plain.specs.Plain.{opened, performed, IsDone, KeepsChain};
-ghost use Rattle.ckd_plain.specs.StateData.{Responds};
+ghost use Rattle.ckd_plain.specs.Views.{Responds};
 ghost use Rattle.ckd_plain.specs.Views.{effect_of};
 
 use crate::answer::{cleared, finished, opened};

@@ -1,9 +1,9 @@
 //! The plain machine: what hosts see of 3330 volumes, with no cartridge, page, table or fault behind them.
 //!
-//! `plain_step` gives each call's reply and the state after it, and equals `plain` of `specs/Plain.antt`, whose parts
-//! stand beside it by subject: the checks, where a command finds its record, what each command does. The layers above
-//! rely on that definition, on legal histories (`specs/History.antt`, which grow by the laws of `laws`), and on what a
-//! stop may leave of a write (`specs/Near.antt`). An engine on other tracks builds its answers of the same `steps`.
+//! The definition is `plain` of `specs/Plain.antt`, whose parts stand beside it by subject: the checks, where a command
+//! finds its record, what each command does. The layers above rely on it, on legal histories (`specs/History.antt`, which
+//! grow by the laws of `laws`), and on what a stop may leave of a write (`specs/Near.antt`). An engine builds its answers
+//! of the `steps`, whatever holds its tracks; `plain_machine` is one on tracks in memory.
 //!
 //! Of the proofs the layers above may cite: `Entries` and `Histories`, on which entries may come next and what a history
 //! leaves; `CommandFacts`, `WriteFacts` and `SenseFacts`, on what a command never does, what a write needs and what sense
@@ -21,18 +21,12 @@ mod index;
 pub mod laws;
 mod read;
 mod response;
-mod run;
 mod search;
-mod state;
 pub mod steps;
-mod trouble;
 mod unit_check;
-mod volume;
 mod write;
 
 pub use checks::admitted;
 pub use entry::Entry;
 pub use host::{HostState, Position, Prior};
-pub use run::run_command;
-pub use state::{PlainState, plain_step};
 pub use unit_check::{Refusal, UnitCheck};

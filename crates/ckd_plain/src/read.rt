@@ -1,17 +1,14 @@
 // Reads.
-ghost use Rattle.std.specs.Prelude.{◌≡◌, ◌≢◌, ◌++◌, length, IfOk, true};
+ghost use Rattle.std.specs.Prelude.{◌≡◌, ◌++◌, IfOk, true};
 ghost use Rattle.ckd_track.specs.Data.{HasCount};
 ghost use Rattle.ckd_plain.specs.Effects.{is_ending, at_hand, record_given, record_zero_read, home_read, read};
-ghost use Rattle.ckd_plain.specs.Views.{cylinder_of, item_of, found_of, effect_of, GivesUnless};
+ghost use Rattle.ckd_plain.specs.Views.{item_of, found_of, effect_of};
 
 use crate::done::{DONE, DoneCommand};
 use crate::found::{FoundRecord, two_bytes};
 use crate::host::{HostState, Position};
-use crate::index::{this_or_next, to_home};
-use crate::trouble::Trouble;
 use channel_commands::ReadWhat;
-use ckd_track::Track;
-use mss_base::{Bytes, HEADS, NoMemory};
+use mss_base::{Bytes, NoMemory};
 use std::alloc::Global;
 
 /// The bytes of both.
@@ -110,44 +107,5 @@ pub fn at_hand(what: ReadWhat, position: Position) -> Option<u8>
         (ReadWhat::Data, Position::Key(number)) => Some(number),
         (ReadWhat::KeyData, Position::Count(number)) => Some(number),
         _ => None,
-    }
-}
-
-/// A read of a record.
-#[tactic(auto, unfolding(crate::specs::Effects::read))]
-fn read_record(
-    alloc: Global,
-    tracks: &[Track],
-    host: &HostState,
-    what: ReadWhat,
-    multi: bool,
-) -> Result<DoneCommand, Trouble>
-    requires cylinder { length tracks.now ≡ HEADS }
-    requires no_home { what ≢ ReadWhat.Home }
-    requires no_zero { what ≢ ReadWhat.RecordZero }
-    ensures { GivesUnless effect_of result (read (cylinder_of tracks.now) host.now what multi) }
-{
-    match &this_or_next(tracks, host, at_hand(what, host.position), multi) {
-        Ok(found) => Ok(found.given(alloc, what)?),
-        Err(refusal) => Err(Trouble::Refused(*refusal)),
-    }
-}
-
-/// A read of any kind.
-#[tactic(auto, unfolding(crate::specs::Effects::read))]
-pub fn read(
-    alloc: Global,
-    tracks: &[Track],
-    host: &HostState,
-    what: ReadWhat,
-    multi: bool,
-) -> Result<DoneCommand, Trouble>
-    requires cylinder { length tracks.now ≡ HEADS }
-    ensures { GivesUnless effect_of result (read (cylinder_of tracks.now) host.now what multi) }
-{
-    match what {
-        ReadWhat::Home => Ok(home_read(alloc, &to_home(*host, multi)?)?),
-        ReadWhat::RecordZero => Ok(record_zero_read(alloc, &to_home(*host, multi)?)?),
-        _ => read_record(alloc, tracks, host, what, multi),
     }
 }

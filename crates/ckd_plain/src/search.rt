@@ -1,17 +1,13 @@
 // Searches.
 ghost use Rattle.std.specs.Prelude.{◌≡◌, ◌≤◌, length, true};
 ghost use Rattle.ckd_plain.specs.Effects.{is_ending, is_met, is_key_met, search_status, prior_left, home_searched, id_searched, key_searched, key_at_hand, search};
-ghost use Rattle.channel_commands.specs.Codes.{least};
-ghost use Rattle.ckd_plain.specs.Views.{cylinder_of, found_of, Gives, effect_of};
+ghost use Rattle.ckd_plain.specs.Views.{found_of, effect_of};
 
 use crate::done::{DONE, DoneCommand, MET};
 use crate::found::{FoundRecord, two_bytes};
 use crate::host::{HostState, Position, Prior};
-use crate::index::{next_record, this_or_next, to_home};
-use crate::unit_check::Refusal;
-use channel_commands::{Command, SearchField, SearchTest};
-use ckd_track::Track;
-use mss_base::{Bytes, HEADS};
+use channel_commands::SearchTest;
+use mss_base::Bytes;
 use std::alloc::Global;
 use std::cmp::Ordering;
 
@@ -108,26 +104,6 @@ impl FoundRecord<'_> {
     }
 }
 
-#[tactic(auto, unfolding(crate::specs::Effects::search))]
-fn search_id(
-    alloc: Global,
-    tracks: &[Track],
-    host: &HostState,
-    test: SearchTest,
-    multi: bool,
-    argument: &[u8],
-) -> Result<DoneCommand, Refusal>
-    requires cylinder { length tracks.now ≡ HEADS }
-    requires long { 5 ≤ length argument.now }
-    ensures { Gives effect_of result
-        (search (cylinder_of tracks.now) host.now SearchField.Id test multi argument.now) }
-{
-    match &next_record(tracks, host, 0, multi) {
-        Ok(found) => Ok(found.id_searched(alloc, test, argument)),
-        Err(refusal) => Err(*refusal),
-    }
-}
-
 /// The record at hand for a search key.
 pub fn key_at_hand(position: Position) -> Option<u8>
     ensures { result ≡ key_at_hand position }
@@ -135,47 +111,5 @@ pub fn key_at_hand(position: Position) -> Option<u8>
     match position {
         Position::Count(number) if number > 0 => Some(number),
         _ => None,
-    }
-}
-
-#[tactic(auto, unfolding(crate::specs::Effects::search))]
-fn search_key(
-    alloc: Global,
-    tracks: &[Track],
-    host: &HostState,
-    test: SearchTest,
-    multi: bool,
-    argument: &[u8],
-) -> Result<DoneCommand, Refusal>
-    requires cylinder { length tracks.now ≡ HEADS }
-    ensures { Gives effect_of result
-        (search (cylinder_of tracks.now) host.now SearchField.Key test multi argument.now) }
-{
-    match &this_or_next(tracks, host, key_at_hand(host.position), multi) {
-        Ok(found) => Ok(found.key_searched(alloc, test, argument)),
-        Err(refusal) => Err(*refusal),
-    }
-}
-
-/// A search of any kind.
-#[tactic(auto, unfolding(crate::specs::Effects::search))]
-pub fn search(
-    alloc: Global,
-    tracks: &[Track],
-    host: &HostState,
-    field: SearchField,
-    test: SearchTest,
-    multi: bool,
-    argument: &[u8],
-) -> Result<DoneCommand, Refusal>
-    requires cylinder { length tracks.now ≡ HEADS }
-    requires long { least (Command.Search field test multi) ≤ length argument.now }
-    ensures { Gives effect_of result
-        (search (cylinder_of tracks.now) host.now field test multi argument.now) }
-{
-    match field {
-        SearchField::Home => Ok(home_searched(alloc, &to_home(*host, multi)?, argument)),
-        SearchField::Id => search_id(alloc, tracks, host, test, multi, argument),
-        SearchField::Key => search_key(alloc, tracks, host, test, multi, argument),
     }
 }

@@ -1,7 +1,10 @@
 // What a core needs of memory, which is taken before anything is written.
-ghost use Rattle.std.specs.Prelude.{◌≡◌, ◌≤◌, [], length, replicate, None, IfOk, vec_len};
+ghost use Rattle.std.specs.Prelude.{◌≡◌, ◌≤◌, ℕ, [], length, replicate, None, IfOk, vec_len};
 ghost use Rattle.mss_base.specs.declared.block.TheConstants.{BLOCK_BYTES};
+ghost use Rattle.cartridge_store.specs.Places.{home_of, place_of};
 ghost use Rattle.ckd_plain.specs.Plain.{fresh_host};
+ghost use Rattle.staging_adapter.specs.Frames.{free_frames};
+ghost use Rattle.victim_choice.specs.Order.{untouched};
 
 use cartridge_store::Store;
 use ckd_plain::HostState;
@@ -86,6 +89,48 @@ fn console_for(alloc: Global, volumes: &[(VolumeNo, Serial)]) -> Result<MessageL
     Ok(console)
 }
 
+/// The frames, which are all free, and the order in which they were touched.
+fn frame_parts(alloc: Global, count: u16) -> Result<(Frames, Recency), NoMemory>
+    requires some { 1 ≤ count }
+    requires few { count ≤ 200 }
+    ensures frames { IfOk result (λ parts. parts.0 ≡ free_frames count) }
+    ensures recency { IfOk result (λ parts. parts.1 ≡ untouched count) }
+{
+    let frames = Frames::new(alloc, count)?;
+    let recency = Recency::new(alloc, count)?;
+    Ok((frames, recency))
+}
+
+/// The recorders, each without a cartridge and a task, and the cartridges, all at home.
+fn device_parts(alloc: Global, count: u8) -> Result<(TaskList, RecorderList, Store), NoMemory>
+    requires { count ≤ 8 }
+    ensures tasks { IfOk result (λ parts. parts.0.items ≡ replicate count None) }
+    ensures recorders { IfOk result (λ parts. parts.1.items ≡ replicate count None) }
+    ensures at_home { IfOk result (λ parts.
+        (cartridge : ℕ) → place_of parts.2 cartridge ≡ home_of cartridge) }
+{
+    let tasks = no_tasks(alloc, count)?;
+    let recorders = empty_recorders(alloc, count)?;
+    let store = Store::new(alloc)?;
+    Ok((tasks, recorders, store))
+}
+
+/// The hosts as they begin, with no request, and room for a message of each of these volumes.
+fn host_parts(
+    alloc: Global,
+    volumes: &[(VolumeNo, Serial)],
+) -> Result<(HostStateList, Queue, MessageList), NoMemory>
+    ensures hosts { IfOk result (λ parts. parts.0.items ≡ replicate 8 fresh_host) }
+    ensures requests { IfOk result (λ parts. parts.1 ≡ []) }
+    ensures console { IfOk result (λ parts. parts.2.items ≡ []) }
+    ensures room { IfOk result (λ parts. length volumes.now ≤ parts.2.spare) }
+{
+    let hosts = fresh_hosts(alloc)?;
+    let requests = Queue::new(alloc)?;
+    let console = console_for(alloc, volumes)?;
+    Ok((hosts, requests, console))
+}
+
 impl Parts {
     ghost use Rattle.core_restart.specs.Parts.{AreParts};
 
@@ -93,17 +138,22 @@ impl Parts {
     pub fn new(alloc: Global, config: &Config) -> Result<Parts, NoMemory>
         ensures { IfOk result (AreParts config.now) }
     {
+        let (frames, recency) = frame_parts(alloc, config.frames)?;
+        let (tasks, recorders, store) = device_parts(alloc, config.recorders)?;
+        let (hosts, requests, console) = host_parts(alloc, config.volumes.as_slice())?;
+        let buffer = block(alloc)?;
+        let config = copy_of(alloc, config)?;
         Ok(Parts {
-            config: copy_of(alloc, config)?,
-            buffer: block(alloc)?,
-            frames: Frames::new(alloc, config.frames)?,
-            recency: Recency::new(alloc, config.frames)?,
-            requests: Queue::new(alloc)?,
-            tasks: no_tasks(alloc, config.recorders)?,
-            store: Store::new(alloc)?,
-            recorders: empty_recorders(alloc, config.recorders)?,
-            hosts: fresh_hosts(alloc)?,
-            console: console_for(alloc, config.volumes.as_slice())?,
+            config,
+            buffer,
+            frames,
+            recency,
+            requests,
+            tasks,
+            store,
+            recorders,
+            hosts,
+            console,
         })
     }
 }

@@ -1,8 +1,11 @@
 -- At the rule that runs a command: what the command asks for, and that what comes of it is the event and keeps the core.
-use Rattle.std.proofs.Common.{◌≡◌, ℕ, ◌/◌, ◌≤◌, ◌<◌, true, List, length, Option, Some, None, sym, ◌∙◌, ap, subst, arith}
+use Rattle.std.specs.Prelude.{IsSome}
+use Rattle.std.proofs.Common.{rules, ◌≡◌, ℕ, ◌/◌, ◌≤◌, ◌<◌, true, List, length, Option, Some, None, sym, ◌∙◌, ap, subst, arith}
 use Rattle.mss_base.specs.Content.{SiteLog, content}
 use Rattle.mss_base.specs.Places.{frame_block}
 use Rattle.mss_base.specs.Sites.{FailingReads, MayWrite}
+use Rattle.volume_table.specs.Listed.{listed}
+use Rattle.volume_table.specs.Row.{RowValue, frame_of, state_of}
 use Rattle.channel_commands.specs.declared.command.Command.{Command}
 use Rattle.channel_commands.specs.Data.{CallData, ReplyData, equipment_check, stopped, is_command}
 use Rattle.ckd_plain.specs.declared.host.HostState.{HostState}
@@ -52,6 +55,19 @@ module _ (S : Type 0) {C : Type 0} (tells : Type 0) (told : S → SiteLog) (spar
 
   pub is_data_ : is_data c ≡ true
   is_data_ = data_ S tells (told u.site) u kept.whole h low_host call c volume frame on
+
+  -- the row of the volume tells that the cylinder is staged in the frame
+  pub has_row : IsSome (listed u.rows volume)
+  has_row = let there : IsSome (Some on.r) = search rules in subst IsSome (sym on.at.row) there
+
+  same_row : (r : RowValue) → listed u.rows volume ≡ Some r → on.r ≡ r
+  same_row r there = let e : Some on.r ≡ Some r = sym on.at.row ∙ there in cc
+
+  pub in_frame : (r : RowValue) → listed u.rows volume ≡ Some r → frame_of r (state.cylinder / 8) ≡ Some frame
+  in_frame r there = subst (λ (p : RowValue × HostState). frame_of p.0 (p.1.cylinder / 8) ≡ Some frame) (λ i. (same_row r there i, sym is i)) on.at.frame_
+
+  pub is_staged : (r : RowValue) → listed u.rows volume ≡ Some r → 2 ≤ state_of r state.cylinder
+  is_staged r there = subst (λ (p : RowValue × HostState). 2 ≤ state_of p.0 p.1.cylinder) (λ i. (same_row r there i, sym is i)) on.at.staged
 
   pub touches : frame < length u.recency
   touches = let e = order_long u.config.frames u.recency core.beside.order in let b = on.below in omega (arith, e, b)

@@ -1,10 +1,12 @@
 // The event of a search, read or write on a staged cylinder.
-ghost use Rattle.std.specs.Prelude.{◌≡◌, ◌≤◌, ◌<◌, Bool, length, true, false, IfErr};
+ghost use Rattle.std.specs.Prelude.{◌≡◌, ◌≤◌, ◌<◌, ◌/◌, Bool, length, true, false, Some, IsSome, IfErr};
 ghost use Rattle.mss_base.specs.Content.{content};
 ghost use Rattle.mss_base.specs.Places.{frame_block};
 ghost use Rattle.mss_base.specs.Sites.{MayWrite};
 ghost use Rattle.mss_base.specs.declared.block.TheConstants.{BLOCK_BYTES};
 ghost use Rattle.mss_base.specs.declared.place.UnitNo.{UnitNo};
+ghost use Rattle.volume_table.specs.Listed.{listed};
+ghost use Rattle.volume_table.specs.Row.{frame_of, state_of};
 ghost use Rattle.channel_commands.specs.Data.{is_command};
 ghost use Rattle.channel_commands.specs.Views.{call_of, reply_of};
 ghost use Rattle.ckd_plain.specs.Checks.{Passes};
@@ -32,10 +34,12 @@ use ckd_plain::steps::checked;
 use ckd_plain::{HostState, UnitCheck};
 use core_state::looks::host_at;
 use core_state::{Core, TaskList, touch_all};
-use mss_base::{Bytes, CYLINDERS, FrameNo, HEADS, Head, HostNo, Page, Site, VolumeNo, frame_block};
+use mss_base::{Bytes, CYLINDERS, FrameNo, HEADS, Head, HostNo, Page, Site, VolumeNo};
+use staging_adapter::{Translated, translate};
 use std::alloc::Global;
 use track_engine::{CylinderPlace, EngineFault, run_command};
 use victim_choice::Choose;
+use volume_table::VolumeRow;
 
 /// How many writes a command makes at most.
 const RUN_WRITES: u32 = 4;
@@ -53,16 +57,34 @@ fn standing(hosts: &[HostState], host: HostNo) -> HostState
     state
 }
 
-/// The blocks of a host's cylinder in a frame.
-fn place_in(frame: FrameNo, host: &HostState) -> CylinderPlace
+/// The row of a volume that has one.
+fn row_of(rows: &[Option<VolumeRow>], volume: VolumeNo) -> &VolumeRow
+    requires all { length rows.now ≡ 32 }
+    requires there { IsSome (listed rows.now volume) }
+    ensures { listed rows.now volume ≡ Some result.now }
+{
+    let Some(row) = &rows[usize::from(volume.get())] else {
+        unreachable!()
+    };
+    row
+}
+
+/// The blocks of a host's cylinder, which is staged in this frame.
+fn place_in(row: &VolumeRow, frame: FrameNo, host: &HostState) -> CylinderPlace
+    requires frame { frame_of row.now (host.now.cylinder / 8) ≡ Some frame }
+    requires staged { 2 ≤ state_of row.now host.now.cylinder }
     ensures unit { result.unit ≡ (frame_block frame host.now.cylinder 0).unit }
     ensures block { result.first_block ≡ (frame_block frame host.now.cylinder 0).block }
     ensures in_range { result.first_block < 7600 }
 {
-    let at = frame_block(frame, host.cylinder, Head::of(0).unwrap());
-    CylinderPlace {
-        unit: at.unit,
-        first_block: at.block,
+    // The clauses speak of the frame; the row tells it.
+    let _ = frame;
+    match translate(row, host.cylinder, Head::of(0).unwrap()) {
+        Translated::Real { unit, block } => CylinderPlace {
+            unit,
+            first_block: block,
+        },
+        Translated::Fault { .. } => unreachable!(),
     }
 }
 
@@ -88,12 +110,15 @@ fn run_in<S: Site>(
     alloc: Global,
     site: &mut S,
     buffer: &mut [u8],
+    row: &VolumeRow,
     frame: FrameNo,
     call: &Call,
     command: &Command,
     host: &mut HostState,
 ) -> Result<(Reply, Reply), EngineFault>
     requires buffer { length buffer.old ≡ BLOCK_BYTES }
+    requires frame { frame_of row.now (host.old.cylinder / 8) ≡ Some frame }
+    requires staged { 2 ≤ state_of row.now host.old.cylinder }
     requires asks { is_command (call_of call.now) ≡ true }
     requires passes { Passes (opened host.old) command.now (argument_of (call_of call.now)) }
     requires data { is_data command.now ≡ true }
@@ -117,7 +142,7 @@ fn run_in<S: Site>(
     };
     let bytes = asked.argument.as_slice();
     let chained = asked.chained;
-    let place = place_in(frame, host);
+    let place = place_in(row, frame, host);
     let reply = run_command(alloc, site, &place, buffer, command, bytes, chained, host)?;
     let reply = bare(alloc, command, reply);
     let Ok(copy) = copy_of_reply(alloc, &reply) else {
@@ -166,9 +191,10 @@ pub fn run<S: Site, C: Choose>(
     };
     let index = core.session.history.as_slice().len() as u64;
     let mut now = old;
+    let row = row_of(&core.rows, volume);
     let site = &mut core.site;
     let buffer = &mut core.buffer;
-    match run_in(alloc, site, buffer, frame, call, command, &mut now) {
+    match run_in(alloc, site, buffer, row, frame, call, command, &mut now) {
         Ok((reply, told)) => {
             let mark = core.site.writes();
             enter(&mut core.session, host, copy, reply, None, mark);

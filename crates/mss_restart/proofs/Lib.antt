@@ -17,4 +17,3 @@ pub mod Completed
 pub mod Finishing
 pub mod OneCopy
 pub mod OneTable
-pub mod LostTable

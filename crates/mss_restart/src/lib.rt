@@ -6,15 +6,13 @@
 //! it is that of the rows as they were read. `specs/Survey.antt` says both, and which count of faults `RowUnread` and
 //! `Stopped` keep; `specs/Opening.antt` says what an opened site is, and what it shows at each moment within. A survey
 //! takes memory for the rows and for two blocks, and reads each block that is shown once. Where each copy of a row
-//! tells it alone, one unit of the table that can't be read changes nothing (`specs/OneCopy.antt`); `law` shows that
-//! devices can be so, and lemmas on it, which the layers above cite, are `proofs/OneCopy.antt` and
-//! `proofs/OneTable.antt`.
+//! tells it alone, one unit of the table that can't be read changes nothing (`specs/OneCopy.antt`); lemmas on it,
+//! which the layers above cite, are `proofs/OneCopy.antt` and `proofs/OneTable.antt`.
 #![tactic(auto)]
 
 mod cartridges;
 mod creations;
 mod halves;
-pub mod law;
 mod numbers;
 mod opening;
 mod pages;

@@ -14,10 +14,6 @@ mod input;
 mod run;
 mod showing;
 mod status;
-#[cfg(test)]
-mod stream_tests;
-#[cfg(test)]
-mod tests;
 
 pub use at_once::{EndedAtOnce, threads};
 pub use ending::Ended;

@@ -8,9 +8,6 @@ ghost use Rattle.std.specs.Prelude.{◌≡◌, Some, None, OnOk, IfErr};
 use mss_base::CartridgeNo;
 use std::marker::Model;
 
-#[cfg(test)]
-mod tests;
-
 /// A data recording device.
 #[derive(Drop)]
 pub struct Recorder {

@@ -4,4 +4,3 @@ pub mod Places
 pub mod Keeps
 pub mod BookFacts
 pub mod CallFacts
-pub mod RowFacts

@@ -12,8 +12,6 @@ mod calls;
 mod moves;
 mod passes;
 mod rule;
-#[cfg(test)]
-mod tests;
 mod types;
 
 pub use calls::{append, close, host_pass, look, make, see, start_book};

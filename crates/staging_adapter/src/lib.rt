@@ -10,8 +10,6 @@
 mod adapter;
 mod frames;
 pub mod law;
-#[cfg(test)]
-mod tests;
 
 pub use adapter::{Translated, translate};
 pub use frames::Frames;

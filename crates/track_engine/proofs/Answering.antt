@@ -14,7 +14,7 @@ use Rattle.ckd_plain.specs.declared.unit_check.Refusal.{Refusal}
 use Rattle.ckd_plain.specs.Index.{Tracks}
 use Rattle.ckd_plain.specs.Effects.{Outcome, effect, is_ending, prior_number}
 use Rattle.ckd_plain.specs.Plain.{Answer, UNIT_CHECK, opened, cleared, refused, finished, answered, performed}
-use Rattle.ckd_plain.specs.StateData.{Responds}
+use Rattle.ckd_plain.specs.Views.{Responds}
 use Rattle.ckd_plain.specs.Views.{effect_of}
 use Rattle.track_engine.specs.declared.place.NotDone.{NotDone}
 use Rattle.track_engine.specs.declared.place.NotDone.TheVariants.{Refused}

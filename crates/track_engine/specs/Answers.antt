@@ -11,7 +11,7 @@ use Rattle.ckd_track.specs.Data.{RecordData}
 use Rattle.ckd_track.specs.Track.{reading, reading_of}
 use Rattle.ckd_plain.specs.declared.host.HostState.{HostState}
 use Rattle.ckd_plain.specs.Plain.{Answer, opened, performed, IsDone, KeepsChain}
-use Rattle.ckd_plain.specs.StateData.{Responds}
+use Rattle.ckd_plain.specs.Views.{Responds}
 use Rattle.track_engine.specs.declared.place.CylinderPlace.{CylinderPlace}
 use Rattle.track_engine.specs.declared.place.EngineFault.{EngineFault}
 use Rattle.track_engine.specs.Faults.{FailsBy, HasUnitCheck, IsNoFailure, IsNoFailedWrite}

@@ -11,7 +11,7 @@ ghost use Rattle.ckd_plain.specs.declared.host.Prior.{Prior};
 ghost use Rattle.ckd_plain.specs.Checks.{Passes, is_prior_permitted};
 ghost use Rattle.ckd_plain.specs.Effects.{effect, is_data, is_ending, prior_number};
 ghost use Rattle.ckd_plain.specs.Plain.{opened, IsDone, KeepsChain};
-ghost use Rattle.ckd_plain.specs.StateData.{Responds};
+ghost use Rattle.ckd_plain.specs.Views.{Responds};
 ghost use Rattle.ckd_plain.specs.Views.{effect_of};
 ghost use Rattle.track_engine.specs.Answers.{ran_on, Runs, LeavesHost, LeavesDevices};
 ghost use Rattle.track_engine.specs.Faults.{HasReadCause, HasNotFailed, HasNoFailedWrite, IsNoFailure, IsNoFailedWrite, IsUndone, FailsBy, HasUnitCheck};

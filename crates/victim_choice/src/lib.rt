@@ -9,8 +9,6 @@
 mod choose;
 mod kept;
 mod recency;
-#[cfg(test)]
-mod tests;
 
 pub use choose::{Candidate, Choose, Lru};
 pub use kept::{Chooser, Kept};

@@ -1,7 +1,9 @@
 -- What comes of the command is the event, and keeps the core.
-use Rattle.std.proofs.Common.{length, refl, None, Some, ◌∙◌, ap, subst}
-use Rattle.std.specs.Prelude.{◌-◌, slice_set, Err}
+use Rattle.std.proofs.Common.{rules, ◌≡◌, length, refl, None, Some, ◌∙◌, sym, ap, subst}
+use Rattle.std.specs.Prelude.{◌-◌, slice_set, Err, List, Option, IsSome}
 use Rattle.std.specs.Vec.{vec_len}
+use Rattle.volume_table.specs.Listed.{listed}
+use Rattle.volume_table.specs.Row.{RowValue}
 use Rattle.channel_commands.specs.Data.{equipment_check, stopped}
 use Rattle.channel_commands.specs.Views.{call_of, reply_of}
 use Rattle.mss_base.specs.Places.{frame_block}
@@ -14,7 +16,7 @@ use Rattle.core_state.specs.Tasks.{tasks_after}
 use Rattle.host_events.specs.Replies.{with_reply}
 use Rattle.host_events.specs.Runs.{run_by, devices, Comes}
 use Rattle.host_events.proofs.Prepared.{prepared_kept}
-use Rattle.host_events.proofs.RunKept.{is_asked, is_data_, touches, passes_, tracks_, still_kept, run_kept, run_event, check_kept, stop_kept, stop_event}
+use Rattle.host_events.proofs.RunKept.{has_row, in_frame, is_staged, is_asked, is_data_, touches, passes_, tracks_, still_kept, run_kept, run_event, check_kept, stop_kept, stop_event}
 use Rattle.host_events.proofs.run.run.Goals as goal
 
 pub invariant_of-core : goal.invariant_of-core
@@ -134,3 +136,23 @@ invariant_of-core-in-Err-Memory-2 g c =
     (subst (λ (e : EngineFault). Comes S.tells (run_by c.standing-old.result (frame_block c.args.frame c.standing-old.result.cylinder 0) c.args.command.now (call_of c.args.call.now))
     (devices S.told S.writes S.faults c.prepare.new.site) (devices S.told S.writes S.faults c.run_in.new.site) c.run_in.new.host (Err e)) c.in-Err-Memory.field-0-is c.in-Err-Memory.ensures.comes)
     (session_data c.prepare.new.session) c.prepare.ensures.session
+
+pub row_of-row-requires-clause-there : goal.row_of-row-requires-clause-there
+row_of-row-requires-clause-there g c =
+    let S = g.S.Site in
+    subst (λ (rows : List (Option RowValue)). IsSome (listed rows c.args.volume)) (sym c.deref.ensures.value) (has_row g.row.S.Denot S.tells S.told S.spare S.writes S.faults S.never_fails_but c.args.core.now c.core.view_is (vec_len c.core.inside.buffer) c.core.invariant c.args.host (call_of c.args.call.now) c.args.command.now
+    c.args.volume c.args.frame c.requires.rule c.standing-old.result (c.standing-old.ensures.state ∙ ap (λ l. host_at l c.args.host) c.as_slice.ensures) c.standing-old.ensures.cylinder c.standing-old.ensures.head)
+
+pub run_in-requires-clause-frame : goal.run_in-requires-clause-frame
+run_in-requires-clause-frame g c =
+    let S = g.S.Site in
+    in_frame g.row.S.Denot S.tells S.told S.spare S.writes S.faults S.never_fails_but c.args.core.now c.core.view_is (vec_len c.core.inside.buffer) c.core.invariant c.args.host (call_of c.args.call.now) c.args.command.now
+    c.args.volume c.args.frame c.requires.rule c.standing-old.result (c.standing-old.ensures.state ∙ ap (λ l. host_at l c.args.host) c.as_slice.ensures) c.standing-old.ensures.cylinder c.standing-old.ensures.head
+    c.row_of-row.result.now (let e : listed c.core.inside.rows.items c.args.volume ≡ Some c.row_of-row.result.now = search rules in e)
+
+pub run_in-requires-clause-staged : goal.run_in-requires-clause-staged
+run_in-requires-clause-staged g c =
+    let S = g.S.Site in
+    is_staged g.row.S.Denot S.tells S.told S.spare S.writes S.faults S.never_fails_but c.args.core.now c.core.view_is (vec_len c.core.inside.buffer) c.core.invariant c.args.host (call_of c.args.call.now) c.args.command.now
+    c.args.volume c.args.frame c.requires.rule c.standing-old.result (c.standing-old.ensures.state ∙ ap (λ l. host_at l c.args.host) c.as_slice.ensures) c.standing-old.ensures.cylinder c.standing-old.ensures.head
+    c.row_of-row.result.now (let e : listed c.core.inside.rows.items c.args.volume ≡ Some c.row_of-row.result.now = search rules in e)

@@ -1,6 +1,0 @@
-use Rattle.std.proofs.Common.{◌≡◌, None}
-use Rattle.std.specs.Prelude.{replicate}
-use Rattle.ckd_plain.proofs.state.PlainState.empty.Given as goal
-
-abbrev pub invariant-loop : goal.invariant-loop
-invariant-loop l = l.volumes.items ≡ replicate l.counter None

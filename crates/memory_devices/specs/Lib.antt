@@ -1,0 +1,9 @@
+pub mod Calls
+pub mod LogInside
+pub mod Logged
+pub mod Memory
+pub mod MemorySite
+pub mod MemoryWhole
+pub mod SiteFaults
+pub mod SilentState
+pub mod Streams

@@ -1,0 +1,120 @@
+// The blocks of a site in memory.
+ghost use Rattle.std.specs.Prelude.{◌≡◌, ℕ, ◌≤◌, ◌+◌, ◌++◌, [], ◌∷◌, length, vec_len, false, if◌then◌else◌, OnOk};
+ghost use Rattle.indexmap.specs.IndexMap.{spare as map_spare};
+ghost use Rattle.mss_base.specs.Content.{written, write_at};
+ghost use Rattle.memory_devices.specs.Memory.{held, same_place};
+ghost use Rattle.mss_base.specs.Zeros.{zeros};
+ghost use Rattle.mss_base.specs.declared.place.UnitNo.{UnitNo};
+
+use indexmap::IndexMap;
+use mss_base::{Block, BlockPlace, NoMemory, clear_block};
+use std::alloc::Global;
+
+/// Blocks that were written. The others are zeros.
+pub type Blocks = IndexMap<BlockPlace, Block>;
+
+/// The bytes of a block.
+pub fn read_block(blocks: &Blocks, place: &BlockPlace, into: &mut [u8])
+    requires { length into.old ≡ 16384 }
+    ensures { into.new ≡ held blocks.now place.now.unit place.now.block }
+{
+    match blocks.get(place) {
+        Some(block) => into.copy_from_slice(block.as_slice()),
+        None => clear_block(into),
+    }
+}
+
+/// The block at a place; where none was written, the blank one, which is zeros.
+pub fn block_of<'a>(blocks: &'a Blocks, place: &BlockPlace, blank: &'a Block) -> &'a [u8]
+    requires { blank.now ≡ zeros }
+    ensures { result.now ≡ held blocks.now place.now.unit place.now.block }
+{
+    match blocks.get(place) {
+        Some(block) => block.as_slice(),
+        None => blank.as_slice(),
+    }
+}
+
+/// Takes a block out, or a new one of zeros.
+fn take_block(blocks: &mut Blocks, room: &mut Vec<Block>, place: &BlockPlace) -> Block
+    requires { 1 ≤ vec_len room.old }
+    ensures block { result ≡ held blocks.old place.now.unit place.now.block }
+    ensures others { (unit : UnitNo) (block : ℕ)
+        → same_place place.now (record { unit = unit; block = block }) ≡ false
+        → held blocks.new unit block ≡ held blocks.old unit block }
+    ensures room { vec_len room.old ≤ vec_len room.new + 1 }
+    ensures spare { map_spare blocks.old ≤ map_spare blocks.new }
+{
+    match blocks.swap_remove(place) {
+        Some(block) => block,
+        None => {
+            let mut block = room.pop().unwrap();
+            block.clear();
+            block
+        }
+    }
+}
+
+/// Puts a block in.
+fn put_block(blocks: &mut Blocks, place: BlockPlace, block: Block)
+    requires { 1 ≤ map_spare blocks.old }
+    ensures held { (unit : UnitNo) (at : ℕ) → held blocks.new unit at
+        ≡ (if same_place place (record { unit = unit; block = at }) then block else held blocks.old unit at) }
+    ensures spare { map_spare blocks.old ≤ map_spare blocks.new + 1 }
+{
+    match blocks.insert(place, block) {
+        Ok(_) => {}
+        Err(_) => unreachable!(),
+    }
+}
+
+/// Writes into a block.
+pub fn write_block(
+    blocks: &mut Blocks,
+    room: &mut Vec<Block>,
+    place: &BlockPlace,
+    offset: u16,
+    bytes: &[u8],
+)
+    requires room { 1 ≤ vec_len room.old }
+    requires spare { 1 ≤ map_spare blocks.old }
+    requires inside { offset + length bytes.now ≤ 16384 }
+    ensures written { held blocks.new
+        ≡ written (held blocks.old) (write_at place.now offset bytes.now) }
+    ensures room { vec_len room.old ≤ vec_len room.new + 1 }
+    ensures spare { map_spare blocks.old ≤ map_spare blocks.new + 1 }
+{
+    let mut block = take_block(blocks, room, place);
+    block.write(offset, bytes);
+    put_block(blocks, *place, block);
+}
+
+/// Puts blocks aside until there are so many.
+pub fn reserve_blocks(alloc: Global, room: &mut Vec<Block>, count: usize) -> Result<(), NoMemory>
+    ensures room { vec_len room.old ≤ vec_len room.new }
+    ensures ok { OnOk result (count ≤ vec_len room.new) }
+{
+    while room.len() < count {
+        room.push(Block::zeros(alloc)?)?;
+    }
+    Ok(())
+}
+
+/// Makes room for one write, and writes into a block.
+pub fn grow_block(
+    alloc: Global,
+    blocks: &mut Blocks,
+    room: &mut Vec<Block>,
+    place: &BlockPlace,
+    offset: u16,
+    bytes: &[u8],
+) -> Result<(), NoMemory>
+    requires inside { offset + length bytes.now ≤ 16384 }
+    ensures written { OnOk result
+        (held blocks.new ≡ written (held blocks.old) (write_at place.now offset bytes.now)) }
+{
+    reserve_blocks(alloc, room, 1)?;
+    blocks.reserve(1)?;
+    write_block(blocks, room, place, offset, bytes);
+    Ok(())
+}

@@ -1,6 +1,0 @@
-use Rattle.mss_base.specs.SilentState.{filled}
-use Rattle.mss_base.proofs.silent_site.SilentSite.of.Goals as goal
-
-pub invariant_of-result : goal.invariant_of-result
-unfolding filled
-invariant_of-result c = c.in_ok-vec.ensures.items_if_clones_equal (λ y is. is)

@@ -1,6 +1,0 @@
-use Rattle.std.proofs.Common.{◌∙◌, ap, ℕ, List, length}
-use Rattle.mss_base.specs.SilentState.{length-filled}
-use Rattle.mss_base.proofs.silent_site.SilentSiteSite.brought.Goals as goal
-
-pub returns-clause-whole : goal.returns-clause-whole
-returns-clause-whole c = ap (λ (b : List ℕ). length b) (c.deref.ensures.value ∙ c.self.invariant) ∙ length-filled c.self.inside.filler
