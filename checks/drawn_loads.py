@@ -34,6 +34,16 @@ def summary(order, programs):
     return "\n".join([f"MSS LOAD {programs}", *counts, lines[-1], ""])
 
 
+def spelled_fault(program):
+    """What a load tells otherwise whose words are spelled in another way; none where nothing."""
+    for words, programs in (("--turns=0 --load=1 --order=0", 1), ("--load 1000", 1000)):
+        with new_folder() as folder:
+            told = run_on_blank([program, "serial", *words.split()], b"", folder).stdout.decode()
+        if told != summary(0, programs):
+            return f"the words {words} tell another load"
+    return None
+
+
 def main(top, program=None):
     stored = Path(top, "checks/cases/loads").read_text() if program else ""
     made = ""
@@ -48,6 +58,9 @@ def main(top, program=None):
     if program is None:
         print(made, end="")
         return 0
+    if told := spelled_fault(program):
+        print(f"checks/drawn_loads.py: {told}", file=sys.stderr)
+        return 1
     if made != stored:
         print("checks/drawn_loads.py: a load has other counts than checks/cases/loads", file=sys.stderr)
     return made != stored

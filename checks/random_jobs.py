@@ -2,6 +2,7 @@
 
 import random
 import sys
+from itertools import chain
 from pathlib import Path
 
 # Few places, on both cartridges and on few pages, so that hosts meet and pages replace each other.
@@ -123,6 +124,23 @@ def cases(top, count):
     yield "three hosts on one frame", text_of_one_frame(top), 0, 0
 
 
+# Words, with the order and the number of turns that they ask for.
+SPELLED = (
+    ("", 0, 0),
+    ("--", 0, 0),
+    ("--order=3 --turns 5 --", 3, 5),
+    ("--order 18446744073709551615 --turns 50", 2**64 - 1, 50),
+    ("--order 00000000000000000007 --turns 100000", 7, 100_000),
+)
+
+
+def spelled_cases(top):
+    """A job with the words of each line above."""
+    text = Path(top, "checks/cases/three_hosts.job").read_text()
+    for words, order, turns in SPELLED:
+        yield f"the words '{words}'", text, order, turns, words.split()
+
+
 def text_of_one_frame(top):
     return Path(top, "checks/cases/three_hosts.job").read_text().replace("frames 8", "frames 1")
 
@@ -130,10 +148,11 @@ def text_of_one_frame(top):
 def main(top, count, *command):
     differing = 0
     with new_folder() as folder:
-        for name, text, order, turns in cases(top, int(count)):
+        drawn_cases = ((*case, [f"--order={case[2]}", f"--turns={case[3]}"]) for case in cases(top, int(count)))
+        for name, text, order, turns, words in chain(drawn_cases, spelled_cases(top)):
             job = read_job(text.encode())
             drawn = drawn_turns(order, turns, len(job.hosts) + job.recorders)
-            if told := fault([*command, f"--order={order}", f"--turns={turns}"], text, drawn, folder):
+            if told := fault([*command, *words], text, drawn, folder):
                 differing += 1
                 print(f"checks/random_jobs.py: {name}, order {order}: {told}", file=sys.stderr)
     return 1 if differing else 0

@@ -15,3 +15,9 @@ on_blank() { # COMMAND WORD..
     rm -rf mss.site
     "$@"
 }
+
+# The lines of each host of a report, without their numbers, and the volumes at the end.
+by_host() { # REPORT
+    sed -n 's/^entry [0-9]* //p' "$1" | sort -s -k2,2n
+    sed '/^entry /d; /^change /d' "$1"
+}

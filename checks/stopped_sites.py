@@ -4,17 +4,34 @@ A run that is killed as it is about to write leaves the writes before. So, write
 is left go on from none to those of the whole history. Where one call fails, the report has to be one that plain volumes
 give, with an equipment check, a stop or a refused site, and the site has to show the volumes of its history, or of the
 entry that was stopped. Each site that is left has to be taken up by the next run.
+
+Where a read of the job fails, the run tells an input fault. Where a write of a report of many writes fails, those before
+it stand, and nothing comes that was put after it.
 """
 
+import re
 import signal
 import subprocess
 import sys
 from collections import Counter
+from itertools import accumulate, pairwise
 from pathlib import Path
 
 CALLS = ("pread64", "pwrite64", "fdatasync", "fsync")
-DONE, RESTART_REFUSED, STOPPED = 0, 4, 5
+DONE, INPUT_FAULT, RESTART_REFUSED, STOPPED, OUTPUT_FAULT = 0, 2, 4, 5, 7
 NOT_LOADED = 127  # the loader's own reads fail before the program begins
+
+# Its report has 2,048 entries, and is written by pieces.
+LONG = b"""mss 1 frames 1 recorders 1
+volume 0 VOL001
+host 1
+mount VOL001
+program
+ccw 03
+tic 0
+end
+done
+"""
 
 
 def run_on(folder, *command, text=b""):
@@ -94,8 +111,40 @@ def failure_fault(program, text, job, calls):
     return None
 
 
+def streams_of(program, text):
+    """The numbers of a run's reads of the job, how long the report is before and behind each of its writes, and the report."""
+    with new_folder() as folder:
+        run = run_on(folder, "strace", "--output=calls", "--trace=read,write", program, "serial", text=text)
+        calls = re.findall(r"^(read|write)\((\d+),.*= (\d+)$", Path(folder, "calls").read_text(), re.MULTILINE)
+    taken = [descriptor for name, descriptor, _ in calls if name == "read"]
+    put = [int(length) for name, descriptor, length in calls if (name, descriptor) == ("write", "1")]
+    ends = [0, *accumulate(put)]
+    return [n for n, descriptor in enumerate(taken, 1) if descriptor == "0"], list(pairwise(ends)), run.stdout
+
+
+def stream_fault(program, text):
+    """What is wrong where a read of the job or a write of its report fails; none where nothing is."""
+    reads, writes, whole = streams_of(program, text)
+    due = [("read", number, INPUT_FAULT, [b"input fault\n"]) for number in reads]
+    for number, (before, behind) in enumerate(writes, 1):
+        due.append(("write", f"{number}+", OUTPUT_FAULT, [whole[:before]]))
+        # What waits is written once more at the end.
+        due.append(("write", number, OUTPUT_FAULT, [whole[:before], whole[:behind]]))
+    for call, when, status, allowed in due:
+        run, _, again = injected(program, text, call, "error=EIO", when)
+        if run.returncode != status or run.stdout not in allowed or again != DONE:
+            return f"where {call} {when} fails, it ends with {run.returncode}, and the next run with {again}"
+    if len(reads) < 2 or len(writes) < 3:
+        return f"there are {len(reads)} reads and {len(writes)} writes"
+    print(f"a long report: failed at each of {len(reads)} reads and {len(writes)} writes", file=sys.stderr)
+    return None
+
+
 def main(top, program, *names):
     failed = 0
+    if fault := stream_fault(program, LONG):
+        failed = 1
+        print(f"checks/stopped_sites.py: {fault}", file=sys.stderr)
     for name in names:
         text = Path(top, name).read_bytes()
         job = read_job(text)

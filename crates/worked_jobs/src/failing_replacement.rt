@@ -1,14 +1,15 @@
 // A frame that goes from one page to another and back, and each call of the devices fails once.
-use crate::failing_calls::{
-    BLANK, CALLS_OF_RESTART, Ending, STOPPED, Worked, ends_before, first_other_ending,
-};
-use crate::jobs::REPLACEMENT;
+use crate::failing::{CALLS_OF_RESTART, Ending, Worked, each_ends_so};
+use crate::failing_calls::{BLANK, STOPPED};
+use crate::jobs::{ONE_VOLUME, REPLACEMENT};
 use std::test::Fail;
 
 const JOB: Worked = Worked {
     job: REPLACEMENT,
     entries: ENTRIES,
     changes: CHANGES,
+    volumes: BOTH,
+    idle: ONE_VOLUME,
 };
 
 const ENTRIES: &str = "entry 1 host 1 mount 0 mounted\n\
@@ -155,9 +156,9 @@ const CUT_BEHIND_BOTH: &str = "volume 0 VOL001\n\
     record 0008000001 - 42\n\
     STOPPED 1\n";
 
-/// As for one record: 6 writes tell the frame, 19 stage the blank cylinder, 6 tell that; a read for the search; 6 writes
-/// tell the changed cylinder; a read and two writes for the record.
-const ON_THE_FIRST_PAGE: &[Ending] = &[
+const ENDINGS: &[Ending] = &[
+    // As for one record: 6 writes tell the frame, 19 stage the blank cylinder, 6 tell that; a read for the search; 6 writes
+    // tell the changed cylinder; a read and two writes for the record.
     Ending {
         last: 142,
         entries: 2,
@@ -222,11 +223,8 @@ const ON_THE_FIRST_PAGE: &[Ending] = &[
         rest: STOPPED,
         left: FIRST,
     },
-];
-
-/// The changed cylinder is copied to its cartridge by 19 reads and as many writes. Four changes of the row follow, with the
-/// writes of 19 blank tracks before the last.
-const TO_THE_SECOND_PAGE: &[Ending] = &[
+    // The changed cylinder is copied to its cartridge by 19 reads and as many writes. Four changes of the row follow, with the
+    // writes of 19 blank tracks before the last.
     Ending {
         last: 215,
         entries: 5,
@@ -275,10 +273,7 @@ const TO_THE_SECOND_PAGE: &[Ending] = &[
         rest: STOPPED,
         left: FIRST,
     },
-];
-
-/// A read for the search, 6 writes that tell the changed cylinder, a read and two writes for the record.
-const ON_THE_SECOND_PAGE: &[Ending] = &[
+    // A read for the search, 6 writes that tell the changed cylinder, a read and two writes for the record.
     Ending {
         last: 259,
         entries: 5,
@@ -319,10 +314,7 @@ const ON_THE_SECOND_PAGE: &[Ending] = &[
         rest: STOPPED,
         left: BOTH,
     },
-];
-
-/// The second record is copied to its cartridge, and the first comes back from there.
-const BACK_TO_THE_FIRST_PAGE: &[Ending] = &[
+    // The second record is copied to its cartridge, and the first comes back from there.
     Ending {
         last: 306,
         entries: 8,
@@ -371,10 +363,7 @@ const BACK_TO_THE_FIRST_PAGE: &[Ending] = &[
         rest: STOPPED,
         left: BOTH,
     },
-];
-
-/// Two reads of the track for the search, and one for the data. For the report the tracks of both cylinders are read.
-const OF_THE_LAST_READ: &[Ending] = &[
+    // Two reads of the track for the search, and one for the data. For the report the tracks of both cylinders are read.
     Ending {
         last: 369,
         entries: 8,
@@ -426,37 +415,6 @@ const OF_THE_LAST_READ: &[Ending] = &[
 ];
 
 #[test]
-fn a_call_on_the_first_page_fails(rt: HostRuntime) -> Result<(), Fail> {
-    let other = first_other_ending(rt.alloc(), &JOB, CALLS_OF_RESTART, ON_THE_FIRST_PAGE)?;
-    assert_eq!(rt; other, None);
-    Ok(())
-}
-
-#[test]
-fn a_call_on_the_way_to_the_second_page_fails(rt: HostRuntime) -> Result<(), Fail> {
-    let other = first_other_ending(rt.alloc(), &JOB, 177, TO_THE_SECOND_PAGE)?;
-    assert_eq!(rt; other, None);
-    Ok(())
-}
-
-#[test]
-fn a_call_on_the_second_page_fails(rt: HostRuntime) -> Result<(), Fail> {
-    let other = first_other_ending(rt.alloc(), &JOB, 258, ON_THE_SECOND_PAGE)?;
-    assert_eq!(rt; other, None);
-    Ok(())
-}
-
-#[test]
-fn a_call_on_the_way_back_fails(rt: HostRuntime) -> Result<(), Fail> {
-    let other = first_other_ending(rt.alloc(), &JOB, 268, BACK_TO_THE_FIRST_PAGE)?;
-    assert_eq!(rt; other, None);
-    Ok(())
-}
-
-#[test]
-fn a_call_of_the_last_read_fails(rt: HostRuntime) -> Result<(), Fail> {
-    let other = first_other_ending(rt.alloc(), &JOB, 368, OF_THE_LAST_READ)?;
-    assert_eq!(rt; other, None);
-    assert!(rt; ends_before(rt.alloc(), &JOB, 410, BOTH)?);
-    Ok(())
+fn a_call_of_replacements_fails(rt: HostRuntime) -> Result<(), Fail> {
+    each_ends_so(rt.alloc(), &JOB, CALLS_OF_RESTART, ENDINGS)
 }

@@ -1,6 +1,4 @@
 // Jobs that several tests run.
-use std::alloc::Global;
-use std::test::Fail;
 
 /// A host writes a record on cylinder 5, head 3, and reads it back.
 pub const WRITE_AND_READ: &str = "mss 1 frames 1 recorders 1\n\
@@ -51,43 +49,21 @@ pub const REPLACEMENT: &str = "mss 1 frames 1 recorders 1\n\
     end\n\
     done\n";
 
-/// Two hosts bind their volumes and search one cylinder each, and the first demounts; the third searches twice.
-const BINDING_HOSTS: &str = "volume 0 VOL001\n\
+/// Four volumes, of which no host asks anything.
+pub const FOUR_VOLUMES: &str = "mss 1 frames 8 recorders 2\n\
+    volume 0 VOL001\n\
     volume 1 VOL002\n\
     volume 2 VOL003\n\
-    host 1\n\
-    mount VOL001 bind\n\
-    program\n\
-    ccw 31 0000000000\n\
-    end\n\
-    demount\n\
-    host 2\n\
-    mount VOL002 bind\n\
-    program\n\
-    ccw 31 0000000000\n\
-    end\n\
-    host 3\n\
-    mount VOL003\n\
-    program\n\
-    ccw 31 0000000000\n\
-    end\n\
-    program\n\
-    ccw 31 0000000000\n\
-    end\n";
-
-/// Three hosts of which two bind, one recorder, and so many frames.
-pub fn binding_hosts(alloc: Global, frames: u8) -> Result<String, Fail> {
-    Ok(format!(in alloc; "mss 1 frames {frames} recorders 1\n{BINDING_HOSTS}done\n")?)
-}
-
-/// The volumes of the three hosts, and one more.
-const FOUR_VOLUMES: &str = "volume 0 VOL001\n\
-    volume 1 VOL002\n\
-    volume 2 VOL003\n\
-    volume 3 VOL004\n";
+    volume 3 VOL004\n\
+    done\n";
 
 /// Each host writes a record on its own volume and reads it back; the first then writes it on the fourth volume.
-const THREE_HOSTS: &str = "host 1\n\
+pub const THREE_HOSTS: &str = "mss 1 frames 8 recorders 2\n\
+    volume 0 VOL001\n\
+    volume 1 VOL002\n\
+    volume 2 VOL003\n\
+    volume 3 VOL004\n\
+    host 1\n\
     mount VOL001\n\
     program\n\
     ccw 1F C0\n\
@@ -150,17 +126,8 @@ const THREE_HOSTS: &str = "host 1\n\
     ccw 31 0003000301\n\
     tic 3\n\
     ccw 06\n\
-    end\n";
-
-/// Three hosts, two recorders, and so many frames.
-pub fn three_hosts(alloc: Global, frames: u8) -> Result<String, Fail> {
-    Ok(format!(in alloc; "mss 1 frames {frames} recorders 2\n{FOUR_VOLUMES}{THREE_HOSTS}done\n")?)
-}
-
-/// The same devices, of which no host asks anything.
-pub fn four_volumes(alloc: Global, frames: u8) -> Result<String, Fail> {
-    Ok(format!(in alloc; "mss 1 frames {frames} recorders 2\n{FOUR_VOLUMES}done\n")?)
-}
+    end\n\
+    done\n";
 
 /// What the volumes of the three hosts, and the fourth, show at the end.
 pub const THREE_HOSTS_LEFT: &str = "\nvolume 0 VOL001\n\

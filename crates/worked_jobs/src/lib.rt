@@ -1,10 +1,15 @@
-//! Jobs that are worked out by hand, as tests over `run_job`: whole reports, what stops leave, devices that fail.
+//! Sessions of the core and jobs on it, worked out by hand, as tests: each answer of hosts and recorders, alone and under
+//! the lock, what stops leave, devices that fail, and threads that a gate holds.
 //!
-//! Nothing stands on this crate.
+//! Nothing stands on this crate. What the built program shows is checked by `checks/`.
 #![tactic(auto)]
 
 #[cfg(test)]
-mod drives;
+mod devices;
+#[cfg(test)]
+mod events;
+#[cfg(test)]
+mod failing;
 #[cfg(test)]
 mod failing_calls;
 #[cfg(test)]
@@ -16,14 +21,16 @@ mod failures;
 #[cfg(test)]
 mod jobs;
 #[cfg(test)]
-mod reports;
+mod lock;
+#[cfg(test)]
+mod replaced_pages;
 #[cfg(test)]
 mod running;
 #[cfg(test)]
-mod stop_tables;
+mod steps;
 #[cfg(test)]
 mod stops;
 #[cfg(test)]
-mod turns;
+mod threads;
 #[cfg(test)]
-mod two_faults;
+mod two_hosts;

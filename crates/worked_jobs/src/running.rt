@@ -1,28 +1,53 @@
-// One job after the other, on devices in memory.
-use job_runs::{Outcome, run_job};
+// One job after the other, on devices of which calls may fail.
+use job_runs::{JobEnd, Outcome, run_job};
 use job_text::{Job, read_job};
-use mss_base::{MemorySink, MemorySite, Site};
+use memory_devices::{MemorySink, MemorySite, SiteFault};
+use mss_base::{Failed, Sink, Site};
+use report_text::{OneLine, put_line};
 use std::alloc::Global;
 use std::test::Fail;
-use victim_choice::Lru;
+use victim_choice::{Choose, Lru};
 
-/// What a run left: the devices, what became of the job, and what was put.
+/// What a run left.
 #[derive(Drop)]
-pub struct RunEnd {
-    pub site: MemorySite,
+pub struct RunEnd<S> {
+    pub site: S,
     pub outcome: Outcome,
+    /// The report; of devices that aren't taken up, the line that tells why.
     pub output: MemorySink,
 }
 
-pub fn job_of(alloc: Global, text: &str) -> Result<Job, Fail> {
-    Ok(read_job(alloc, text.as_bytes()).ok().ok_or("no job")?)
+/// Puts why devices aren't taken up, if they aren't.
+fn put_refusal<O: Sink>(outcome: &Outcome, output: &mut O) -> Result<(), Failed> {
+    match outcome {
+        Outcome::Untaken(refused) => put_line(output, &OneLine::RestartRefused(*refused)),
+        Outcome::Ran(..) => Ok(()),
+    }
 }
 
-/// Runs a job on devices.
-pub fn run(alloc: Global, text: &str, site: MemorySite) -> Result<RunEnd, Fail> {
-    let job = job_of(alloc, text)?;
-    let mut output = MemorySink::new(alloc, &[])?;
-    let end = run_job(alloc, &job, &[], site, Lru, &mut output);
+fn run_to<S: Site, C: Choose + Drop, O: Sink>(
+    alloc: Global,
+    job: &Job,
+    site: S,
+    chooser: C,
+    output: &mut O,
+) -> JobEnd<S>
+    requires { C.can_choose chooser }
+{
+    run_job(alloc, job, &[], site, chooser, output)
+}
+
+/// Runs a job on devices, and puts to an output of which these calls fail.
+pub fn run_putting<S: Site + Drop>(
+    alloc: Global,
+    text: &str,
+    site: S,
+    failing: &[u64],
+) -> Result<RunEnd<S>, Fail> {
+    let job = read_job(alloc, text.as_bytes()).ok().ok_or("no job")?;
+    let mut output = MemorySink::new(alloc, failing)?;
+    let end = run_to(alloc, &job, site, Lru, &mut output);
+    put_refusal(&end.outcome, &mut output)?;
     Ok(RunEnd {
         site: end.site,
         outcome: end.outcome,
@@ -30,36 +55,27 @@ pub fn run(alloc: Global, text: &str, site: MemorySite) -> Result<RunEnd, Fail> 
     })
 }
 
-/// The devices on which these jobs ran, one after the other.
-pub fn left_by(alloc: Global, jobs: &[&str]) -> Result<MemorySite, Fail> {
-    let mut site = MemorySite::new(alloc)?;
-    for job in jobs {
-        let left = run(alloc, job, site)?;
-        site = left.site;
-    }
+/// Runs a job on devices.
+pub fn run<S: Site + Drop>(alloc: Global, text: &str, site: S) -> Result<RunEnd<S>, Fail> {
+    run_putting(alloc, text, site, &[])
+}
+
+/// Whether a job on these devices is told so at the end.
+pub fn shows<S: Site + Drop>(alloc: Global, site: S, job: &str, end: &str) -> Result<bool, Fail> {
+    let left = run(alloc, job, site)?;
+    Ok(ends_with(left.output.bytes(), end.as_bytes()))
+}
+
+/// Devices of which these calls fail, counted from now on.
+pub fn failing(site: MemorySite, calls: &[SiteFault]) -> Result<MemorySite, Fail> {
+    let mut site = site;
+    site.fail(calls)?;
     Ok(site)
 }
 
-/// Runs jobs with their reports, one after the other. The place of the first that has another report.
-pub fn first_other(
-    alloc: Global,
-    site: MemorySite,
-    jobs: &[(&str, &str)],
-) -> Result<Option<usize>, Fail> {
-    let mut site = site;
-    for (place, (job, report)) in jobs.iter().enumerate() {
-        let left = run(alloc, job, site)?;
-        if left.output.bytes() != report.as_bytes() {
-            return Ok(Some(place));
-        }
-        site = left.site;
-    }
-    Ok(None)
-}
-
-/// Devices that hold the same, of which no call was made.
-pub fn copy_of(site: &MemorySite) -> Result<MemorySite, Fail> {
-    Ok(site.image(site.writes(), None)?)
+/// Blank devices, of which these calls fail.
+pub fn failing_site(alloc: Global, calls: &[SiteFault]) -> Result<MemorySite, Fail> {
+    failing(MemorySite::new(alloc)?, calls)
 }
 
 /// Whether bytes end so.
@@ -68,4 +84,9 @@ pub fn ends_with(bytes: &[u8], end: &[u8]) -> bool {
         Some(before) => bytes.get(before..) == Some(end),
         None => false,
     }
+}
+
+/// That one of several cases, which has this number, came out otherwise.
+pub fn otherwise(case: u64) -> Fail {
+    Fail::new(format_args!("case {case} comes out otherwise"))
 }

@@ -1,112 +1,157 @@
 // Changes of a row with their messages, over devices of which a call may fail, and what a session
 // is told.
-ghost use Rattle.std.specs.Prelude.{◌≡◌, length, IfOk};
+ghost use Rattle.std.specs.Prelude.{◌≡◌, length, IfSome};
 
-use crate::volumes::blank_row;
+use crate::lines::answers::Told;
+use crate::lines::runs::assert_told;
+use crate::lines::words::code;
 use channel_commands::{Call, Reply};
 use core_state::{Entry, Event, MessageList, Rows, Session, write_change};
-use mss_base::{Cylinder, Failed, FrameNo, HostNo, SilentSite, VolumeNo};
+use memory_devices::SilentSite;
+use mss_base::{CartridgeNo, FrameNo, HostNo, Page, Serial, VolumeNo};
 use std::alloc::Global;
 use std::test::Fail;
-use volume_table::{Change, is_allowed};
+use volume_table::{Change, VolumeRow, is_allowed};
+
+fn row(alloc: Global) -> Option<VolumeRow> {
+    let first = CartridgeNo::of(14)?;
+    VolumeRow::blank(alloc, Serial::of(*b"VOL007")?, first, CartridgeNo::of(15)?).ok()
+}
 
 // Volume 7 alone has a row.
-fn rows_of(alloc: Global) -> Result<Rows, Fail>
-    ensures { IfOk result (λ rows. length rows.items ≡ 32) }
+fn rows_of(alloc: Global) -> Option<Rows>
+    ensures { IfSome result (λ rows. length rows.items ≡ 32) }
 {
     let mut rows = Vec::new(alloc);
     for _ in 0..32u8 {
-        rows.push(None)?;
+        rows.push(None).ok()?;
     }
-    rows[7] = Some(blank_row(alloc, *b"VOL007", 14, 15)?);
-    Ok(rows)
+    rows[7] = Some(row(alloc)?);
+    Some(rows)
 }
 
 fn begun(alloc: Global) -> Session {
     Session::new(alloc, MessageList::new(alloc), 0, 0)
 }
 
-// The frame of volume 7's first page.
-fn first_frame(rows: &Rows) -> Result<Option<FrameNo>, Fail>
-    requires { length rows.now.items ≡ 32 }
-{
-    let page = Cylinder::of(0).ok_or("cylinder")?.page();
-    match &rows[7] {
-        Some(row) => Ok(row.frame(page)),
-        None => Err("row".into()),
+fn frame_word(frame: Option<FrameNo>) -> u64 {
+    match frame {
+        Some(frame) => u64::from(frame.get()),
+        None => code("none"),
     }
 }
 
-fn change_row_7(
+// Whether a change of the row of volume 7 is done.
+fn is_done(
     site: &mut SilentSite,
     rows: &mut Rows,
     session: &mut Session,
     change: &Change,
-) -> Result<Result<(), Failed>, Fail>
+) -> Option<bool>
     requires { length rows.old.items ≡ 32 }
     ensures { length rows.new.items ≡ 32 }
 {
-    let volume = VolumeNo::of(7).ok_or("volume")?;
-    session.reserve()?;
+    let volume = VolumeNo::of(7)?;
+    session.reserve().ok()?;
     let Some(row) = &rows[usize::from(volume.get())] else {
-        return Err("row".into());
+        return None;
     };
     if !is_allowed(row, change) {
-        return Err("change".into());
+        return None;
     }
-    Ok(write_change(site, rows, session, volume, change))
+    Some(write_change(site, rows, session, volume, change).is_ok())
+}
+
+// Tells it, and then the frame of the first page.
+fn push_change(
+    told: &mut Vec<u64>,
+    site: &mut SilentSite,
+    rows: &mut Rows,
+    session: &mut Session,
+    change: &Change,
+) -> Option<()>
+    requires { length rows.old.items ≡ 32 }
+    ensures { length rows.new.items ≡ 32 }
+{
+    let good = is_done(site, rows, session, change)?;
+    told.push(if good { code("done") } else { code("failed") })
+        .ok()?;
+    let Some(row) = &rows[7] else { return None };
+    told.push(frame_word(row.frame(Page::of(0)?))).ok()
+}
+
+// Why the session stopped, and of each message its mark and the frame that it frees.
+fn push_session(told: &mut Vec<u64>, session: &Session) -> Option<()> {
+    told.push(session.stopped.unwrap_or(code("none"))).ok()?;
+    for message in session.console.as_slice() {
+        told.push(message.mark).ok()?;
+        told.push(frame_word(message.freed)).ok()?;
+    }
+    Some(())
+}
+
+// The first page gets frame 3, and where `both` is set gives it back.
+fn push_changes(
+    told: &mut Vec<u64>,
+    site: &mut SilentSite,
+    rows: &mut Rows,
+    session: &mut Session,
+    both: bool,
+) -> Option<()>
+    requires { length rows.old.items ≡ 32 }
+{
+    let page = Page::of(0)?;
+    let frame = FrameNo::of(3)?;
+    push_change(told, site, rows, session, &Change::Assign { page, frame })?;
+    if both {
+        push_change(told, site, rows, session, &Change::Free { page })?;
+    }
+    push_session(told, session)
+}
+
+// What these changes tell, where a call fails.
+fn changed(alloc: Global, failing: u64, both: bool) -> Told {
+    let mut told = Vec::new(alloc);
+    let mut site = SilentSite::of(alloc, 0, &[failing]).ok()?;
+    let mut rows = rows_of(alloc)?;
+    let mut session = begun(alloc);
+    push_changes(&mut told, &mut site, &mut rows, &mut session, both)?;
+    Some(told)
 }
 
 #[test]
 fn a_change_tells_its_mark_and_the_frame_that_it_frees(rt: HostRuntime) -> Result<(), Fail> {
-    let page = Cylinder::of(0).ok_or("cylinder")?.page();
-    let frame = FrameNo::of(3).ok_or("frame")?;
-    let mut site = SilentSite::of(rt.alloc(), 0, &[])?;
-    let mut rows = rows_of(rt.alloc())?;
-    let mut session = begun(rt.alloc());
-    let assign = Change::Assign { page, frame };
-    assert_eq!(rt;
-        change_row_7(&mut site, &mut rows, &mut session, &assign)?,
-        Ok(())
-    );
-    assert_eq!(rt; first_frame(&rows)?, Some(frame));
-    let free = Change::Free { page };
-    assert_eq!(rt;
-        change_row_7(&mut site, &mut rows, &mut session, &free)?,
-        Ok(())
-    );
-    assert_eq!(rt; first_frame(&rows)?, None);
-    let console = session.console.as_slice();
-    assert_eq!(rt; console.len(), 2);
-    assert_eq!(rt; (console[0].mark, console[0].freed), (6, None));
-    assert_eq!(rt; (console[1].mark, console[1].freed), (12, Some(frame)));
-    assert_eq!(rt; session.stopped, None);
-    Ok(())
+    let told = changed(rt.alloc(), 0, true);
+    assert_told(&rt, rt.alloc(), told, "done 3 done none none 6 none 12 3")
 }
 
 #[test]
 fn a_failed_change_stops_the_session(rt: HostRuntime) -> Result<(), Fail> {
-    let page = Cylinder::of(0).ok_or("cylinder")?.page();
-    let frame = FrameNo::of(3).ok_or("frame")?;
-    let assign = Change::Assign { page, frame };
     for failing in 1..7u64 {
-        let mut site = SilentSite::of(rt.alloc(), 0, &[failing])?;
-        let mut rows = rows_of(rt.alloc())?;
-        let mut session = begun(rt.alloc());
-        let outcome = change_row_7(&mut site, &mut rows, &mut session, &assign)?;
-        assert_eq!(rt; outcome, Err(Failed), "call {failing}");
-        assert_eq!(rt; session.stopped, Some(1));
-        assert_eq!(rt; session.console.as_slice().len(), 0);
-        assert_eq!(rt; first_frame(&rows)?, Some(frame));
+        let told = changed(rt.alloc(), failing, false);
+        assert_told(&rt, rt.alloc(), told, "failed 3 1")?;
     }
     Ok(())
 }
 
-#[test]
-fn a_session_has_room_for_what_an_event_tells(rt: HostRuntime) -> Result<(), Fail> {
-    let mut session = begun(rt.alloc());
-    assert!(rt; session.reserve().is_ok());
-    let host = HostNo::of(2).ok_or("host")?;
+fn push_history(told: &mut Vec<u64>, session: &Session) -> Option<()> {
+    told.push(session.history.as_slice().len() as u64).ok()?;
+    for mark in session.marks.as_slice() {
+        told.push(*mark).ok()?;
+    }
+    for event in session.events.as_slice() {
+        match event {
+            Event::Host(host) => told.push(u64::from(host.get())).ok()?,
+            Event::Work(_) => told.push(code("work")).ok()?,
+        }
+    }
+    Some(())
+}
+
+// An entry with its mark, and an event of host 2.
+fn tell_event(session: &mut Session) -> Option<()> {
+    session.reserve().ok()?;
+    let host = HostNo::of(2)?;
     let entry = Entry {
         host,
         number: 1,
@@ -116,8 +161,18 @@ fn a_session_has_room_for_what_an_event_tells(rt: HostRuntime) -> Result<(), Fai
     };
     session.append(entry, 5);
     session.note(Event::Host(host));
-    assert_eq!(rt; session.history.as_slice().len(), 1);
-    assert_eq!(rt; session.marks.as_slice(), [5].as_slice());
-    assert_eq!(rt; session.events.as_slice(), [Event::Host(host)].as_slice());
-    Ok(())
+    Some(())
+}
+
+fn event_told(alloc: Global) -> Told {
+    let mut told = Vec::new(alloc);
+    let mut session = begun(alloc);
+    tell_event(&mut session)?;
+    push_history(&mut told, &session)?;
+    Some(told)
+}
+
+#[test]
+fn a_session_has_room_for_what_an_event_tells(rt: HostRuntime) -> Result<(), Fail> {
+    assert_told(&rt, rt.alloc(), event_told(rt.alloc()), "1 5 2")
 }

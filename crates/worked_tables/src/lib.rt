@@ -1,14 +1,14 @@
 //! Rows, their two copies, and what a restart finds, each said by value.
 //!
-//! Nothing stands on this crate. Rows are spelled by hand and changed. Their copies are read,
-//! changed and repaired, and tracks copied, with each call failing in turn and a stop at each
-//! moment. Contents with one fault each are surveyed, and devices opened and restarted.
+//! Nothing stands on this crate. What is done to devices in memory, and what they then tell, stands in texts, a line for
+//! each call: rows and their copies, tracks copied, surveys, openings and restarts, with each call failing in turn and a
+//! stop at each moment. A proof doesn't read a text, so it goes through the functions alone that do a line.
 #![tactic(auto)]
 
 #[cfg(test)]
 mod changes;
 #[cfg(test)]
-mod lost_copies;
+mod lines;
 #[cfg(test)]
 mod lost_table;
 #[cfg(test)]
@@ -16,16 +16,10 @@ mod openings;
 #[cfg(test)]
 mod refusals;
 #[cfg(test)]
-mod restarts;
-#[cfg(test)]
 mod row_copies;
-#[cfg(test)]
-mod rows_by_hand;
 #[cfg(test)]
 mod spelled_rows;
 #[cfg(test)]
 mod survey_tables;
 #[cfg(test)]
 mod track_copies;
-#[cfg(test)]
-mod volumes;

@@ -1,29 +1,39 @@
 // Two volumes, surveyed where one copy of the table can't be read.
-ghost use Rattle.std.specs.Prelude.{◌≡◌, true, IfOk};
+ghost use Rattle.std.specs.Prelude.{◌≡◌, true, [], ◌∷◌, IfOk};
 ghost use Rattle.mss_base.specs.Content.{content};
-ghost use Rattle.mss_base.specs.MemorySite.{told_of};
+ghost use Rattle.mss_base.specs.declared.place.UnitNo.{UnitNo};
+ghost use Rattle.memory_devices.specs.MemorySite.{FailsOnly, failing_of, told_of};
+ghost use Rattle.memory_devices.specs.declared.memory_site.MemorySite.{MemorySite};
+ghost use Rattle.memory_devices.specs.declared.memory_site.SiteFault.TheVariants.{ReadsOf};
 ghost use Rattle.ckd_plain.specs.Plain.{serial_in};
 ghost use Rattle.table_pair.specs.Pair.{is_table};
-ghost use Rattle.mss_restart.specs.OneCopy.{ArePaired};
+ghost use Rattle.mss_restart.specs.OneCopy.{ArePaired, LosesOneTable};
 ghost use Rattle.mss_restart.specs.Survey.{IsExact, rows_given};
 
-use crate::refusals::{asked_config, put_row};
-use mss_base::{Config, MemorySite, NoMemory, Site, SiteFault, UnitNo};
-use mss_restart::{Refused, Rows, law, survey};
+use crate::lines::answers::{Told, refused, volumes};
+use crate::lines::configs::asked;
+use crate::lines::devices::put_row;
+use crate::lines::runs::assert_told;
+use crate::lines::words::words_of;
+use memory_devices::{MemorySite, SiteFault};
+use mss_base::{CartridgeNo, Config, NoMemory, Serial, Site, UnitNo};
+use mss_restart::{Refused, Rows, survey};
 use std::alloc::Global;
 use std::test::Fail;
 
-/// A volume, and the last character of its serial.
-type Named = (usize, u8);
+/// Devices in memory of which just the reads of one unit of the table are to fail have lost one copy of the table, as
+/// the survey has it: so its clause for a lost copy speaks of devices that there can be.
+fn a_memory_site_may_lose_one_table()
+    ensures { (site : MemorySite) (unit : UnitNo) → is_table unit ≡ true
+        → failing_of site ≡ ReadsOf unit ∷ [] → LosesOneTable FailsOnly site }
+{}
 
 // Each copy of the table has the rows of volumes 0 and 1.
-fn two_rows(alloc: Global) -> Result<MemorySite, Fail> {
-    let mut site = MemorySite::new(alloc)?;
-    put_row(&mut site, alloc, UnitNo::TableA, 0, *b"VOL001")?;
-    put_row(&mut site, alloc, UnitNo::TableB, 0, *b"VOL001")?;
-    put_row(&mut site, alloc, UnitNo::TableA, 1, *b"VOL002")?;
-    put_row(&mut site, alloc, UnitNo::TableB, 1, *b"VOL002")?;
-    Ok(site)
+fn put_two_rows<S: Site>(alloc: Global, site: &mut S, unit: UnitNo) -> Option<()> {
+    let zero = (CartridgeNo::of(0)?, CartridgeNo::of(1)?);
+    put_row(alloc, site, (unit, 0), Serial::of(*b"VOL001")?, zero)?;
+    let one = (CartridgeNo::of(2)?, CartridgeNo::of(3)?);
+    put_row(alloc, site, (unit, 1), Serial::of(*b"VOL002")?, one)
 }
 
 // A survey where a copy of the table can't be read: it answers what the devices hold, if each copy
@@ -39,49 +49,39 @@ fn survey_without(
         → IsExact config.now.frames (serial_in config.now.volumes) (content (told_of site.old))
         (rows_given answer)) }
 {
-    law::a_memory_site_may_lose_one_table();
+    a_memory_site_may_lose_one_table();
     site.fail(&[SiteFault::ReadsOf(lost)])?;
     Ok(survey(alloc, site, config))
 }
 
-fn named(alloc: Global, answer: Result<Rows, Refused>) -> Result<Vec<Named>, Fail> {
-    let Ok(rows) = answer else {
-        return Err(Fail::from("refused"));
-    };
-    let mut list = Vec::new(alloc);
-    for (volume, row) in rows.as_slice().iter().enumerate() {
-        if let Some(row) = row {
-            list.push((volume, row.serial.as_slice()[5]))?;
-        }
-    }
-    Ok(list)
-}
-
-// What the two volumes are named, and how many reads failed.
-fn named_without(alloc: Global, lost: UnitNo) -> Result<(Vec<Named>, u64), Fail>
+// What it tells, and how many reads failed.
+fn told_without(alloc: Global, site: &mut MemorySite, lost: UnitNo) -> Told
     requires { is_table lost ≡ true }
 {
-    let config = asked_config(alloc)?;
-    let mut site = two_rows(alloc)?;
-    let answer = survey_without(alloc, &mut site, lost, &config)?;
-    let list = named(alloc, answer)?;
-    Ok((list, site.faults()))
+    put_two_rows(alloc, site, UnitNo::TableA)?;
+    put_two_rows(alloc, site, UnitNo::TableB)?;
+    let config = asked(alloc, &words_of(alloc, "survey 0 VOL001", 0)?)?;
+    let mut told = match survey_without(alloc, site, lost, &config).ok()? {
+        Ok(rows) => volumes(alloc, rows.as_slice())?,
+        Err(fault) => refused(alloc, &fault)?,
+    };
+    told.push(site.faults()).ok()?;
+    Some(told)
+}
+
+fn lost_told(alloc: Global, lost: UnitNo) -> Told
+    requires { is_table lost ≡ true }
+{
+    let mut site = MemorySite::new(alloc).ok()?;
+    told_without(alloc, &mut site, lost)
 }
 
 // Copy B is read where copy A tells no row.
 #[test]
 fn a_lost_copy_of_the_table_changes_nothing(rt: HostRuntime) -> Result<(), Fail> {
     let alloc = rt.alloc();
-    let config = asked_config(alloc)?;
-    let mut site = two_rows(alloc)?;
-    let whole = named(alloc, survey(alloc, &mut site, &config))?;
-    let expected: &[Named] = &[(0, b'1'), (1, b'2')];
-    assert_eq!(rt; whole.as_slice(), expected);
-    let (without_a, faults) = named_without(alloc, UnitNo::TableA)?;
-    assert_eq!(rt; without_a.as_slice(), expected);
-    assert_eq!(rt; faults, 32);
-    let (without_b, faults) = named_without(alloc, UnitNo::TableB)?;
-    assert_eq!(rt; without_b.as_slice(), expected);
-    assert_eq!(rt; faults, 30);
-    Ok(())
+    let without_a = lost_told(alloc, UnitNo::TableA);
+    assert_told(&rt, alloc, without_a, "0 VOL001 0 1 1 VOL002 2 3 32")?;
+    let without_b = lost_told(alloc, UnitNo::TableB);
+    assert_told(&rt, alloc, without_b, "0 VOL001 0 1 1 VOL002 2 3 30")
 }

@@ -1,194 +1,159 @@
 // One old and two new volumes: what opening makes of them, also where a stop or a failure comes
 // within.
-ghost use Rattle.std.specs.Prelude.{◌≡◌, [], ◌∷◌};
-
-use crate::volumes::{Named, blank_row, named, open_copy, serial_with, volume_at};
-use mss_base::{Config, MemorySite, Serial, Site, SiteFault, UnitNo, VolumeList, VolumeNo};
-use mss_restart::{Refused, open_rows, survey};
-use std::alloc::Global;
-use std::process::Abort;
+use crate::lines::runs::run;
 use std::test::Fail;
 
-const OLD: &[Named] = &[(3, b'4', 0, 2)];
+// The row of volume 3 in copy A, which is open, and a made mark in copy B, which is closed.
+const OLD: &str = "\
+put table A 3 VOL004 0 2
+fill table B 3 511 x4D";
 
-const WITH_ONE: &[Named] = &[(0, b'1', 1, 3), (3, b'4', 0, 2)];
-
-const WITH_BOTH: &[Named] = &[(0, b'1', 1, 3), (3, b'4', 0, 2), (5, b'6', 4, 5)];
-
-fn config_of(alloc: Global, one: Serial, four: Serial, six: Serial) -> Result<Config, Fail>
-    requires one { one ≡ 86 ∷ 79 ∷ 76 ∷ 48 ∷ 48 ∷ 49 ∷ [] }
-    requires four { four ≡ 86 ∷ 79 ∷ 76 ∷ 48 ∷ 48 ∷ 52 ∷ [] }
-    requires six { six ≡ 86 ∷ 79 ∷ 76 ∷ 48 ∷ 48 ∷ 54 ∷ [] }
-{
-    let mut volumes = VolumeList::new(alloc);
-    volumes.reserve(3)?;
-    volumes.push((volume_at(0), one));
-    volumes.push((volume_at(3), four));
-    volumes.push((volume_at(5), six));
-    Ok(Config {
-        frames: 8,
-        recorders: 1,
-        volumes,
-    })
-}
-
-// Volumes 0, 3 and 5 are asked for.
-fn asked_config(alloc: Global) -> Result<Config, Fail> {
-    let one = serial_with(49)?;
-    let four = serial_with(52)?;
-    let six = serial_with(54)?;
-    config_of(alloc, one, four, six)
-}
-
-// Devices with the row of volume 3 in copy A, which is open, and a made mark in copy B, which is
-// closed.
-fn old_site(alloc: Global) -> Result<MemorySite, Fail> {
-    let row = blank_row(alloc, *b"VOL004", 0, 2)?;
-    let bytes = open_copy(&row);
-    let mut site = MemorySite::new(alloc)?;
-    site.reserve(2)?;
-    site.write(UnitNo::TableA, 3, 0, &bytes)?;
-    site.write(UnitNo::TableB, 3, 511, b"M")?;
-    Ok(site)
-}
-
-// The volumes that a site shows, which have to be the old one with a front of the new ones.
-fn front(alloc: Global, config: &Config, site: &mut MemorySite) -> Result<usize, Fail> {
-    match survey(alloc, site, config) {
-        Ok(rows) => {
-            let list = named(alloc, &rows)?;
-            let shown = list.as_slice();
-            if shown == OLD || shown == WITH_ONE || shown == WITH_BOTH {
-                Ok(shown.len())
-            } else {
-                Err(Fail::from("no front"))
-            }
-        }
-        Err(_) => Err(Fail::from("refused")),
-    }
-}
-
-// The site that was opened, and its volumes.
-fn opened(
-    alloc: Global,
-    config: &Config,
-    site: MemorySite,
-) -> Result<(MemorySite, Vec<Named>), Fail> {
-    match open_rows(alloc, site, config) {
-        Ok((site, opened)) => {
-            let list = named(alloc, &opened.rows)?;
-            Ok((site, list))
-        }
-        Err(_) => Err(Fail::from("refused")),
-    }
-}
+// Opened, and opened again.
+const TWICE: &str = "\
+open three -> 0 VOL001 1 3 3 VOL004 0 2 5 VOL006 4 5
+writes -> 16
+survey three -> 0 VOL001 1 3 3 VOL004 0 2 5 VOL006 4 5
+open three -> 0 VOL001 1 3 3 VOL004 0 2 5 VOL006 4 5
+writes -> 16";
 
 #[test]
 fn opens_one_old_and_two_new_volumes(rt: HostRuntime) -> Result<(), Fail> {
-    let alloc = rt.alloc();
-    let config = asked_config(alloc)?;
-    let (mut site, list) = opened(alloc, &config, old_site(alloc)?)?;
-    assert_eq!(rt; list.as_slice(), WITH_BOTH);
-    assert_eq!(rt; site.writes(), 16);
-    assert_eq!(rt; front(alloc, &config, &mut site)?, 3);
-    let (site, list) = opened(alloc, &config, site)?;
-    assert_eq!(rt; list.as_slice(), WITH_BOTH);
-    assert_eq!(rt; site.writes(), 16);
-    Ok(())
+    run(&rt, rt.alloc(), OLD, TWICE)
 }
 
-// What a stop leaves shows a front of the new volumes, and is opened as if there had been no stop.
-fn check_stop(
-    alloc: Global,
-    config: &Config,
-    site: &MemorySite,
-    moment: u64,
-    tear: Option<&[u8]>,
-) -> Result<usize, Fail> {
-    let mut image = site.image(moment, tear)?;
-    let shown = front(alloc, config, &mut image)?;
-    let (_, list) = opened(alloc, config, image)?;
-    if list.as_slice() == WITH_BOTH {
-        Ok(shown)
-    } else {
-        Err(Fail::from("not opened"))
-    }
-}
+// The same devices, opened.
+const OPENED: &str = "\
+put table A 3 VOL004 0 2
+fill table B 3 511 x4D
+open three -> 0 VOL001 1 3 3 VOL004 0 2 5 VOL006 4 5";
+
+// What a stop leaves shows a front of the new volumes, and is opened as if there had been no stop. The
+// repair writes the body of copy B and opens it. Each creation makes two marks, writes and opens copy A, then copy B;
+// its volume is shown from the opening of copy A on.
+const STOPS: &str = "\
+turns 2 7
+stop N 0 0 survey three -> 3 VOL004 0 2
+stop N 0 0 open three -> 0 VOL001 1 3 3 VOL004 0 2 5 VOL006 4 5
+stop N 2 x5555 survey three -> 3 VOL004 0 2
+stop N 2 x5555 open three -> 0 VOL001 1 3 3 VOL004 0 2 5 VOL006 4 5
+
+turns 8 13
+stop N 0 0 survey three -> 0 VOL001 1 3 3 VOL004 0 2
+stop N 0 0 open three -> 0 VOL001 1 3 3 VOL004 0 2 5 VOL006 4 5
+stop N 2 x5555 survey three -> 0 VOL001 1 3 3 VOL004 0 2
+stop N 2 x5555 open three -> 0 VOL001 1 3 3 VOL004 0 2 5 VOL006 4 5
+
+turns 14 16
+stop N 0 0 survey three -> 0 VOL001 1 3 3 VOL004 0 2 5 VOL006 4 5
+stop N 0 0 open three -> 0 VOL001 1 3 3 VOL004 0 2 5 VOL006 4 5
+stop N 2 x5555 survey three -> 0 VOL001 1 3 3 VOL004 0 2 5 VOL006 4 5
+stop N 2 x5555 open three -> 0 VOL001 1 3 3 VOL004 0 2 5 VOL006 4 5";
 
 #[test]
 fn shows_a_front_of_the_new_volumes_after_each_stop(rt: HostRuntime) -> Result<(), Fail> {
-    let alloc = rt.alloc();
-    let config = asked_config(alloc)?;
-    let (site, _) = opened(alloc, &config, old_site(alloc)?)?;
-    // The repair writes the body of copy B and opens it. Each creation makes two marks, writes and
-    // opens copy A, then copy B; its volume is shown from the opening of copy A on.
-    let shown = [1, 1, 1, 1, 1, 1, 2, 2, 2, 2, 2, 2, 3, 3, 3];
-    for (index, count) in shown.iter().enumerate() {
-        let moment = index as u64 + 2;
-        assert_eq!(rt; check_stop(alloc, &config, &site, moment, None)?, *count);
-        check_stop(alloc, &config, &site, moment, Some(b"\x55\x55"))?;
-    }
-    Ok(())
-}
-
-// What opening answers where the n-th call fails; a failure loses none of the volumes that were
-// shown.
-fn refusal(alloc: Global, config: &Config, call: u64) -> Result<Option<Refused>, Fail> {
-    let mut site = old_site(alloc)?;
-    site.fail(&[SiteFault::Call(call)])?;
-    match open_rows(alloc, site, config) {
-        Ok((mut site, _)) => {
-            site.fail(&[])?;
-            front(alloc, config, &mut site)?;
-            Ok(None)
-        }
-        Err((mut site, fault)) => {
-            site.fail(&[])?;
-            front(alloc, config, &mut site)?;
-            Ok(Some(fault))
-        }
-    }
-}
-
-// Each of these calls fails, in an opening of its own.
-fn check_calls(
-    rt: &impl Abort,
-    alloc: Global,
-    config: &Config,
-    first: u64,
-    last: u64,
-) -> Result<(), Fail> {
-    let volume = VolumeNo::of(3).ok_or("volume")?;
-    for call in first..last {
-        let expected = match call {
-            7 => Some(Refused::RowUnread { volume, fault: 1 }),
-            146 => None,
-            _ => Some(Refused::Stopped { fault: 1 }),
-        };
-        assert_eq!(rt; refusal(alloc, config, call)?, expected);
-    }
-    Ok(())
+    run(&rt, rt.alloc(), OPENED, STOPS)
 }
 
 // The survey reads both copies of each volume, but of volume 3 copy A alone, which is open; without
-// it the row isn't known.
+// it the row isn't known. A failure loses none of the volumes that were shown.
+const SURVEY_READS: &str = "\
+turns 1 6
+fail N
+open three -> stopped 1
+fail 0
+survey three -> 3 VOL004 0 2
+
+turns 7 7
+fail N
+open three -> unread 3 1
+fail 0
+survey three -> 3 VOL004 0 2
+
+turns 8 63
+fail N
+open three -> stopped 1
+fail 0
+survey three -> 3 VOL004 0 2";
+
 #[test]
 fn refuses_each_failing_read_of_the_survey_by_name(rt: HostRuntime) -> Result<(), Fail> {
-    let config = asked_config(rt.alloc())?;
-    check_calls(&rt, rt.alloc(), &config, 1, 64)
+    run(&rt, rt.alloc(), OLD, SURVEY_READS)
 }
 
 // The repair reads both copies of each volume and writes twice: 66 calls.
+const REPAIR_CALLS: &str = "\
+turns 64 129
+fail N
+open three -> stopped 1
+fail 0
+survey three -> 3 VOL004 0 2";
+
 #[test]
 fn refuses_each_failing_call_of_the_repair_by_name(rt: HostRuntime) -> Result<(), Fail> {
-    let config = asked_config(rt.alloc())?;
-    check_calls(&rt, rt.alloc(), &config, 64, 130)
+    run(&rt, rt.alloc(), OLD, REPAIR_CALLS)
 }
 
-// Each of the two creations reads two blocks before it marks them, and writes six times. No call is
-// the 146th.
+// Each of the two creations reads two blocks before it marks them, and writes six times; its volume is
+// shown from the sixth of these calls on, which opens copy A. No call is the 146th.
+const CREATION_CALLS: &str = "\
+turns 130 134
+fail N
+open three -> stopped 1
+fail 0
+survey three -> 3 VOL004 0 2
+
+turns 135 142
+fail N
+open three -> stopped 1
+fail 0
+survey three -> 0 VOL001 1 3 3 VOL004 0 2
+
+turns 143 145
+fail N
+open three -> stopped 1
+fail 0
+survey three -> 0 VOL001 1 3 3 VOL004 0 2 5 VOL006 4 5
+
+turns 146 146
+fail N
+open three -> 0 VOL001 1 3 3 VOL004 0 2 5 VOL006 4 5
+fail 0
+survey three -> 0 VOL001 1 3 3 VOL004 0 2 5 VOL006 4 5";
+
 #[test]
 fn refuses_each_failing_call_of_a_creation_by_name(rt: HostRuntime) -> Result<(), Fail> {
-    let config = asked_config(rt.alloc())?;
-    check_calls(&rt, rt.alloc(), &config, 130, 147)
+    run(&rt, rt.alloc(), OLD, CREATION_CALLS)
+}
+
+// Where one copy of the table can't be read, it is as before; where none can, that is told.
+const LOST: &str = "\
+open three -> 0 VOL001 1 3 3 VOL004 0 2 5 VOL006 4 5
+lose table A
+survey three -> 0 VOL001 1 3 3 VOL004 0 2 5 VOL006 4 5
+
+open three -> 0 VOL001 1 3 3 VOL004 0 2 5 VOL006 4 5
+lose table B
+survey three -> 0 VOL001 1 3 3 VOL004 0 2 5 VOL006 4 5
+
+open three -> 0 VOL001 1 3 3 VOL004 0 2 5 VOL006 4 5
+lose table A table B
+survey three -> unread 0 2";
+
+#[test]
+fn one_unreadable_copy_changes_nothing_and_two_are_told(rt: HostRuntime) -> Result<(), Fail> {
+    run(&rt, rt.alloc(), OLD, LOST)
+}
+
+// A restart of blank devices creates the volume, and its console tells that with its mark. Where the row
+// has another serial, it is refused, and nothing is written.
+const RESTARTS: &str = "\
+restart 3 VOL004 -> 3 VOL004 0 1 6 0 0 none 6 create VOL004 0 1
+
+put table A 3 VOL009 0 1
+restart 3 VOL004 -> differs 3 VOL009 VOL004
+writes -> 1";
+
+#[test]
+fn restarts_blank_devices_and_refuses_another_serial(rt: HostRuntime) -> Result<(), Fail> {
+    run(&rt, rt.alloc(), "", RESTARTS)
 }

@@ -7,22 +7,32 @@
 // word first, and two the increment, which is made odd. The generator starts at the state behind
 // their sum. With state 42 and stream 54 that program gives a15c02b7, 7b47f409, .., as PCG's own
 // demonstration does.
+use crate::written::written;
 use draws::{load_job, schedule};
-use job_text::push_job;
-use mss_base::Bytes;
+use std::alloc::Global;
 use std::test::Fail;
 
-const FIRST_WORDS: [(u64, [u32; 3]); 10] = [
-    (0, [298703107, 4236525527, 336081875]),
-    (1, [866585574, 2109535214, 3403630417]),
-    (2, [663514024, 4050668357, 535747897]),
-    (3, [1170342731, 636832815, 4217149081]),
-    (4, [668795775, 367880767, 1936662788]),
-    (5, [3086511542, 1342643712, 28595221]),
-    (6, [2045517856, 2268375300, 982895230]),
-    (7, [2442223337, 414063806, 2743600285]),
-    (8, [3046447000, 1793657967, 3828792021]),
-    (9, [3429093174, 673120095, 3444530991]),
+/// An order, how many actors there are, and whose turn it then is.
+type Turns = (u64, u32, &'static [u32]);
+
+/// The first words of each order: each is below 2^32 - 1, so the turns of so many actors are the words themselves.
+const WORDS: [Turns; 10] = [
+    (0, u32::MAX, &[298703107, 4236525527, 336081875]),
+    (1, u32::MAX, &[866585574, 2109535214, 3403630417]),
+    (2, u32::MAX, &[663514024, 4050668357, 535747897]),
+    (3, u32::MAX, &[1170342731, 636832815, 4217149081]),
+    (4, u32::MAX, &[668795775, 367880767, 1936662788]),
+    (5, u32::MAX, &[3086511542, 1342643712, 28595221]),
+    (6, u32::MAX, &[2045517856, 2268375300, 982895230]),
+    (7, u32::MAX, &[2442223337, 414063806, 2743600285]),
+    (8, u32::MAX, &[3046447000, 1793657967, 3828792021]),
+    (9, u32::MAX, &[3429093174, 673120095, 3444530991]),
+];
+
+const TURNS: [Turns; 3] = [
+    (0, 7, &[3, 3, 3, 1, 0, 3, 2, 6]),
+    (u64::MAX, 7, &[4, 0, 2, 5, 5, 1, 3, 6]),
+    (3, 1, &[]),
 ];
 
 const SMALL_LOAD: &str = "mss 1 frames 24 recorders 2\n\
@@ -70,32 +80,43 @@ const SMALL_LOAD: &str = "mss 1 frames 24 recorders 2\n\
     end\n\
     done\n";
 
-#[test]
-fn words_are_those_of_another_generator(rt: HostRuntime) -> Result<(), Fail> {
-    // Each word is below 2^32 - 1, so the turns of so many actors are the words themselves.
-    for (order, words) in FIRST_WORDS {
-        let drawn = schedule(rt.alloc(), order, 3, u32::MAX)?;
-        assert_eq!(rt; drawn.as_slice(), words.as_slice());
+/// Whether an order draws these turns.
+fn draws(alloc: Global, (order, actors, turns): Turns) -> bool {
+    let Ok(count) = u32::try_from(turns.len()) else {
+        return false;
+    };
+    if actors == 0 {
+        return false;
     }
-    Ok(())
+    match schedule(alloc, order, count, actors) {
+        Ok(drawn) => drawn.as_slice() == turns,
+        Err(_) => false,
+    }
+}
+
+fn all_draw(alloc: Global, rows: &[Turns]) -> bool {
+    for turns in rows {
+        if !draws(alloc, *turns) {
+            return false;
+        }
+    }
+    true
 }
 
 #[test]
-fn turns_are_those_of_another_generator(rt: HostRuntime) -> Result<(), Fail> {
-    let drawn = schedule(rt.alloc(), 0, 8, 7)?;
-    assert_eq!(rt; drawn.as_slice(), [3, 3, 3, 1, 0, 3, 2, 6].as_slice());
-    let drawn = schedule(rt.alloc(), u64::MAX, 8, 7)?;
-    assert_eq!(rt; drawn.as_slice(), [4, 0, 2, 5, 5, 1, 3, 6].as_slice());
-    let drawn = schedule(rt.alloc(), 3, 0, 1)?;
-    assert!(rt; drawn.is_empty());
-    Ok(())
+fn words_are_those_of_another_generator(rt: HostRuntime) {
+    assert!(rt; all_draw(rt.alloc(), &WORDS));
+}
+
+#[test]
+fn turns_are_those_of_another_generator(rt: HostRuntime) {
+    assert!(rt; all_draw(rt.alloc(), &TURNS));
 }
 
 #[test]
 fn a_load_is_that_of_another_generator(rt: HostRuntime) -> Result<(), Fail> {
     let job = load_job(rt.alloc(), 3, 5)?;
-    let mut text = Bytes::new(rt.alloc());
-    push_job(&mut text, &job)?;
+    let text = written(rt.alloc(), &job)?;
     assert_eq!(rt; text.as_slice(), SMALL_LOAD.as_bytes());
     Ok(())
 }

@@ -1,17 +1,14 @@
-//! Jobs, words, reports and files, each said by value.
+//! Jobs, draws, lines and files, each said by value.
 //!
-//! Nothing stands on this crate. Its tests show which words the command takes and what they ask
-//! for; job texts that are read, written and refused; the turns and the load that a number draws,
-//! by another program; the lines of reports, listings and refusals, as a person worked them out;
-//! a site in a folder, and the block that a site over failing files keeps.
+//! Nothing stands on this crate. Its tests show a job text that is read and written; the turns and
+//! the load that a number draws, by another program; what is put where a put fails; a site in a
+//! folder, and the block that a site over failing files keeps. Which words and jobs are refused or
+//! taken, and each line of reports and listings, the scripts of `checks` and the examples show on
+//! the built program; reports of which a read fails, `worked_jobs`.
 #![tactic(auto)]
 
 #[cfg(test)]
-mod commands;
-#[cfg(test)]
 mod drawn;
-#[cfg(test)]
-mod first_job;
 #[cfg(test)]
 mod job_texts;
 #[cfg(test)]
@@ -19,6 +16,6 @@ mod kept_blocks;
 #[cfg(test)]
 mod report_lines;
 #[cfg(test)]
-mod reports;
-#[cfg(test)]
 mod sites;
+#[cfg(test)]
+mod written;

@@ -1,147 +1,116 @@
-use mss_base::{
-    BLOCK_BYTES, BlockPlace, Bytes, CartridgeNo, Cylinder, Failed, FrameNo, Head, ImageFault,
-    Listed, MemorySink, MemorySite, MemorySource, Serial, SilentSite, Sink, Site, SiteFault,
-    Source, UnitNo, cartridge_block, clear_block, frame_block,
-};
+// Devices in memory, with their faults and stops, and where tracks lie.
+use crate::sites::{play, play_with_stops};
+use memory_devices::{MemorySite, SilentSite, SiteFault};
+use mss_base::{Cylinder, FrameNo, Head, Serial, UnitNo, cartridge_block, frame_block};
 use std::test::Fail;
+
+/// The last bytes of a block and of no other.
+const WRITTEN: &str = "\
+w C 3837 16381 616263 ok
+r C 3837 16378 000000616263 ok
+b C 3837 16378 000000616263 ok
+b C 0 16381 00 ok
+r C 0 0 00 ok
+r C 0 16383 00 ok
+n A 1 0 -";
 
 #[test]
 fn a_block_reads_as_it_was_written(rt: HostRuntime) -> Result<(), Fail> {
-    let cartridge = UnitNo::Cartridge(CartridgeNo::of(2047).ok_or("number")?);
     let mut site = MemorySite::new(rt.alloc())?;
-    site.reserve(1)?;
-    let mut block = [1; 16384];
-    assert_eq!(rt; site.write(cartridge, 3837, 16381, b"abc"), Ok(()));
-    assert_eq!(rt; site.read(cartridge, 3837, &mut block), Ok(()));
-    assert_eq!(rt; &block[16378..], b"\0\0\0abc".as_slice());
-    assert_eq!(rt; site.bring(cartridge, 3837), Ok(()));
-    assert_eq!(rt; &site.brought()[16378..], b"\0\0\0abc".as_slice());
-    assert_eq!(rt; site.bring(cartridge, 0), Ok(()));
-    assert_eq!(rt; site.brought()[16381], 0);
-    assert_eq!(rt; (site.writes(), site.faults()), (1, 0));
-    Ok(())
+    play(&rt, rt.alloc(), &mut site, WRITTEN)
 }
+
+/// The second call fails, and reads of copy A.
+const FAILING: &str = "\
+r B 0 0 00 ok
+r B 0 0 - !
+r A 0 0 - !
+r B 0 0 00 ok
+n A 0 2 -";
+
+/// No call of what a stop leaves fails.
+const UNFAILING: &str = "\
+0 -
+r B 0 0 00 ok
+r B 0 0 00 ok
+r A 0 0 00 ok
+n A 0 0 -";
 
 #[test]
 fn a_call_fails_where_it_was_told_to(rt: HostRuntime) -> Result<(), Fail> {
+    let faults = [SiteFault::Call(2), SiteFault::ReadsOf(UnitNo::TableA)];
     let mut site = MemorySite::new(rt.alloc())?;
-    site.fail(&[SiteFault::Call(2), SiteFault::ReadsOf(UnitNo::TableA)])?;
-    let mut block = [1; 16384];
-    assert_eq!(rt; site.read(UnitNo::TableB, 0, &mut block), Ok(()));
-    assert_eq!(rt; site.read(UnitNo::TableB, 0, &mut block), Err(Failed));
-    assert_eq!(rt; site.read(UnitNo::TableA, 0, &mut block), Err(Failed));
-    assert_eq!(rt; site.read(UnitNo::TableB, 0, &mut block), Ok(()));
-    assert_eq!(rt; (block[0], site.faults()), (0, 2));
-    Ok(())
+    play_with_stops(&rt, rt.alloc(), &mut site, &faults, FAILING, UNFAILING)
 }
+
+/// Two writes that overlap.
+const OVERLAPPING: &str = "\
+w A 5 10 616263 ok
+w A 5 11 58595A ok";
+
+/// A tear is cut at the write's end, and bytes that lack are zeros. No call of what is left fails.
+const LEFT: &str = "\
+0 -
+r A 5 10 00000000 ok
+n A 0 0 -
+
+1 -
+r A 5 10 61626300 ok
+n A 0 0 -
+
+1 3132333435
+r A 5 10 61313233 ok
+n A 0 0 -
+
+1 31
+r A 5 10 61310000 ok
+n A 0 0 -
+
+2 3132333435
+r A 5 10 6158595A ok
+n A 0 0 -
+
+3 -
+none";
 
 #[test]
 fn a_stop_leaves_the_first_writes_and_a_tear(rt: HostRuntime) -> Result<(), Fail> {
+    let faults = [SiteFault::ReadsOf(UnitNo::TableA)];
     let mut site = MemorySite::new(rt.alloc())?;
-    site.reserve(2)?;
-    site.fail(&[SiteFault::ReadsOf(UnitNo::TableA)])?;
-    assert_eq!(rt; site.write(UnitNo::TableA, 5, 10, b"abc"), Ok(()));
-    assert_eq!(rt; site.write(UnitNo::TableA, 5, 11, b"XYZ"), Ok(()));
-    let mut block = [1; 16384];
-    for (moment, tear, left) in [
-        (0, None, b"\0\0\0\0"),
-        (1, None, b"abc\0"),
-        (1, Some(b"12345".as_slice()), b"a123"),
-        (1, Some(b"1".as_slice()), b"a1\0\0"),
-        (2, Some(b"12345".as_slice()), b"aXYZ"),
-    ] {
-        let Ok(mut image) = site.image(moment, tear) else {
-            return Err("image".into());
-        };
-        assert_eq!(rt; image.read(UnitNo::TableA, 5, &mut block), Ok(()));
-        assert_eq!(rt; &block[10..14], left.as_slice());
-        assert_eq!(rt; (image.writes(), image.faults()), (0, 0));
-    }
-    assert_eq!(rt; site.image(3, None).err(), Some(ImageFault::NoSuchMoment));
-    Ok(())
+    play_with_stops(&rt, rt.alloc(), &mut site, &faults, OVERLAPPING, LEFT)
 }
+
+/// Each byte is C1, whatever was written. The second call fails.
+const FORGOTTEN: &str = "\
+w 3 7599 0 616263 ok
+r 3 7599 0 - !
+r 3 7599 0 C1 ok
+b 3 7599 16383 C1 ok
+n A 1 1 -";
 
 #[test]
 fn a_silent_site_forgets(rt: HostRuntime) -> Result<(), Fail> {
     let mut site = SilentSite::of(rt.alloc(), 193, &[2])?;
-    let mut block = [0; 16384];
-    assert_eq!(rt; site.write(UnitNo::Staging(3), 7599, 0, b"abc"), Ok(()));
-    assert_eq!(rt;
-        site.read(UnitNo::Staging(3), 7599, &mut block),
-        Err(Failed)
-    );
-    assert_eq!(rt; site.read(UnitNo::Staging(3), 7599, &mut block), Ok(()));
-    assert_eq!(rt; (block[0], site.brought()[16383]), (193, 193));
-    assert_eq!(rt; (site.writes(), site.faults()), (1, 1));
-    Ok(())
+    play(&rt, rt.alloc(), &mut site, FORGOTTEN)
+}
+
+/// Whether a track lies in these blocks of the first staging disk and of its cartridge.
+fn lies_at(frame: u8, cylinder: u16, head: u8, staged: u32, on_cartridge: u32) -> Option<bool> {
+    let frame = FrameNo::of(frame)?;
+    let cylinder = Cylinder::of(cylinder)?;
+    let head = Head::of(head)?;
+    let place = frame_block(frame, cylinder, head);
+    Some(
+        place.unit == UnitNo::Staging(0)
+            && place.block == staged
+            && cartridge_block(cylinder, head) == on_cartridge,
+    )
 }
 
 #[test]
-fn a_source_is_taken_in_pieces(rt: HostRuntime) -> Result<(), Fail> {
-    let mut source = MemorySource::of(rt.alloc(), b"abcde", &[2])?;
-    let mut piece = [0; 3];
-    assert_eq!(rt; source.take(&mut piece), Ok(3));
-    assert_eq!(rt; &piece, b"abc");
-    assert_eq!(rt; source.take(&mut piece), Err(Failed));
-    assert_eq!(rt; source.take(&mut piece), Ok(2));
-    assert_eq!(rt; &piece[..2], b"de".as_slice());
-    assert_eq!(rt; source.take(&mut piece), Ok(0));
-    assert_eq!(rt; source.faults(), 1);
-    Ok(())
-}
-
-#[test]
-fn a_sink_keeps_what_was_put(rt: HostRuntime) -> Result<(), Fail> {
-    let mut sink = MemorySink::new(rt.alloc(), &[2])?;
-    assert_eq!(rt; sink.put(b"abc"), Ok(()));
-    assert_eq!(rt; sink.put(b"lost"), Err(Failed));
-    assert_eq!(rt; sink.put(b"de"), Ok(()));
-    assert_eq!(rt; sink.bytes(), b"abcde".as_slice());
-    assert_eq!(rt; sink.faults(), 1);
-    Ok(())
-}
-
-#[test]
-fn a_list_takes_bytes_into_its_room(rt: HostRuntime) -> Result<(), Fail> {
-    let mut bytes = Bytes::of(rt.alloc(), b"ab")?;
-    bytes.append(b"cd")?;
-    bytes.reserve(1)?;
-    bytes.push(101);
-    assert_eq!(rt; bytes.as_slice(), b"abcde".as_slice());
-    assert_eq!(rt;
-        Bytes::padded(rt.alloc(), 4, b"ab")?.as_slice(),
-        b"ab\0\0".as_slice()
-    );
-    assert_eq!(rt;
-        Listed::of(rt.alloc(), &[300, 7])?.as_slice(),
-        [300, 7].as_slice()
-    );
-    let mut block = [1; BLOCK_BYTES];
-    clear_block(&mut block);
-    assert_eq!(rt; (block[0], block[BLOCK_BYTES - 1]), (0, 0));
-    Ok(())
-}
-
-#[test]
-fn tracks_lie_in_their_blocks(rt: HostRuntime) -> Result<(), Fail> {
-    for (frame, cylinder, head, staged, on_cartridge) in [
-        (0, 201, 0, 19, 3819),
-        (0, 202, 0, 38, 0),
-        (1, 403, 18, 227, 3837),
-    ] {
-        let frame = FrameNo::of(frame).ok_or("frame")?;
-        let cylinder = Cylinder::of(cylinder).ok_or("cylinder")?;
-        let head = Head::of(head).ok_or("head")?;
-        let unit = UnitNo::Staging(0);
-        assert_eq!(rt;
-            frame_block(frame, cylinder, head),
-            BlockPlace {
-                unit,
-                block: staged
-            }
-        );
-        assert_eq!(rt; cartridge_block(cylinder, head), on_cartridge);
-    }
-    assert_eq!(rt; Serial::of(*b"VOL001").is_some(), true);
-    Ok(())
+fn tracks_lie_in_their_blocks(rt: HostRuntime) {
+    assert!(rt; lies_at(0, 201, 0, 19, 3819) == Some(true));
+    assert!(rt; lies_at(0, 202, 0, 38, 0) == Some(true));
+    assert!(rt; lies_at(1, 403, 18, 227, 3837) == Some(true));
+    assert!(rt; Serial::of(*b"VOL001").is_some());
 }

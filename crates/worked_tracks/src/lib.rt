@@ -1,8 +1,8 @@
 //! Blocks, tracks and commands, each said by value.
 //!
-//! Nothing stands on this crate. Its tests show devices in memory with their faults and stops,
-//! tracks in blocks made by hand, and channel commands as the plain machine answers them; the
-//! engine on blocks gives the same answers, and its tracks are the same.
+//! Nothing stands on this crate. Its tests show devices in memory with their faults and stops, tracks in blocks made by
+//! hand, and channel commands: the engine on blocks and the plain machine give the same answers, and their tracks are the
+//! same. What is said stands in texts, which few functions play, since a test is proved as any function.
 #![tactic(auto)]
 
 #[cfg(test)]
@@ -10,6 +10,10 @@ mod devices;
 #[cfg(test)]
 mod engine;
 #[cfg(test)]
-mod plain;
+mod sites;
+#[cfg(test)]
+mod streams;
 #[cfg(test)]
 mod tracks;
+#[cfg(test)]
+mod words;

@@ -1,167 +1,99 @@
-// Blocks made by hand, and a record formatted, read back and updated.
-ghost use Rattle.ckd_track.specs.Formatting.{IsRecord};
+// Blocks made by hand.
+ghost use Rattle.std.specs.Prelude.{◌≡◌, length, vec_len, IfOk};
 
 use ckd_track::*;
-use mss_base::{BlockPlace, MemorySite, Site, UnitNo};
+use std::alloc::Global;
 use std::process::Abort;
 use std::test::Fail;
 
-// R1 of cylinder 5, head 3: no key, three bytes of data.
+/// A block of zeros but for the open gate of R1 and the first bytes of R1: its count, and data.
+fn block_of(alloc: Global, record: &[u8; 11]) -> Result<Vec<u8>, Fail>
+    ensures { IfOk result (λ block. vec_len block ≡ 16384) }
+{
+    let mut block = vec![in alloc; 0u8; 16384]?;
+    block[129] = 0xC1;
+    block[256..267].copy_from_slice(record);
+    Ok(block)
+}
+
+/// R1 of cylinder 5, head 3: no key, three bytes of data.
+const ID: [u8; 5] = [0, 5, 0, 3, 1];
+
 const COUNT_DATA: [u8; 11] = [0, 5, 0, 3, 1, 0, 0, 3, 0x41, 0x42, 0x43];
+
+/// Whether the record lies at byte 256.
+fn lies_there(block: &[u8]) -> bool
+    requires { length block.now ≡ 16384 }
+{
+    let Some(place) = find_place(block, 1) else {
+        return false;
+    };
+    let found = record_at(block, place);
+    place == 256 && found.id == ID && found.key.is_empty() && found.body == b"ABC".as_slice()
+}
+
+/// Whether the record is the block's only one.
+fn stands_alone(block: &[u8]) -> bool
+    requires { length block.now ≡ 16384 }
+{
+    !is_blank(block)
+        && record_count(block) == 1
+        && cost_of_front(block, 1) == 138
+        && find_place(block, 2).is_none()
+}
+
+/// Whether it is the track's only one.
+fn is_track_of_it(track: &Track) -> bool {
+    let [record] = track.records.as_slice() else {
+        return false;
+    };
+    record.id == ID
+        && record.key.as_slice().is_empty()
+        && record.body.as_slice() == b"ABC".as_slice()
+}
 
 #[test]
 fn reads_a_record_made_by_hand(rt: HostRuntime) -> Result<(), Fail> {
-    let mut block = [0; 16384];
-    assert!(rt; is_blank(&block));
-    block[129] = 0xC1;
-    block[256..267].copy_from_slice(&COUNT_DATA);
+    let block = block_of(rt.alloc(), &COUNT_DATA)?;
+    assert!(rt; check_track(&block).is_ok() && lies_there(&block) && stands_alone(&block));
+    assert!(rt; is_track_of_it(&read_track(rt.alloc(), &block)?));
+    assert!(rt; is_track_of_it(&read_front(rt.alloc(), &block)?));
+    Ok(())
+}
 
-    assert!(rt; !is_blank(&block));
-    check_track(&block)?;
-    assert_eq!(rt; record_count(&block), 1);
-    assert_eq!(rt; cost_of_front(&block, 1), 138);
-    let place = find_place(&block, 1).ok_or("no record")?;
-    assert_eq!(rt; place, 256);
-    let found = record_at(&block, place);
-    assert_eq!(rt; found.id, [0, 5, 0, 3, 1]);
-    assert!(rt; found.key.is_empty());
-    assert_eq!(rt; found.body, b"ABC".as_slice());
-    assert_eq!(rt; find_place(&block, 2), None);
+#[test]
+fn a_block_of_zeros_is_blank(rt: HostRuntime) -> Result<(), Fail> {
+    assert!(rt; is_blank(&vec![in rt.alloc(); 0u8; 16384]?));
+    Ok(())
+}
 
-    for track in [
-        read_track(rt.alloc(), &block)?,
-        read_front(rt.alloc(), &block)?,
-    ] {
-        let records = track.records.as_slice();
-        assert_eq!(rt; records.len(), 1);
-        let record = &records[0];
-        assert_eq!(rt; record.id, [0, 5, 0, 3, 1]);
-        assert_eq!(rt; record.key.as_slice(), b"".as_slice());
-        assert_eq!(rt; record.body.as_slice(), b"ABC".as_slice());
+/// Asserts why a record of so many bytes of data is none, or that it is one.
+fn is_bad_for(
+    rt: &impl Abort,
+    alloc: Global,
+    [high, low]: [u8; 2],
+    cause: Option<TrackCause>,
+) -> Result<(), Fail> {
+    let block = block_of(alloc, &[0, 0, 0, 0, 0, 0, high, low, 0, 0, 0])?;
+    let checked = check_track(&block).err();
+    let read = read_track(alloc, &block).err();
+    match cause {
+        Some(cause) => {
+            assert!(rt; checked == Some(BadRecord { number: 1, cause }));
+            assert!(rt; read == Some(ReadTrackFault::Bad { number: 1, cause }));
+        }
+        None => assert!(rt; checked.is_none() && read.is_none()),
     }
     Ok(())
 }
 
-// The data length stands at places 262 and 263: 16,120 bytes end the block, and 13,030 cost 13,165.
+// 16,120 bytes of data end the block, and 13,030 cost 13,165.
 #[test]
 fn names_the_bad_record(rt: HostRuntime) -> Result<(), Fail> {
-    for (length, cause) in [
-        ([0xFF, 0xFF], Some(TrackCause::RunsPast)),
-        ([0x3E, 0xF9], Some(TrackCause::RunsPast)),
-        ([0x3E, 0xF8], Some(TrackCause::Overfull)),
-        ([0x32, 0xE7], Some(TrackCause::Overfull)),
-        ([0x32, 0xE6], None),
-    ] {
-        let mut block = [0; 16384];
-        block[129] = 0xC1;
-        block[262..264].copy_from_slice(&length);
-        let bad = check_track(&block).err();
-        assert_eq!(rt; bad, cause.map(|cause| BadRecord { number: 1, cause }));
-        let fault = read_track(rt.alloc(), &block).err();
-        assert_eq!(rt;
-            fault,
-            cause.map(|cause| ReadTrackFault::Bad { number: 1, cause })
-        );
-    }
-    Ok(())
-}
-
-// A record of cylinder 5, head 3, without a key.
-fn record_of(number: u8, data: &[u8; 3]) -> [u8; 11]
-    ensures { IsRecord result }
-{
-    [0, 5, 0, 3, number, 0, 0, 3, data[0], data[1], data[2]]
-}
-
-// Formats a record of a track with room for it.
-fn format(site: &mut MemorySite, at: &BlockPlace, number: u8, data: &[u8; 3]) -> Result<(), Fail> {
-    let record = record_of(number, data);
-    let mut block = [0; 16384];
-    site.reserve(4)?;
-    site.read(at.unit, at.block, &mut block)?;
-    if number == 0 || number > record_count(&block) + 1 {
-        return Err("the number of the record".into());
-    }
-    if cost_of_front(&block, number - 1) + cost_at(&record, 0) > TRACK_COST {
-        return Err("the cost of the record".into());
-    }
-    format_record(site, at, &block, number, &record)?;
-    Ok(())
-}
-
-// Writes data of three bytes over those of the first record.
-fn update(site: &mut MemorySite, at: &BlockPlace, data: &[u8; 3]) -> Result<(), Fail> {
-    let mut block = [0; 16384];
-    site.reserve(1)?;
-    site.read(at.unit, at.block, &mut block)?;
-    if record_count(&block) < 1 {
-        return Err("no record".into());
-    }
-    let place = find_place(&block, 1).ok_or("no record")?;
-    if record_at(&block, place).body.len() != 3 {
-        return Err("the length of the data".into());
-    }
-    update_record(site, at, &block, 1, place, false, data)?;
-    Ok(())
-}
-
-// A stop at this moment leaves a track of these records.
-fn assert_left(
-    rt: &impl Abort,
-    site: &MemorySite,
-    at: &BlockPlace,
-    (moment, tear): (u64, Option<&[u8]>),
-    records: &[&[u8; 3]],
-) -> Result<(), Fail> {
-    let Ok(mut image) = site.image(moment, tear) else {
-        return Err("image".into());
-    };
-    let mut block = [0; 16384];
-    image.read(at.unit, at.block, &mut block)?;
-    check_track(&block)?;
-    assert_eq!(rt; record_count(&block) as usize, records.len());
-    for (stored, data) in stored_records(&block).zip(records) {
-        assert_eq!(rt; stored.body, data.as_slice());
-    }
-    Ok(())
-}
-
-#[test]
-fn a_torn_update_shows_its_bytes(rt: HostRuntime) -> Result<(), Fail> {
-    let mut site = MemorySite::new(rt.alloc())?;
-    let at = BlockPlace {
-        unit: UnitNo::Staging(0),
-        block: 7,
-    };
-    format(&mut site, &at, 1, b"ABC")?;
-    assert_left(&rt, &site, &at, (2, None), &[b"ABC"])?;
-    update(&mut site, &at, b"XYZ")?;
-    assert_eq!(rt; site.writes(), 3);
-    let tear = Some([0xFF, 0, 0xFF].as_slice());
-    assert_left(&rt, &site, &at, (2, tear), &[&[0xFF, 0, 0xFF]])?;
-    assert_left(&rt, &site, &at, (3, tear), &[b"XYZ"])
-}
-
-// Three records take two writes each. The second is formatted again: its gate and the next are
-// closed, it is put, its gate opened.
-#[test]
-fn a_stop_within_a_format_ends_the_track_before_its_record(rt: HostRuntime) -> Result<(), Fail> {
-    let mut site = MemorySite::new(rt.alloc())?;
-    let at = BlockPlace {
-        unit: UnitNo::Staging(0),
-        block: 7,
-    };
-    for (number, data) in [(1, b"ABC"), (2, b"DEF"), (3, b"GHI"), (2, b"XYZ")] {
-        format(&mut site, &at, number, data)?;
-    }
-    for (moment, records) in [
-        (6, [b"ABC", b"DEF", b"GHI"].as_slice()),
-        (7, [b"ABC"].as_slice()),
-        (9, [b"ABC"].as_slice()),
-        (10, [b"ABC", b"XYZ"].as_slice()),
-    ] {
-        assert_left(&rt, &site, &at, (moment, None), records)?;
-    }
-    assert_eq!(rt; site.writes(), 10);
-    Ok(())
+    let (past, overfull) = (Some(TrackCause::RunsPast), Some(TrackCause::Overfull));
+    is_bad_for(&rt, rt.alloc(), [0xFF, 0xFF], past)?;
+    is_bad_for(&rt, rt.alloc(), [0x3E, 0xF9], past)?;
+    is_bad_for(&rt, rt.alloc(), [0x3E, 0xF8], overfull)?;
+    is_bad_for(&rt, rt.alloc(), [0x32, 0xE7], overfull)?;
+    is_bad_for(&rt, rt.alloc(), [0x32, 0xE6], None)
 }

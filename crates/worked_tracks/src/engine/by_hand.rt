@@ -1,7 +1,9 @@
 //! Blocks written byte by byte, as the format of a block says.
-use crate::engine::table::{bytes_of, program_of, single_byte};
+use crate::engine::table::program_of;
 use crate::engine::twins::{Twins, place_of};
-use mss_base::{Cylinder, Head, MemorySite, Site};
+use crate::words::{bytes_of, single_byte};
+use memory_devices::MemorySite;
+use mss_base::{Cylinder, Head, Site};
 use std::alloc::Global;
 use std::test::Fail;
 
@@ -59,33 +61,59 @@ fn fill_cylinder(alloc: Global, site: &mut MemorySite, cylinder: u16) -> Result<
     Ok(())
 }
 
-/// Writes the block of cylinder 5 that a line says.
-fn write_block(alloc: Global, site: &mut MemorySite, line: &str) -> Result<(), Fail> {
+/// Writes the bytes of a word into a block of cylinder 5.
+fn write_word(
+    alloc: Global,
+    site: &mut MemorySite,
+    head: u8,
+    offset: u16,
+    word: &str,
+) -> Result<(), Fail> {
     let cylinder = Cylinder::of(5).ok_or("no cylinder")?;
-    let mut words = line.split(" ");
-    let head = single_byte(words.next())?;
-    let gates = bytes_of(alloc, words.next().ok_or("no gates")?)?;
-    let records = bytes_of(alloc, words.next().ok_or("no records")?)?;
-    write_bytes(site, cylinder, head, 129, &gates)?;
-    write_bytes(site, cylinder, head, 256, &records)
+    let bytes = bytes_of(alloc, word)?;
+    write_bytes(site, cylinder, head, offset, &bytes)
 }
 
-/// A mounted volume whose tracks are those that `formats` leaves, which the plain machine alone has run.
-pub fn twins_by_hand(alloc: Global, formats: &str) -> Result<Twins, Fail> {
-    let mut twins = Twins::blank(alloc)?;
-    twins.mount()?;
+/// Writes the block of cylinder 5 that a line says.
+fn write_block(alloc: Global, site: &mut MemorySite, line: &str) -> Result<(), Fail> {
+    let mut words = line.split(" ");
+    let head = single_byte(words.next())?;
+    write_word(alloc, site, head, 129, words.next().ok_or("no gates")?)?;
+    write_word(alloc, site, head, 256, words.next().ok_or("no records")?)
+}
+
+/// Writes the blocks of cylinder 5.
+fn write_blocks(alloc: Global, site: &mut MemorySite) -> Result<(), Fail> {
+    for line in BLOCKS.lines() {
+        write_block(alloc, site, line)?;
+    }
+    Ok(())
+}
+
+/// Runs a program on the plain machine alone.
+fn play_plain(twins: &mut Twins, program: &str) -> Result<(), Fail> {
+    let lines = program_of(twins.alloc, program)?;
+    for (i, line) in lines.iter().enumerate() {
+        let _reply = twins.plain_command(line, i + 1 < lines.len())?;
+    }
+    Ok(())
+}
+
+/// Mounts the volume, and makes its tracks those that `formats` leaves, which the plain machine alone runs.
+fn format_by_hand(twins: &mut Twins, formats: &str) -> Result<(), Fail> {
+    twins.mount(false)?;
     for program in formats.split("\n\n") {
-        let lines = program_of(alloc, program)?;
-        for (i, line) in lines.iter().enumerate() {
-            let _reply = twins.plain_command(line, i + 1 < lines.len())?;
-        }
+        play_plain(twins, program)?;
     }
     twins.host = *twins.plain.host(twins.number);
-    for cylinder in 5..7 {
-        fill_cylinder(alloc, &mut twins.site, cylinder)?;
-    }
-    for line in BLOCKS.lines() {
-        write_block(alloc, &mut twins.site, line)?;
-    }
+    fill_cylinder(twins.alloc, &mut twins.site, 5)?;
+    fill_cylinder(twins.alloc, &mut twins.site, 6)?;
+    write_blocks(twins.alloc, &mut twins.site)
+}
+
+/// A mounted volume whose tracks are those that `formats` leaves.
+pub fn twins_by_hand(alloc: Global, formats: &str) -> Result<Twins, Fail> {
+    let mut twins = Twins::blank(alloc)?;
+    format_by_hand(&mut twins, formats)?;
     Ok(twins)
 }

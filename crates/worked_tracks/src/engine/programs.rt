@@ -19,6 +19,266 @@ FF - 0E
 # intervention required again
 04 - 0C 40..";
 
+/// Before the tracks are formatted: on the first track, where a host stands when its volume is mounted, and under masks.
+pub const BEFORE_FORMATS: [&str; 4] = [
+    FIRST_TRACK,
+    WRITES_UNDER_MASKS,
+    SEEKS_UNDER_MASKS,
+    READ_BACK,
+];
+
+/// A record of the first track.
+pub const FIRST_TRACK: &str = "\
+# a record with a key behind R0
+31 0000000000 4C
+1D 0000000001020001414207 0C
+
+# its key is met
+29 4142 4C
+06 - 0C 07
+
+# a key that is higher
+49 4141 4C
+06 - 0C 07
+
+# count, key and data
+1E - 0C 0000000001020001414207
+
+# another key and other data behind its ID
+31 0000000001 0C
+31 0000000001 4C
+0D 434408 0C
+
+# R0, the home address, and key and data
+16 - 0C 00000000000000080000000000000000
+1A - 0C 0000000000
+0E - 0C 434408";
+
+/// Each write under each mask, on the first track with its record: 00 permits no write of home address and R0, 40 no
+/// write, 80 no write of count, key and data, C0 each write.
+pub const WRITES_UNDER_MASKS: &str = "\
+# data under 00
+1F 00 0C
+31 0000000001 0C
+31 0000000001 4C
+05 08 0C
+
+# data under 40
+1F 40 0C
+31 0000000001 0C
+31 0000000001 4C
+05 08 0E
+
+# command reject
+04 - 0C 80..
+
+# data under 80
+1F 80 0C
+31 0000000001 0C
+31 0000000001 4C
+05 08 0C
+
+# data under C0
+1F C0 0C
+31 0000000001 0C
+31 0000000001 4C
+05 08 0C
+
+# key and data under 00
+1F 00 0C
+31 0000000001 0C
+31 0000000001 4C
+0D 434409 0C
+
+# key and data under 40
+1F 40 0C
+31 0000000001 0C
+31 0000000001 4C
+0D 434409 0E
+
+# command reject
+04 - 0C 80..
+
+# key and data under 80
+1F 80 0C
+31 0000000001 0C
+31 0000000001 4C
+0D 434409 0C
+
+# key and data under C0
+1F C0 0C
+31 0000000001 0C
+31 0000000001 4C
+0D 434409 0C
+
+# a new record under 00
+1F 00 0C
+31 0000000001 0C
+31 0000000001 4C
+1D 000000000200000141 0C
+
+# a new record under 40
+1F 40 0C
+31 0000000001 0C
+31 0000000001 4C
+1D 000000000200000141 0E
+
+# command reject
+04 - 0C 80..
+
+# a new record under 80
+1F 80 0C
+31 0000000001 0C
+31 0000000001 4C
+1D 000000000200000141 0E
+
+# command reject
+04 - 0C 80..
+
+# a new record under C0
+1F C0 0C
+31 0000000001 0C
+31 0000000001 4C
+1D 000000000200000141 0C";
+
+/// Each seek under each mask: 00 permits all seeks, 08 seek cylinder and seek head, 10 seek head, 18 none.
+pub const SEEKS_UNDER_MASKS: &str = "\
+# seek under 00
+1F 00 0C
+07 000000050003 0C
+
+# seek under 08
+1F 08 0C
+07 000000050003 0E
+
+# file protected
+04 - 0C 0004..
+
+# seek under 10
+1F 10 0C
+07 000000050003 0E
+
+# file protected
+04 - 0C 0004..
+
+# seek under 18
+1F 18 0C
+07 000000050003 0E
+
+# file protected
+04 - 0C 0004..
+
+# seek cylinder under 00
+1F 00 0C
+0B 000000050003 0C
+
+# seek cylinder under 08
+1F 08 0C
+0B 000000050003 0C
+
+# seek cylinder under 10
+1F 10 0C
+0B 000000050003 0E
+
+# file protected
+04 - 0C 0004..
+
+# seek cylinder under 18
+1F 18 0C
+0B 000000050003 0E
+
+# file protected
+04 - 0C 0004..
+
+# seek head under 00
+1F 00 0C
+1B 000000050003 0C
+
+# seek head under 08
+1F 08 0C
+1B 000000050003 0C
+
+# seek head under 10
+1F 10 0C
+1B 000000050003 0C
+
+# seek head under 18
+1F 18 0C
+1B 000000050003 0E
+
+# file protected
+04 - 0C 0004..
+
+# recalibrate under 00
+1F 00 0C
+13 000000050003 0C
+
+# recalibrate under 08
+1F 08 0C
+13 000000050003 0E
+
+# file protected
+04 - 0C 0004..
+
+# recalibrate under 10
+1F 10 0C
+13 000000050003 0E
+
+# file protected
+04 - 0C 0004..
+
+# recalibrate under 18
+1F 18 0C
+13 000000050003 0E
+
+# file protected
+04 - 0C 0004..";
+
+/// Refusals behind a mask, each with its sense, and a record of cylinder 5, head 3.
+pub const READ_BACK: &str = "\
+# an unknown code, and its sense of 24 bytes
+1F 00 0C
+08 - 0E
+04 - 0C 800000000000000000000000000000000000000000000000
+
+# a short argument
+1F 00 0C
+07 0000000500 0E
+04 - 0C 80..
+
+# no search before, where the mask permits each write
+1F C0 0C
+05 41 0E
+04 - 0C 80..
+
+# no such cylinder
+1F 00 0C
+07 000001940000 0E
+04 - 0C 80..
+
+# seeks inhibited
+1F 18 0C
+07 000000050003 0E
+04 - 0C 0004..
+
+# a record is written and read back, and then other data, which are padded with zeros; no other stands behind it
+07 000000050003 0C
+31 0005000300 4C
+1D 0005000301000003414243 0C
+07 000000050003 0C
+31 0005000301 0C
+31 0005000301 4C
+06 - 0C 414243
+07 000000050003 0C
+31 0005000301 0C
+31 0005000301 4C
+05 58 0C
+07 000000050003 0C
+31 0005000301 0C
+31 0005000301 4C
+06 - 0C 580000
+12 - 0C 0005000301000003";
+
 /// Cylinder 5: four records at head 3, two at head 4, one at head 18.
 pub const FORMATS: &str = "\
 # head 3: no key, a key, no data, a longer key

@@ -1,6 +1,5 @@
 //! Channel programs as text, read.
-ghost use Rattle.std.specs.Prelude.{◌<◌, IfSome};
-
+use crate::words::{bytes_of, single_byte};
 use std::alloc::Global;
 use std::test::Fail;
 
@@ -26,56 +25,28 @@ impl Line {
     }
 }
 
-fn digit_value(digit: u8) -> Option<u8>
-    ensures { IfSome result (λ value. value < 16) }
-{
-    match digit {
-        b'0'..=b'9' => Some(digit - b'0'),
-        b'A'..=b'F' => Some(digit - b'A' + 10),
-        _ => None,
+/// The digits of the data that are wanted, and whether zeros follow.
+fn wanted_of(word: Option<&str>) -> (&str, bool) {
+    let word = word.unwrap_or("-");
+    match word.strip_suffix("..") {
+        Some(digits) => (digits, true),
+        None => (word, false),
     }
-}
-
-fn byte_of(pair: &[u8]) -> Option<u8> {
-    let &[high, low] = pair else { return None };
-    Some(digit_value(high)? * 16 + digit_value(low)?)
-}
-
-/// The bytes of a word: pairs of hexadecimal digits, or `-` for none.
-pub fn bytes_of(alloc: Global, word: &str) -> Result<Vec<u8>, Fail> {
-    let mut bytes = Vec::new(alloc);
-    if word == "-" {
-        return Ok(bytes);
-    }
-    for pair in word.as_bytes().chunks(2) {
-        bytes.push(byte_of(pair).ok_or("no pair of digits")?)?;
-    }
-    Ok(bytes)
-}
-
-/// The byte of a word.
-pub fn single_byte(word: Option<&str>) -> Result<u8, Fail> {
-    let word = word.ok_or("no word")?;
-    Ok(byte_of(word.as_bytes()).ok_or("no byte")?)
 }
 
 /// Reads a line: `code argument status`, and the data where there are any.
 pub fn line_of(alloc: Global, text: &str) -> Result<Line, Fail> {
     let mut words = text.split(" ");
     let code = single_byte(words.next())?;
-    let argument = bytes_of(alloc, words.next().ok_or("no argument")?)?;
+    let argument = words.next().ok_or("no argument")?;
     let status = single_byte(words.next())?;
-    let wanted = words.next().unwrap_or("-");
-    let (digits, padded) = match wanted.strip_suffix("..") {
-        Some(digits) => (digits, true),
-        None => (wanted, false),
-    };
-    let bytes = bytes_of(alloc, digits)?;
+    let (digits, padded) = wanted_of(words.next());
+    let argument = bytes_of(alloc, argument)?;
     Ok(Line {
         code,
         argument,
         status,
-        bytes,
+        bytes: bytes_of(alloc, digits)?,
         padded,
     })
 }

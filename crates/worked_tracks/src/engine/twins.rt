@@ -1,7 +1,7 @@
 //! One host on two machines: the engine over blocks in memory, and the plain machine.
 ghost use Rattle.std.specs.Prelude.{◌≡◌, ◌≤◌, ◌<◌, ◌+◌, ◌^◌, length, true, OnOk, IfOk};
 ghost use Rattle.mss_base.specs.Content.{content};
-ghost use Rattle.mss_base.specs.MemorySite.{told_of, room_of};
+ghost use Rattle.memory_devices.specs.MemorySite.{told_of, room_of};
 ghost use Rattle.ckd_plain.specs.Checks.{Passes};
 ghost use Rattle.ckd_plain.specs.Effects.{is_data};
 ghost use Rattle.ckd_plain.specs.Plain.{opened};
@@ -9,12 +9,12 @@ ghost use Rattle.track_engine.specs.Tracks.{AreTracks};
 
 use crate::engine::table::{Line, program_of};
 use channel_commands::{Call, Command, DeviceCommand, Reply};
-use ckd_plain::steps::{is_data, opened, refused, run_control};
-use ckd_plain::{HostState, PlainState, Prior, Refusal, UnitCheck, admitted, plain_step};
+use ckd_plain::steps::{is_data, opened, refused_by, run_control};
+use ckd_plain::{HostState, UnitCheck, admitted};
 use ckd_track::{Record, Track, check_track, read_track};
-use mss_base::{
-    Bytes, Cylinder, Head, HostNo, MemorySite, Serial, Site, SiteFault, UnitNo, VolumeNo,
-};
+use memory_devices::{MemorySite, SiteFault};
+use mss_base::{Bytes, Cylinder, Head, HostNo, Serial, Site, UnitNo, VolumeNo};
+use plain_machine::{PlainState, plain_step};
 use std::alloc::Global;
 use std::process::Abort;
 use std::test::Fail;
@@ -79,14 +79,10 @@ fn run_on_tracks(
 
 /// A command that a check refused.
 fn refuse(alloc: Global, host: &mut HostState, check: UnitCheck) -> Reply {
-    let refusal = Refusal {
-        check,
-        host: HostState {
-            prior: Prior::Nothing,
-            ..opened(host)
-        },
-    };
-    refused(alloc, host, &refusal)
+    let mut now = opened(host);
+    let reply = refused_by(alloc, check, &mut now);
+    *host = now;
+    reply
 }
 
 /// A command on the blocks, by the steps of a session. `faults` are those to come.
@@ -157,30 +153,45 @@ pub struct Twins {
     pub volume: VolumeNo,
 }
 
+fn buffer(alloc: Global) -> Result<Vec<u8>, Fail> {
+    Ok(vec![in alloc; 0u8; 16384]?)
+}
+
+/// The plain machine with a volume without records.
+fn blank_plain(alloc: Global, volume: VolumeNo) -> Result<PlainState, Fail> {
+    let serial = Serial::of(*b"VOL001").ok_or("no serial")?;
+    Ok(PlainState::blank(alloc, &[(volume, serial)])?)
+}
+
 impl Twins {
     /// Devices of zeros, and a volume without records that isn't mounted.
     pub fn blank(alloc: Global) -> Result<Twins, Fail> {
         let volume = VolumeNo::of(0).ok_or("no volume")?;
-        let serial = Serial::of(*b"VOL001").ok_or("no serial")?;
+        let number = HostNo::of(1).ok_or("no host")?;
+        let buffer = buffer(alloc)?;
+        let plain = blank_plain(alloc, volume)?;
         Ok(Twins {
             alloc,
             site: MemorySite::new(alloc)?,
-            buffer: vec![in alloc; 0u8; 16384]?,
+            buffer,
             host: HostState::fresh(),
-            plain: PlainState::blank(alloc, &[(volume, serial)])?,
-            number: HostNo::of(1).ok_or("no host")?,
+            plain,
+            number,
             volume,
         })
     }
 
     /// Mounts the volume.
-    pub fn mount(&mut self) -> Result<(), Fail> {
+    pub fn mount(&mut self, bind: bool) -> Result<(), Fail> {
         let mount = Call::Mount {
             volume: self.volume,
-            bind: false,
+            bind,
         };
-        let _reply = plain_step(self.alloc, &mut self.plain, self.number, &mount)?;
-        self.host = self.host.with_volume(self.volume, false);
+        let reply = plain_step(self.alloc, &mut self.plain, self.number, &mount)?;
+        if !matches!(reply, Reply::Mounted) {
+            return Err("not mounted".into());
+        }
+        self.host = self.host.with_volume(self.volume, bind);
         Ok(())
     }
 
@@ -226,7 +237,7 @@ impl Twins {
         let reply = self.block_command(line, chained, &[])??;
         let plain = self.plain_command(line, chained)?;
         assert!(rt; is_same_reply(&reply, &plain), "{title}");
-        assert_eq!(rt; self.host, *self.plain.host(self.number), "{title}");
+        assert!(rt; self.host == *self.plain.host(self.number), "{title}");
         let (status, bytes) = done_of(&reply).ok_or("not done")?;
         assert!(rt; line.wants(status, bytes), "{title}: {status}");
         Ok(())
@@ -241,14 +252,19 @@ impl Twins {
         Ok(())
     }
 
+    /// Programs on both machines, one after the other.
+    pub fn play_all(&mut self, rt: &impl Abort, programs: &str) -> Result<(), Fail> {
+        for program in programs.split("\n\n") {
+            self.play(rt, program)?;
+        }
+        Ok(())
+    }
+
     /// The track of a block.
     pub fn track(&mut self, cylinder: Cylinder, head: Head) -> Result<Track, Fail> {
-        if self.buffer.len() != 16384 {
-            Err("no room for a block")?;
-        }
         let at = place_of(cylinder).block_of(head);
-        self.site.read(at.unit, at.block, &mut self.buffer)?;
-        Ok(read_track(self.alloc, &self.buffer)?)
+        self.site.bring(at.unit, at.block)?;
+        Ok(read_track(self.alloc, self.site.brought())?)
     }
 
     /// Whether the track of a block is the plain one.

@@ -1,6 +1,6 @@
 use Rattle.std.proofs.Common.{◌≡◌, sym, subst}
 use Rattle.mss_base.specs.Content.{SiteLog, content}
-use Rattle.mss_base.specs.MemorySite.{told_of, FailsOnly}
+use Rattle.memory_devices.specs.MemorySite.{told_of, FailsOnly}
 use Rattle.ckd_plain.specs.Plain.{serial_in}
 use Rattle.mss_restart.specs.OneCopy.{ArePaired, LosesOneTable}
 use Rattle.mss_restart.specs.Survey.{IsExact, rows_given}

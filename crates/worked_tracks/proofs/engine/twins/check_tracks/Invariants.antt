@@ -1,6 +1,6 @@
 use Rattle.std.proofs.Common.{◌≡◌, ◌<◌, ◌+◌, ℕ, None}
 use Rattle.mss_base.specs.Content.{content}
-use Rattle.mss_base.specs.MemorySite.{told_of, room_of}
+use Rattle.memory_devices.specs.MemorySite.{told_of, room_of}
 use Rattle.ckd_track.specs.Track.{reading}
 use Rattle.worked_tracks.proofs.engine.twins.check_tracks.Given as goal
 

@@ -1,0 +1,138 @@
+// Devices that fail below an event.
+use crate::events::answers;
+use crate::steps::{Row, Step, Told};
+use core_state::WorkKind;
+use memory_devices::SiteFault;
+use std::test::Fail;
+
+const ONE_VOLUME: &str = "mss 1 frames 1 recorders 1\nvolume 0 VOL001\ndone\n";
+
+const R0: &[u8] = &[0, 0, 0, 0, 0];
+
+const R1: &[u8] = &[0, 0, 0, 0, 1, 0, 0, 1, 0x41];
+
+/// The restart makes 136 calls; the frame is told by 6 writes, 19 stage the cylinder, and 6 tell that; the search reads
+/// the track; and 6 writes tell the changed cylinder. Then the command reads its track, and writes, which is call 176.
+const WRITE_FAILS: &[Row] = &[
+    (1, Step::Mount(1, 0), Told::Mounted),
+    (1, Step::Chain(1, 0x31, R0), Told::Fault(0)),
+    (1, Step::Work, Told::Did(WorkKind::Pick)),
+    (1, Step::Work, Told::Did(WorkKind::Assign)),
+    (19, Step::Work, Told::Did(WorkKind::Copy)),
+    (1, Step::Work, Told::Did(WorkKind::End)),
+    (1, Step::Chain(1, 0x31, R0), Told::Status(0x4C, 0)),
+    (1, Step::Ask(1, 0x1D, R1), Told::Marked),
+    (1, Step::Ask(1, 0x1D, R1), Told::Stopped(1)),
+    (1, Step::Ask(1, 0x03, &[]), Told::Stopped(1)),
+    (1, Step::Work, Told::Stopped(1)),
+];
+
+#[test]
+fn a_failed_write_stops_the_session(rt: HostRuntime) -> Result<(), Fail> {
+    answers(
+        rt.alloc(),
+        &[SiteFault::Call(176)],
+        ONE_VOLUME,
+        WRITE_FAILS,
+        (3, 4),
+        None,
+    )
+}
+
+/// The second search reads the track by call 169.
+const READ_FAILS: &[Row] = &[
+    (1, Step::Mount(1, 0), Told::Mounted),
+    (1, Step::Chain(1, 0x31, R0), Told::Fault(0)),
+    (1, Step::Work, Told::Did(WorkKind::Pick)),
+    (1, Step::Work, Told::Did(WorkKind::Assign)),
+    (19, Step::Work, Told::Did(WorkKind::Copy)),
+    (1, Step::Work, Told::Did(WorkKind::End)),
+    (1, Step::Chain(1, 0x31, R0), Told::Status(0x4C, 0)),
+    (1, Step::Ask(1, 0x31, R0), Told::EquipmentCheck),
+    (1, Step::Ask(1, 0x04, &[]), Told::Status(0x0C, 0x10)),
+    (1, Step::Ask(1, 0x31, R0), Told::Status(0x4C, 0)),
+];
+
+#[test]
+fn a_failed_read_is_an_equipment_check_once(rt: HostRuntime) -> Result<(), Fail> {
+    answers(
+        rt.alloc(),
+        &[SiteFault::Call(169)],
+        ONE_VOLUME,
+        READ_FAILS,
+        (5, 3),
+        None,
+    )
+}
+
+/// The fourth track can't be written by call 146, so the host is told; then the cylinder is staged anew.
+const COPY_FAILS: &[Row] = &[
+    (1, Step::Mount(1, 0), Told::Mounted),
+    (1, Step::Ask(1, 0x31, R0), Told::Fault(0)),
+    (1, Step::Work, Told::Did(WorkKind::Pick)),
+    (1, Step::Work, Told::Did(WorkKind::Assign)),
+    (3, Step::Work, Told::Did(WorkKind::Copy)),
+    (1, Step::Work, Told::Did(WorkKind::Copy)),
+    (1, Step::Work, Told::Idle),
+    (1, Step::Ask(1, 0x31, R0), Told::EquipmentCheck),
+    (1, Step::Ask(1, 0x31, R0), Told::Fault(0)),
+    (1, Step::Work, Told::Did(WorkKind::Pick)),
+    (19, Step::Work, Told::Did(WorkKind::Copy)),
+    (1, Step::Work, Told::Did(WorkKind::End)),
+    (1, Step::Ask(1, 0x31, R0), Told::Status(0x4C, 0)),
+];
+
+#[test]
+fn a_failed_copy_is_an_equipment_check_of_its_host(rt: HostRuntime) -> Result<(), Fail> {
+    answers(
+        rt.alloc(),
+        &[SiteFault::Call(146)],
+        ONE_VOLUME,
+        COPY_FAILS,
+        (3, 3),
+        None,
+    )
+}
+
+const TWO_VOLUMES: &str = "mss 1 frames 1 recorders 1\nvolume 0 VOL001\nvolume 1 VOL002\ndone\n";
+
+/// The restart makes 144 calls, and all up to the first copy to the cartridge 41. That copy can't read the frame, so the
+/// host that waits for it is told; at its next try it gets it: 38 calls copy the cylinder, 6 tell each of four changes, 19
+/// stage the other one, and its search reads a track. Two changes later the cartridge can't be read.
+const BOTH_FAIL: &[Row] = &[
+    (1, Step::Mount(1, 0), Told::Mounted),
+    (1, Step::Mount(2, 1), Told::Mounted),
+    (1, Step::Chain(1, 0x31, R0), Told::Fault(0)),
+    (1, Step::Settle, Told::Idle),
+    (1, Step::Chain(1, 0x31, R0), Told::Status(0x4C, 0)),
+    (1, Step::Chain(1, 0x1D, R1), Told::Marked),
+    (1, Step::Ask(1, 0x1D, R1), Told::Status(0x0C, 0)),
+    (1, Step::Ask(2, 0x31, R0), Told::Fault(0)),
+    (1, Step::Work, Told::Did(WorkKind::Pick)),
+    (1, Step::Work, Told::Did(WorkKind::Fetch)),
+    (1, Step::Work, Told::Did(WorkKind::Copy)),
+    (1, Step::Work, Told::Did(WorkKind::GiveBack)),
+    (1, Step::Work, Told::Idle),
+    (1, Step::Ask(2, 0x31, R0), Told::EquipmentCheck),
+    (1, Step::Ask(2, 0x31, R0), Told::Fault(0)),
+    (1, Step::Settle, Told::Idle),
+    (1, Step::Ask(2, 0x31, R0), Told::Status(0x4C, 0)),
+    // The first host's cylinder is on its cartridge now.
+    (1, Step::Ask(1, 0x31, R0), Told::Fault(0)),
+    (1, Step::Work, Told::Did(WorkKind::Pick)),
+    (1, Step::Work, Told::Did(WorkKind::Free)),
+    (1, Step::Work, Told::Did(WorkKind::Assign)),
+    (1, Step::Work, Told::Did(WorkKind::Fetch)),
+    (1, Step::Work, Told::Did(WorkKind::Copy)),
+    (1, Step::Ask(1, 0x31, R0), Told::EquipmentCheck),
+    (1, Step::Ask(1, 0x04, &[]), Told::Status(0x0C, 0x10)),
+    (1, Step::Ask(1, 0x31, R0), Told::Fault(0)),
+    (1, Step::Settle, Told::Idle),
+    (1, Step::Ask(1, 0x31, R0), Told::Status(0x4C, 0)),
+];
+
+#[test]
+fn a_frame_and_a_cartridge_that_fail_once_are_told_once(rt: HostRuntime) -> Result<(), Fail> {
+    let failing = [SiteFault::Call(186), SiteFault::Call(281)];
+    answers(rt.alloc(), &failing, TWO_VOLUMES, BOTH_FAIL, (9, 12), None)
+}

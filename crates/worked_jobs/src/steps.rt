@@ -1,0 +1,184 @@
+// A session, step by step, and what each step is answered.
+use channel_commands::{Call, DeviceCommand, Reply};
+use core_state::{Waiting, WorkAnswer, WorkKind};
+use host_events::HostAnswer;
+use mss_base::{Bytes, HostNo, VolumeNo};
+use std::alloc::Global;
+use std::test::Fail;
+
+/// A session whose hosts make their calls one by one, and whose recorder 0 its events, by a runtime.
+pub trait Events<R> {
+    fn call(&mut self, rt: &R, host: HostNo, call: &Call) -> HostAnswer;
+
+    fn work(&mut self, rt: &R) -> WorkAnswer;
+}
+
+/// What is done: by a host, named first, or by the recorder.
+#[derive(Clone, Copy)]
+pub enum Step {
+    Mount(u8, u8),
+    Bind(u8, u8),
+    Demount(u8),
+    /// The host, the code and the argument of a command with which its chain ends.
+    Ask(u8, u8, &'static [u8]),
+    /// One that is chained.
+    Chain(u8, u8, &'static [u8]),
+    Work,
+    /// Events of the recorder until it is idle.
+    Settle,
+}
+
+/// What is answered.
+#[derive(Clone, Copy, PartialEq, Eq)]
+pub enum Told {
+    /// The status of a command, and the first byte that it gives, or 0.
+    Status(u8, u8),
+    Mounted,
+    Demounted,
+    EquipmentCheck,
+    NoSpace,
+    AnotherReply,
+    /// A reply that isn't said to stand behind those before.
+    Misplaced,
+    Marked,
+    /// The host that owns the volume.
+    Busy(u8),
+    /// The cylinder that is to be staged.
+    Fault(u16),
+    /// The frame that is being taken.
+    Held(u8),
+    Did(WorkKind),
+    Idle,
+    /// The fault that stopped the core.
+    Stopped(u64),
+    Limit,
+    Memory,
+}
+
+/// A step that is done so many times, and is answered alike.
+pub type Row = (u16, Step, Told);
+
+fn replied(reply: &Reply) -> Told {
+    match reply {
+        Reply::Done { status, bytes } => {
+            Told::Status(*status, bytes.as_slice().first().copied().unwrap_or(0))
+        }
+        Reply::Mounted => Told::Mounted,
+        Reply::Demounted => Told::Demounted,
+        Reply::EquipmentCheck => Told::EquipmentCheck,
+        Reply::NoSpace => Told::NoSpace,
+        _ => Told::AnotherReply,
+    }
+}
+
+fn waits(waiting: Waiting) -> Told {
+    match waiting {
+        Waiting::Busy { owner } => Told::Busy(owner.get()),
+        Waiting::Fault { cylinder } => Told::Fault(cylinder.get()),
+        Waiting::Held { frame } => Told::Held(frame.get()),
+    }
+}
+
+/// A reply stands at the place behind the replies before, whose count grows by it.
+fn placed(replies: &mut u64, index: u64, reply: &Reply) -> Told {
+    if index != *replies {
+        return Told::Misplaced;
+    }
+    *replies = replies.saturating_add(1);
+    replied(reply)
+}
+
+fn answered(replies: &mut u64, answer: HostAnswer) -> Told {
+    match answer {
+        HostAnswer::Replied { index, reply } => placed(replies, index, &reply),
+        HostAnswer::Marked => Told::Marked,
+        HostAnswer::Wait(waiting) => waits(waiting),
+        HostAnswer::Stopped { fault } => Told::Stopped(fault),
+        HostAnswer::CommandLimit => Told::Limit,
+        HostAnswer::Memory => Told::Memory,
+    }
+}
+
+fn done(answer: WorkAnswer) -> Told {
+    match answer {
+        WorkAnswer::Did(kind) => Told::Did(kind),
+        WorkAnswer::Idle => Told::Idle,
+        WorkAnswer::Stopped { fault } => Told::Stopped(fault),
+        WorkAnswer::Memory => Told::Memory,
+    }
+}
+
+fn settled<R, E: Events<R>>(rt: &R, session: &mut E) -> Told {
+    for _ in 0..200 {
+        match session.work(rt) {
+            WorkAnswer::Did(_) => {}
+            answer => return done(answer),
+        }
+    }
+    Told::AnotherReply
+}
+
+fn command(alloc: Global, code: u8, argument: &[u8], chained: bool) -> Result<Call, Fail> {
+    let argument = Bytes::of(alloc, argument)?;
+    Ok(Call::Command(DeviceCommand {
+        code,
+        argument,
+        chained,
+    }))
+}
+
+fn mount(volume: u8, bind: bool) -> Result<Call, Fail> {
+    let volume = VolumeNo::of(volume).ok_or("volume")?;
+    Ok(Call::Mount { volume, bind })
+}
+
+/// The host and the call of a step; none of a step of the recorder.
+fn call_of(alloc: Global, step: Step) -> Result<Option<(u8, Call)>, Fail> {
+    match step {
+        Step::Mount(host, volume) => Ok(Some((host, mount(volume, false)?))),
+        Step::Bind(host, volume) => Ok(Some((host, mount(volume, true)?))),
+        Step::Demount(host) => Ok(Some((host, Call::Demount))),
+        Step::Ask(host, code, argument) => {
+            Ok(Some((host, command(alloc, code, argument, false)?)))
+        }
+        Step::Chain(host, code, argument) => {
+            Ok(Some((host, command(alloc, code, argument, true)?)))
+        }
+        Step::Work | Step::Settle => Ok(None),
+    }
+}
+
+fn perform<R, E: Events<R>>(
+    rt: &R,
+    alloc: Global,
+    session: &mut E,
+    replies: &mut u64,
+    step: Step,
+) -> Result<Told, Fail> {
+    if let Some((host, call)) = call_of(alloc, step)? {
+        let host = HostNo::of(host).ok_or("host")?;
+        return Ok(answered(replies, session.call(rt, host, &call)));
+    }
+    match step {
+        Step::Settle => Ok(settled(rt, session)),
+        _ => Ok(done(session.work(rt))),
+    }
+}
+
+/// The place of the first row of a new session that is answered otherwise.
+pub fn first_other<R, E: Events<R>>(
+    rt: &R,
+    alloc: Global,
+    session: &mut E,
+    rows: &[Row],
+) -> Result<Option<usize>, Fail> {
+    let mut replies = 0u64;
+    for (place, (times, step, expected)) in rows.iter().enumerate() {
+        for _ in 0..*times {
+            if perform(rt, alloc, session, &mut replies, *step)? != *expected {
+                return Ok(Some(place));
+            }
+        }
+    }
+    Ok(None)
+}

@@ -1,0 +1,67 @@
+// What sessions are made of: one volume or three, with eight frames.
+ghost use Rattle.std.specs.Prelude.{◌≡◌, ◌<◌, IfSome, [], ◌∷◌};
+
+use crate::lines::numbers::{is_word, serial, volume};
+use mss_base::{Config, NoMemory, Serial, VolumeList, VolumeNo};
+use std::alloc::Global;
+
+fn one(alloc: Global, volume: VolumeNo, serial: Serial) -> Result<Config, NoMemory> {
+    let mut volumes = VolumeList::new(alloc);
+    volumes.reserve(1)?;
+    volumes.push((volume, serial));
+    Ok(Config {
+        frames: 8,
+        recorders: 1,
+        volumes,
+    })
+}
+
+fn volume_at(number: u8) -> VolumeNo
+    requires { number < 32 }
+    ensures { result ≡ number }
+{
+    let Some(volume) = VolumeNo::of(number) else {
+        unreachable!()
+    };
+    volume
+}
+
+// VOL001 to VOL009.
+fn serial_with(digit: u8) -> Option<Serial>
+    ensures { IfSome result (λ serial. serial ≡ 86 ∷ 79 ∷ 76 ∷ 48 ∷ 48 ∷ digit ∷ []) }
+{
+    Serial::of([b'V', b'O', b'L', b'0', b'0', digit])
+}
+
+fn three_of(alloc: Global, one: Serial, four: Serial, six: Serial) -> Result<Config, NoMemory>
+    requires one { one ≡ 86 ∷ 79 ∷ 76 ∷ 48 ∷ 48 ∷ 49 ∷ [] }
+    requires four { four ≡ 86 ∷ 79 ∷ 76 ∷ 48 ∷ 48 ∷ 52 ∷ [] }
+    requires six { six ≡ 86 ∷ 79 ∷ 76 ∷ 48 ∷ 48 ∷ 54 ∷ [] }
+{
+    let mut volumes = VolumeList::new(alloc);
+    volumes.reserve(3)?;
+    volumes.push((volume_at(0), one));
+    volumes.push((volume_at(3), four));
+    volumes.push((volume_at(5), six));
+    Ok(Config {
+        frames: 8,
+        recorders: 1,
+        volumes,
+    })
+}
+
+// The volumes 0, 3 and 5.
+fn three(alloc: Global) -> Option<Config> {
+    let one = serial_with(49)?;
+    let four = serial_with(52)?;
+    let six = serial_with(54)?;
+    three_of(alloc, one, four, six).ok()
+}
+
+/// The volumes that a line asks for: `three`, or one with its serial, as `3 VOL004`.
+pub fn asked(alloc: Global, words: &[u64]) -> Option<Config> {
+    if is_word(words, 1, "three") {
+        return three(alloc);
+    }
+    one(alloc, volume(words, 1)?, serial(words, 2)?).ok()
+}

@@ -1,0 +1,132 @@
+// Texts run on devices in memory.
+//
+// A text has parts, which an empty line parts. Each part begins on new devices, and is run once, or once in each turn where
+// its first line is `turns 1 6`: the number of the turn is then what N stands for. A line is a call, and behind an arrow
+// what it tells; without an arrow, that it is done.
+use crate::lines::answers::Told;
+use crate::lines::bench::Bench;
+use crate::lines::copies::copy_line;
+use crate::lines::devices::device_line;
+use crate::lines::numbers::{is_word, length, word};
+use crate::lines::restarts::{site_line, taking_line};
+use crate::lines::rows::row_line;
+use crate::lines::words::words_of;
+use std::alloc::Global;
+use std::process::Abort;
+use std::test::Fail;
+
+fn lent_line(alloc: Global, bench: &mut Bench, words: &[u64]) -> Told {
+    if let Some(told) = device_line(alloc, bench, words) {
+        return Some(told);
+    }
+    if let Some(told) = copy_line(alloc, bench, words) {
+        return Some(told);
+    }
+    if let Some(told) = site_line(alloc, bench, words) {
+        return Some(told);
+    }
+    row_line(alloc, bench, words)
+}
+
+fn whole_line(alloc: Global, slot: &mut Option<Bench>, words: &[u64]) -> Told {
+    if let Some(told) = taking_line(alloc, slot, words) {
+        return Some(told);
+    }
+    lent_line(alloc, slot.as_mut()?, words)
+}
+
+// `stop 3 1 xC1`: after three writes, of the fourth this one byte is there.
+fn image(bench: &Bench, words: &[u64]) -> Option<Bench> {
+    let moment = word(words, 1)?;
+    let count = length(words, 2)?;
+    if count == 0 {
+        return bench.image(moment, None);
+    }
+    let bytes = word(words, 3)?.to_be_bytes();
+    let tear = bytes.get(8usize.checked_sub(count)?..)?;
+    bench.image(moment, Some(tear))
+}
+
+// Behind a stop stands a line that is done to what it leaves.
+fn told_by(alloc: Global, slot: &mut Option<Bench>, words: &[u64]) -> Told {
+    if !is_word(words, 0, "stop") {
+        return whole_line(alloc, slot, words);
+    }
+    let mut left = Some(image(slot.as_ref()?, words)?);
+    whole_line(alloc, &mut left, words.get(4..)?)
+}
+
+fn run_line(
+    rt: &impl Abort,
+    alloc: Global,
+    slot: &mut Option<Bench>,
+    line: &str,
+    turn: u64,
+) -> Option<()> {
+    let (asked, due) = match line.split_once(" -> ") {
+        Some((asked, due)) => (asked, due),
+        None => (line, "done"),
+    };
+    let told = told_by(alloc, slot, &words_of(alloc, asked, turn)?);
+    let told = told.unwrap_or(Vec::new(alloc));
+    let due = words_of(alloc, due, turn)?;
+    assert_eq!(rt; told.as_slice(), due.as_slice(), "in turn {turn}: {line}");
+    Some(())
+}
+
+fn run_lines(
+    rt: &impl Abort,
+    alloc: Global,
+    slot: &mut Option<Bench>,
+    lines: &str,
+    turn: u64,
+) -> Option<()> {
+    for line in lines.lines() {
+        if !line.starts_with("turns") {
+            run_line(rt, alloc, slot, line, turn)?;
+        }
+    }
+    Some(())
+}
+
+fn run_turn(rt: &impl Abort, alloc: Global, before: &str, part: &str, turn: u64) -> Option<()> {
+    let mut slot = Some(Bench::new(alloc)?);
+    run_lines(rt, alloc, &mut slot, before, turn)?;
+    run_lines(rt, alloc, &mut slot, part, turn)
+}
+
+fn turns_of(alloc: Global, part: &str) -> Option<(u64, u64)> {
+    let line = part.lines().next()?;
+    let words = words_of(alloc, line, 0)?;
+    if is_word(&words, 0, "turns") {
+        return Some((word(&words, 1)?, word(&words, 2)?));
+    }
+    Some((0, 0))
+}
+
+fn run_part(rt: &impl Abort, alloc: Global, before: &str, part: &str) -> Option<()> {
+    let (first, last) = turns_of(alloc, part)?;
+    for turn in first..=last {
+        run_turn(rt, alloc, before, part, turn)?;
+    }
+    Some(())
+}
+
+/// Runs a text, with the lines that come before each part.
+pub fn run(rt: &impl Abort, alloc: Global, before: &str, text: &str) -> Result<(), Fail> {
+    for part in text.split("\n\n") {
+        if run_part(rt, alloc, before, part).is_none() {
+            return Err("no such line".into());
+        }
+    }
+    Ok(())
+}
+
+/// Compares what was told with the words that are due.
+pub fn assert_told(rt: &impl Abort, alloc: Global, told: Told, due: &str) -> Result<(), Fail> {
+    let (Some(told), Some(due)) = (told, words_of(alloc, due, 0)) else {
+        return Err("nothing is told".into());
+    };
+    assert_eq!(rt; told.as_slice(), due.as_slice());
+    Ok(())
+}
