@@ -24,8 +24,8 @@ def kill_one(program, words, text, longest, draw):
         run.stdin.close()
         time.sleep(draw.random() * longest)
         run.send_signal(signal.SIGKILL)
-        ended = run.wait()
-        shown = subprocess.run([program, "show"], capture_output=True, cwd=folder, check=False)
+        ended = run.wait(LONGEST)
+        shown = subprocess.run([program, "show"], capture_output=True, cwd=folder, check=False, timeout=LONGEST)
         return ended, shown
 
 
@@ -57,6 +57,6 @@ if __name__ == "__main__":
     from formats.jobs import read_job
     from formats.reports import read_report
     from left_sites import are_moments, listed, moments
-    from runs import new_folder, run_on_blank
+    from runs import LONGEST, new_folder, run_on_blank
 
     sys.exit(main(*sys.argv[1:]))

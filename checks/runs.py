@@ -7,6 +7,8 @@ import tempfile
 from pathlib import Path
 
 MEMORY = "/dev/shm"
+# No run that a check makes takes a tenth of this, in seconds: one that does hangs. Its status is then that of `timeout`.
+LONGEST, HUNG = 60, 124
 
 
 def new_folder():
@@ -14,6 +16,9 @@ def new_folder():
 
 
 def run_on_blank(command, text, folder):
-    """Runs a command on blank devices, and gives what it did."""
+    """Runs a command on blank devices, and gives what it did; one that hangs is killed."""
     shutil.rmtree(Path(folder, "mss.site"), ignore_errors=True)
-    return subprocess.run(command, input=text, capture_output=True, cwd=folder, check=False)
+    try:
+        return subprocess.run(command, input=text, capture_output=True, cwd=folder, check=False, timeout=LONGEST)
+    except subprocess.TimeoutExpired as run:
+        return subprocess.CompletedProcess(command, HUNG, run.stdout or b"", run.stderr or b"")

@@ -19,6 +19,8 @@ AT_ONCE = 2 * (os.cpu_count() or 1)
 
 def fault(job, ran):
     """What is wrong with a run of a job; none where nothing is."""
+    if ran.returncode == HUNG:
+        return f"it hangs: it was killed behind {LONGEST} seconds"
     try:
         report = read_report(ran.stdout)
         replay(job, report)
@@ -26,6 +28,9 @@ def fault(job, ran):
         return str(told)
     if (report.last, ran.returncode) != ("END", 0):
         return f"the last line is {report.last}, and the status {ran.returncode}"
+    checks = [entry.number for entry in report.entries if entry.reply == "equipment check"]
+    if checks:
+        return f"entry {checks[0]} is an equipment check, and no call failed"
     _, following = followed(job, report)
     late = [host for host, follows in following.items() if not follows.is_done()]
     return f"host {late[0]} isn't at the end of its script" if late else None
@@ -63,6 +68,6 @@ if __name__ == "__main__":
     from formats.replaying import Differs, replay
     from formats.reports import ReportFault, read_report
     from random_jobs import Drawing
-    from runs import new_folder, run_on_blank
+    from runs import HUNG, LONGEST, new_folder, run_on_blank
 
     sys.exit(main(*sys.argv[1:]))

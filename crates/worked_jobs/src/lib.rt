@@ -1,11 +1,15 @@
 //! Sessions of the core and jobs on it, worked out by hand, as tests: each answer of hosts and recorders, alone and under
-//! the lock, what stops leave, devices that fail, and threads that a gate holds.
+//! the lock, what stops leave, and devices that fail.
 //!
 //! Nothing stands on this crate. What the built program shows is checked by `checks/`.
 #![tactic(auto)]
 
 #[cfg(test)]
+mod choosers;
+#[cfg(test)]
 mod devices;
+#[cfg(test)]
+mod drives;
 #[cfg(test)]
 mod events;
 #[cfg(test)]
@@ -30,7 +34,5 @@ mod running;
 mod steps;
 #[cfg(test)]
 mod stops;
-#[cfg(test)]
-mod threads;
 #[cfg(test)]
 mod two_hosts;

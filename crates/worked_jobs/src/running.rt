@@ -37,6 +37,21 @@ fn run_to<S: Site, C: Choose + Drop, O: Sink>(
     run_job(alloc, job, &[], site, chooser, output)
 }
 
+/// The report of a job on blank devices, in which this chooser takes the pages that give their frames.
+pub fn report_by<C: Choose + Drop>(
+    alloc: Global,
+    text: &str,
+    chooser: C,
+) -> Result<MemorySink, Fail>
+    requires { C.can_choose chooser }
+{
+    let job = read_job(alloc, text.as_bytes()).ok().ok_or("no job")?;
+    let site = MemorySite::new(alloc)?;
+    let mut output = MemorySink::new(alloc, &[])?;
+    let _ = run_to(alloc, &job, site, chooser, &mut output);
+    Ok(output)
+}
+
 /// Runs a job on devices, and puts to an output of which these calls fail.
 pub fn run_putting<S: Site + Drop>(
     alloc: Global,

@@ -1,18 +1,15 @@
-// Jobs with a thread for each host and each recorder, and a gate that holds them until others have passed.
-use crate::running::failing_site;
+// A host that is answered while a recorder is held between two copies, and a run that a failed write ends.
+use crate::gates::{Counter, Waits};
+use crate::running::{RunEnd, run};
 use core_state::WorkKind;
-use job_text::{Job, read_job};
 use memory_devices::{MemorySink, SiteFault};
-use mss_base::{HostNo, Sink, Site};
+use mss_base::HostNo;
 use mss_run::{Actor, Gate, OpenGate, Point};
+use mss_top::Status;
 use std::alloc::Global;
 use std::sync::Wait;
-use std::sync::atomic::{AtomicU64, Ordering};
 use std::test::Fail;
-use std::thread;
 use std::thread::Threads;
-use thread_runs::run_at_once;
-use victim_choice::{Choose, Lru};
 
 const JOB: &str = "mss 1 frames 1 recorders 1\n\
     volume 0 VOL001\n\
@@ -26,75 +23,39 @@ const JOB: &str = "mss 1 frames 1 recorders 1\n\
     mount VOL002\n\
     done\n";
 
-/// How often a held actor asks at most whether it may go on.
-const TURNS: u64 = 100_000_000;
-
-/// Something that happened once, or not yet.
-#[derive(Drop)]
-struct Flag {
-    raised: AtomicU64,
-}
-
-impl Flag {
-    fn new() -> Flag {
-        Flag {
-            raised: AtomicU64::new(0),
-        }
-    }
-
-    fn raise(&self) {
-        self.raised.store(1, Ordering::SeqCst);
-    }
-
-    fn is_raised(&self) -> bool {
-        self.raised.load(Ordering::SeqCst) != 0
-    }
-}
-
-/// What actors passed so far. The recorder stands between its first two copies until host 2 was answered, which enters
-/// only then.
+/// The recorder stands between its first two copies until host 2 was answered, which enters only then.
 #[derive(Drop)]
 struct HoldingGate {
-    host_1_answered: Flag,
-    host_2_answered: Flag,
-    recorder_worked: Flag,
-    recorder_copied: Flag,
-    given_up: Flag,
+    host_1_answered: Counter,
+    host_2_answered: Counter,
+    recorder_worked: Counter,
+    recorder_copied: Counter,
+    waits: Waits,
 }
 
 impl HoldingGate {
     fn new() -> HoldingGate {
         HoldingGate {
-            host_1_answered: Flag::new(),
-            host_2_answered: Flag::new(),
-            recorder_worked: Flag::new(),
-            recorder_copied: Flag::new(),
-            given_up: Flag::new(),
+            host_1_answered: Counter::new(),
+            host_2_answered: Counter::new(),
+            recorder_worked: Counter::new(),
+            recorder_copied: Counter::new(),
+            waits: Waits::new(),
         }
-    }
-
-    fn wait_for(&self, flag: &Flag) {
-        for _ in 0..TURNS {
-            if flag.is_raised() {
-                return;
-            }
-            thread::yield_now();
-        }
-        self.given_up.raise();
     }
 
     fn pass_first_host(&self, point: Point) {
         match point {
-            Point::Host(_) => self.host_1_answered.raise(),
-            Point::Work(_) => self.wait_for(&self.recorder_worked),
+            Point::Host(_) => self.host_1_answered.add(),
+            Point::Work(_) => self.waits.wait_for(&self.recorder_worked, 1),
             Point::Enter | Point::Leave => {}
         }
     }
 
     fn pass_second_host(&self, point: Point) {
         match point {
-            Point::Enter => self.wait_for(&self.recorder_copied),
-            Point::Host(_) => self.host_2_answered.raise(),
+            Point::Enter => self.waits.wait_for(&self.recorder_copied, 1),
+            Point::Host(_) => self.host_2_answered.add(),
             Point::Work(_) | Point::Leave => {}
         }
     }
@@ -109,12 +70,12 @@ impl HoldingGate {
 
     fn pass_recorder(&self, point: Point) {
         match point {
-            Point::Enter => self.wait_for(&self.host_1_answered),
+            Point::Enter => self.waits.wait_for(&self.host_1_answered, 1),
             Point::Work(kind) => {
-                self.recorder_worked.raise();
+                self.recorder_worked.add();
                 if kind == WorkKind::Copy {
-                    self.recorder_copied.raise();
-                    self.wait_for(&self.host_2_answered);
+                    self.recorder_copied.add();
+                    self.waits.wait_for(&self.host_2_answered, 1);
                 }
             }
             Point::Host(_) | Point::Leave => {}
@@ -131,26 +92,8 @@ impl Gate for HoldingGate {
     }
 }
 
-/// Runs a job in threads, and tells how each of its hosts ended: whether it came to the end of its script, and the places
-/// of its entries.
-fn hosts_after<
-    S: Site + Send + Drop,
-    C: Choose + Drop + Send,
-    G: Gate + Sync,
-    O: Sink,
-    R: Threads + Wait + Sync,
->(
-    rt: &R,
-    alloc: Global,
-    job: &Job,
-    site: S,
-    chooser: C,
-    gate: &G,
-    output: &mut O,
-) -> Result<String, Fail>
-    requires { C.can_choose chooser }
-{
-    let end = run_at_once(rt, alloc, job, site, chooser, gate, output);
+/// How the hosts of a run ended: whether each came to the end of its script, and the places of its entries.
+fn hosts_of(alloc: Global, end: &RunEnd) -> Result<String, Fail> {
     let mut text = String::new(alloc);
     for host in end.hosts.as_slice() {
         let own = host.own.as_slice();
@@ -160,29 +103,26 @@ fn hosts_after<
     Ok(text)
 }
 
-/// A job that is run in threads on blank devices, of which these calls fail, has this report, and behind it how each host
-/// ended.
-fn tells<G: Gate + Sync, R: Threads + Wait + Sync>(
+/// What is behind a report in a text.
+fn hosts_told<'a>(report: &[u8], text: &'a str) -> Option<&'a str> {
+    text.strip_prefix(str::from_utf8(report).ok()?)
+}
+
+/// A job on blank devices, of which these calls fail, has this report, and behind it how each host ended.
+fn tells<G: Gate + Sync, R: Threads + Wait + Sync + AllocGlobal>(
     rt: &R,
-    alloc: Global,
     text: &str,
     gate: &G,
     failing: &[SiteFault],
     expected: &str,
-) -> Result<(), Fail> {
-    let job = read_job(alloc, text.as_bytes()).ok().ok_or("job")?;
-    let site = failing_site(alloc, failing)?;
-    let mut output = MemorySink::new(alloc, &[])?;
-    let hosts = hosts_after(rt, alloc, &job, site, Lru, gate, &mut output)?;
+) -> Result<Status, Fail> {
+    let mut output = MemorySink::new(rt.alloc(), &[])?;
+    let end = run(rt, text, gate, failing, &mut output)?;
+    let hosts = hosts_of(rt.alloc(), &end)?;
     if hosts_told(output.bytes(), expected) == Some(hosts.as_str()) {
-        return Ok(());
+        return Ok(end.status);
     }
     Err("told otherwise".into())
-}
-
-/// What is behind a report in a text.
-fn hosts_told<'a>(report: &[u8], text: &'a str) -> Option<&'a str> {
-    text.strip_prefix(str::from_utf8(report).ok()?)
 }
 
 /// The recorder works only once host 1 has mounted its volume, and host 2 mounts its own between two copies.
@@ -201,12 +141,15 @@ const BETWEEN_COPIES: &str = "MSS REPORT 1\n\
     host 2 true [1]\n";
 
 // Host 1 waits for a cylinder; while that is copied, host 2 enters, and is answered. On one thread nobody could answer
-// it then, and the gate would give up.
+// it then, and the gate would give up; a run that passes no gate would copy nothing that it counts.
 #[test]
 fn a_host_is_answered_between_two_copies(rt: HostRuntime) -> Result<(), Fail> {
     let gate = HoldingGate::new();
-    tells(&rt, rt.alloc(), JOB, &gate, &[], BETWEEN_COPIES)?;
-    assert!(rt; !gate.given_up.is_raised());
+    let status = tells(&rt, JOB, &gate, &[], BETWEEN_COPIES)?;
+    assert_eq!(rt; status, Status::Done);
+    assert!(rt; gate.waits.are_over());
+    assert_eq!(rt; gate.recorder_copied.get(), 19);
+    assert_eq!(rt; gate.host_2_answered.get(), 1);
     Ok(())
 }
 
@@ -229,5 +172,7 @@ const STOPPED: &str = "MSS REPORT 1\n\
 #[test]
 fn a_failed_write_ends_the_run(rt: HostRuntime) -> Result<(), Fail> {
     let failing = [SiteFault::Call(137)];
-    tells(&rt, rt.alloc(), ONE_SEARCH, &OpenGate, &failing, STOPPED)
+    let status = tells(&rt, ONE_SEARCH, &OpenGate, &failing, STOPPED)?;
+    assert_eq!(rt; status, Status::Stopped);
+    Ok(())
 }
