@@ -50,10 +50,11 @@ pub record HaveRow (tells : Type 0) (volume : ℕ) (row : RowValue) (old new : D
   pub grown : tells → length old.told.log < length new.told.log
   pub sound : new.faults ≡ old.faults
 
--- a call failed, with this fault
+-- a write was made and failed, with this fault
 pub record FailRow (tells : Type 0) (volume : ℕ) (row : RowValue) (fault : ℕ)
     (old new : DevicesSeen) : Type 0 where
   pub write : WriteRow tells volume row old new
+  pub wrote : Rises old.writes new.writes
   pub cause : IsFaultSince old.faults new.faults fault
 
 -- ---- a command runs

@@ -2,7 +2,7 @@
 ghost use Rattle.std.specs.Prelude.{◌≡◌, ◌≤◌, ◌<◌, ℕ, Bool, length, IsOk, OnOk, OnErr};
 ghost use Rattle.std.specs.Option.{ForSome};
 ghost use Rattle.mss_base.specs.Content.{content};
-ghost use Rattle.mss_base.specs.Counts.{HasCause};
+ghost use Rattle.mss_base.specs.Counts.{HasCause, Rises};
 ghost use Rattle.mss_base.specs.Sites.{MayWrite};
 ghost use Rattle.mss_base.specs.declared.place.UnitNo.{UnitNo};
 ghost use Rattle.volume_table.specs.Changes.{IsAllowed, effect};
@@ -70,6 +70,7 @@ pub fn write_change<S: Site>(
     ensures devices { MayWrite CHANGE_WRITES S.spare S.writes S.faults S.never_fails_but
         site.old site.new }
     ensures cause { HasCause (S.faults site.old) (S.faults site.new) result }
+    ensures counted { OnErr result (Rises (S.writes site.old) (S.writes site.new)) }
     ensures works { (but : UnitNo → Bool) → S.never_fails_but site.old but → IsOk result }
 {
     let freed = freed_by(rows, volume, change);

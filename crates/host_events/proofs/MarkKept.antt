@@ -161,7 +161,7 @@ module _ (S : Type 0) {C : Type 0} (tells : Type 0) (told : S → SiteLog) (spar
 
       -- ---- a write of the devices failed
 
-      module _ (rises : Rises (faults mid) (faults x)) (requests : RequestsData) (requests_is : requests ≡ u.requests) (fault : ℕ) (fault_is : fault ≡ faults x)
+      module _ (rises : Rises (faults mid) (faults x)) (wrote : Rises (writes mid) (writes x)) (requests : RequestsData) (requests_is : requests ≡ u.requests) (fault : ℕ) (fault_is : fault ≡ faults x)
           (d : SessionData) (d_is : d ≡ with_reply h call stopped (Some fault) (writes x) (with_stop (faults x) (data_of u))) where
         abbrev d_stopped : SessionData
         d_stopped = with_reply h call stopped (Some (faults x)) (writes x) (with_stop (faults x) (data_of u))
@@ -200,6 +200,7 @@ module _ (S : Type 0) {C : Type 0} (tells : Type 0) (told : S → SiteLog) (spar
         unmarked_event = subst (λ (z : CoreValue S C). HostDoes tells (seen told writes faults z) h call (Marks volume cylinder) (halts fault) (seen told writes faults (of_parts u x rows u.owners u.moving requests u.tasks u.hosts d))) view (
           (λ r at. record {
             write = record { moments = λ tl. moments_ tl r at; later = more };
+            wrote = subst (λ (n : ℕ). Rises n (writes x)) reserves.unwritten wrote;
             cause = record { count = fault_is; rises = rises_ };
           }),
           ap (λ (z : CoreValue S C). seen told writes faults z) (λ i. of_parts u x (rows_is i) u.owners u.moving (requests_is i) u.tasks u.hosts (d_path i)),

@@ -1,7 +1,7 @@
 // Changing a row.
-ghost use Rattle.std.specs.Prelude.{◌≡◌, ◌≤◌, ◌<◌, ℕ, Bool, length, IsOk, OnOk};
+ghost use Rattle.std.specs.Prelude.{◌≡◌, ◌≤◌, ◌<◌, ℕ, Bool, length, IsOk, OnOk, OnErr};
 ghost use Rattle.mss_base.specs.Content.{content, Writes};
-ghost use Rattle.mss_base.specs.Counts.{HasCause};
+ghost use Rattle.mss_base.specs.Counts.{HasCause, Rises};
 ghost use Rattle.mss_base.specs.Sites.{MayWrite};
 ghost use Rattle.mss_base.specs.declared.place.UnitNo.{UnitNo};
 ghost use Rattle.volume_table.specs.Row.{RowValue};
@@ -36,6 +36,7 @@ pub fn change_row<S: Site>(site: &mut S, volume: VolumeNo, row: &VolumeRow) -> R
     ensures devices { MayWrite CHANGE_WRITES S.spare S.writes S.faults S.never_fails_but
         site.old site.new }
     ensures cause { HasCause (S.faults site.old) (S.faults site.new) result }
+    ensures counted { OnErr result (Rises (S.writes site.old) (S.writes site.new)) }
     ensures works { (but : UnitNo → Bool) → S.never_fails_but site.old but → IsOk result }
 {
     let mut bytes = [0; ROW_BYTES];

@@ -1,6 +1,6 @@
 // The writes of one copy.
-ghost use Rattle.std.specs.Prelude.{◌≡◌, ◌⊎◌, ◌≤◌, ◌<◌, ◌+◌, ℕ, Bool, true, false, length, IsOk, IsTrue, OnOk};
-ghost use Rattle.mss_base.specs.Counts.{HasCause};
+ghost use Rattle.std.specs.Prelude.{◌≡◌, ◌⊎◌, ◌≤◌, ◌<◌, ◌+◌, ℕ, Bool, true, false, length, IsOk, IsTrue, OnOk, OnErr};
+ghost use Rattle.mss_base.specs.Counts.{HasCause, Rises};
 ghost use Rattle.mss_base.specs.Sites.{MayWrite};
 ghost use Rattle.mss_base.specs.declared.place.UnitNo.{UnitNo};
 ghost use Rattle.table_pair.specs.Copies.{byte_on, copy_on, shut, marked, filled, IsFilling, IsRewriting, WritesCopy};
@@ -33,6 +33,7 @@ fn close_copy<S: Site>(site: &mut S, at: &BlockPlace, is_open: bool) -> Result<(
         → OnOk result (byte_on (S.told site.new) at.now GATE ≡ CLOSED) }
     ensures devices { MayWrite 1 S.spare S.writes S.faults S.never_fails_but site.old site.new }
     ensures cause { HasCause (S.faults site.old) (S.faults site.new) result }
+    ensures counted { OnErr result (Rises (S.writes site.old) (S.writes site.new)) }
     ensures works { (but : UnitNo → Bool) → S.never_fails_but site.old but → IsOk result }
 {
     if is_open {
@@ -56,6 +57,7 @@ pub fn fill_copy<S: Site>(site: &mut S, at: &BlockPlace, body: &[u8]) -> Result<
         OnOk result (length (S.told site.old).log < length (S.told site.new).log) }
     ensures devices { MayWrite 2 S.spare S.writes S.faults S.never_fails_but site.old site.new }
     ensures cause { HasCause (S.faults site.old) (S.faults site.new) result }
+    ensures counted { OnErr result (Rises (S.writes site.old) (S.writes site.new)) }
     ensures works { (but : UnitNo → Bool) → S.never_fails_but site.old but → IsOk result }
 {
     site.write(at.unit, at.block, BODY as u16, body)?;
@@ -81,6 +83,7 @@ pub fn rewrite_copy<S: Site>(
         OnOk result (length (S.told site.old).log < length (S.told site.new).log) }
     ensures devices { MayWrite 3 S.spare S.writes S.faults S.never_fails_but site.old site.new }
     ensures cause { HasCause (S.faults site.old) (S.faults site.new) result }
+    ensures counted { OnErr result (Rises (S.writes site.old) (S.writes site.new)) }
     ensures works { (but : UnitNo → Bool) → S.never_fails_but site.old but → IsOk result }
 {
     close_copy(site, at, is_open)?;

@@ -74,7 +74,7 @@ invariant_of-core-in-Err g c =
     unmarked_kept g.row.S.Denot S.tells S.told S.spare S.writes S.faults S.never_fails_but c.args.core.now c.core.view_is (vec_len c.core.inside.buffer) c.core.invariant c.args.host (call_of c.args.call.now) c.args.volume c.args.cylinder c.requires.rule
     c.prepare.new.site c.prepare.ensures.site c.write_change.new.site c.write_change.ensures.devices (λ tl. g.met.S.Site.counted c.write_change.new.site tl)
     c.write_change.ensures.moments c.write_change.new.rows.items c.write_change.ensures.rows
-    c.in-Err.ensures.cause.failed c.give_up.new.requests (gone_is c.args.host (ready_for c.args.volume c.args.cylinder) c.core.inside.requests c.is_some-had.result (c.is_some-had.ensures ∙ ap is_some c.of.ensures) c.ask.new.requests c.in-Ok-ask.ensures.ok c.give_up.new.requests c.give_up.ensures) c.faults-fault.result c.faults-fault.ensures
+    c.in-Err.ensures.cause.failed c.in-Err.ensures.counted c.give_up.new.requests (gone_is c.args.host (ready_for c.args.volume c.args.cylinder) c.core.inside.requests c.is_some-had.result (c.is_some-had.ensures ∙ ap is_some c.of.ensures) c.ask.new.requests c.in-Ok-ask.ensures.ok c.give_up.new.requests c.give_up.ensures) c.faults-fault.result c.faults-fault.ensures
     (session_data c.enter.new.session) (c.enter.ensures ∙ (λ i. with_reply c.args.host (c.in-Ok.ensures.copy i) stopped (Some c.faults-fault.result) (c.writes-mark.ensures i) ((c.in-Err.ensures.stopped ∙ (λ j. with_stop (S.faults c.write_change.new.site) (c.prepare.ensures.session j))) i)))
 
 pub returns-in-Err-clause-event : goal.returns-in-Err-clause-event
@@ -83,5 +83,5 @@ returns-in-Err-clause-event g c =
     unmarked_event g.row.S.Denot S.tells S.told S.spare S.writes S.faults S.never_fails_but c.args.core.now c.core.view_is (vec_len c.core.inside.buffer) c.core.invariant c.args.host (call_of c.args.call.now) c.args.volume c.args.cylinder c.requires.rule
     c.prepare.new.site c.prepare.ensures.site c.write_change.new.site c.write_change.ensures.devices (λ tl. g.met.S.Site.counted c.write_change.new.site tl)
     c.write_change.ensures.moments c.write_change.new.rows.items c.write_change.ensures.rows
-    c.in-Err.ensures.cause.failed c.give_up.new.requests (gone_is c.args.host (ready_for c.args.volume c.args.cylinder) c.core.inside.requests c.is_some-had.result (c.is_some-had.ensures ∙ ap is_some c.of.ensures) c.ask.new.requests c.in-Ok-ask.ensures.ok c.give_up.new.requests c.give_up.ensures) c.faults-fault.result c.faults-fault.ensures
+    c.in-Err.ensures.cause.failed c.in-Err.ensures.counted c.give_up.new.requests (gone_is c.args.host (ready_for c.args.volume c.args.cylinder) c.core.inside.requests c.is_some-had.result (c.is_some-had.ensures ∙ ap is_some c.of.ensures) c.ask.new.requests c.in-Ok-ask.ensures.ok c.give_up.new.requests c.give_up.ensures) c.faults-fault.result c.faults-fault.ensures
     (session_data c.enter.new.session) (c.enter.ensures ∙ (λ i. with_reply c.args.host (c.in-Ok.ensures.copy i) stopped (Some c.faults-fault.result) (c.writes-mark.ensures i) ((c.in-Err.ensures.stopped ∙ (λ j. with_stop (S.faults c.write_change.new.site) (c.prepare.ensures.session j))) i)))
