@@ -6,3 +6,4 @@ pub mod StepLemmas
 pub mod UpdateLemmas
 pub mod UpdateSteps
 pub mod PlaceLemmas
+pub mod LogLemmas

@@ -29,6 +29,7 @@ fn close_gate<S: Site>(
     ensures later { S.tells →
         OnOk result (SameBytes (130 + before) 227 block.now (block_of (S.told site.new) at.now)) }
     ensures devices { MayWrite 1 S.spare S.writes S.faults S.never_fails_but site.old site.new }
+    ensures few { S.tells → length (S.told site.new).log ≤ length (S.told site.old).log + 1 }
     ensures cause { HasCause (S.faults site.old) (S.faults site.new) result }
     ensures counted { OnErr result (Rises (S.writes site.old) (S.writes site.new)) }
     ensures works { (but : UnitNo → Bool) → S.never_fails_but site.old but → IsOk result }
@@ -86,6 +87,7 @@ fn close_later<S: Site>(
     ensures next { S.tells →
         OnOk result (is_open (before + 2) (block_of (S.told site.new) at.now) ≡ false) }
     ensures devices { MayWrite 1 S.spare S.writes S.faults S.never_fails_but site.old site.new }
+    ensures few { S.tells → length (S.told site.new).log ≤ length (S.told site.old).log + 1 }
     ensures cause { HasCause (S.faults site.old) (S.faults site.new) result }
     ensures counted { OnErr result (Rises (S.writes site.old) (S.writes site.new)) }
     ensures works { (but : UnitNo → Bool) → S.never_fails_but site.old but → IsOk result }
@@ -123,6 +125,7 @@ fn put_record<S: Site>(
     ensures holds { S.tells →
         OnOk result (Holds place bytes.now (block_of (S.told site.new) at.now)) }
     ensures devices { MayWrite 1 S.spare S.writes S.faults S.never_fails_but site.old site.new }
+    ensures few { S.tells → length (S.told site.new).log ≤ length (S.told site.old).log + 1 }
     ensures cause { HasCause (S.faults site.old) (S.faults site.new) result }
     ensures counted { OnErr result (Rises (S.writes site.old) (S.writes site.new)) }
     ensures works { (but : UnitNo → Bool) → S.never_fails_but site.old but → IsOk result }
@@ -157,6 +160,7 @@ fn open_gate<S: Site>(
     ensures done { S.tells → OnOk result (reading (block_of (S.told site.new) at.now)
         ≡ reading_of (formatted before (record_at 0 bytes.now) (reading block.now).records)) }
     ensures devices { MayWrite 1 S.spare S.writes S.faults S.never_fails_but site.old site.new }
+    ensures few { S.tells → length (S.told site.new).log ≤ length (S.told site.old).log + 1 }
     ensures cause { HasCause (S.faults site.old) (S.faults site.new) result }
     ensures counted { OnErr result (Rises (S.writes site.old) (S.writes site.new)) }
     ensures works { (but : UnitNo → Bool) → S.never_fails_but site.old but → IsOk result }
@@ -209,6 +213,7 @@ pub fn format_record<S: Site>(
         (IsTrack (formatted (number - 1) (record_at 0 count_key_data.now) (reading block.now).records)) }
 
     ensures devices { MayWrite 4 S.spare S.writes S.faults S.never_fails_but site.old site.new }
+    ensures few { S.tells → length (S.told site.new).log ≤ length (S.told site.old).log + 4 }
     ensures cause { HasCause (S.faults site.old) (S.faults site.new) result }
     ensures counted { OnErr result (Rises (S.writes site.old) (S.writes site.new)) }
     ensures works { (but : UnitNo → Bool) → S.never_fails_but site.old but → IsOk result }

@@ -130,8 +130,10 @@ ran_on core h code argument chained c volume frame host' mounted (done status by
     moments = λ tl. absurd tl;
     exact = λ tl. absurd tl;
     later = omega arith;
+    few = λ tl. absurd tl;
     looks = λ _. refl;
     refused = λ _. refl;
+    untouched = λ tl. absurd tl;
     sound = refl;
   },
   refl,

@@ -9,11 +9,14 @@ use Rattle.channel_commands.specs.Data.{ReplyData}
 use Rattle.channel_commands.specs.declared.command.Command.{Command}
 use Rattle.ckd_plain.specs.Plain.{Answer, opened, IsDone, KeepsChain}
 use Rattle.ckd_plain.specs.declared.host.HostState.{HostState}
+use Rattle.ckd_plain.specs.Effects.{prior_number}
 use Rattle.volume_table.specs.Row.{RowValue}
 use Rattle.table_pair.specs.Pair.{HoldsRow}
 use Rattle.track_engine.specs.Answers.{ran}
 use Rattle.track_engine.specs.Faults.{HasUnitCheck}
+use Rattle.track_engine.specs.Tracks.{tracks_at}
 use Rattle.track_engine.specs.Writing.{WritesTrack, HoldsWritten}
+use Rattle.track_engine.specs.Writing.{IsOfNothing, most_writes}
 use Rattle.shown_volumes.specs.Shown.{block_at}
 use Rattle.transfers.specs.Copies.{target, source, AddsAtMost, AddsCopy}
 use Rattle.transfers.specs.declared.transfer.Transfer.{Transfer}
@@ -82,8 +85,14 @@ WritesFor r old new =
 abbrev pub track_under : Run → Content → List ℕ
 track_under r c = c r.at.unit (r.at.block + r.host.head)
 
+-- an update of a record that has no bytes to update
+abbrev pub UpdatesNothing : Run → Content → Type 0
+UpdatesNothing r c =
+    IsOfNothing r.command (prior_number (opened r.host).prior)
+    (tracks_at c r.at.unit r.at.block r.host.head)
+
 -- it is replied this, and leaves this host; no call failed, and only a write without unit check has
--- written
+-- written, so often at most, and an update only if it has bytes
 pub record RunOn (tells : Type 0) (r : Run) (old new : DevicesSeen) (answer : ReplyData × HostState)
     : Type 0 where
   pub done_ : IsDone answer.0
@@ -95,14 +104,17 @@ pub record RunOn (tells : Type 0) (r : Run) (old new : DevicesSeen) (answer : Re
   pub exact : tells → HoldsWritten (answer_on r (content old.told)).written
       (reading (track_under r (content new.told)))
   pub later : old.writes ≤ new.writes
+  pub few : tells → length new.told.log ≤ length old.told.log + most_writes r.command
   pub looks : is_write r.command ≡ false → new.writes ≡ old.writes
   pub refused : HasUnitCheck answer.0 → new.writes ≡ old.writes
+  pub untouched : tells → UpdatesNothing r (content old.told) → new.writes ≡ old.writes
   pub sound : new.faults ≡ old.faults
 
 -- it is a write, and a write of the devices was made and failed, with this fault
 pub record FailOn (tells : Type 0) (r : Run) (fault : ℕ) (old new : DevicesSeen) : Type 0 where
   pub write : is_write r.command ≡ true
   pub moments : tells → WritesFor r old.told new.told
+  pub few : tells → length new.told.log ≤ length old.told.log + most_writes r.command
   pub wrote : Rises old.writes new.writes
   pub cause : IsFaultSince old.faults new.faults fault
 

@@ -3,7 +3,7 @@ use Rattle.std.proofs.Common.{◌≡◌, ℕ, ◌+◌, Bool, true, false, cond, 
 use Rattle.std.specs.Prelude.{Result, IsOk}
 use Rattle.std.proofs.lemmas.Bool.{cases_Bool, cond-true}
 use Rattle.mss_base.specs.Content.{SiteLog, content}
-use Rattle.mss_base.specs.Sites.{FailingReads}
+use Rattle.mss_base.specs.Sites.{FailingReads, OnlyReads}
 use Rattle.mss_base.specs.declared.place.BlockPlace.{BlockPlace}
 use Rattle.mss_base.specs.declared.place.UnitNo.{UnitNo}
 use Rattle.channel_commands.specs.Codes.{is_write}
@@ -14,14 +14,15 @@ use Rattle.channel_commands.specs.declared.command.Command.{Command}
 use Rattle.ckd_track.specs.Data.{RecordData}
 use Rattle.ckd_track.specs.Track.{Reading, reading, reading_of}
 use Rattle.ckd_plain.specs.declared.host.HostState.{HostState}
+use Rattle.ckd_plain.specs.Effects.{prior_number}
 use Rattle.ckd_plain.specs.Laws.{HasNoBytes}
 use Rattle.ckd_plain.specs.Plain.{IsDone, IsSmooth, opened}
 use Rattle.ckd_plain.proofs.WriteFacts.{no_bytes}
 use Rattle.track_engine.specs.declared.place.CylinderPlace.{CylinderPlace}
 use Rattle.track_engine.specs.Answers.{ran, Runs, LeavesHost, LeavesDevices}
 use Rattle.track_engine.specs.Faults.{HasUnitCheck}
-use Rattle.track_engine.specs.Tracks.{tracks_at}
-use Rattle.track_engine.specs.Writing.{WritesTrack, HoldsWritten}
+use Rattle.track_engine.specs.Tracks.{tracks_at, tracks_on}
+use Rattle.track_engine.specs.Writing.{WritesTrack, HoldsWritten, IsOfNothing}
 use Rattle.core_state.specs.Devices.{StillHold, RunOn}
 use Rattle.host_events.specs.Runs.{argument_of, is_chained, run_by, devices, bare_write}
 use Rattle.host_events.proofs.RunDoes.{look_is_still}
@@ -65,7 +66,8 @@ module _ {S : Type 0} (tells : Type 0) (told : S → SiteLog) (spare writes faul
     (bytes : List ℕ) (bytes_is : bytes ≡ argument_of call) (linked : Bool) (linked_is : linked ≡ is_chained call)
     (place : CylinderPlace) (at : BlockPlace) (unit_is : place.unit ≡ at.unit) (first_is : place.first_block ≡ at.block) (host left : HostState) (old new : S) (reply : Reply)
     (runs : tells → Runs c bytes linked place host (told old) (told new) (Ok reply) left) (leaves : LeavesHost linked host left (Ok reply))
-    (site : LeavesDevices tells told spare writes faults never c place.unit old new (Ok reply)) where
+    (site : LeavesDevices tells told spare writes faults never c place.unit old new (Ok reply))
+    (untouched : tells → IsOfNothing c (prior_number (opened host).prior) (tracks_on (told old) place host.head) → OnlyReads tells told spare writes faults never old new) where
   there : (F : List ℕ → Bool → UnitNo → ℕ → Type 0) → F bytes linked place.unit place.first_block → F (argument_of call) (is_chained call) at.unit at.block
   there F f = subst (λ (p : List ℕ × Bool × UnitNo × ℕ). F p.0 p.1 p.2 p.3) (λ i. (bytes_is i, linked_is i, unit_is i, first_is i)) f
 
@@ -81,8 +83,11 @@ module _ {S : Type 0} (tells : Type 0) (told : S → SiteLog) (spare writes faul
     moments = λ tl. there (λ a l u b. WritesTrack c (opened host) u b (told old) (told new) (ran (content (told old)) u b host c a l).written) (runs tl).writes;
     exact = λ tl. there (λ a l u b. HoldsWritten (ran (content (told old)) u b host c a l).written (reading (content (told new) u (b + host.head)))) (holds_written _ _ (runs tl).exact);
     later = site.devices.written;
+    few = site.few;
     looks = λ reads. (site.looks reads).unwritten;
     refused = λ checks. (site.unwritten (bare_check c (reply_of reply) (subst HasUnitCheck is checks))).unwritten;
+    untouched = λ tl nothing.
+        (untouched tl (subst (λ (p : UnitNo × ℕ). IsOfNothing c (prior_number (opened host).prior) (tracks_at (content (told old)) p.0 p.1 host.head)) (λ i. (sym unit_is i, sym first_is i)) nothing)).unwritten;
     sound = site.same;
   }
 

@@ -1,6 +1,6 @@
 -- What comes of a command that is run is what the event of its rule says.
-use Rattle.std.proofs.Common.{◌≡◌, ℕ, ◌≤◌, Bool, false, List, length, Option, None, sym, ◌∙◌, subst}
-use Rattle.mss_base.specs.Content.{content}
+use Rattle.std.proofs.Common.{◌≡◌, ℕ, ◌+◌, ◌≤◌, Bool, false, List, length, Option, None, sym, ◌∙◌, subst}
+use Rattle.mss_base.specs.Content.{SiteLog, content}
 use Rattle.mss_base.specs.Counts.{Rises}
 use Rattle.channel_commands.specs.Codes.{is_write}
 use Rattle.channel_commands.specs.Data.{CallData, command as ask, ReplyData, done, mounted, demounted, already_mounted, not_mounted, no_volume, in_chain, program_check, chain_limit, equipment_check, no_space, stopped}
@@ -11,9 +11,9 @@ use Rattle.ckd_plain.specs.declared.host.HostState.{HostState}
 use Rattle.ckd_plain.specs.Plain.{IsDone, opened}
 use Rattle.ckd_plain.proofs.CommandFacts.{only_writes}
 use Rattle.track_engine.specs.Tracks.{tracks_at}
-use Rattle.track_engine.specs.Writing.{WritesTrack, HoldsWritten}
+use Rattle.track_engine.specs.Writing.{WritesTrack, HoldsWritten, most_writes}
 use Rattle.core_state.specs.CoreValue.{CoreData, DevicesSeen}
-use Rattle.core_state.specs.Devices.{StillHold, FailRead, Run, RunOn, FailOn, WritesFor, answer_on, track_under}
+use Rattle.core_state.specs.Devices.{StillHold, FailRead, Run, RunOn, FailOn, WritesFor, UpdatesNothing, answer_on, track_under}
 use Rattle.core_state.specs.HostEvents.{run_of, page_under, replied, halts, RunsIt}
 use Rattle.core_state.specs.Steps.{after_reply, after_stop, used}
 
@@ -47,8 +47,10 @@ module _ (tells : Type 0) (old mid new : DevicesSeen) (told : tells → mid.told
     moments = λ tl. seen_from (λ d. WritesFor r d.told new.told) tl (ran.moments tl);
     exact = λ tl. seen_from (λ d. HoldsWritten (answer_on r (content d.told)).written (reading (track_under r (content new.told)))) tl (ran.exact tl);
     later = subst (λ (n : ℕ). n ≤ new.writes) unwritten ran.later;
+    few = λ tl. seen_from (λ d. length new.told.log ≤ length d.told.log + most_writes r.command) tl (ran.few tl);
     looks = λ reads. ran.looks reads ∙ unwritten;
     refused = λ checks. ran.refused checks ∙ unwritten;
+    untouched = λ tl nothing. ran.untouched tl (subst (λ (s : SiteLog). UpdatesNothing r (content s)) (sym (told tl)) nothing) ∙ unwritten;
     sound = ran.sound ∙ sound;
   }
 
@@ -56,6 +58,7 @@ module _ (tells : Type 0) (old mid new : DevicesSeen) (told : tells → mid.told
   stop_from r fault failed = record {
     write = failed.write;
     moments = λ tl. seen_from (λ d. WritesFor r d.told new.told) tl (failed.moments tl);
+    few = λ tl. seen_from (λ d. length new.told.log ≤ length d.told.log + most_writes r.command) tl (failed.few tl);
     wrote = subst (λ (n : ℕ). Rises n new.writes) unwritten failed.wrote;
     cause = record { count = failed.cause.count; rises = subst (λ (n : ℕ). Rises n new.faults) sound failed.cause.rises };
   }

@@ -1,5 +1,5 @@
 -- What a command is answered.
-use Rattle.std.specs.Prelude.{◌≡◌, ℕ, ◌+◌, Bool, false, List, Some, Result, IfOk, IfErr, OnOk, OnErr}
+use Rattle.std.specs.Prelude.{◌≡◌, ◌≤◌, ℕ, ◌+◌, Bool, false, List, length, Some, Result, IfOk, IfErr, OnOk, OnErr}
 use Rattle.mss_base.specs.Content.{Content, SiteLog, content}
 use Rattle.mss_base.specs.Sites.{FailingReads, OnlyReads, MayWrite}
 use Rattle.mss_base.specs.declared.place.UnitNo.{UnitNo}
@@ -16,7 +16,7 @@ use Rattle.track_engine.specs.declared.place.CylinderPlace.{CylinderPlace}
 use Rattle.track_engine.specs.declared.place.EngineFault.{EngineFault}
 use Rattle.track_engine.specs.Faults.{FailsBy, HasUnitCheck, IsNoFailure, IsNoFailedWrite}
 use Rattle.track_engine.specs.Tracks.{tracks_at, AreTracksOn}
-use Rattle.track_engine.specs.Writing.{WritesTrack}
+use Rattle.track_engine.specs.Writing.{WritesTrack, most_writes}
 
 -- the plain machine's answer to a command that passed its checks, on the tracks of a cylinder's blocks
 abbrev pub ran : Content → UnitNo → ℕ → HostState → Command → List ℕ → Bool → Answer
@@ -41,10 +41,12 @@ pub record LeavesHost (chained : Bool) (old new : HostState) (result : Result Re
   pub mounted_ : new.mounted ≡ old.mounted
   pub stays : OnErr result (new ≡ old)
 
--- What a command leaves of its devices, whatever the site tells. A command that is no write, or ends with unit check, reads at most.
+-- What a command leaves of its devices, whatever the site tells. An update makes one write at most, a write of count, key and
+-- data four; a command that is no write, or ends with unit check, reads at most.
 -- The count of faults rises where a call failed, and the fault says which; where no call may fail, none did.
 pub record LeavesDevices {S : Type 0} (tells : Type 0) (told : S → SiteLog) (spare writes faults : S → ℕ) (never_fails_but : FailingReads S) (c : Command) (unit : UnitNo) (old new : S) (result : Result Reply EngineFault) : Type 0 where
   pub devices : MayWrite 4 spare writes faults never_fails_but old new
+  pub few : tells → length (told new).log ≤ length (told old).log + most_writes c
   pub looks : is_write c ≡ false → OnlyReads tells told spare writes faults never_fails_but old new
   pub unwritten : IfOk result (λ reply. HasUnitCheck (reply_of reply) → OnlyReads tells told spare writes faults never_fails_but old new)
   pub same : OnOk result (faults new ≡ faults old)

@@ -84,6 +84,13 @@ abbrev pub update_kind : Bool → WriteKind
 update_kind false = write.Data
 update_kind true = write.KeyData
 
+-- how many writes a command makes at most
+abbrev pub most_writes : Command → ℕ
+most_writes (command.Write write.Data) = 1
+most_writes (command.Write write.KeyData) = 1
+most_writes (command.Write write.CountKeyData) = 4
+most_writes _ = 0
+
 -- an update of a record k without bytes to update
 abbrev pub IsOfNothing : Command → ℕ → List RecordData → Type 0
 IsOfNothing (command.Write write.Data) k track = updated_length false (record_behind (k - 1) track) ≡ 0

@@ -17,7 +17,7 @@ ghost use Rattle.track_engine.specs.Answers.{ran_on, Runs, LeavesHost, LeavesDev
 ghost use Rattle.track_engine.specs.Faults.{HasReadCause, HasNotFailed, HasNoFailedWrite, IsNoFailure, IsNoFailedWrite, IsUndone, FailsBy, HasUnitCheck};
 ghost use Rattle.track_engine.specs.Found.{GivesBut, KeepsVolume};
 ghost use Rattle.track_engine.specs.Tracks.{tracks_on, AreTracksOn};
-ghost use Rattle.track_engine.specs.Writing.{WritesTrack, CarriesOut, IsOfNothing};
+ghost use Rattle.track_engine.specs.Writing.{WritesTrack, CarriesOut, IsOfNothing, most_writes};
 
 use crate::place::{CylinderPlace, EngineFault, NotDone};
 use crate::read::read;
@@ -92,6 +92,8 @@ fn carry_out<S: Site>(
     ensures volume { KeepsVolume (λ done. done.host) host.now.mounted result }
     ensures ends { IfOk result (λ done. is_ending done.status ≡ true) }
     ensures devices { MayWrite 4 S.spare S.writes S.faults S.never_fails_but site.old site.new }
+    ensures few { S.tells → length (S.told site.new).log
+        ≤ length (S.told site.old).log + most_writes command }
     ensures looks { is_write command ≡ false
         → OnlyReads S.tells S.told S.spare S.writes S.faults S.never_fails_but site.old site.new }
     ensures untouched { S.tells → IsOfNothing command (prior_number left)
@@ -161,6 +163,8 @@ fn run<S: Site>(
         (tracks_on (S.told site.old) place.now host.old.head)
         → OnlyReads S.tells S.told S.spare S.writes S.faults S.never_fails_but site.old site.new }
     ensures devices { MayWrite 4 S.spare S.writes S.faults S.never_fails_but site.old site.new }
+    ensures few { S.tells → length (S.told site.new).log
+        ≤ length (S.told site.old).log + most_writes command.now }
     ensures same { OnOk result (S.faults site.new ≡ S.faults site.old) }
     ensures cause { IfErr result (FailsBy S.tells S.told S.spare S.writes S.faults S.never_fails_but
         (is_write command.now) site.old site.new) }
@@ -182,8 +186,8 @@ fn run<S: Site>(
 
 /// A search, read or write that passed its checks, on the blocks of the host's cylinder.
 ///
-/// `buffer` is room for one block, which a write alone uses. After a fault the host is as it was. An update of no bytes
-/// reads at most.
+/// `buffer` is room for one block, which a write alone uses. After a fault the host is as it was. An update makes one
+/// write at most, and of no bytes none.
 pub fn run_command<S: Site>(
     alloc: Global,
     site: &mut S,

@@ -117,6 +117,7 @@ fn format_behind<S: Site>(
     ensures volume { KeepsVolume (λ done. done.host) at.now.host.mounted result }
     ensures ends { IfOk result (λ done. is_ending done.status ≡ true) }
     ensures devices { MayWrite 4 S.spare S.writes S.faults S.never_fails_but site.old site.new }
+    ensures few { S.tells → length (S.told site.new).log ≤ length (S.told site.old).log + 4 }
     ensures same { OnOk result (S.faults site.new ≡ S.faults site.old) }
     ensures undone { IfErr result
         (IsUndone S.tells S.told S.spare S.writes S.faults S.never_fails_but
@@ -158,6 +159,7 @@ pub fn write_count_key_data<S: Site>(
     ensures volume { KeepsVolume (λ done. done.host) host.now.mounted result }
     ensures ends { IfOk result (λ done. is_ending done.status ≡ true) }
     ensures devices { MayWrite 4 S.spare S.writes S.faults S.never_fails_but site.old site.new }
+    ensures few { S.tells → length (S.told site.new).log ≤ length (S.told site.old).log + 4 }
     ensures same { OnOk result (S.faults site.new ≡ S.faults site.old) }
     ensures undone { IfErr result
         (IsUndone S.tells S.told S.spare S.writes S.faults S.never_fails_but
@@ -217,6 +219,7 @@ fn update_at<S: Site>(
     ensures ends { IfOk result (λ done. is_ending done.status ≡ true) }
     ensures untouched { bytes.now ≡ [] → site.new ≡ site.old }
     ensures devices { MayWrite 1 S.spare S.writes S.faults S.never_fails_but site.old site.new }
+    ensures few { S.tells → length (S.told site.new).log ≤ length (S.told site.old).log + 1 }
     ensures same { OnOk result (S.faults site.new ≡ S.faults site.old) }
     ensures undone { IfErr result
         (IsUndone S.tells S.told S.spare S.writes S.faults S.never_fails_but
@@ -262,6 +265,7 @@ pub fn write_data<S: Site>(
         (tracks_on (S.told site.old) place.now host.now.head)) ≡ 0
         → OnlyReads S.tells S.told S.spare S.writes S.faults S.never_fails_but site.old site.new }
     ensures devices { MayWrite 1 S.spare S.writes S.faults S.never_fails_but site.old site.new }
+    ensures few { S.tells → length (S.told site.new).log ≤ length (S.told site.old).log + 1 }
     ensures same { OnOk result (S.faults site.new ≡ S.faults site.old) }
     ensures undone { IfErr result
         (IsUndone S.tells S.told S.spare S.writes S.faults S.never_fails_but

@@ -1,5 +1,6 @@
 use Rattle.std.proofs.Common.{arith}
 use Rattle.ckd_track.proofs.StepLemmas.{close_moments, closed_by}
+use Rattle.ckd_track.proofs.LogLemmas.{adds_one}
 use Rattle.ckd_track.proofs.format.close_gate.Goals as goal
 
 pub returns-in_err-write-clause-moments : goal.returns-in_err-write-clause-moments
@@ -17,3 +18,9 @@ returns-in_ok-write-clause-closed g c = λ tells. (closed_by _ _ _ _ _ _ (omega 
 
 pub returns-in_ok-write-clause-later : goal.returns-in_ok-write-clause-later
 returns-in_ok-write-clause-later g c = λ tells. (closed_by _ _ _ _ _ _ (omega arith) c.requires.whole (c.requires.told tells) (c.in_ok-write.ensures.ok tells)).1
+
+pub returns-in_err-write-clause-few : goal.returns-in_err-write-clause-few
+returns-in_err-write-clause-few g c = λ tells. adds_one _ _ _ (c.write.ensures.logged tells).2
+
+pub returns-in_ok-write-clause-few : goal.returns-in_ok-write-clause-few
+returns-in_ok-write-clause-few g c = λ tells. adds_one _ _ _ (c.write.ensures.logged tells).2

@@ -1,5 +1,6 @@
 use Rattle.std.proofs.Common.{◌+◌, inl, arith}
 use Rattle.ckd_track.proofs.StepLemmas.{behind_moments, behind_done, next_closed, next_shut}
+use Rattle.ckd_track.proofs.LogLemmas.{adds_one}
 use Rattle.ckd_track.proofs.format.close_later.Goals as goal
 
 pub returns-in_err-write-clause-moments : goal.returns-in_err-write-clause-moments
@@ -23,3 +24,9 @@ returns-in_ok-write-clause-next g c = λ tells.
 pub returns-else-any_open-clause-next : goal.returns-else-any_open-clause-next
 returns-else-any_open-clause-next g c = λ tells.
     next_shut c.args.before _ _ (c.requires.later tells (130 + c.args.before) (omega arith) (omega arith)) (c.any_open.ensures.none c.if-any_open.false (130 + c.args.before) (omega arith) (omega arith))
+
+pub returns-in_err-write-clause-few : goal.returns-in_err-write-clause-few
+returns-in_err-write-clause-few g c = λ tells. adds_one _ _ _ (c.write.ensures.logged tells).2
+
+pub returns-in_ok-write-clause-few : goal.returns-in_ok-write-clause-few
+returns-in_ok-write-clause-few g c = λ tells. adds_one _ _ _ (c.write.ensures.logged tells).2

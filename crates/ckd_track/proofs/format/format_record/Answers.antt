@@ -37,3 +37,18 @@ returns-clause-moments g c = λ tells.
 pub returns-clause-track : goal.returns-clause-track
 returns-clause-track g c =
     formatted_track c.args.count_key_data.now c.requires.record (c.args.number - 1) c.args.block.now (λ i. omega (arith, c.type_inv.block i)) (λ i. omega (arith, c.type_inv.count_key_data i)) c.requires.fits
+
+pub returns-in_err-close_gate-clause-few : goal.returns-in_err-close_gate-clause-few
+returns-in_err-close_gate-clause-few g c = λ tells. omega (arith, c.close_gate.ensures.few tells)
+
+pub returns-in_err-close_later-clause-few : goal.returns-in_err-close_later-clause-few
+returns-in_err-close_later-clause-few g c = λ tells. omega (arith, c.close_gate.ensures.few tells, c.close_later.ensures.few tells)
+
+pub returns-in_err-put_record-clause-few : goal.returns-in_err-put_record-clause-few
+returns-in_err-put_record-clause-few g c = λ tells. omega (arith, c.close_gate.ensures.few tells, c.close_later.ensures.few tells, c.put_record.ensures.few tells)
+
+pub returns-in_err-open_gate-clause-few : goal.returns-in_err-open_gate-clause-few
+returns-in_err-open_gate-clause-few g c = λ tells. omega (arith, c.close_gate.ensures.few tells, c.close_later.ensures.few tells, c.put_record.ensures.few tells, c.open_gate.ensures.few tells)
+
+pub returns-clause-few : goal.returns-clause-few
+returns-clause-few g c = λ tells. omega (arith, c.close_gate.ensures.few tells, c.close_later.ensures.few tells, c.put_record.ensures.few tells, c.open_gate.ensures.few tells)

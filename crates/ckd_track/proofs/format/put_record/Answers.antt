@@ -1,6 +1,7 @@
 use Rattle.std.proofs.Common.{inr, arith}
 use Rattle.ckd_track.proofs.FrontLemmas.{place_after-ge}
 use Rattle.ckd_track.proofs.StepLemmas.{behind_moments, behind_done, next_stays, holds_after}
+use Rattle.ckd_track.proofs.LogLemmas.{adds_one}
 use Rattle.ckd_track.proofs.format.put_record.Goals as goal
 
 pub returns-in_err-write-clause-moments : goal.returns-in_err-write-clause-moments
@@ -28,3 +29,9 @@ returns-clause-next g c = λ tells.
 pub returns-clause-holds : goal.returns-clause-holds
 returns-clause-holds g c = λ tells.
     holds_after _ _ _ _ c.args.place _ (omega (arith, (c.requires.ends tells).front.long)) (c.in_ok-write.ensures.ok tells)
+
+pub returns-in_err-write-clause-few : goal.returns-in_err-write-clause-few
+returns-in_err-write-clause-few g c = λ tells. adds_one _ _ _ (c.write.ensures.logged tells).2
+
+pub returns-clause-few : goal.returns-clause-few
+returns-clause-few g c = λ tells. adds_one _ _ _ (c.write.ensures.logged tells).2

@@ -33,7 +33,7 @@ returns-clause-comes g c =
           c.as_slice-bytes.result.now (c.as_slice-bytes.ensures ∙ sym (ap (λ (k : Call). argument_of (call_of k)) c.in-Command.is)) c.in-Command.asked.chained (sym (ap (λ (k : Call). is_chained (call_of k)) c.in-Command.is))
           c.place_in-place.result (frame_block c.args.frame c.args.host.now.cylinder 0)
           c.place_in-place.ensures.unit c.place_in-place.ensures.block c.args.host.now c.run_command.new.host c.args.site.now c.run_command.new.site c.in_ok-reply.reply
-          c.in_ok-reply.ensures.runs c.in_ok-reply.ensures.host_ c.in_ok-reply.ensures.site_ _ c.bare-reply.ensures,
+          c.in_ok-reply.ensures.runs c.in_ok-reply.ensures.host_ c.in_ok-reply.ensures.site_ c.run_command.ensures.untouched _ c.bare-reply.ensures,
       c.in-Ok.ensures.copy,
     )
 
@@ -44,4 +44,4 @@ returns-in_default-copy_of_reply-clause-comes g c =
     c.as_slice-bytes.result.now (c.as_slice-bytes.ensures ∙ sym (ap (λ (k : Call). argument_of (call_of k)) c.in-Command.is)) c.in-Command.asked.chained (sym (ap (λ (k : Call). is_chained (call_of k)) c.in-Command.is))
     c.place_in-place.result (frame_block c.args.frame c.args.host.now.cylinder 0)
     c.place_in-place.ensures.unit c.place_in-place.ensures.block c.args.host.now c.run_command.new.host c.args.site.now c.run_command.new.site c.in_ok-reply.reply
-    c.in_ok-reply.ensures.runs c.in_ok-reply.ensures.host_ c.in_ok-reply.ensures.site_ _ c.bare-reply.ensures c.copy_of_reply.result _ c.in_default-copy_of_reply.is c.copy_of_reply.ensures.none
+    c.in_ok-reply.ensures.runs c.in_ok-reply.ensures.host_ c.in_ok-reply.ensures.site_ c.run_command.ensures.untouched _ c.bare-reply.ensures c.copy_of_reply.result _ c.in_default-copy_of_reply.is c.copy_of_reply.ensures.none

@@ -14,6 +14,7 @@ returns-clause-host_ g c = record { done_ = c.run.ensures.done; chain = c.run.en
 pub returns-clause-site_ : goal.returns-clause-site_
 returns-clause-site_ g c = record {
   devices = c.run.ensures.devices;
+  few = c.run.ensures.few;
   looks = c.run.ensures.looks;
   unwritten = c.run.ensures.unwritten;
   same = c.run.ensures.same;
