@@ -1,5 +1,5 @@
 -- What a command that was run did, in the words of the events.
-use Rattle.std.proofs.Common.{◌≡◌, ℕ, ◌+◌, Bool, true, false, cond, List, [], Option, Some, None, Ok, Err, inl, inr, refl, sym, ◌∙◌, ap, subst}
+use Rattle.std.proofs.Common.{◌≡◌, ℕ, ◌+◌, ◌≤◌, Bool, true, false, cond, List, [], Option, Some, None, Ok, Err, inl, inr, refl, sym, ◌∙◌, ap, subst, arith}
 use Rattle.std.specs.Prelude.{Result, IsOk}
 use Rattle.std.proofs.lemmas.Bool.{cases_Bool, cond-true}
 use Rattle.mss_base.specs.Content.{SiteLog, content}
@@ -20,7 +20,9 @@ use Rattle.ckd_plain.specs.Plain.{IsDone, IsSmooth, opened}
 use Rattle.ckd_plain.proofs.WriteFacts.{no_bytes}
 use Rattle.track_engine.specs.declared.place.CylinderPlace.{CylinderPlace}
 use Rattle.track_engine.specs.Answers.{ran, Runs, LeavesHost, LeavesDevices}
-use Rattle.track_engine.specs.Faults.{HasUnitCheck}
+use Rattle.track_engine.specs.Faults.{HasUnitCheck, FailsBy, IsNoFailure}
+use Rattle.track_engine.specs.declared.place.EngineFault.{EngineFault}
+use Rattle.track_engine.specs.declared.place.EngineFault.TheVariants.{ReadFailed, WriteFailed, Memory}
 use Rattle.track_engine.specs.Tracks.{tracks_at, tracks_on}
 use Rattle.track_engine.specs.Writing.{WritesTrack, HoldsWritten, IsOfNothing}
 use Rattle.core_state.specs.Devices.{StillHold, RunOn}
@@ -60,6 +62,13 @@ bare_none : (c : Command) (r : ReplyData) → IsDone r → is_write c ≡ true �
 bare_none c (done status bytes) is writes = cond-true (is_write c) [] bytes writes
 bare_none c _ is writes = absurd is
 
+-- want of memory has taken no room
+pub lacks_room : {S : Type 0} (tells : Type 0) (told : S → SiteLog) (spare writes faults : S → ℕ) (never : FailingReads S) (by_write : Bool) (old new : S) (fault : EngineFault)
+    → FailsBy tells told spare writes faults never by_write old new fault → IsNoFailure fault → spare old ≤ spare new
+lacks_room tells told spare writes faults never by_write old new Memory fails sound = let e = fails.reads.room in omega (arith, e)
+lacks_room tells told spare writes faults never by_write old new (ReadFailed fault) fails sound = absurd sound
+lacks_room tells told spare writes faults never by_write old new (WriteFailed fault) fails sound = absurd sound
+
 -- ---- what was done on a cylinder's blocks, by the command of a call with these bytes
 
 module _ {S : Type 0} (tells : Type 0) (told : S → SiteLog) (spare writes faults : S → ℕ) (never : FailingReads S) (c : Command) (call : CallData)
@@ -92,6 +101,13 @@ module _ {S : Type 0} (tells : Type 0) (told : S → SiteLog) (spare writes faul
   }
 
   -- a reply without bytes is copied without memory, so one whose copy fails is a search's or a read's
+  pub look_reads : {T E : Type 0} (bare : ReplyData) → bare ≡ bare_write c (reply_of reply) → (copy : Result T E) (failure : E) → copy ≡ Err failure → (HasNoBytes bare → IsOk copy)
+      → OnlyReads tells told spare writes faults never old new
+  look_reads bare is copy failure fails works = elim (cases_Bool (is_write c)) [
+    | inl w ↦ absurd (err_not_ok copy failure fails (works (subst HasNoBytes (sym is) (bare_none c (reply_of reply) leaves.done_ w))))
+    | inr reads ↦ site.looks reads
+  ]
+
   pub look_still : {T E : Type 0} (bare : ReplyData) → bare ≡ bare_write c (reply_of reply) → (copy : Result T E) (failure : E) → copy ≡ Err failure → (HasNoBytes bare → IsOk copy)
       → StillHold tells (devices told writes faults old) (devices told writes faults new)
   look_still bare is copy failure fails works = elim (cases_Bool (is_write c)) [

@@ -4,7 +4,7 @@ use Rattle.channel_commands.specs.Data.{equipment_check}
 use Rattle.fault_queue.specs.declared.queue.Request.{Request}
 use Rattle.fault_queue.specs.declared.queue.RequestState.TheVariants as request
 use Rattle.fault_queue.specs.Requests.{RequestsData, with_state, without_request}
-use Rattle.core_state.specs.HostEvents.{HostTold, replied, halts}
+use Rattle.core_state.specs.HostEvents.{HostTold, replied, waits, halts, at_limit, no_memory}
 
 -- ---- the request that is ready once a cylinder is marked; had: whether the host has one
 
@@ -23,6 +23,15 @@ made_ready h had requests = if had then with_state h request.Ready requests else
 -- it is gone, where the change wasn't written
 abbrev pub given_up : ℕ → Bool → RequestsData → RequestsData
 given_up h had requests = if had then requests else without_request h requests
+
+-- ---- answers by which the history doesn't grow
+
+-- the call waits, or is one too many, or memory was refused
+abbrev pub IsUntold : HostTold → Type 0
+IsUntold (waits waiting) = Unit {0}
+IsUntold at_limit = Unit {0}
+IsUntold no_memory = Unit {0}
+IsUntold _ = ⊥
 
 -- ---- answers of a core no device of which failed
 

@@ -1,5 +1,5 @@
 // A host's event.
-ghost use Rattle.std.specs.Prelude.{◌≡◌, ℕ, Bool, false, None};
+ghost use Rattle.std.specs.Prelude.{◌≡◌, ◌≤◌, ℕ, Bool, false, None};
 ghost use Rattle.mss_base.specs.Places.{frame_block};
 ghost use Rattle.mss_base.specs.Sites.{MayWrite};
 ghost use Rattle.mss_base.specs.declared.place.UnitNo.{UnitNo};
@@ -11,7 +11,7 @@ ghost use Rattle.core_state.specs.HostRules.{host_rule};
 ghost use Rattle.core_state.specs.Pins.{host_at};
 ghost use Rattle.core_state.specs.declared.rule.HostRule.TheVariants.{Runs};
 ghost use Rattle.host_events.specs.Answers.{told_of};
-ghost use Rattle.host_events.specs.Parts.{GoesOn, IsUnfailed};
+ghost use Rattle.host_events.specs.Parts.{GoesOn, IsUnfailed, IsUntold};
 
 use crate::answer::HostAnswer;
 use crate::exception::{fail, refuse_space};
@@ -28,10 +28,11 @@ use victim_choice::Choose;
 
 /// Does what the first rule that a host's call meets says, and answers the host.
 ///
-/// Its memory comes first: after `Memory` all is as it was. After `Wait` and `Marked` the call is
-/// to be made again; a wait changes nothing but the host's request. `Replied` and a `Stopped` of
-/// this event put one entry last. Where no call of the site fails but reads, no event stops the
-/// core; where the host's track can be read, its command isn't an equipment check.
+/// Its memory comes first: after `Memory` all is as it was, but that the site may have more room.
+/// After `Wait` and `Marked` the call is to be made again; a wait changes nothing but the host's
+/// request. `Replied` and a `Stopped` of this event put one entry last. Where no call of the site
+/// fails but reads, no event stops the core; where the host's track can be read, its command isn't
+/// an equipment check.
 pub fn host_event<S: Site, C: Choose>(
     core: &mut Core<S, C>,
     host: HostNo,
@@ -42,6 +43,7 @@ pub fn host_event<S: Site, C: Choose>(
     ensures chooser { core.new.chooser ≡ core.old.chooser }
     ensures devices { MayWrite CHANGE_WRITES S.spare S.writes S.faults S.never_fails_but
         core.old.site core.new.site }
+    ensures room { IsUntold (told_of result) → S.spare core.old.site ≤ S.spare core.new.site }
     ensures only_reads_fail { (but : UnitNo → Bool) → S.never_fails_but core.old.site but
         → core.old.stopped ≡ None → GoesOn (told_of result) }
     ensures works { (but : UnitNo → Bool) (c : Command) (volume frame : ℕ)

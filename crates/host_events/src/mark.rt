@@ -1,5 +1,5 @@
 // The event of a write on a staged cylinder that isn't changed yet.
-ghost use Rattle.std.specs.Prelude.{◌≡◌, Bool, true, is_some, IsSome, OnOk, OnErr};
+ghost use Rattle.std.specs.Prelude.{◌≡◌, ◌≤◌, Bool, true, is_some, IsSome, OnOk, OnErr};
 ghost use Rattle.mss_base.specs.Sites.{MayWrite};
 ghost use Rattle.mss_base.specs.declared.place.UnitNo.{UnitNo};
 ghost use Rattle.channel_commands.specs.Views.{call_of};
@@ -9,7 +9,7 @@ ghost use Rattle.core_state.specs.HostRules.{host_rule};
 ghost use Rattle.core_state.specs.HostEvents.{HostDoes};
 ghost use Rattle.core_state.specs.declared.rule.HostRule.TheVariants.{Marks};
 ghost use Rattle.host_events.specs.Answers.{told_of};
-ghost use Rattle.host_events.specs.Parts.{ready_for, asked_for, made_ready, given_up, GoesOn};
+ghost use Rattle.host_events.specs.Parts.{ready_for, asked_for, made_ready, given_up, GoesOn, IsUntold};
 
 use crate::answer::HostAnswer;
 use crate::prepare::prepare;
@@ -81,6 +81,7 @@ pub fn mark<S: Site, C: Choose>(
     ensures chooser { core.new.chooser ≡ core.old.chooser }
     ensures devices { MayWrite CHANGE_WRITES S.spare S.writes S.faults S.never_fails_but
         core.old.site core.new.site }
+    ensures room { IsUntold (told_of result) → S.spare core.old.site ≤ S.spare core.new.site }
     ensures only_reads_fail { (but : UnitNo → Bool) → S.never_fails_but core.old.site but
         → GoesOn (told_of result) }
 {

@@ -21,7 +21,7 @@ ghost use Rattle.core_state.specs.Pins.{host_at};
 ghost use Rattle.core_state.specs.Tasks.{tasks_after};
 ghost use Rattle.core_state.specs.declared.rule.HostRule.TheVariants.{Runs};
 ghost use Rattle.host_events.specs.Answers.{told_of};
-ghost use Rattle.host_events.specs.Parts.{GoesOn, IsUnfailed};
+ghost use Rattle.host_events.specs.Parts.{GoesOn, IsUnfailed, IsUntold};
 ghost use Rattle.host_events.specs.Runs.{argument_of, run_by, devices, bare_write, Comes};
 
 use crate::answer::HostAnswer;
@@ -132,6 +132,8 @@ fn run_in<S: Site>(
         host.new result }
     ensures site_ { MayWrite RUN_WRITES S.spare S.writes S.faults S.never_fails_but
         site.old site.new }
+    ensures room { IfErr result (λ fault. IsNoFailure fault
+        → S.spare site.old ≤ S.spare site.new) }
     ensures works { (but : UnitNo → Bool) → S.never_fails_but site.old but
         → but (frame_block frame host.old.cylinder 0).unit ≡ false → IfErr result IsNoFailure }
     ensures only_reads_fail { (but : UnitNo → Bool) → S.never_fails_but site.old but
@@ -177,6 +179,7 @@ pub fn run<S: Site, C: Choose>(
     ensures chooser { core.new.chooser ≡ core.old.chooser }
     ensures devices { MayWrite RUN_WRITES S.spare S.writes S.faults S.never_fails_but
         core.old.site core.new.site }
+    ensures room { IsUntold (told_of result) → S.spare core.old.site ≤ S.spare core.new.site }
     ensures works { (but : UnitNo → Bool) → S.never_fails_but core.old.site but
         → but (frame_block frame (host_at core.old.hosts host).cylinder 0).unit ≡ false
         → IsUnfailed (told_of result) }
