@@ -22,7 +22,7 @@ use Rattle.core_state.specs.IsCore.{IsCore}
 use Rattle.core_state.specs.Pins.{host_at, owns}
 use Rattle.core_state.proofs.Limits.{host_stopped}
 use Rattle.core_state.proofs.RuleWalks.{some_of}
-use Rattle.host_events.specs.Causes.{Goes, NeedsNoLook, Looks, IsToMark, IsToRun, CauseOfReply, CauseOf, OrNoMemory, IsOfMark, IsOfRun, AnswersEachCause}
+use Rattle.host_events.specs.Causes.{Goes, NeedsNoLook, Looks, IsToMark, IsToRun, CauseOfReply, CauseOf, plain_reply_on, IsPlainReply, OrNoMemory, IsOfMark, IsOfRun, AnswersEachCause}
 use Rattle.host_events.proofs.Outcomes.{EachOutcome, outcome}
 use Rattle.host_events.proofs.RuleFacts.{IsLate, AsksFor, RunsOn, rule_goes, rule_stopped, rule_full, rule_busy, rule_moving, rule_held, rule_responds, rule_failed, rule_no_space, rule_faults, rule_marks, rule_runs_on}
 use Rattle.host_events.proofs.RuleParts.{mounted_under, passes_found, state_at, frame_at}
@@ -163,6 +163,48 @@ module _ (tells : Type 0) (core : CoreData) (kept : core.stopped ≡ None → Is
 
   pub has_cause : (call : CallData) (told : HostTold) → HostEvent tells core h call told core' → CauseOf core h call told core'
   has_cause call told event = outcome tells core h core' HasCause call (causes call) (host_rule core h call) told event refl
+
+-- ---- the plain reply
+
+-- what holds of a reply of a command that was carried out
+abbrev OnDone : (ReplyData → Type 0) → HostTold → Type 0
+OnDone P (replied index (done status bytes)) = P (done status bytes)
+OnDone P _ = Unit {0}
+
+module _ (tells : Type 0) (core : CoreData) (kept : core.stopped ≡ None → IsCore core) (h : ℕ) (core' : CoreData) (tell : tells) where
+  module _ (call : CallData) where
+    abbrev Plainly : HostRule → HostTold → Type 0
+    Plainly rule told = host_rule core h call ≡ rule → OnDone (IsPlainReply core h call) told
+
+    unlooked : (index : ℕ) (reply : ReplyData) → NeedsNoLook core h call → reply ≡ (response core h call).0 → OnDone (IsPlainReply core h call) (replied index reply)
+    unlooked index (done status bytes) needs is = inl (needs, is)
+    unlooked index _ needs is = tt
+
+    plainly : EachOutcome tells core h call core' Plainly
+    plainly = record {
+      stops = λ fault same is. tt;
+      fills = λ same is. tt;
+      lacks = λ rule late same is. tt;
+      is_busy = λ owner same is. tt;
+      moves = λ cylinder same is. tt;
+      holds = λ frame held is. tt;
+      responds = λ replied_ is.
+          let on = rule_responds core h call kept is in
+          unlooked (length core.history) (response core h call).0 (record { let_in = record { goes = on.goes; free = on.free }; quiet = on.quiet; none = on.none; untaken = on.binds }) refl;
+      fails = λ fault replied_ is. tt;
+      is_full = λ replied_ is. tt;
+      asks = λ volume cylinder asks is. tt;
+      marks = λ volume cylinder marks is. tt;
+      unmarked = λ volume cylinder fault un is. tt;
+      unread = λ c volume frame un is. tt;
+      runs = λ c volume frame code argument chained status bytes ran is.
+          let on = rule_runs_on core h call kept c volume frame is in
+          inr (c, frame, run_is tells core kept h core' call c volume frame on, on.in_frame, subst (λ (k : CallData). done status bytes ≡ plain_reply_on core h k c frame) (sym ran.0) (ran.2.reply_ tell));
+      unwritten = λ c volume frame code argument chained fault un is. tt;
+    }
+
+  pub replies_plainly : (call : CallData) (told : HostTold) → HostEvent tells core h call told core' → OnDone (IsPlainReply core h call) told
+  replies_plainly call told event = outcome tells core h core' Plainly call (plainly call) (host_rule core h call) told event refl
 
 -- ---- the answers
 

@@ -55,10 +55,10 @@ module _ (core : CoreData) (h : ℕ) (call : CallData) where
   pub going : (P : CoreData → Type 0) → P core → P (record core { requests = without_request h core.requests }) → P (going_on core h call)
   going P here ended = cond_both (ends_request core h call) (record core { requests = without_request h core.requests }) core P (λ _. ended) (λ _. here)
 
-  abbrev asked_of : ℕ → ℕ → CoreData → CoreData
+  abbrev pub asked_of : ℕ → ℕ → CoreData → CoreData
   asked_of volume cylinder c = noted (Host h) (with_request h volume cylinder request.Queued c)
 
-  abbrev marked_of : ℕ → ℕ → DevicesSeen → CoreData → CoreData
+  abbrev pub marked_of : ℕ → ℕ → DevicesSeen → CoreData → CoreData
   marked_of volume cylinder site c =
       noted (Host h) (touching (volume, page_of cylinder) (with_request h volume cylinder request.Ready (with_change volume (change.Changed cylinder) (record c { site = site }))))
 

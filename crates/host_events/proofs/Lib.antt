@@ -7,6 +7,7 @@ pub mod EventLeaves
 pub mod Stopped
 pub mod CauseFacts
 pub mod Waits
+pub mod NotedEvents
 pub mod EntryNumbers
 pub mod ReplyFacts
 pub mod Exceptions

@@ -151,6 +151,7 @@ module _ {S C : Type 0} (v : CoreValue S C) (h : ℕ) (call : CallData) where
     pub staged : (host_at v.hosts h).cylinder < 404 → (host_at v.hosts h).head < 19
         → IsStagedAt v h volume frame bind r
     pub under : UnderHost (listed v.rows) (host_at v.hosts h) (λ row cylinder. (2 ≤ state_of row cylinder) × (is_write c ≡ true → state_of row cylinder ≡ 4))
+    pub in_frame : UnderHost (listed v.rows) (host_at v.hosts h) (λ row cylinder. frame_of row (cylinder / 8) ≡ Some frame)
     pub changed : IsTrue (is_write c) → state_of r (host_at v.hosts h).cylinder ≡ 4
     pub below : frame < v.config.frames
 
@@ -368,6 +369,7 @@ module _ {S C : Type 0} (v : CoreValue S C) (h : ℕ) (call : CallData) (goes : 
                 r = stands.r;
                 staged = λ low low_head. record { mounted = stands.mounted; row = stands.there; frame_ = sym frame_is ∙ has; staged = staged; at_most = most; low = low; low_head = low_head };
                 under = (volume_of host, stands.bind, stands.r, stands.mounted, stands.there, (staged, four));
+                in_frame = (volume_of host, stands.bind, stands.r, stands.mounted, stands.there, sym frame_is ∙ has);
                 changed = four;
                 below = core.framed (volume_of host) (host.cylinder / 8) frame has;
               }

@@ -1,6 +1,8 @@
 -- Why a host's call is answered as it is.
 use Rattle.std.specs.Prelude.{◌≡◌, ◌≢◌, ◌⊎◌, ℕ, ◌/◌, ◌≤◌, ◌<◌, Bool, true, length, Some, None}
+use Rattle.mss_base.specs.Content.{content}
 use Rattle.mss_base.specs.Counts.{Rises, IsFaultSince}
+use Rattle.mss_base.specs.Places.{frame_block}
 use Rattle.channel_commands.specs.declared.command.Command.{Command}
 use Rattle.channel_commands.specs.Codes.{is_write}
 use Rattle.channel_commands.specs.Data.{CallData, is_command, ReplyData, done, equipment_check}
@@ -18,12 +20,14 @@ use Rattle.core_state.specs.Agrees.{UnderHost}
 use Rattle.core_state.specs.Counted.{fault_asked}
 use Rattle.core_state.specs.CoreValue.{CoreValue, CoreData}
 use Rattle.core_state.specs.declared.session.TheConstants.{ENTRY_LIMIT}
+use Rattle.core_state.specs.Devices.{answer_on}
 use Rattle.core_state.specs.HostEvents.{HostTold, replied, marked, waits, halts, at_limit}
 use Rattle.core_state.specs.HostEvents.{no_memory, response}
 use Rattle.core_state.specs.HostRules.{data_command, would_bind, taken_from}
 use Rattle.core_state.specs.Pins.{host_at, owns}
 use Rattle.core_state.specs.Running.{IsNotBusy, IsNotAwaited}
 use Rattle.host_events.specs.Leaves.{AddsEntry}
+use Rattle.host_events.specs.Runs.{run_by}
 
 -- the core goes on, and has room for an entry
 pub record Goes {S C : Type 0} (v : CoreValue S C) : Type 0 where
@@ -128,9 +132,24 @@ module _ (core : CoreData) (h : ℕ) (call : CallData) where
 
 -- ---- each answer has its cause
 
+-- the plain machine's reply to a call, on the cylinder under the host in this frame
+abbrev pub plain_reply_on : CoreData → ℕ → CallData → Command → ℕ → ReplyData
+plain_reply_on core h call c frame =
+    (answer_on
+    (run_by (host_at core.hosts h) (frame_block frame (host_at core.hosts h).cylinder 0) c call)
+    (content core.site.told)).reply
+
+-- a search, read or write on the frame of its page, which has the plain machine's reply
+abbrev pub RunsPlainly : CoreData → ℕ → CallData → ReplyData → Type 0
+RunsPlainly core h call reply =
+    (c : Command) × (frame : ℕ) × IsToRun core h call c
+    × UnderHost (listed core.rows) (host_at core.hosts h)
+    (λ r cylinder. frame_of r (cylinder / 8) ≡ Some frame)
+    × (reply ≡ plain_reply_on core h call c frame)
+
 -- An equipment check has the fault of the staging that failed, or the count behind a read of this
--- event that failed. Every other reply but want of space is the plain one, with or without a look
--- at the tracks.
+-- event that failed. Every other reply but want of space comes with or without a look at the
+-- tracks; it is the plain one, with a look on devices that tell what they hold (`IsPlainReply`).
 abbrev pub CauseOfReply : CoreData → ℕ → CallData → ReplyData → CoreData → Type 0
 CauseOfReply core h call equipment_check core' =
     ((fault : ℕ) × IsFailed core h call fault
@@ -144,6 +163,12 @@ CauseOfReply core h call (done status bytes) core' =
     ⊎ ((c : Command) × IsToRun core h call c)
 CauseOfReply core h call reply core' =
     NeedsNoLook core h call × (reply ≡ (response core h call).0)
+
+-- the plain reply, without a look or with one
+abbrev pub IsPlainReply : CoreData → ℕ → CallData → ReplyData → Type 0
+IsPlainReply core h call reply =
+    (NeedsNoLook core h call × (reply ≡ (response core h call).0))
+    ⊎ RunsPlainly core h call reply
 
 -- the core was stopped, or a write of this event failed
 abbrev pub CauseOfStop : CoreData → ℕ → CallData → ℕ → CoreData → Type 0

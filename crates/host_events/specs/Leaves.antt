@@ -3,7 +3,9 @@ use Rattle.std.specs.Prelude.{◌≡◌, ◌≢◌, ◌⊎◌, ℕ, List, [], �
 use Rattle.mss_base.specs.Content.{Content, SiteLog, content, Writes}
 use Rattle.mss_base.specs.declared.place.UnitNo.TheVariants.{Cartridge}
 use Rattle.channel_commands.specs.Data.{CallData, ReplyData, stopped}
-use Rattle.fault_queue.specs.Requests.{RequestsData, request_of}
+use Rattle.fault_queue.specs.Requests.{request_of, put_request}
+use Rattle.fault_queue.specs.declared.queue.Request.{Request}
+use Rattle.core_state.specs.declared.session.Event.{Event}
 use Rattle.core_state.specs.declared.session.Event.TheVariants.{Host}
 use Rattle.core_state.specs.declared.rule.WorkAnswer.TheVariants.{Stopped}
 use Rattle.core_state.specs.Chains.{Step, called, worked, OneOf}
@@ -53,12 +55,26 @@ pub record LeavesMachine (core core' : CoreData) : Type 0 where
   pub owners : core'.owners ≡ core.owners
   pub moving : core'.moving ≡ core.moving
 
--- nothing changes; or only the host's request does, and the event is put down
+-- nothing changes; or only the host's request does, which is this one then, or none, and the event
+-- is put down
 abbrev pub ChangesRequestAtMost : Type 0 → CoreData → ℕ → CoreData → Type 0
 ChangesRequestAtMost tells core h core' =
     IsSame tells core core'
-    ⊎ ((requests : RequestsData) × StillHold tells core.site core'.site
-    × (core' ≡ noted (Host h) (record core { site = core'.site; requests = requests })))
+    ⊎ ((q : Option Request) × StillHold tells core.site core'.site
+    × (core' ≡ noted (Host h)
+    (record core { site = core'.site; requests = put_request core.requests h q })))
+
+-- ---- the events
+
+-- something has changed beside the devices and the events
+abbrev pub IsChanged : CoreData → CoreData → Type 0
+IsChanged core core' = record core' { site = core.site; events = core.events } ≢ core
+
+-- nothing has changed; or something has, and this event is put down last
+abbrev pub NotesChange : Type 0 → CoreData → Event → CoreData → Type 0
+NotesChange tells core event core' =
+    IsSame tells core core'
+    ⊎ (IsChanged core core' × (core'.events ≡ core.events ++ event ∷ []))
 
 -- ---- the devices
 

@@ -1,14 +1,16 @@
 //! Laws of the events of hosts. A function calls a law to have it in its proof.
 ghost use Rattle.std.specs.Prelude.{◌≡◌, ◌≤◌, ℕ, List, Some, None};
-ghost use Rattle.channel_commands.specs.Data.{CallData};
+ghost use Rattle.channel_commands.specs.Data.{CallData, done};
 ghost use Rattle.fault_queue.specs.Requests.{IsOnce};
 ghost use Rattle.core_state.specs.declared.rule.Waiting.{Waiting};
+ghost use Rattle.core_state.specs.declared.session.Event.TheVariants.{Host};
 ghost use Rattle.core_state.specs.Beginning.{IsLater};
 ghost use Rattle.core_state.specs.Chains.{Step, IsChain};
 ghost use Rattle.core_state.specs.CoreValue.{CoreData};
-ghost use Rattle.core_state.specs.HostEvents.{HostTold, waits, halts, no_memory, HostEvent, IsSame};
+ghost use Rattle.core_state.specs.HostEvents.{HostEvent, HostTold, IsSame};
+ghost use Rattle.core_state.specs.HostEvents.{replied, waits, halts, no_memory};
 ghost use Rattle.core_state.specs.IsCore.{IsCore};
-ghost use Rattle.host_events.specs.Causes.{AnswersEachCause, CauseOf};
+ghost use Rattle.host_events.specs.Causes.{AnswersEachCause, CauseOf, IsPlainReply};
 ghost use Rattle.host_events.specs.Leaves.{
   AllHalt,
   ChangesRequestAtMost,
@@ -16,6 +18,7 @@ ghost use Rattle.host_events.specs.Leaves.{
   LeavesCartridges,
   LeavesMachine,
   LeavesOthers,
+  NotesChange,
 };
 
 use mss_base::Site;
@@ -49,10 +52,18 @@ pub fn events_leave_the_rest<S: Site>()
 /// of memory changes nothing.
 pub fn waits_change_requests_alone<S: Site>()
     ensures waits { (core : CoreData) (h : ℕ) (call : CallData) (w : Waiting) (left : CoreData)
-        → HostEvent S.tells core h call (waits w) left
+        → (core.stopped ≡ None → IsCore core) → HostEvent S.tells core h call (waits w) left
         → ChangesRequestAtMost S.tells core h left }
     ensures memory { (core : CoreData) (h : ℕ) (call : CallData) (left : CoreData)
         → HostEvent S.tells core h call no_memory left → IsSame S.tells core left }
+{}
+
+/// The events of hosts that are put down are those that changed the core: an event that isn't has
+/// changed nothing; one that is has changed something beside the devices.
+pub fn events_are_those_that_change<S: Site>()
+    ensures { (core : CoreData) (h : ℕ) (call : CallData) (told : HostTold) (left : CoreData)
+        → (core.stopped ≡ None → IsCore core) → HostEvent S.tells core h call told left
+        → NotesChange S.tells core (Host h) left }
 {}
 
 /// An event of a host writes on no cartridge.
@@ -75,7 +86,8 @@ pub fn stopped_cores_stay<S: Site, C: Choose>()
 {}
 
 /// Each answer of an event of a host has its cause, and each cause its answer: the first that the
-/// call finds. In place of any but the first two, memory may be refused.
+/// call finds. In place of any but the first two, memory may be refused. A command that was carried
+/// out is replied as the plain machine replies it on what the devices held.
 pub fn answers_have_their_causes<S: Site>()
     ensures forth { (core : CoreData) (h : ℕ) (call : CallData) (told : HostTold) (left : CoreData)
         → (core.stopped ≡ None → IsCore core) → HostEvent S.tells core h call told left
@@ -83,4 +95,8 @@ pub fn answers_have_their_causes<S: Site>()
     ensures back { (core : CoreData) (h : ℕ) (call : CallData) (told : HostTold) (left : CoreData)
         → (core.stopped ≡ None → IsCore core) → HostEvent S.tells core h call told left
         → AnswersEachCause core h call told }
+    ensures plain { (core : CoreData) (h : ℕ) (call : CallData) (index status : ℕ)
+        (bytes : List ℕ) (left : CoreData) → (core.stopped ≡ None → IsCore core)
+        → HostEvent S.tells core h call (replied index (done status bytes)) left → S.tells
+        → IsPlainReply core h call (done status bytes) }
 {}
