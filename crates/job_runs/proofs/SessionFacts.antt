@@ -1,5 +1,5 @@
 -- A session of a job, from its parts.
-use Rattle.std.proofs.Common.{◌≡◌, inl, inr, ℕ, List, [], ◌∷◌, length, Option, None, Ok, refl, sym, ◌∙◌, subst}
+use Rattle.std.proofs.Common.{◌≡◌, inl, inr, ℕ, List, [], ◌∷◌, length, Option, None, Ok, refl, sym, ◌∙◌, ap, subst}
 use Rattle.mss_base.specs.Configs.{ConfigData, IsConfig}
 use Rattle.mss_base.specs.Content.{SiteLog, content}
 use Rattle.mss_base.specs.Sites.{FailingReads, OnlyReads}
@@ -24,8 +24,8 @@ use Rattle.serial_driver.specs.declared.answer.DriveAnswer.TheVariants as ended
 use Rattle.session_report.specs.Answers.{Answer}
 use Rattle.session_report.specs.Parties.{Stream, between}
 use Rattle.session_report.specs.Reports.{report_matter, opening_text}
-use Rattle.job_runs.specs.Parties.{devices, seen_site}
-use Rattle.job_runs.specs.Runs.{AreRowsOf, FollowScripts, FollowToEnd, Goes, IsBegun, IsHalted, IsPlayed, IsPromised, IsReportOf, IsSessionOf, IsTold, Ends, TellsSession}
+use Rattle.job_runs.specs.Parties.{Devices, devices, seen_site}
+use Rattle.job_runs.specs.Runs.{AreRowsOf, FollowScripts, FollowToEnd, Goes, GoesUnstopped, IsBegun, IsHalted, IsMarked, IsPlayed, IsPromised, IsReportOf, IsSessionOf, IsTold, Ends, TellsSession}
 use Rattle.job_runs.specs.declared.run.Outcome.{Outcome}
 use Rattle.job_runs.specs.declared.run.Outcome.TheVariants.{Untaken, Ran}
 use Rattle.job_runs.proofs.Reporting.{told_alike}
@@ -61,7 +61,7 @@ halted_by ended.Memory was is none halts = halts ∙ none
 module _ {S C : Type 0} (tells : Type 0) (told : S → SiteLog) (writes faults : S → ℕ) (core left : CoreValue S C) (config : ConfigData)
     (later : IsLater tells (seen told writes faults core) (seen told writes faults left))
     (told_left : tells → IsToldCore (told left.site) left)
-    (counted : IsCounted (writes left.site) (faults left.site) left.requests (data_of left))
+    (counted : IsCounted (writes left.site) (faults left.site) left.requests (data_of left)) (marked : IsMarked (data_of left))
     (was : DevicesSeen) (begun : IsBegun tells config was (seen told writes faults core)) where
   abbrev from : CoreData
   from = seen told writes faults core
@@ -76,6 +76,7 @@ module _ {S C : Type 0} (tells : Type 0) (told : S → SiteLog) (writes faults :
       began = later.beginning.first_faults ∙ begun.begins.first_faults_ ∙ begun.opened.any.kept;
       requests = left.requests;
       counted = counted;
+      marked = marked;
       plain = λ t. plain_law t (begun.over t) later (told_seen told writes faults left (told_left t));
       stops = λ t. stops_law t (begun.over t) later (told_seen told writes faults left (told_left t));
     }
@@ -127,6 +128,11 @@ module _ {S : Type 0} (tells : Type 0) (may : List Candidate → ℕ → Type 0)
   ends_of (Ran session last answer) is =
       subst (λ (x : SessionData × DriveAnswer). IsSessionOf may job turns (record { tells = tells; was = was; now = seen_site told writes faults site }) sink x.1 answer x.0) (λ i. (sym is.0 i, sym is.1 i))
       (record { mid = seen_site told writes faults mid; played = played; report = is.2 })
+
+-- one that wasn't stopped
+pub unstopped_of : (job : JobData) (was : SiteLog) (site : Devices) (sink : Stream) (end : DriveAnswer) (s : SessionData) (o : Outcome) → TellsSession job was site sink end s o → s.stopped ≡ None → GoesUnstopped o
+unstopped_of job was site sink end s (Untaken why) is none = absurd is
+unstopped_of job was site sink end s (Ran session last answer) is none = ap (λ (x : SessionData). x.stopped) is.0 ∙ none
 
 -- ---- what a restart made
 

@@ -119,6 +119,11 @@ abbrev pub FollowToEnd : List ScriptData → List EntryData → Type 0
 FollowToEnd scripts history =
     (h : ℕ) → FollowsToEnd (script_of scripts h) (exchanges_of h history)
 
+-- each entry has its mark, and there are 4,096 at most
+pub record IsMarked (s : SessionData) : Type 0 where
+  pub each : length s.marks ≡ length s.history
+  pub few : length s.history ≤ 4096
+
 -- What every session promises, from the devices that were handed in to those when it ended,
 -- however its events came.
 pub record IsPromised (config : ConfigData) (site : Devices) (s : SessionData) : Type 0 where
@@ -127,6 +132,7 @@ pub record IsPromised (config : ConfigData) (site : Devices) (s : SessionData) :
   -- marks, numbers and kept faults, with the requests that were left
   pub requests : RequestsData
   pub counted : IsCounted site.now.writes site.now.faults requests s
+  pub marked : IsMarked s
   pub plain : site.tells → IsPlainSession config site.was.told site.now.told s
   pub stops : site.tells → StopsAnywhere config site.was.told site.now.told s
 
@@ -139,6 +145,11 @@ pub record IsPlayed (may : List Candidate → ℕ → Type 0) (job : JobData) (t
   pub reach : end ≡ ended.Done → FollowToEnd job.hosts s.history
   pub full : end ≡ ended.CommandLimit → IsFull job.hosts s.history
   pub halts : IsHalted end s.stopped
+
+-- the session, if one was run, wasn't stopped
+abbrev pub GoesUnstopped : Outcome → Type 0
+GoesUnstopped (Untaken why) = Unit {0}
+GoesUnstopped (Ran session end told) = (session_data session).stopped ≡ None
 
 -- the rows of a session's volumes; while it isn't stopped, just those that its devices show
 pub record AreRowsOf (tells : Type 0) (log : SiteLog) (stop : Option ℕ)

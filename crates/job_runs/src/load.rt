@@ -1,5 +1,6 @@
 // A load, run on a site, with its summary.
-ghost use Rattle.std.specs.Prelude.{Ok};
+ghost use Rattle.std.specs.Prelude.{Bool, Ok};
+ghost use Rattle.mss_base.specs.declared.place.UnitNo.{UnitNo};
 ghost use Rattle.core_state.specs.Sessions.{session_data};
 ghost use Rattle.mss_restart.specs.Creations.{WritesOn};
 ghost use Rattle.serial_driver.specs.Drives.{AreTurns};
@@ -8,7 +9,7 @@ ghost use Rattle.session_report.specs.Parties.{between};
 ghost use Rattle.session_report.specs.Reports.{ending_of};
 ghost use Rattle.session_report.specs.Summaries.{summary_text};
 ghost use Rattle.job_runs.specs.Parties.{devices};
-ghost use Rattle.job_runs.specs.Runs.{IsHalted, IsSummed, LoadEnds};
+ghost use Rattle.job_runs.specs.Runs.{GoesUnstopped, IsHalted, IsSummed, LoadEnds};
 
 use crate::run::{JobEnd, Outcome, Played, play};
 use crate::telling::last_of;
@@ -69,6 +70,8 @@ pub fn run_load<S: Site, C: Choose + Drop, O: Sink>(
         (devices S.tells S.told S.writes S.faults site result.site)
         (between O.tells O.told O.faults output.old output.new) result.outcome }
     ensures devices { WritesOn S.writes S.faults S.never_fails_but site result.site }
+    ensures only_reads_fail { (but : UnitNo → Bool) → S.never_fails_but site but
+        → GoesUnstopped result.outcome }
 {
     match play(alloc, job, turns, site, chooser) {
         Ok(played) => {

@@ -1,7 +1,8 @@
 // A job, run on a site.
-ghost use Rattle.std.specs.Prelude.{◌≡◌, Err, IfErr, IfOk, None, length};
+ghost use Rattle.std.specs.Prelude.{◌≡◌, Bool, Err, IfErr, IfOk, None, length};
 ghost use Rattle.mss_base.specs.Content.{SiteLog};
 ghost use Rattle.mss_base.specs.Sites.{OnlyReads};
+ghost use Rattle.mss_base.specs.declared.place.UnitNo.{UnitNo};
 ghost use Rattle.core_state.specs.Counted.{IsCounted};
 ghost use Rattle.core_state.specs.CoreValue.{DevicesSeen, seen};
 ghost use Rattle.core_state.specs.IsCore.{IsTold};
@@ -19,7 +20,9 @@ ghost use Rattle.job_runs.specs.Runs.{
   FollowToEnd,
   Goes,
   IsBegun,
+  GoesUnstopped,
   IsHalted,
+  IsMarked,
   IsPlayed,
   Opens,
   TellsSession,
@@ -98,6 +101,7 @@ pub fn look<S: Site, C: Choose>(core: &Core<S, C>)
     ensures told { S.tells → IsTold (S.told core.now.site) core.now }
     ensures counted { IsCounted (S.writes core.now.site) (S.faults core.now.site)
         core.now.requests (data_of core.now) }
+    ensures marked { IsMarked (data_of core.now) }
     ensures rows { length core.now.rows ≡ 32 }
 {
     let _site = &core.site;
@@ -116,6 +120,8 @@ fn play_on<S: Site, C: Choose + Drop>(core: Core<S, C>, job: &Job, turns: &[u32]
     ensures rows { AreRowsOf S.tells (S.told result.site) result.session.stopped
         result.rows.items }
     ensures devices { WritesOn S.writes S.faults S.never_fails_but core.site result.site }
+    ensures only_reads_fail { (but : UnitNo → Bool) → S.never_fails_but core.site but
+        → result.session.stopped ≡ None }
 {
     sessions_are_plain::<S>();
     let (core, end) = run_scripts(core, job, turns);
@@ -151,6 +157,8 @@ pub fn play<S: Site, C: Choose + Drop>(
         AreRowsOf S.tells (S.told p.site) p.session.stopped p.rows.items) }
     ensures devices { IfOk result (λ p.
         WritesOn S.writes S.faults S.never_fails_but site p.site) }
+    ensures only_reads_fail { IfOk result (λ p. (but : UnitNo → Bool)
+        → S.never_fails_but site but → p.session.stopped ≡ None) }
     ensures untaken { IfErr result (λ back. Opens job.now.config
         (devices S.tells S.told S.writes S.faults site back.0) (Err back.1)) }
     ensures back { IfErr result (λ back.
@@ -216,6 +224,8 @@ pub fn run_job<S: Site, C: Choose + Drop, O: Sink>(
         (devices S.tells S.told S.writes S.faults site result.site)
         (between O.tells O.told O.faults output.old output.new) result.outcome }
     ensures devices { WritesOn S.writes S.faults S.never_fails_but site result.site }
+    ensures only_reads_fail { (but : UnitNo → Bool) → S.never_fails_but site but
+        → GoesUnstopped result.outcome }
 {
     match play(alloc, job, turns, site, chooser) {
         Ok(played) => put_report(alloc, job, played, output),

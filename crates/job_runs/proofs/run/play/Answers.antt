@@ -27,6 +27,7 @@ returns-in-Ok g c =
           (played.ensures.session (seen_site told writes faults c.args.site) begun);
       rows = played.ensures.rows;
       devices = written_on writes faults g.S.Site.never_fails_but c.args.site core.site played.result.site is.devices played.ensures.devices;
+      only_reads_fail = λ but none. played.ensures.only_reads_fail but (is.devices.sound but none);
       untaken = tt;
       back = tt;
     }

@@ -1,4 +1,4 @@
-use Rattle.std.proofs.Common.{◌≡◌, List, Option, sym, subst}
+use Rattle.std.proofs.Common.{◌≡◌, List, Option, sym, ◌∙◌, ap, subst}
 use Rattle.volume_table.specs.Row.{RowValue}
 use Rattle.core_state.specs.CoreValue.{CoreValue, seen}
 use Rattle.core_state.specs.SessionData.{SessionData, data_of}
@@ -25,12 +25,13 @@ returns g c =
           (record { written = ran.ensures.leaves.written; later = ran.ensures.leaves.later; sound = ran.ensures.leaves.sound });
       rows = subst (λ (x : g.row.S.Denot × SessionData × List (Option RowValue)). AreRowsOf tells (told x.0) x.1.stopped x.2) (λ i. (site i, session i, sym ended.ensures.rows i))
           (rows_of_core tells told left c.look.ensures.rows c.look.ensures.told);
+      only_reads_fail = λ but none. ap (λ (x : SessionData). x.stopped) (sym session) ∙ ran.ensures.leaves.only_reads_fail but none c.requires.going;
       session = λ was begun.
           let law = c.sessions_are_plain.ensures in
           subst (λ (x : g.row.S.Denot × SessionData). IsPlayed (g.C.Choose.may c.args.core.chooser) c.args.job.now c.args.turns.now (record { tells = tells; was = was; now = seen_site told writes faults x.0 }) ran.result.1 x.1) (λ i. (site i, session i))
           (played_of tells (g.C.Choose.may c.args.core.chooser) told writes faults g.S.Site.never_fails_but c.args.job.now c.args.turns.now c.args.core left ran.result.1
           ran.ensures.goes ran.ensures.follow ran.ensures.reach ran.ensures.leaves was begun
-          (promised_of tells told writes faults c.args.core left c.args.job.now.config ran.ensures.leaves.session c.look.ensures.told c.look.ensures.counted was begun
+          (promised_of tells told writes faults c.args.core left c.args.job.now.config ran.ensures.leaves.session c.look.ensures.told c.look.ensures.counted c.look.ensures.marked was begun
           (λ t over later kept. law.plain c.args.job.now.config was (seen told writes faults c.args.core) (seen told writes faults left) t over later kept)
           (λ t over later kept. law.stops c.args.job.now.config was (seen told writes faults c.args.core) (seen told writes faults left) t over later kept)));
     }
