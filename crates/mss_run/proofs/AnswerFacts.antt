@@ -13,10 +13,9 @@ use Rattle.core_state.specs.CoreValue.{CoreData}
 use Rattle.core_state.specs.HostEvents.{halts}
 use Rattle.core_state.specs.IsCore.{opening_of}
 use Rattle.core_state.proofs.Later.{later_none, later_then}
-use Rattle.mss_run.specs.Answers.{Grows, IsFull}
+use Rattle.mss_run.specs.Answers.{Grows, IsFull, Stops}
 use Rattle.mss_run.specs.Beginning.{Failing, SetupData, OpensWith}
 use Rattle.mss_run.specs.Happens.{Enters, Happens}
-use Rattle.mss_run.specs.Held.{IsHeld}
 use Rattle.mss_run.proofs.EventFacts.{same_opening}
 
 -- ---- passes
@@ -30,7 +29,7 @@ past_end [] e is = absurd cc
 past_end (x ∷ xs) e is = past_end xs e is
 
 -- the entry at the old length is the one that was entered
-entered_is : (host : ℕ) (call : CallData) (reply : ReplyData) (index : ℕ) (old new : List EntryData) (before : ℕ) (e : EntryData) → (n : Enters host call reply index old new)
+pub entered_is : (host : ℕ) (call : CallData) (reply : ReplyData) (index : ℕ) (old new : List EntryData) (before : ℕ) (e : EntryData) → (n : Enters host call reply index old new)
     → before ≡ length old → slice_get new before ≡ Some e → e ≡ n.entry
 entered_is host call reply index old new before e n at got =
     let there : slice_get new before ≡ Some n.entry = (λ i. slice_get (n.history i) (at i)) ∙ last_there old n.entry in
@@ -39,7 +38,7 @@ entered_is host call reply index old new before e n at got =
 
 module _ (call : CallData) (p q : PassData) (old new : List EntryData) (before : ℕ) (e : EntryData) (at : before ≡ length old) (got : slice_get new before ≡ Some e) (pre : IsPrefix p.seen old)
     (is : q ≡ record { host = p.host; seen = old ++ e ∷ []; mine = p.mine ++ e ∷ [] }) where
-  pub grows : (reply : ReplyData) (index : ℕ) → Enters p.host call reply index old new → Grows call reply index p q
+  abbrev pub grows : (reply : ReplyData) (index : ℕ) → Enters p.host call reply index old new → Grows call reply index p q
   grows reply index n =
       let same = entered_is p.host call reply index old new before e n at got in
       record {
@@ -54,9 +53,13 @@ module _ (call : CallData) (p q : PassData) (old new : List EntryData) (before :
       }
 
   -- where a stop was entered
-  pub stop_grows : (fault : ℕ) → Happens p.host call (halts fault) old new → (index : ℕ) × Grows call stopped index p q
+  pub stop_grows : (fault : ℕ) → Happens p.host call (halts fault) old new → Stops call fault p q
   stop_grows fault (inl same) = absurd (past_end old e (sym (λ i. slice_get (same i) (at i)) ∙ got))
-  stop_grows fault (inr n) = (length old, grows stopped (length old) n)
+  stop_grows fault (inr n) = record {
+    index = length old;
+    grows = grows stopped (length old) n.enters;
+    fault_ = ap (λ (x : EntryData). x.fault) (entered_is p.host call stopped (length old) old new before e n.enters at got) ∙ n.fault_;
+  }
 
 pub is_full : (p q : PassData) (log : List EntryData) → length log ≡ 4096 → IsPrefix p.seen log → q ≡ record { host = p.host; seen = log; mine = p.mine } → IsFull p q
 is_full p q log long pre is = record {

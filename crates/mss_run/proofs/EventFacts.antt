@@ -1,5 +1,5 @@
 -- What an event leaves of a session, from its laws.
-use Rattle.std.proofs.Common.{◌≡◌, ◌⊎◌, inl, inr, ℕ, ◌≤◌, Bool, true, false, List, [], ◌∷◌, ◌++◌, length, take, Option, Some, None, refl, sym, ◌∙◌, ap, subst, arith}
+use Rattle.std.proofs.Common.{◌≡◌, ◌⊎◌, inl, inr, ℕ, ◌≤◌, Bool, true, false, length, Option, Some, refl, ◌∙◌, ap, arith}
 use Rattle.std.specs.Prelude.{is_some}
 use Rattle.channel_commands.specs.Data.{CallData, ReplyData, stopped}
 use Rattle.ckd_plain.specs.History.{IsStopped}
@@ -13,12 +13,12 @@ use Rattle.core_state.specs.StopRule.{opening}
 use Rattle.core_state.proofs.EntryLemmas.{opening_same}
 use Rattle.host_events.specs.Leaves.{KeepsHistory, AddsEntry, EntersAsTold}
 use Rattle.host_events.specs.Causes.{CauseOf, CauseOfReply}
-use Rattle.mss_run.specs.Happens.{Enters, Happens}
+use Rattle.mss_run.specs.Happens.{Enters, EntersStop, Happens}
 
 -- ---- the history
 
 module _ (core : CoreData) (h : ℕ) (call : CallData) (core' : CoreData) where
-  entered : (reply : ReplyData) (fault : Option ℕ) (index : ℕ) → index ≡ length core.history → AddsEntry core h call reply fault core' → Enters h call reply index core.history core'.history
+  abbrev entered : (reply : ReplyData) (fault : Option ℕ) (index : ℕ) → index ≡ length core.history → AddsEntry core h call reply fault core' → Enters h call reply index core.history core'.history
   entered reply fault index at adds =
       record { entry = entry_of core.history h call reply fault; host_ = refl; call_ = refl; reply_ = refl; index_ = at; history = adds.history }
 
@@ -27,9 +27,9 @@ module _ (core : CoreData) (h : ℕ) (call : CallData) (core' : CoreData) where
   no_stop _ cause is = is
 
   stopped_by : (b : Bool) (fault : ℕ) → OneOf b (KeepsHistory core core') (AddsEntry core h call stopped (Some fault) core')
-      → (core'.history ≡ core.history) ⊎ Enters h call stopped (length core.history) core.history core'.history
+      → (core'.history ≡ core.history) ⊎ EntersStop h call fault core.history core'.history
   stopped_by true fault keeps = inl keeps.history
-  stopped_by false fault adds = inr (entered stopped (Some fault) (length core.history) refl adds)
+  stopped_by false fault adds = inr (record { enters = entered stopped (Some fault) (length core.history) refl adds; fault_ = refl })
 
   pub happens : (told : HostTold) → length core.history ≤ 4096 → EntersAsTold core h call told core' → CauseOf core h call told core' → Happens h call told core.history core'.history
   happens (replied index reply) few enters cause = (entered reply enters.1 index enters.0 enters.2, no_stop reply cause)

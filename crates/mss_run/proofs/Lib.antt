@@ -1,4 +1,5 @@
 pub mod EventFacts
 pub mod AnswerFacts
 pub mod OwnPlaces
+pub mod Asking
 pub mod RunFacts

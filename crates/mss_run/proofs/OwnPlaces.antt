@@ -1,5 +1,5 @@
 -- The places of what a host was told, in a list that grows.
-use Rattle.std.proofs.Common.{◌≡◌, inl, inr, ℕ, suc, ◌+◌, ◌≤◌, append_assoc, Some, ◌&&◌, not, Bool, true, false, cond, List, [], ◌∷◌, ◌++◌, length, map, eqb, eq-eqb, refl, ap, sym, ◌∙◌, subst, arith, length-append, filter}
+use Rattle.std.proofs.Common.{◌≡◌, ◌⊎◌, inl, inr, ℕ, suc, ◌+◌, ◌≤◌, append_assoc, Some, ◌&&◌, not, Bool, true, false, cond, List, [], ◌∷◌, ◌++◌, length, map, eqb, eq-eqb, refl, ap, sym, ◌∙◌, subst, arith, length-append, filter}
 use Rattle.std.specs.Prelude.{slice_get}
 use Rattle.std.proofs.lemmas.List.{append-nil, map-append}
 use Rattle.std.proofs.lemmas.List.Elements.{filter-append}
@@ -9,7 +9,7 @@ use Rattle.ckd_plain.specs.History.{EntryData, IsStopped}
 use Rattle.seen_book.specs.Entries.{entries_of}
 use Rattle.seen_book.specs.Books.{PassData, Begins}
 use Rattle.mss_run.specs.Answers.{Grows, IsFull}
-use Rattle.mss_run.specs.Owns.{is_stop, is_heard, heard_by, places_from, places_of, exchange, exchanges_of, exchanges_by, IsLeft, Rise}
+use Rattle.mss_run.specs.Owns.{is_stop, is_heard, heard_by, places_from, places_of, exchange, exchanges_of, exchanges_by, asked_by, IsLeft, Rise}
 
 abbrev is_reply : EntryData → Bool
 is_reply e = not (is_stop e.reply)
@@ -125,7 +125,16 @@ module _ (call : CallData) (reply : ReplyData) (index : ℕ) (p q : PassData) (g
   pub exchanges_stop : is_stop reply ≡ true → exchanges_by q ≡ exchanges_by p
   exchanges_stop stop = (λ i. exchanges_of (g.host_.1 i) (g.seen_ i)) ∙ ap (map exchange) (by_heard false (heard_where true stop) ∙ append-nil (heard_by p.host p.seen))
 
+-- what it asked, answered or not
+pub asked_grow : (call : CallData) (reply : ReplyData) (index : ℕ) (p q : PassData) → Grows call reply index p q → asked_by q ≡ asked_by p ++ (call, reply) ∷ []
+asked_grow call reply index p q g = ap (map exchange) g.mine_ ∙ map-append exchange p.mine (g.entry ∷ []) ∙ (λ i. asked_by p ++ (g.call_ i, g.reply_ i) ∷ [])
+
 -- ---- a call that was left unanswered
+
+pub asked_left : (call : CallData) (p q : PassData) → IsLeft call p q → (asked_by q ≡ asked_by p) ⊎ (asked_by q ≡ asked_by p ++ (call, stopped) ∷ [])
+asked_left call p q (inl same) = inl (ap asked_by same)
+asked_left call p q (inr (inl (fault, s))) = inr (asked_grow call stopped s.index p q s.grows)
+asked_left call p q (inr (inr f)) = inl (ap (map exchange) f.mine_)
 
 full_same : (p q : PassData) → IsFull p q → entries_of p.host p.seen ≡ p.mine → entries_of q.host q.seen ≡ q.mine → entries_of p.host q.seen ≡ entries_of p.host p.seen
 full_same p q f own own' = ap (λ (h : ℕ). entries_of h q.seen) (sym f.host_) ∙ (own' ∙ (f.mine_ ∙ sym own))
@@ -133,17 +142,17 @@ full_same p q f own own' = ap (λ (h : ℕ). entries_of h q.seen) (sym f.host_) 
 module _ (call : CallData) (p q : PassData) (own : entries_of p.host p.seen ≡ p.mine) (own' : entries_of q.host q.seen ≡ q.mine) where
   pub host_left : IsLeft call p q → q.host ≡ p.host
   host_left (inl same) = ap (λ (x : PassData). x.host) same
-  host_left (inr (inl (index, g))) = g.host_.1
+  host_left (inr (inl (fault, s))) = s.grows.host_.1
   host_left (inr (inr f)) = f.host_
 
   pub places_left : IsLeft call p q → places_of q.host q.seen ≡ places_of p.host p.seen
   places_left (inl same) = ap (λ (x : PassData). places_of x.host x.seen) same
-  places_left (inr (inl (index, g))) = places_stop call stopped index p q g own own' refl
+  places_left (inr (inl (fault, s))) = places_stop call stopped s.index p q s.grows own own' refl
   places_left (inr (inr f)) = ap (λ (h : ℕ). places_of h q.seen) f.host_ ∙ places_same p.host p.seen q.seen f.seen_ (full_same p q f own own')
 
   pub exchanges_left : IsLeft call p q → exchanges_by q ≡ exchanges_by p
   exchanges_left (inl same) = ap exchanges_by same
-  exchanges_left (inr (inl (index, g))) = exchanges_stop call stopped index p q g own own' refl
+  exchanges_left (inr (inl (fault, s))) = exchanges_stop call stopped s.index p q s.grows own own' refl
   exchanges_left (inr (inr f)) = ap (λ (h : ℕ). exchanges_of h q.seen) f.host_ ∙ ap (map exchange) (heard_same p.host p.seen q.seen (full_same p q f own own'))
 
 -- at the end the places are those in the whole history, and so is what was told

@@ -1,19 +1,20 @@
 -- Hosts of a job, from their passes to their ends.
-use Rattle.std.proofs.Common.{◌≡◌, ◌<◌, ◌+◌, ℕ, zero, suc, false, List, [], ◌∷◌, ◌++◌, length, map, take, drop, get_or, nat_eq, eq-eqb, refl, sym, ◌∙◌, ap, subst, arith, append_assoc, All, Contains}
+use Rattle.std.proofs.Common.{◌≡◌, inl, ◌<◌, ◌+◌, ℕ, zero, suc, false, List, [], ◌∷◌, ◌++◌, length, map, take, drop, get_or, nat_eq, eq-eqb, refl, sym, ◌∙◌, ap, subst, arith, append_assoc, All, Contains}
 use Rattle.std.specs.List.{AllByRecursion, IsDistinct}
 use Rattle.std.proofs.lemmas.Bool.{false≢true}
 use Rattle.std.proofs.Math.Seq.{take-suc}
 use Rattle.std.proofs.lemmas.List.{map-append, take-append-drop}
 use Rattle.std.proofs.lemmas.List.Elements.{All-head, All-tail}
 use Rattle.std.proofs.lemmas.Map.Keys.{IsDistinct-head, IsDistinct-tail}
-use Rattle.channel_program.specs.Script.{Exchange}
+use Rattle.channel_program.specs.Script.{ItemData, mounting, demounting, program, Exchange, Follows, at_start}
 use Rattle.channel_program.specs.Items.{AreRunnable, EndsScript}
 use Rattle.channel_program.proofs.ItemFacts.{all_at}
 use Rattle.ckd_plain.specs.History.{EntryData}
 use Rattle.job_text.specs.Jobs.{ScriptData, AreRunnableScripts}
 use Rattle.seen_book.specs.Books.{PassData, Begins}
-use Rattle.mss_run.specs.Owns.{places_of, exchanges_of}
-use Rattle.mss_run.specs.Runs.{EndData, IsEndIn, AreEndsIn, IsRun, AreRuns, IsStart, AreStarts, hosts_of}
+use Rattle.seen_book.specs.Entries.{entries_of}
+use Rattle.mss_run.specs.Owns.{places_of, exchange, exchanges_of, asked_of, asked_by}
+use Rattle.mss_run.specs.Runs.{EndData, IsEndIn, AreEndsIn, AskByScript, IsRun, AreRuns, IsStart, AreStarts, hosts_of}
 use Rattle.mss_run.proofs.OwnPlaces.{places_whole, exchanges_whole}
 
 -- ---- starts, the last one apart
@@ -77,6 +78,32 @@ ends_whole log (s ∷ ss) [] es runs begins = absurd runs
 ends_whole log (s ∷ ss) (p ∷ ps) [] runs begins = absurd runs
 ends_whole log (s ∷ ss) (p ∷ ps) (e ∷ es) runs begins =
     (end_whole log s p e runs.0 (All-head (Begins log) p ps begins), ends_whole log ss ps es runs.1 (All-tail (Begins log) p ps begins))
+
+-- what a host asked in the whole history follows its script
+ask_whole : (log : List EntryData) (s : ScriptData) (p : PassData) (e : EndData) → IsRun s p e → Begins log p → Follows s.items (asked_of s.host log)
+ask_whole log s p e run begins =
+    let asked : asked_of s.host log ≡ asked_by p = ap (map exchange) (subst (λ (h : ℕ). entries_of h log ≡ p.mine) run.host_ begins.1) in
+    subst (λ (xs : List Exchange). Follows s.items xs) (sym asked) run.asks
+
+pub asks_whole : (log : List EntryData) (ss : List ScriptData) (ps : List PassData) (es : List EndData) → AreRuns ss ps es → All (Begins log) ps → AskByScript log ss
+asks_whole log [] [] [] runs begins = tt
+asks_whole log [] [] (e ∷ es) runs begins = absurd runs
+asks_whole log [] (p ∷ ps) es runs begins = absurd runs
+asks_whole log (s ∷ ss) [] es runs begins = absurd runs
+asks_whole log (s ∷ ss) (p ∷ ps) [] runs begins = absurd runs
+asks_whole log (s ∷ ss) (p ∷ ps) (e ∷ es) runs begins =
+    (ask_whole log s p e runs.0 (All-head (Begins log) p ps begins), asks_whole log ss ps es runs.1 (All-tail (Begins log) p ps begins))
+
+-- no call is the beginning of every script
+follows_none : (items : List ItemData) → Follows items []
+follows_none [] = refl
+follows_none (mounting volume bind ∷ more) = inl refl
+follows_none (demounting ∷ more) = inl refl
+follows_none (program words ∷ more) = inl (at_start, refl, refl)
+
+pub asks_nothing : (log : List EntryData) (ss : List ScriptData) → log ≡ [] → AskByScript log ss
+asks_nothing log [] none = tt
+asks_nothing log (s ∷ ss) none = (subst (λ (l : List EntryData). Follows s.items (asked_of s.host l)) (sym none) (follows_none s.items), asks_nothing log ss none)
 
 -- ---- the hosts of a job differ
 

@@ -19,6 +19,12 @@ pub record Grows (call : CallData) (reply : ReplyData) (index : ℕ) (p q : Pass
   pub index_ : index ≡ length (p.seen ++ between)
   pub mine_ : q.mine ≡ p.mine ++ entry ∷ []
 
+-- the call stopped the core: its entry, the last that the pass has seen, keeps the fault
+pub record Stops (call : CallData) (fault : ℕ) (p q : PassData) : Type 0 where
+  pub index : ℕ
+  pub grows : Grows call stopped index p q
+  pub fault_ : grows.entry.fault ≡ Some fault
+
 -- the pass has seen a history of 4,096 entries
 pub record IsFull (p q : PassData) : Type 0 where
   pub host_ : q.host ≡ p.host
@@ -26,11 +32,11 @@ pub record IsFull (p q : PassData) : Type 0 where
   pub seen_ : IsPrefix p.seen q.seen
   pub length_ : length q.seen ≡ 4096
 
--- a reply is an entry that the pass has seen; a stop may be one; at the limit it has seen all; else
--- it is as it was
+-- a reply is an entry that the pass has seen; a stop may be one, with the fault that is told; at the
+-- limit it has seen all; else it is as it was
 abbrev pub Answered : CallData → PassData → HostTold → PassData → Type 0
 Answered call p (replied index reply) q = Grows call reply index p q × (IsStopped reply → ⊥)
-Answered call p (halts fault) q = (q ≡ p) ⊎ ((index : ℕ) × Grows call stopped index p q)
+Answered call p (halts fault) q = (q ≡ p) ⊎ Stops call fault p q
 Answered call p at_limit q = IsFull p q
 Answered call p marked q = q ≡ p
 Answered call p (waits why) q = q ≡ p

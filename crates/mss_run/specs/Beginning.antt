@@ -1,5 +1,5 @@
 -- What a session began with, and that each later moment is one of that session.
-use Rattle.std.specs.Prelude.{◌≡◌, ℕ, Bool, [], None}
+use Rattle.std.specs.Prelude.{◌≡◌, Bool, [], None}
 use Rattle.mss_base.specs.declared.place.UnitNo.{UnitNo}
 use Rattle.accessors.specs.Rails.{rail_start}
 use Rattle.seen_book.specs.Openings.{OpeningData}

@@ -1,5 +1,5 @@
 -- What an event of a host adds to the history.
-use Rattle.std.specs.Prelude.{◌≡◌, ◌⊎◌, ℕ, List, [], ◌∷◌, ◌++◌, length}
+use Rattle.std.specs.Prelude.{◌≡◌, ◌⊎◌, ℕ, List, [], ◌∷◌, ◌++◌, length, Some}
 use Rattle.channel_commands.specs.Data.{CallData, ReplyData, stopped}
 use Rattle.ckd_plain.specs.History.{EntryData, IsStopped}
 use Rattle.core_state.specs.HostEvents.{HostTold, replied, marked, waits, halts, at_limit, no_memory}
@@ -14,12 +14,18 @@ pub record Enters (host : ℕ) (call : CallData) (reply : ReplyData) (index : �
   pub index_ : index ≡ length old
   pub history : new ≡ old ++ entry ∷ []
 
+-- a stop was added, with this fault
+pub record EntersStop (host : ℕ) (call : CallData) (fault : ℕ) (old new : List EntryData) : Type 0
+  where
+    pub enters : Enters host call stopped (length old) old new
+    pub fault_ : enters.entry.fault ≡ Some fault
+
 -- a reply is the last entry; a stop may be one; at the limit there are 4,096; else nothing was added
 abbrev pub Happens : ℕ → CallData → HostTold → List EntryData → List EntryData → Type 0
 Happens host call (replied index reply) old new =
     Enters host call reply index old new × (IsStopped reply → ⊥)
 Happens host call (halts fault) old new =
-    (new ≡ old) ⊎ Enters host call stopped (length old) old new
+    (new ≡ old) ⊎ EntersStop host call fault old new
 Happens host call at_limit old new = (new ≡ old) × (length old ≡ 4096)
 Happens host call marked old new = new ≡ old
 Happens host call (waits why) old new = new ≡ old

@@ -3,13 +3,15 @@ use Rattle.std.specs.Prelude.{◌≡◌, ◌⊎◌, ◌<◌, ◌≤◌, ℕ, ◌
 use Rattle.channel_commands.specs.Data.{CallData, ReplyData, stopped}
 use Rattle.channel_commands.specs.Views.{reply_of}
 use Rattle.channel_commands.specs.declared.call.Reply.{Reply}
-use Rattle.channel_program.specs.Script.{Exchange}
+use Rattle.channel_program.specs.Items.{GivesSince}
+use Rattle.channel_program.specs.Script.{Exchange, ItemData}
 use Rattle.ckd_plain.specs.History.{EntryData, IsStopped}
 use Rattle.seen_book.specs.Books.{PassData}
+use Rattle.seen_book.specs.Entries.{entries_of}
 use Rattle.mss_run.specs.declared.host.Told.{Told}
 use Rattle.mss_run.specs.declared.host.Attempt.{Attempt}
 use Rattle.mss_run.specs.declared.host.Attempt.TheVariants as attempt
-use Rattle.mss_run.specs.Answers.{Grows, IsFull}
+use Rattle.mss_run.specs.Answers.{Grows, IsFull, Stops}
 
 -- ---- what a host was told
 
@@ -45,6 +47,14 @@ exchanges_of h log = map exchange (heard_by h log)
 abbrev pub exchanges_by : PassData → List Exchange
 exchanges_by p = exchanges_of p.host p.seen
 
+-- what a host asked, in order, and what came of it: its entries, one that stopped the core included
+abbrev pub asked_of : ℕ → List EntryData → List Exchange
+asked_of h log = map exchange (entries_of h log)
+
+-- as far as the host's pass has its own entries
+abbrev pub asked_by : PassData → List Exchange
+asked_by p = map exchange p.mine
+
 -- numbers that rise, from one on and below another
 abbrev pub Rise : ℕ → ℕ → List ℕ → Type 0
 Rise from below [] = Unit {0}
@@ -55,7 +65,7 @@ Rise from below (k ∷ ks) = (from ≤ k) × (k < below) × Rise (k + 1) below k
 -- it was left unanswered: its pass is as it was, or has seen that it stopped the core, or 4,096
 -- entries
 abbrev pub IsLeft : CallData → PassData → PassData → Type 0
-IsLeft call p q = (q ≡ p) ⊎ (((index : ℕ) × Grows call stopped index p q) ⊎ IsFull p q)
+IsLeft call p q = (q ≡ p) ⊎ (((fault : ℕ) × Stops call fault p q) ⊎ IsFull p q)
 
 abbrev pub IsReplied : CallData → PassData → Told → PassData → Type 0
 IsReplied call p t q =
@@ -72,8 +82,25 @@ abbrev pub Called : CallData → PassData → Option Told → PassData → Type 
 Called call p (Some t) q = IsReplied call p t q
 Called call p None q = IsLeft call p q
 
--- its host was told of one more exchange, or of none
+-- its host was told of one more exchange
+pub record IsAnswered (call : CallData) (reply : ReplyData) (p q : PassData) : Type 0 where
+  pub host_ : q.host ≡ p.host
+  pub told : exchanges_by q ≡ exchanges_by p ++ (call, reply) ∷ []
+  pub asked : asked_by q ≡ asked_by p ++ (call, reply) ∷ []
+
+-- it was told of none; the call stopped the core, or added nothing
+pub record IsUnanswered (call : CallData) (p q : PassData) : Type 0 where
+  pub host_ : q.host ≡ p.host
+  pub told : exchanges_by q ≡ exchanges_by p
+  pub asked : (asked_by q ≡ asked_by p) ⊎ (asked_by q ≡ asked_by p ++ (call, stopped) ∷ [])
+
 abbrev pub Makes : CallData → PassData → Option Reply → PassData → Type 0
-Makes call p (Some reply) q =
-    (q.host ≡ p.host) × (exchanges_by q ≡ exchanges_by p ++ (call, reply_of reply) ∷ [])
-Makes call p None q = (q.host ≡ p.host) × (exchanges_by q ≡ exchanges_by p)
+Makes call p (Some reply) q = IsAnswered call (reply_of reply) p q
+Makes call p None q = IsUnanswered call p q
+
+-- ---- what comes of an item
+
+-- what the host asked since then is of the item: all of it, where the host was told of all
+abbrev pub AsksSince : ItemData → PassData → PassData → Bool → Type 0
+AsksSince item p q true = GivesSince item (asked_by p) (asked_by q) true
+AsksSince item p q false = (whole : Bool) × GivesSince item (asked_by p) (asked_by q) whole

@@ -1,14 +1,15 @@
 -- How hosts ended, and what ended a run.
 use Rattle.std.specs.Prelude.{◌≡◌, ◌⊎◌, ℕ, ◌==◌, Bool, ◌&&◌, List, [], ◌∷◌, length, map, Option, Some, None, if◌then◌else◌}
-use Rattle.std.specs.List.{list_all}
+use Rattle.std.specs.List.{AllByRecursion, list_all}
 use Rattle.ckd_plain.specs.History.{EntryData}
 use Rattle.channel_program.specs.Items.{AreRunnable, EndsScript}
+use Rattle.channel_program.specs.Script.{Follows}
 use Rattle.job_text.specs.Jobs.{ScriptData}
 use Rattle.seen_book.specs.Entries.{entries_of}
 use Rattle.seen_book.specs.Books.{PassData}
 use Rattle.mss_run.specs.declared.ends.RunAnswer.{RunAnswer}
 use Rattle.mss_run.specs.declared.ends.RunAnswer.TheVariants as answer
-use Rattle.mss_run.specs.Owns.{places_of, exchanges_of}
+use Rattle.mss_run.specs.Owns.{places_of, exchanges_of, asked_of, asked_by}
 
 -- ---- how hosts ended
 
@@ -31,9 +32,13 @@ AreEndsIn log [] [] = Unit {0}
 AreEndsIn log (s ∷ ss) (e ∷ es) = IsEndIn log s e × AreEndsIn log ss es
 AreEndsIn log _ _ = ⊥
 
--- a run leaves the ends of all hosts, or for want of memory of none
+-- a run leaves the ends of all hosts; or of none, for want of memory before any made a call
 abbrev pub Leaves : List EntryData → List ScriptData → List EndData → Type 0
-Leaves log scripts ends = AreEndsIn log scripts ends ⊎ (ends ≡ [])
+Leaves log scripts ends = AreEndsIn log scripts ends ⊎ ((ends ≡ []) × (log ≡ []))
+
+-- what each host asked follows its script, also the call that stopped the core
+abbrev pub AskByScript : List EntryData → List ScriptData → Type 0
+AskByScript log scripts = AllByRecursion (λ s. Follows s.items (asked_of s.host log)) scripts
 
 abbrev pub hosts_of : List ScriptData → List ℕ
 hosts_of scripts = map (λ (s : ScriptData). s.host) scripts
@@ -45,6 +50,7 @@ pub record IsRun (script : ScriptData) (p : PassData) (e : EndData) : Type 0 whe
   pub host_ : p.host ≡ script.host
   pub own : entries_of p.host p.seen ≡ p.mine
   pub ended : IsEndIn p.seen script e
+  pub asks : Follows script.items (asked_by p)
 
 abbrev pub AreRuns : List ScriptData → List PassData → List EndData → Type 0
 AreRuns [] [] [] = Unit {0}

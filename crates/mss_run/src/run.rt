@@ -14,6 +14,7 @@ ghost use Rattle.mss_run.specs.Beginning.{OpensWith};
 ghost use Rattle.mss_run.specs.Runs.{
   AreRuns,
   AreStarts,
+  AskByScript,
   IsRun,
   IsStart,
   Leaves,
@@ -250,10 +251,12 @@ fn answer_of<S: Site, C: Choose>(core: &Core<S, C>, hosts: usize, ends: &[HostEn
     RunAnswer::Memory
 }
 
-/// The core as it is, without the end of any host.
+/// The core as it is, in which no call was made, without the end of any host.
 fn without_ends<S: Site, C: Choose>(alloc: Global, core: Core<S, C>, hosts: usize) -> RunEnd<S, C>
+    requires empty { core.history ≡ [] }
     ensures core { result.core ≡ core }
     ensures hosts { result.hosts.items ≡ [] }
+    ensures empty { result.core.history ≡ [] }
     ensures answer { result.answer ≡ run_answer core.stopped (length core.history) hosts [] }
 {
     let ends = HostEnds::new(alloc);
@@ -287,6 +290,7 @@ fn run_named<
     ensures legal { S.tells → IsLegal (opening_of (S.told core.site) core) result.core.history }
     ensures hosts { AreOfThese (hosts_of job.now.hosts) result.core.history }
     ensures ends { Leaves result.core.history job.now.hosts result.hosts.items }
+    ensures follow { AskByScript result.core.history job.now.hosts }
     ensures answer { result.answer ≡ run_answer result.core.stopped (length result.core.history)
         (length job.now.hosts) result.hosts.items }
 {
@@ -322,7 +326,8 @@ fn run_named<
 /// It is a later core of the same session. Its history is legal from where that began, whatever the order in which the actors
 /// came, and each entry is of a host of the job. Of each host there is its end: the places of all entries that it was
 /// told of, in rising order, and whether what it was told follows its script to the end; for want of memory at the start
-/// there is none. All memory that is common to them is taken before the first actor starts.
+/// there is none, and no entry. Each entry is a call of its host's script, in order, also one that stopped the core. All
+/// memory that is common to them is taken before the first actor starts.
 pub fn run_actors<S: Site + Send, C: Choose + Send, G: Gate + Sync, R: Threads + Wait + Sync>(
     rt: &R,
     alloc: Global,
@@ -338,6 +343,7 @@ pub fn run_actors<S: Site + Send, C: Choose + Send, G: Gate + Sync, R: Threads +
     ensures legal { S.tells → IsLegal (opening_of (S.told core.site) core) result.core.history }
     ensures hosts { AreOfThese (hosts_of job.now.hosts) result.core.history }
     ensures ends { Leaves result.core.history job.now.hosts result.hosts.items }
+    ensures follow { AskByScript result.core.history job.now.hosts }
     ensures answer { result.answer ≡ run_answer result.core.stopped (length result.core.history)
         (length job.now.hosts) result.hosts.items }
 {

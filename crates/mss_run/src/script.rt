@@ -8,9 +8,9 @@ ghost use Rattle.channel_program.specs.Items.{
   GivesSince,
   IsRunnable,
 };
-ghost use Rattle.channel_program.specs.Script.{ItemData, program as running_program};
+ghost use Rattle.channel_program.specs.Script.{Follows, ItemData, program as running_program};
 ghost use Rattle.job_text.specs.Views.{item_of};
-ghost use Rattle.mss_run.specs.Owns.{exchanges_by};
+ghost use Rattle.mss_run.specs.Owns.{AsksSince, asked_by, exchanges_by};
 
 use crate::actor::{Gate, Run};
 use crate::host::Running;
@@ -39,6 +39,8 @@ impl<N: Setup, S: Site, C: Choose, G: Gate, R: Wait> Run<'_, N, S, C, G, R> {
         requires few { length program.now.items ≤ 256 }
         ensures gives { GivesSince (running_program (map ccw_of program.now.items))
             (exchanges_by running) (exchanges_by result.0) result.1 }
+        ensures asks { AsksSince (running_program (map ccw_of program.now.items))
+            running result.0 result.1 }
         ensures host { result.0.host ≡ running.host }
     {
         let mut cursor = Cursor::start();
@@ -70,13 +72,15 @@ impl<N: Setup, S: Site, C: Choose, G: Gate, R: Wait> Run<'_, N, S, C, G, R> {
     fn run_call(&self, running: Running<N>, call: &Call) -> (Running<N>, bool)
         ensures gives { (item : ItemData) → Asks item (call_of call.now)
             → GivesSince item (exchanges_by running) (exchanges_by result.0) result.1 }
+        ensures asks { (item : ItemData) → Asks item (call_of call.now)
+            → AsksSince item running result.0 result.1 }
         ensures host { result.0.host ≡ running.host }
     {
         let (now, reply) = self.make_call(running, call);
-        match reply {
-            Some(_) => (now, true),
-            None => (now, false),
-        }
+        let Some(_reply) = reply else {
+            return (now, false);
+        };
+        (now, true)
     }
 
     /// Does what the host's script has next: a mount, a demount, or a channel program to its end.
@@ -84,6 +88,7 @@ impl<N: Setup, S: Site, C: Choose, G: Gate, R: Wait> Run<'_, N, S, C, G, R> {
         requires { IsRunnable (item_of item.now) }
         ensures gives { GivesSince (item_of item.now)
             (exchanges_by running) (exchanges_by result.0) result.1 }
+        ensures asks { AsksSince (item_of item.now) running result.0 result.1 }
         ensures host { result.0.host ≡ running.host }
     {
         match item {
@@ -103,7 +108,9 @@ impl<N: Setup, S: Site, C: Choose, G: Gate, R: Wait> Run<'_, N, S, C, G, R> {
     pub fn run_script(&self, mut running: Running<N>, items: &[Item]) -> (Running<N>, bool)
         requires runnable { AreRunnable (map item_of items.now) }
         requires begins { exchanges_by running ≡ [] }
+        requires unasked { asked_by running ≡ [] }
         ensures ends { EndsScript (map item_of items.now) (exchanges_by result.0) result.1 }
+        ensures asks { Follows (map item_of items.now) (asked_by result.0) }
         ensures host { result.0.host ≡ running.host }
     {
         for item in items {

@@ -1,20 +1,27 @@
 -- A session of a job in threads, from its parts.
-use Rattle.std.proofs.Common.{◌≡◌, ◌≤◌, ℕ, Bool, true, false, List, [], ◌∷◌, ◌==◌, ◌&&◌, length, Option, Some, None, if◌then◌else◌, refl, sym, ◌∙◌, subst, arith}
+use Rattle.std.proofs.Common.{◌≡◌, inl, inr, ◌≤◌, ℕ, zero, suc, Bool, true, false, cond, List, [], ◌∷◌, ◌==◌, ◌&&◌, length, map, Option, Some, None, if◌then◌else◌, eq-eqb, refl, sym, ◌∙◌, ap, subst, arith, Contains}
+use Rattle.std.proofs.lemmas.Bool.{cases_Bool, cond-false, eqb-true, false≢true}
+use Rattle.std.proofs.lemmas.List.Elements.{All-head, All-tail}
 use Rattle.mss_base.specs.Content.{SiteLog}
 use Rattle.mss_base.specs.Sites.{FailingReads, StaysSound}
-use Rattle.job_text.specs.Jobs.{JobData}
+use Rattle.channel_program.specs.Script.{Exchange, Follows}
+use Rattle.ckd_plain.specs.History.{EntryData}
+use Rattle.job_text.specs.Jobs.{JobData, ScriptData}
 use Rattle.mss_restart.specs.Creations.{WritesOn}
-use Rattle.seen_book.specs.Books.{AreOfThese}
+use Rattle.seen_book.specs.Books.{AreOfThese, IsOfOne}
+use Rattle.seen_book.specs.Entries.{entries_of}
 use Rattle.core_state.specs.Beginning.{IsLater}
 use Rattle.core_state.specs.Counted.{AreMarks, IsCounted}
 use Rattle.core_state.specs.CoreValue.{CoreValue, DevicesSeen, seen}
 use Rattle.core_state.specs.SessionData.{SessionData, data_of}
-use Rattle.mss_run.specs.Runs.{EndData, Leaves, are_finished, hosts_of, run_answer}
+use Rattle.mss_run.specs.Runs.{EndData, AskByScript, Leaves, are_finished, hosts_of, run_answer}
 use Rattle.mss_run.specs.declared.ends.RunAnswer.TheVariants as answer
+use Rattle.mss_run.specs.Owns.{asked_of, exchange}
+use Rattle.serial_driver.specs.Scripts.{exchanges_of, script_of}
 use Rattle.serial_driver.specs.declared.answer.DriveAnswer.{DriveAnswer}
 use Rattle.session_report.specs.Parties.{Stream}
 use Rattle.job_runs.specs.Parties.{Devices, devices, seen_site}
-use Rattle.job_runs.specs.Runs.{IsBegun, IsHalted, IsPromised, TellsSession}
+use Rattle.job_runs.specs.Runs.{FollowScripts, IsBegun, IsHalted, IsPromised, TellsSession}
 use Rattle.job_runs.specs.declared.run.Outcome.{Outcome}
 use Rattle.job_runs.specs.declared.run.Outcome.TheVariants.{Untaken, Ran}
 use Rattle.thread_runs.specs.Runs.{Ends, IsPlayedAtOnce, IsSessionAtOnce, ended_as}
@@ -33,6 +40,45 @@ run_halts None entries hosts ends = going_halts (are_finished hosts ends) ((entr
 
 pub played_halts : (job : JobData) (site : Devices) (end : DriveAnswer) (hosts : List EndData) (s : SessionData) → IsPlayedAtOnce job site end hosts s → IsHalted end s.stopped
 played_halts job site end hosts s is = subst (λ (e : DriveAnswer). IsHalted e s.stopped) (sym is.ended_) (run_halts s.stopped (length s.history) (length job.hosts) hosts)
+
+-- ---- scripts
+
+asked_same : (h : ℕ) (log : List EntryData) → exchanges_of h log ≡ asked_of h log
+asked_same h [] = refl
+asked_same h (e ∷ es) = go (e.host == h) (asked_same h es)
+  where
+    go : (b : Bool) → exchanges_of h es ≡ map exchange (entries_of h es) → cond b ((e.call, e.reply) ∷ exchanges_of h es) (exchanges_of h es) ≡ map exchange (cond b (e ∷ entries_of h es) (entries_of h es))
+    go true same = ap (λ (xs : List Exchange). (e.call, e.reply) ∷ xs) same
+    go false same = same
+
+-- a host that isn't among these asked nothing
+asked_none : (hosts : List ℕ) (h : ℕ) (log : List EntryData) → AreOfThese hosts log → (Contains hosts h → ⊥) → exchanges_of h log ≡ []
+asked_none hosts h [] are other = refl
+asked_none hosts h (e ∷ es) are other =
+    let first : (e.host == h) ≡ false = elim (cases_Bool (e.host == h)) [
+      | inl same ↦ absurd (other (subst (Contains hosts) (eqb-true e.host h same) (All-head (IsOfOne hosts) e es are)))
+      | inr apart ↦ apart
+    ] in
+    cond-false (e.host == h) ((e.call, e.reply) ∷ exchanges_of h es) (exchanges_of h es) first ∙ asked_none hosts h es (All-tail (IsOfOne hosts) e es are) other
+
+-- a host among these that isn't the first is among the others
+in_rest : (s : ScriptData) (ss : List ScriptData) (h : ℕ) → (s.host == h) ≡ false → Contains (hosts_of (s ∷ ss)) h → Contains (hosts_of ss) h
+in_rest s ss h apart (zero, below, here) = absurd (false≢true (sym apart ∙ eq-eqb s.host h here))
+in_rest s ss h apart (suc k, below, here) = (k, omega (arith, below), here)
+
+by_host : (s : ScriptData) (ss : List ScriptData) (h : ℕ) (log : List EntryData) → Follows s.items (asked_of s.host log) → ((s.host == h) ≡ false → Follows (script_of ss h) (exchanges_of h log))
+    → (b : Bool) → (s.host == h) ≡ b → Follows (cond b s.items (script_of ss h)) (exchanges_of h log)
+by_host s ss h log first others true is = subst (λ (xs : List Exchange). Follows s.items xs) (ap (λ (k : ℕ). asked_of k log) (eqb-true s.host h is) ∙ sym (asked_same h log)) first
+by_host s ss h log first others false is = others is
+
+-- what each host of a list asked follows its script, and others asked nothing
+each_follows : (scripts : List ScriptData) (h : ℕ) (log : List EntryData) → AskByScript log scripts → ((Contains (hosts_of scripts) h → ⊥) → exchanges_of h log ≡ []) → Follows (script_of scripts h) (exchanges_of h log)
+each_follows [] h log ask others = others (λ has. omega (arith, has.1))
+each_follows (s ∷ ss) h log ask others =
+    by_host s ss h log ask.0 (λ apart. each_follows ss h log ask.1 (λ out. others (λ has. out (in_rest s ss h apart has)))) (s.host == h) refl
+
+pub follow_scripts : (scripts : List ScriptData) (log : List EntryData) → AskByScript log scripts → AreOfThese (hosts_of scripts) log → FollowScripts scripts log
+follow_scripts scripts log ask are = λ h. each_follows scripts h log ask (asked_none (hosts_of scripts) h log are)
 
 -- ---- its devices
 
@@ -61,7 +107,7 @@ module _ {S C : Type 0} (tells : Type 0) (told : S → SiteLog) (writes faults :
 
 module _ {S C : Type 0} (tells : Type 0) (told : S → SiteLog) (writes faults : S → ℕ) (job : JobData) (core left : CoreValue S C) (end : DriveAnswer) (hosts : List EndData)
     (later : IsLater tells (seen told writes faults core) (seen told writes faults left))
-    (of_hosts : AreOfThese (hosts_of job.hosts) left.history) (ends : Leaves left.history job.hosts hosts)
+    (of_hosts : AreOfThese (hosts_of job.hosts) left.history) (ends : Leaves left.history job.hosts hosts) (ask : AskByScript left.history job.hosts)
     (ended_ : end ≡ ended_as (run_answer left.stopped (length left.history) (length job.hosts) hosts))
     (was : DevicesSeen) (begun : IsBegun tells job.config was (seen told writes faults core))
     (promised : IsPromised job.config (record { tells = tells; was = was; now = seen_site told writes faults left.site }) (data_of left)) where
@@ -70,6 +116,7 @@ module _ {S C : Type 0} (tells : Type 0) (told : S → SiteLog) (writes faults :
     led = record { began = seen told writes faults core; begun = begun; left = seen told writes faults left; later = later; devices_ = refl; session = refl };
     promised = promised;
     of_hosts = of_hosts;
+    follow = follow_scripts job.hosts left.history ask of_hosts;
     ends = ends;
     ended_ = ended_;
   }

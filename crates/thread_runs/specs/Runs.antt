@@ -15,7 +15,7 @@ use Rattle.serial_driver.specs.declared.answer.DriveAnswer.TheVariants as ended
 use Rattle.session_report.specs.Answers.{Answer}
 use Rattle.session_report.specs.Parties.{Stream}
 use Rattle.job_runs.specs.Parties.{Devices, since, until}
-use Rattle.job_runs.specs.Runs.{IsBegun, IsPromised, IsReportOf, IsUntaken}
+use Rattle.job_runs.specs.Runs.{FollowScripts, IsBegun, IsPromised, IsReportOf, IsUntaken}
 use Rattle.job_runs.specs.declared.run.Outcome.{Outcome}
 use Rattle.job_runs.specs.declared.run.Outcome.TheVariants.{Untaken, Ran}
 
@@ -44,7 +44,10 @@ pub record IsPlayedAtOnce (job : JobData) (site : Devices) (end : DriveAnswer)
   pub promised : IsPromised job.config site s
   -- each entry is of a host of the job
   pub of_hosts : AreOfThese (hosts_of job.hosts) s.history
-  -- the places of what each was told, which follows its script; for want of memory there are none
+  -- each entry is a call of its host's script, in order, also one that stopped the session
+  pub follow : FollowScripts job.hosts s.history
+  -- the places of what each was told, which follows its script; for want of memory there are none,
+  -- and no entry
   pub ends : Leaves s.history job.hosts hosts
   pub ended_ : end ≡ ended_as
       (run_answer s.stopped (length s.history) (length job.hosts) hosts)

@@ -1,6 +1,4 @@
-use Rattle.std.proofs.Common.{◌≡◌, ℕ, None}
 use Rattle.core_state.specs.CoreValue.{CoreData, seen}
-use Rattle.core_state.specs.IsCore.{IsCore}
 use Rattle.host_events.proofs.RuleFacts.{core_seen}
 use Rattle.work_events.specs.WorkLaws.{IsRecorder}
 use Rattle.mss_run.proofs.event.work_step.Goals as goal

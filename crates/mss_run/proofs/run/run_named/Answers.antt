@@ -1,13 +1,11 @@
-use Rattle.std.proofs.Common.{ℕ, List, inl, inr, sym, ◌∙◌, ap, subst}
-use Rattle.ckd_plain.specs.History.{EntryData, IsLegal}
+use Rattle.std.proofs.Common.{ℕ, List, inl, sym, ◌∙◌, ap, subst}
 use Rattle.core_state.specs.Beginning.{IsLater}
 use Rattle.core_state.specs.CoreValue.{CoreData, seen}
-use Rattle.core_state.specs.IsCore.{opening_of}
 use Rattle.job_text.specs.Jobs.{ScriptData, JobData, AreRunnableScripts}
 use Rattle.seen_book.specs.Books.{AreOfThese}
-use Rattle.mss_run.specs.Runs.{AreEndsIn}
+use Rattle.mss_run.specs.Runs.{AreEndsIn, AskByScript}
 use Rattle.mss_run.proofs.AnswerFacts.{legal_since}
-use Rattle.mss_run.proofs.RunFacts.{ends_whole}
+use Rattle.mss_run.proofs.RunFacts.{asks_nothing, asks_whole, ends_whole}
 use Rattle.mss_run.proofs.run.run_named.Goals as goal
 
 pub make_passes-book-requires-clause-runnable : goal.make_passes-book-requires-clause-runnable
@@ -33,6 +31,16 @@ returns-clause-ends g c =
     let ended = c.run_all-passes.result in
     inl (subst (λ (ss : List ScriptData). AreEndsIn log ss ended.1.items) (c.as_slice-scripts.ensures ∙ ap (λ (j : JobData). j.hosts) c.job.view_is)
     (ends_whole log c.as_slice-scripts.result.now ended.0.items ended.1.items c.run_all-passes.ensures c.close-core.ensures.passes))
+
+pub returns-clause-follow : goal.returns-clause-follow
+returns-clause-follow g c =
+    let log = c.close-core.result.history in
+    let ended = c.run_all-passes.result in
+    subst (AskByScript log) (c.as_slice-scripts.ensures ∙ ap (λ (j : JobData). j.hosts) c.job.view_is)
+    (asks_whole log c.as_slice-scripts.result.now ended.0.items ended.1.items c.run_all-passes.ensures c.close-core.ensures.passes)
+
+pub returns-then-is_err-clause-follow : goal.returns-then-is_err-clause-follow
+returns-then-is_err-clause-follow g c = asks_nothing c.without_ends.result.core.history c.args.job.now.hosts c.without_ends.ensures.empty
 
 pub returns-clause-hosts : goal.returns-clause-hosts
 returns-clause-hosts g c = subst (λ (hosts : List ℕ). AreOfThese hosts c.close-core.result.history) c.requires.hosts c.close-core.ensures.hosts

@@ -23,7 +23,7 @@ returns-clause-session g c = λ was begun.
     let law = c.sessions_are_plain.ensures in
     subst (λ (x : g.row.S.Denot × SessionData). IsPlayedAtOnce c.args.job.now (record { tells = tells; was = was; now = seen_site told writes faults x.0 }) c.ended_as.result ran.result.hosts.items x.1) (λ i. (site i, session i))
     (played_at_once tells told writes faults c.args.job.now c.args.core left c.ended_as.result ran.result.hosts.items
-    ran.ensures.later ran.ensures.hosts ran.ensures.ends
+    ran.ensures.later ran.ensures.hosts ran.ensures.ends ran.ensures.follow
     (c.ended_as.ensures ∙ ap ended_as ran.ensures.answer) was begun
     (promised_of tells told writes faults c.args.core left c.args.job.now.config ran.ensures.later c.look.ensures.told c.look.ensures.counted c.look.ensures.marked was begun
     (λ t over later kept. law.plain c.args.job.now.config was (seen told writes faults c.args.core) (seen told writes faults left) t over later kept)
