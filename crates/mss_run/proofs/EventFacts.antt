@@ -1,19 +1,22 @@
 -- What an event leaves of a session, from its laws.
-use Rattle.std.proofs.Common.{◌≡◌, ◌⊎◌, inl, inr, ℕ, ◌≤◌, Bool, true, false, length, Option, Some, refl, ◌∙◌, ap, arith}
+use Rattle.std.proofs.Common.{◌≡◌, ◌⊎◌, inl, inr, ℕ, ◌+◌, ◌≤◌, Bool, true, false, [], ◌∷◌, length, length-append, Option, Some, refl, ◌∙◌, ap, arith}
 use Rattle.std.specs.Prelude.{is_some}
+use Rattle.std.proofs.lemmas.Bool.{eqb-true}
 use Rattle.channel_commands.specs.Data.{CallData, ReplyData, stopped}
 use Rattle.ckd_plain.specs.History.{IsStopped}
 use Rattle.core_state.specs.Beginning.{Continues, KeepsBeginning}
 use Rattle.core_state.specs.Chains.{OneOf}
 use Rattle.core_state.specs.CoreValue.{CoreData}
 use Rattle.core_state.specs.IsCore.{opening_of}
-use Rattle.core_state.specs.HostEvents.{HostTold, replied, marked, waits, halts, at_limit, no_memory}
+use Rattle.core_state.specs.HostEvents.{HostTold, HostEvent, replied, marked, waits, halts, at_limit, no_memory, IsSame}
+use Rattle.core_state.specs.declared.rule.Waiting.{Waiting}
+use Rattle.core_state.specs.declared.session.Event.TheVariants.{Host}
 use Rattle.core_state.specs.Steps.{entry_of}
 use Rattle.core_state.specs.StopRule.{opening}
 use Rattle.core_state.proofs.EntryLemmas.{opening_same}
-use Rattle.host_events.specs.Leaves.{KeepsHistory, AddsEntry, EntersAsTold}
+use Rattle.host_events.specs.Leaves.{ChangesRequestAtMost, KeepsHistory, AddsEntry, EntersAsTold}
 use Rattle.host_events.specs.Causes.{CauseOf, CauseOfReply}
-use Rattle.mss_run.specs.Happens.{Enters, EntersStop, Happens}
+use Rattle.mss_run.specs.Happens.{Enters, EntersStop, Happens, is_in_vain}
 
 -- ---- the history
 
@@ -38,6 +41,33 @@ module _ (core : CoreData) (h : ℕ) (call : CallData) (core' : CoreData) where
   happens marked few enters cause = enters.history
   happens (waits why) few enters cause = enters.history
   happens no_memory few enters cause = enters.history
+
+-- ---- nothing done
+
+-- a wait that put nothing down changed nothing
+module _ (tells : Type 0) (core : CoreData) (h : ℕ) (call : CallData) (core' : CoreData) (law : (w : Waiting) → HostEvent tells core h call (waits w) core' → ChangesRequestAtMost tells core h core') where
+  by_change : ChangesRequestAtMost tells core h core' → length core'.events ≡ length core.events → IsSame tells core core'
+  by_change (inl same) long = same
+  by_change (inr (requests, still, is)) long =
+      let grown : length core'.events ≡ length core.events + 1 = ap (λ (x : CoreData). length x.events) is ∙ length-append core.events (Host h ∷ []) in
+      absurd (omega (arith, long, grown))
+
+  pub vain : (told : HostTold) → HostEvent tells core h call told core' → is_in_vain told (length core.events) (length core'.events) ≡ true → IsSame tells core core'
+  vain (waits w) event is = by_change (law w event) (eqb-true (length core'.events) (length core.events) is)
+  vain (replied index reply) event is = absurd cc
+  vain marked event is = absurd cc
+  vain (halts fault) event is = absurd cc
+  vain at_limit event is = absurd cc
+  vain no_memory event is = absurd cc
+
+pub same_none : (tells : Type 0) (core : CoreData) → IsSame tells core core
+same_none tells core = (record { told = λ t. refl; unwritten = refl; sound = refl }, refl)
+
+pub same_then : (tells : Type 0) (a b c : CoreData) → IsSame tells a b → IsSame tells b c → IsSame tells a c
+same_then tells a b c first then_ = (
+  record { told = λ t. then_.0.told t ∙ first.0.told t; unwritten = then_.0.unwritten ∙ first.0.unwritten; sound = then_.0.sound ∙ first.0.sound },
+  then_.1 ∙ ap (λ (x : CoreData). record x { site = c.site }) first.1,
+)
 
 -- ---- the session
 

@@ -1,5 +1,5 @@
 -- The places of what a host was told, in a list that grows.
-use Rattle.std.proofs.Common.{◌≡◌, ◌⊎◌, inl, inr, ℕ, suc, ◌+◌, ◌≤◌, append_assoc, Some, ◌&&◌, not, Bool, true, false, cond, List, [], ◌∷◌, ◌++◌, length, map, eqb, eq-eqb, refl, ap, sym, ◌∙◌, subst, arith, length-append, filter}
+use Rattle.std.proofs.Common.{◌≡◌, ◌⊎◌, inl, inr, ℕ, suc, ◌+◌, ◌≤◌, append_assoc, Option, Some, None, ◌&&◌, not, Bool, true, false, cond, List, [], ◌∷◌, ◌++◌, length, map, eqb, eq-eqb, refl, ap, sym, ◌∙◌, subst, arith, length-append, filter}
 use Rattle.std.specs.Prelude.{slice_get}
 use Rattle.std.proofs.lemmas.List.{append-nil, map-append}
 use Rattle.std.proofs.lemmas.List.Elements.{filter-append}
@@ -8,8 +8,10 @@ use Rattle.channel_commands.specs.Data.{CallData, ReplyData, done, mounted, demo
 use Rattle.ckd_plain.specs.History.{EntryData, IsStopped}
 use Rattle.seen_book.specs.Entries.{entries_of}
 use Rattle.seen_book.specs.Books.{PassData, Begins}
-use Rattle.mss_run.specs.Answers.{Grows, IsFull}
-use Rattle.mss_run.specs.Owns.{is_stop, is_heard, heard_by, places_from, places_of, exchange, exchanges_of, exchanges_by, asked_by, IsLeft, Rise}
+use Rattle.mss_run.specs.Answers.{Grows, IsFull, Stepped}
+use Rattle.mss_run.specs.Owns.{is_stop, is_heard, heard_by, places_from, places_of, exchange, exchanges_of, exchanges_by, asked_by, IsLeft, Attempted, attempt_of, Rise}
+use Rattle.host_events.specs.declared.answer.HostAnswer.{HostAnswer}
+use Rattle.host_events.specs.declared.answer.HostAnswer.TheVariants as answer
 
 abbrev is_reply : EntryData → Bool
 is_reply e = not (is_stop e.reply)
@@ -154,6 +156,18 @@ module _ (call : CallData) (p q : PassData) (own : entries_of p.host p.seen ≡ 
   exchanges_left (inl same) = ap exchanges_by same
   exchanges_left (inr (inl (fault, s))) = exchanges_stop call stopped s.index p q s.grows own own' refl
   exchanges_left (inr (inr f)) = ap (λ (h : ℕ). exchanges_of h q.seen) f.host_ ∙ ap (map exchange) (heard_same p.host p.seen q.seen (full_same p q f own own'))
+
+-- what an attempt comes to
+pub attempted_by : (call : CallData) (p q : PassData) (told : Option HostAnswer) (on : Bool) → Stepped call p told q → Attempted call p (attempt_of told on) q
+attempted_by call p q None on stepped = inl stepped
+attempted_by call p q (Some (answer.Replied index reply)) on stepped = stepped
+attempted_by call p q (Some answer.Marked) on stepped = stepped
+attempted_by call p q (Some (answer.Wait why)) true stepped = stepped
+attempted_by call p q (Some (answer.Wait why)) false stepped = inl stepped
+attempted_by call p q (Some (answer.Stopped fault)) on (inl same) = inl same
+attempted_by call p q (Some (answer.Stopped fault)) on (inr s) = inr (inl (fault, s))
+attempted_by call p q (Some answer.CommandLimit) on stepped = inr (inr stepped)
+attempted_by call p q (Some answer.Memory) on stepped = inl stepped
 
 -- at the end the places are those in the whole history, and so is what was told
 pub places_whole : (log : List EntryData) (p : PassData) → Begins log p → entries_of p.host p.seen ≡ p.mine → places_of p.host log ≡ places_of p.host p.seen

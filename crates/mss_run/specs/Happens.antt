@@ -1,5 +1,5 @@
 -- What an event of a host adds to the history.
-use Rattle.std.specs.Prelude.{◌≡◌, ◌⊎◌, ℕ, List, [], ◌∷◌, ◌++◌, length, Some}
+use Rattle.std.specs.Prelude.{◌≡◌, ◌⊎◌, ℕ, ◌==◌, Bool, false, List, [], ◌∷◌, ◌++◌, length, Some}
 use Rattle.channel_commands.specs.Data.{CallData, ReplyData, stopped}
 use Rattle.ckd_plain.specs.History.{EntryData, IsStopped}
 use Rattle.core_state.specs.HostEvents.{HostTold, replied, marked, waits, halts, at_limit, no_memory}
@@ -19,6 +19,11 @@ pub record EntersStop (host : ℕ) (call : CallData) (fault : ℕ) (old new : Li
   where
     pub enters : Enters host call stopped (length old) old new
     pub fault_ : enters.entry.fault ≡ Some fault
+
+-- it is a wait, and no event was put down
+abbrev pub is_in_vain : HostTold → ℕ → ℕ → Bool
+is_in_vain (waits why) before after = after == before
+is_in_vain _ before after = false
 
 -- a reply is the last entry; a stop may be one; at the limit there are 4,096; else nothing was added
 abbrev pub Happens : ℕ → CallData → HostTold → List EntryData → List EntryData → Type 0

@@ -8,6 +8,8 @@ use Rattle.channel_program.specs.Script.{Exchange, ItemData}
 use Rattle.ckd_plain.specs.History.{EntryData, IsStopped}
 use Rattle.seen_book.specs.Books.{PassData}
 use Rattle.seen_book.specs.Entries.{entries_of}
+use Rattle.host_events.specs.declared.answer.HostAnswer.{HostAnswer}
+use Rattle.host_events.specs.declared.answer.HostAnswer.TheVariants as answer
 use Rattle.mss_run.specs.declared.host.Told.{Told}
 use Rattle.mss_run.specs.declared.host.Attempt.{Attempt}
 use Rattle.mss_run.specs.declared.host.Attempt.TheVariants as attempt
@@ -76,6 +78,15 @@ abbrev pub Attempted : CallData → PassData → Attempt → PassData → Type 0
 Attempted call p attempt.Again q = q ≡ p
 Attempted call p (attempt.Replied t) q = IsReplied call p t q
 Attempted call p attempt.Halted q = IsLeft call p q
+
+-- what it comes to, by the answer of its event, and by whether what was done for a recorder lets the
+-- run go on: a mark and a wait are tried again, and nothing else
+abbrev pub attempt_of : Option HostAnswer → Bool → Attempt
+attempt_of (Some (answer.Replied index reply)) on =
+    attempt.Replied (record { index = index; reply = reply })
+attempt_of (Some answer.Marked) on = attempt.Again
+attempt_of (Some (answer.Wait why)) true = attempt.Again
+attempt_of _ on = attempt.Halted
 
 -- attempts, until it is replied or the run has ended
 abbrev pub Called : CallData → PassData → Option Told → PassData → Type 0

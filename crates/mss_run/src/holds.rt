@@ -5,7 +5,9 @@
 // nobody sleeps who would find something. Who comes in wakes nobody, since a host that is in only keeps workers from
 // leaving, and a worker takes over what hosts that wait would do. `command` and `work` wake nobody either: no actor
 // shares a core with their callers.
+ghost use Rattle.std.specs.Prelude.{◌≡◌, Some};
 ghost use Rattle.channel_commands.specs.Views.{call_of};
+ghost use Rattle.core_state.specs.declared.rule.WorkAnswer.TheVariants.{Idle};
 ghost use Rattle.mss_run.specs.Answers.{Stepped};
 
 use crate::held::Held;
@@ -20,8 +22,12 @@ use std::sync::{MutexGuard, Wait};
 use victim_choice::Choose;
 
 impl<N: Setup, S: Site, C: Choose> Shared<N, S, C> {
-    /// Lets go of the lock and sleeps, until another actor wakes all.
-    fn sleep<R: Wait>(&self, rt: &R, held: MutexGuard<'_, Held<N, S, C>>) {
+    /// Lets go of the lock and sleeps, until another actor wakes all. Who did anything in its hold may not.
+    fn sleep<R: Wait>(&self, rt: &R, held: MutexGuard<'_, Held<N, S, C>>, found: Option<WorkAnswer>)
+        requires { found ≡ Some Idle }
+    {
+        // The clause speaks of it; no code does.
+        let _ = found;
         let held = self.changed.wait(rt, held);
         drop(held);
     }
@@ -44,7 +50,7 @@ impl<N: Setup, S: Site, C: Choose> Shared<N, S, C> {
         let mut held = self.held.lock(rt);
         let (pass, answer, helped) = held.step(&self.word, pass, call);
         match helped {
-            Some(WorkAnswer::Idle) => self.sleep(rt, held),
+            Some(WorkAnswer::Idle) => self.sleep(rt, held, helped),
             _ => self.wake(held),
         }
         (pass, answer, helped)
@@ -55,7 +61,7 @@ impl<N: Setup, S: Site, C: Choose> Shared<N, S, C> {
         let mut held = self.held.lock(rt);
         let answer = held.turn(recorder);
         match answer {
-            Some(WorkAnswer::Idle) => self.sleep(rt, held),
+            Some(WorkAnswer::Idle) => self.sleep(rt, held, answer),
             _ => self.wake(held),
         }
         answer

@@ -1,7 +1,7 @@
 // A host's calls.
 ghost use Rattle.std.specs.Prelude.{◌≡◌, []};
 ghost use Rattle.channel_commands.specs.Views.{call_of};
-ghost use Rattle.mss_run.specs.Owns.{Attempted, Called, Makes, places_of};
+ghost use Rattle.mss_run.specs.Owns.{Attempted, Called, Makes, attempt_of, places_of};
 
 use crate::actor::{Actor, Gate, Point, Run};
 use crate::ends::Places;
@@ -31,6 +31,34 @@ pub(crate) enum Attempt {
     Replied(Told),
     /// The run has ended.
     Halted,
+}
+
+/// Whether a host passes the gate after an event that was answered so.
+fn is_point(answer: &Option<HostAnswer>) -> bool {
+    matches!(
+        answer,
+        Some(HostAnswer::Replied { .. } | HostAnswer::Marked)
+    )
+}
+
+/// What an attempt comes to, by the answer of its event, and by whether what was done for a recorder lets the run go on.
+fn attempt_of(answer: Option<HostAnswer>, goes_on: bool) -> Attempt
+    ensures { result ≡ attempt_of answer goes_on }
+{
+    match answer {
+        Some(HostAnswer::Replied { index, reply }) => Attempt::Replied(Told { index, reply }),
+        Some(HostAnswer::Marked) => Attempt::Again,
+        Some(HostAnswer::Wait(_)) => {
+            if goes_on {
+                Attempt::Again
+            } else {
+                Attempt::Halted
+            }
+        }
+        Some(HostAnswer::Stopped { .. } | HostAnswer::CommandLimit | HostAnswer::Memory) | None => {
+            Attempt::Halted
+        }
+    }
 }
 
 /// A host under way: its pass, and the places of all that it was told.
@@ -97,30 +125,15 @@ impl<N: Setup, S: Site, C: Choose, G: Gate, R: Wait> Run<'_, N, S, C, G, R> {
     {
         let host = pass.host();
         let (pass, answer, helped) = self.shared.step(self.rt, pass, call);
-        let Some(answer) = answer else {
-            return (pass, Attempt::Halted);
-        };
-        match answer {
-            HostAnswer::Replied { index, reply } => {
-                self.gate.pass(Actor::Host(host), Point::Host(host));
-                (pass, Attempt::Replied(Told { index, reply }))
-            }
-            HostAnswer::Marked => {
-                self.gate.pass(Actor::Host(host), Point::Host(host));
-                (pass, Attempt::Again)
-            }
-            HostAnswer::Wait(_) => {
-                if !self.pass_helped(host, helped) {
-                    self.shared.end(self.rt);
-                    return (pass, Attempt::Halted);
-                }
-                (pass, Attempt::Again)
-            }
-            HostAnswer::Stopped { .. } | HostAnswer::CommandLimit | HostAnswer::Memory => {
-                self.shared.end(self.rt);
-                (pass, Attempt::Halted)
-            }
+        if is_point(&answer) {
+            self.gate.pass(Actor::Host(host), Point::Host(host));
         }
+        let goes_on = self.pass_helped(host, helped);
+        let attempt = attempt_of(answer, goes_on);
+        if matches!(attempt, Attempt::Halted) {
+            self.shared.end(self.rt);
+        }
+        (pass, attempt)
     }
 
     /// Makes a call until it is replied. None where the run has ended.

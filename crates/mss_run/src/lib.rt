@@ -7,7 +7,9 @@
 //!
 //! `run_actors` runs each host and each recorder of a job as an actor of its own. It tells of each host which places of
 //! the history are its own, and whether what it was told there follows its script to the end, and what ended the run
-//! (`specs/Owns.antt`, `specs/Runs.antt`). The loops call a `Gate` between events, with the lock free.
+//! (`specs/Owns.antt`, `specs/Runs.antt`). The loops call a `Gate` between events, with the lock free. An actor's hold of
+//! the lock is one event, or a host's wait that changed nothing and one event of a recorder behind it; who is in stands
+//! in the lock beside the core (`specs/Presence.antt`).
 //!
 //! The layers above rely on these clauses, on the laws of `law`, and on what a session began with
 //! (`specs/Beginning.antt`, with `opens_itself` of `proofs/AnswerFacts.antt`). What a hold of the lock keeps is
@@ -16,12 +18,14 @@
 #![tactic(auto)]
 
 mod actor;
+mod booked;
 mod ends;
 mod event;
 mod held;
 mod holds;
 mod host;
 pub mod law;
+mod present;
 mod run;
 mod script;
 mod setup;

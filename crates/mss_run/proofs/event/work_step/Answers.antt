@@ -1,6 +1,9 @@
+use Rattle.std.proofs.Common.{subst}
 use Rattle.core_state.specs.CoreValue.{CoreData, seen}
+use Rattle.core_state.specs.declared.rule.WorkAnswer.{WorkAnswer}
+use Rattle.core_state.specs.declared.rule.WorkAnswer.TheVariants.{Idle}
 use Rattle.host_events.proofs.RuleFacts.{core_seen}
-use Rattle.work_events.specs.WorkLaws.{IsRecorder}
+use Rattle.work_events.specs.WorkLaws.{AnswerSays, IsRecorder}
 use Rattle.mss_run.proofs.event.work_step.Goals as goal
 
 pub returns-clause-history : goal.returns-clause-history
@@ -16,6 +19,16 @@ returns-clause-later g c =
     let is : IsRecorder old c.args.recorder =
     record { there = c.requires; kept = λ none. core_seen g.S.Site.told g.S.Site.writes g.S.Site.faults c.args.core.now (c.entries_of-before.ensures.kept none) } in
     c.work_is_later.ensures c.args.core.now.chooser old c.args.recorder c.work_event.result new is c.work_event.ensures.event
+
+pub returns-clause-idle : goal.returns-clause-idle
+returns-clause-idle g c = λ idle.
+    let old : CoreData = seen g.S.Site.told g.S.Site.writes g.S.Site.faults c.args.core.now in
+    let new : CoreData = seen g.S.Site.told g.S.Site.writes g.S.Site.faults c.work_event.new.core in
+    let is : IsRecorder old c.args.recorder =
+    record { there = c.requires; kept = λ none. core_seen g.S.Site.told g.S.Site.writes g.S.Site.faults c.args.core.now (c.entries_of-before.ensures.kept none) } in
+    let says : AnswerSays g.S.Site.tells old c.args.recorder Idle new =
+    subst (λ (a : WorkAnswer). AnswerSays g.S.Site.tells old c.args.recorder a new) idle (c.answers_have_their_causes.ensures.answer c.args.core.now.chooser old c.args.recorder c.work_event.result new is c.work_event.ensures.event) in
+    says.1
 
 pub returns-clause-sound : goal.returns-clause-sound
 returns-clause-sound g c = c.work_event.ensures.devices.sound

@@ -3,7 +3,7 @@ use Rattle.ckd_plain.specs.History.{EntryData}
 use Rattle.core_state.specs.CoreValue.{CoreData, seen}
 use Rattle.seen_book.specs.Openings.{IsLegalFrom}
 use Rattle.mss_run.proofs.AnswerFacts.{opens_still, legal_from}
-use Rattle.mss_run.proofs.held.Held.command.Goals as goal
+use Rattle.mss_run.proofs.booked.BookedCore.command.Goals as goal
 
 pub told-book-requires-clause-legal : goal.told-book-requires-clause-legal
 told-book-requires-clause-legal g c =

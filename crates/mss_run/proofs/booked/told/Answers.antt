@@ -5,7 +5,7 @@ use Rattle.host_events.specs.declared.answer.HostAnswer.{HostAnswer}
 use Rattle.mss_run.specs.Answers.{Answered}
 use Rattle.mss_run.specs.Happens.{Happens}
 use Rattle.mss_run.proofs.AnswerFacts.{stop_grows}
-use Rattle.mss_run.proofs.held.told.Goals as goal
+use Rattle.mss_run.proofs.booked.told.Goals as goal
 
 pub returns-else-before-history-clause-pass : goal.returns-else-before-history-clause-pass
 returns-else-before-history-clause-pass g c =

@@ -2,7 +2,7 @@ use Rattle.std.proofs.Common.{List, Some, sym, ◌∙◌, ap}
 use Rattle.ckd_plain.specs.History.{EntryData}
 use Rattle.core_state.specs.CoreValue.{CoreData, seen}
 use Rattle.mss_run.proofs.AnswerFacts.{opens_still}
-use Rattle.mss_run.proofs.held.Held.work.Goals as goal
+use Rattle.mss_run.proofs.booked.BookedCore.work.Goals as goal
 
 pub invariant_of-self : goal.invariant_of-self
 invariant_of-self g c =

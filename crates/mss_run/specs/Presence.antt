@@ -1,0 +1,39 @@
+-- Who is in a run, and what actors that find nothing to do leave as it was.
+use Rattle.std.specs.Prelude.{◌≡◌, ◌⊎◌, ℕ, Bool, true, false, replicate, slice_set, Option, Some, None}
+use Rattle.std.specs.List.{list_any}
+use Rattle.core_state.specs.declared.rule.WorkAnswer.{WorkAnswer}
+use Rattle.core_state.specs.declared.rule.WorkAnswer.TheVariants.{Idle}
+use Rattle.mss_run.specs.declared.present.Presence.{Presence}
+
+-- before any actor is in
+abbrev pub nobody : Presence
+nobody = record { hosts = replicate 9 false; workers = replicate 8 false; ended = false }
+
+-- a host is counted in or out, a recorder's worker is, the run ends
+abbrev pub with_host : ℕ → Bool → Presence → Presence
+with_host host is_in p = record p { hosts = slice_set p.hosts host is_in }
+
+abbrev pub with_worker : ℕ → Bool → Presence → Presence
+with_worker recorder is_in p = record p { workers = slice_set p.workers recorder is_in }
+
+abbrev pub ended : Presence → Presence
+ended p = record p { ended = true }
+
+-- some host is in
+abbrev pub has_hosts : Presence → Bool
+has_hosts p = list_any (λ b. b) p.hosts
+
+-- nothing was done
+abbrev pub IsRest : Option WorkAnswer → Type 0
+IsRest None = Unit {0}
+IsRest (Some Idle) = Unit {0}
+IsRest _ = ⊥
+
+-- A worker's turn: it is told to leave, and counted out, only where the run is over or no host is
+-- in. While the run goes on it stays: idle only where some host is in.
+abbrev pub Turns : ℕ → Presence → Option WorkAnswer → Presence → Type 0
+Turns recorder old None new =
+    ((old.ended ≡ true) ⊎ (has_hosts old ≡ false)) × (new ≡ with_worker recorder false old)
+Turns recorder old (Some Idle) new =
+    (old.ended ≡ false) × (has_hosts old ≡ true) × (new ≡ old)
+Turns recorder old (Some answer) new = (old.ended ≡ false) × (new ≡ old)

@@ -1,0 +1,153 @@
+// A core with the book of its history.
+ghost use Rattle.std.specs.Prelude.{◌≡◌, ◌≤◌, ◌<◌, length, slice_get, true, Some};
+ghost use Rattle.channel_commands.specs.Views.{call_of};
+ghost use Rattle.seen_book.specs.Openings.{IsLegalFrom};
+ghost use Rattle.host_events.specs.Answers.{told_of};
+ghost use Rattle.core_state.specs.CoreValue.{seen};
+ghost use Rattle.core_state.specs.HostEvents.{IsSame};
+ghost use Rattle.core_state.specs.declared.rule.WorkAnswer.TheVariants.{Idle};
+ghost use Rattle.mss_run.specs.Answers.{Answered};
+ghost use Rattle.mss_run.specs.Beginning.{OpensWith};
+ghost use Rattle.mss_run.specs.Happens.{Happens};
+
+use crate::event::{entries_of, host_step, recorders_of, work_step};
+use crate::setup::Setup;
+use channel_commands::Call;
+use ckd_plain::Entry;
+use core_state::{Core, WorkAnswer};
+use host_events::HostAnswer;
+use mss_base::{RecorderNo, Site};
+use seen_book::{Book, HostPass, Name, Word, append, see};
+use std::marker::Model;
+use victim_choice::Choose;
+
+/// A core, and the book of its history, which is out only within an event.
+#[derive(Drop)]
+pub(crate) struct BookedCore<N: Setup, S: Site, C: Choose> {
+    core: Core<S, C>,
+    book: Option<Book<N>>,
+}
+
+impl<N: Setup, S: Site, C: Choose> Model for BookedCore<N, S, C> {
+    ghost use Rattle.core_state.specs.CoreValue.{CoreValue, seen};
+    ghost use Rattle.mss_run.specs.Held.{IsHeld};
+
+    ghost Value = { CoreValue S C };
+
+    ghost view = { λ b. b.core };
+
+    ghost invariant = { λ b.
+        IsHeld N.opening N.setup S.tells (S.never_fails_but b.core.site)
+        (seen S.told S.writes S.faults b.core) b.book };
+}
+
+/// The entry at a place.
+fn entry_at(history: &[Entry], place: usize) -> &Entry
+    requires { place < length history.now }
+    ensures { slice_get history.now place ≡ Some result.now }
+{
+    &history[place]
+}
+
+/// Tells book and pass of an event that was answered so. The history is the one after the event, and `before` its length
+/// before.
+fn told<N: Name>(
+    word: &Word<N>,
+    book: Book<N>,
+    pass: HostPass<N>,
+    call: &Call,
+    answer: &HostAnswer,
+    history: &[Entry],
+    before: usize,
+) -> (Book<N>, HostPass<N>)
+    requires before { before ≡ length book.list }
+    requires happens { Happens pass.host (call_of call.now) (told_of answer.now)
+        book.list history.now }
+    requires legal { IsLegalFrom N.opening history.now }
+    requires few { length history.now ≤ 4096 }
+    ensures book { result.0 ≡ record { list = history.now; made = book.made } }
+    ensures pass { Answered (call_of call.now) pass (told_of answer.now) result.1 }
+{
+    // The clauses speak of the call; no code does.
+    let _ = call;
+    match answer {
+        HostAnswer::Replied { .. } => append(word, book, pass, entry_at(history, before)),
+        HostAnswer::Stopped { .. } => {
+            if before >= history.len() {
+                return (book, pass);
+            }
+            append(word, book, pass, entry_at(history, before))
+        }
+        HostAnswer::CommandLimit => see(word, book, pass),
+        HostAnswer::Marked | HostAnswer::Wait(_) | HostAnswer::Memory => (book, pass),
+    }
+}
+
+impl<N: Setup, S: Site, C: Choose> BookedCore<N, S, C> {
+    /// A core of the session that the name names, with its book.
+    pub fn new(core: Core<S, C>, book: Book<N>) -> Self
+        requires opening { OpensWith N.opening N.setup S.tells (S.never_fails_but core.site)
+            (seen S.told S.writes S.faults core) }
+        requires history { book.list ≡ core.history }
+    {
+        BookedCore {
+            core,
+            book: Some(book),
+        }
+    }
+
+    /// The core and the book.
+    pub fn into_parts(self) -> (Core<S, C>, Book<N>)
+        ensures opening { OpensWith N.opening N.setup S.tells
+            (S.never_fails_but result.0.site) (seen S.told S.writes S.faults result.0) }
+        ensures history { result.1.list ≡ result.0.history }
+    {
+        let BookedCore { core, book } = self;
+        let Some(book) = book else { unreachable!() };
+        (core, book)
+    }
+
+    /// How many recorders are configured.
+    pub fn recorders(&self) -> u8
+        ensures { result ≡ self.now.config.recorders }
+    {
+        recorders_of(&self.core)
+    }
+
+    /// One event of the pass's host, of which the book and the pass are told; and whether it is a wait that changed
+    /// nothing.
+    pub fn command(
+        &mut self,
+        word: &Word<N>,
+        pass: HostPass<N>,
+        call: &Call,
+    ) -> (HostPass<N>, HostAnswer, bool)
+        ensures answered { Answered (call_of call.now) pass (told_of result.1) result.0 }
+        ensures in_vain { result.2 ≡ true → IsSame S.tells
+            (seen S.told S.writes S.faults self.old) (seen S.told S.writes S.faults self.new) }
+    {
+        let host = pass.host();
+        let before = entries_of(&self.core);
+        let (answer, in_vain) = host_step(&mut self.core, host, call);
+        let _after = entries_of(&self.core);
+        let Some(book) = self.book.take() else {
+            unreachable!()
+        };
+        let history = self.core.history().as_slice();
+        let (book, pass) = told(word, book, pass, call, &answer, history, before);
+        self.book = Some(book);
+        (pass, answer, in_vain)
+    }
+
+    /// One event of a recorder; none of one that isn't configured. An idle one changes nothing.
+    pub fn work(&mut self, recorder: RecorderNo) -> WorkAnswer
+        ensures idle { result ≡ Idle → IsSame S.tells
+            (seen S.told S.writes S.faults self.old) (seen S.told S.writes S.faults self.new) }
+    {
+        if recorder.get() >= recorders_of(&self.core) {
+            return WorkAnswer::Idle;
+        }
+        let _before = entries_of(&self.core);
+        work_step(&mut self.core, recorder)
+    }
+}
