@@ -1,9 +1,10 @@
 // The event that copies a track.
-ghost use Rattle.std.specs.Prelude.{◌≡◌, ◌<◌, Bool};
+ghost use Rattle.std.specs.Prelude.{◌≡◌, ◌⊎◌, ◌<◌, Bool};
 ghost use Rattle.mss_base.specs.Sites.{MayWrite};
 ghost use Rattle.mss_base.specs.declared.place.UnitNo.{UnitNo};
 ghost use Rattle.transfers.specs.Copies.{IsReadable};
 ghost use Rattle.core_state.specs.CoreValue.{seen};
+ghost use Rattle.core_state.specs.Devices.{FailRead};
 ghost use Rattle.core_state.specs.WorkEvents.{WorkDoes};
 ghost use Rattle.core_state.specs.WorkRules.{work_rule};
 ghost use Rattle.core_state.specs.declared.rule.WorkRule.TheVariants.{Copies};
@@ -32,6 +33,10 @@ pub fn copy<S: Site, C: Choose>(
         core.old.site core.new.site }
     ensures works { (but : UnitNo → Bool) → S.never_fails_but core.old.site but
         → IsReadable but transfer → core.new.requests ≡ core.old.requests }
+    ensures unread { (but : UnitNo → Bool) → S.never_fails_but core.old.site but
+        → (core.new.requests ≡ core.old.requests) ⊎ FailRead S.tells
+        (seen S.told S.writes S.faults core.old).site
+        (seen S.told S.writes S.faults core.new).site }
 {
     let (task, _request) = served(core, recorder);
     if make_room(&mut core.session, &mut core.site, 1).is_err() {

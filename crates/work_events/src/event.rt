@@ -1,10 +1,11 @@
 // A recorder's event.
-ghost use Rattle.std.specs.Prelude.{◌≡◌, ◌<◌, Bool};
+ghost use Rattle.std.specs.Prelude.{◌≡◌, ◌⊎◌, ◌<◌, Bool};
 ghost use Rattle.mss_base.specs.Sites.{MayWrite};
 ghost use Rattle.mss_base.specs.declared.place.UnitNo.{UnitNo};
 ghost use Rattle.transfers.specs.Copies.{IsReadable};
 ghost use Rattle.transfers.specs.declared.transfer.Transfer.{Transfer};
 ghost use Rattle.core_state.specs.CoreValue.{seen};
+ghost use Rattle.core_state.specs.Devices.{FailRead};
 ghost use Rattle.core_state.specs.WorkEvents.{WorkEvent};
 ghost use Rattle.core_state.specs.WorkRules.{work_rule};
 ghost use Rattle.core_state.specs.declared.rule.WorkRule.TheVariants.{Copies};
@@ -26,7 +27,8 @@ use victim_choice::Choose;
 /// Its memory comes first: after `Memory` all is as it was. It answers `Idle` where no rule
 /// applies, and `Stopped` where a row couldn't be written, in this event or one before; the core
 /// does nothing more then. Where no call of the site fails but reads, no event stops the core;
-/// where the next track can be read, its copy doesn't fail its request.
+/// where the next track can be read, its copy doesn't fail its request; and a copy that fails has
+/// written nothing.
 pub fn work_event<S: Site, C: Choose>(core: &mut Core<S, C>, recorder: RecorderNo) -> WorkAnswer
     requires recorder { recorder < core.old.config.recorders }
     ensures event { WorkEvent S.tells (C.may core.old.chooser)
@@ -40,6 +42,11 @@ pub fn work_event<S: Site, C: Choose>(core: &mut Core<S, C>, recorder: RecorderN
     ensures works { (but : UnitNo → Bool) (t : Transfer) → S.never_fails_but core.old.site but
         → work_rule core.old recorder ≡ Copies t → IsReadable but t
         → core.new.requests ≡ core.old.requests }
+    ensures unread { (but : UnitNo → Bool) (t : Transfer) → S.never_fails_but core.old.site but
+        → work_rule core.old recorder ≡ Copies t
+        → (core.new.requests ≡ core.old.requests) ⊎ FailRead S.tells
+        (seen S.told S.writes S.faults core.old).site
+        (seen S.told S.writes S.faults core.new).site }
 {
     match work_rule(core, recorder) {
         WorkRule::IsStopped { fault } => WorkAnswer::Stopped { fault },

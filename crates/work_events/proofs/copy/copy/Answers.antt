@@ -1,4 +1,4 @@
-use Rattle.std.proofs.Common.{◌≡◌, ℕ, ◌≤◌, [], ◌∷◌, ◌++◌, length, false, None, Some, refl, sym, ◌∙◌, ap, subst, arith}
+use Rattle.std.proofs.Common.{◌≡◌, inl, inr, ℕ, ◌≤◌, [], ◌∷◌, ◌++◌, length, false, None, Some, refl, sym, ◌∙◌, ap, subst, arith}
 use Rattle.std.specs.Prelude.{slice_set, vec_len}
 use Rattle.mss_base.specs.Content.{SiteLog, content}
 use Rattle.mss_base.specs.Counts.{Rises}
@@ -138,3 +138,19 @@ returns-in-Err-clause-event g c =
     let rises : Rises (g.S.Site.faults now.site) (g.S.Site.faults x) = subst (λ (k : ℕ). Rises k (g.S.Site.faults x)) sound c.in-Err.ensures.copies.cause.failed in
     uncopied_does g.S.Site.tells (g.C.Choose.may now.chooser) g.S.Site.told g.S.Site.writes g.S.Site.faults now _ c.args.recorder task c.args.transfer c.did-in-Err.result c.did-in-Err.ensures.answer c.served-task.ensures.serves.at
     (record { left = logged; later = more; failed = rises }) path
+
+pub returns-in-Ok-clause-unread : goal.returns-in-Ok-clause-unread
+returns-in-Ok-clause-unread g c = λ but never.
+    inl (ap (λ (z : CoreValue g.row.S.Denot g.row.C.Denot). z.requests) c.core.view_is)
+
+pub returns-in-Err-clause-unread : goal.returns-in-Err-clause-unread
+returns-in-Err-clause-unread g c = λ but never.
+    let is = c.core.view_is in
+    let room = c.make_room.ensures.site in
+    let begun : g.S.Site.never_fails_but c.core.inside.site but = subst (λ (y : CoreValue g.row.S.Denot g.row.C.Denot). g.S.Site.never_fails_but y.site but) (sym is) never in
+    let reads = (c.in-Err.ensures.copies.only_reads_fail but (room.sound but begun)).reads in
+    let told : g.S.Site.tells → g.S.Site.told c.copy_track.new.site ≡ g.S.Site.told c.args.core.now.site = λ tl. reads.log tl ∙ room.log tl ∙ ap (λ (y : CoreValue g.row.S.Denot g.row.C.Denot). g.S.Site.told y.site) is in
+    let unwritten : g.S.Site.writes c.copy_track.new.site ≡ g.S.Site.writes c.args.core.now.site = reads.unwritten ∙ room.unwritten ∙ ap (λ (y : CoreValue g.row.S.Denot g.row.C.Denot). g.S.Site.writes y.site) is in
+    let sound : g.S.Site.faults c.make_room.new.site ≡ g.S.Site.faults c.args.core.now.site = room.same ∙ ap (λ (y : CoreValue g.row.S.Denot g.row.C.Denot). g.S.Site.faults y.site) is in
+    let failed : Rises (g.S.Site.faults c.args.core.now.site) (g.S.Site.faults c.copy_track.new.site) = subst (λ (k : ℕ). Rises k (g.S.Site.faults c.copy_track.new.site)) sound c.in-Err.ensures.copies.cause.failed in
+    inr (record { told = told; unwritten = unwritten; failed = failed })
