@@ -7,6 +7,7 @@ pub mod PickFacts
 pub mod RuleFacts
 pub mod Outcomes
 pub mod WorkLawFacts
+pub mod NotedFacts
 pub mod KeptFacts
 pub mod DoesFacts
 pub mod TrackCopies

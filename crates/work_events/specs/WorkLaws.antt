@@ -1,5 +1,6 @@
 -- What every event of a recorder keeps, and what its answers say.
-use Rattle.std.specs.Prelude.{◌≡◌, ◌⊎◌, ◌<◌, ◌≤◌, ℕ, List, length, Option, Some, None}
+use Rattle.std.specs.Prelude.{◌≡◌, ◌≢◌, ◌⊎◌, ◌<◌, ◌≤◌, ℕ, List, [], ◌∷◌, ◌++◌, length}
+use Rattle.std.specs.Prelude.{Option, Some, None}
 use Rattle.mss_base.specs.Content.{Content, SiteLog, Adds, Writes, content, image}
 use Rattle.mss_base.specs.Counts.{IsFaultSince}
 use Rattle.mss_base.specs.declared.place.UnitNo.TheVariants.{Cartridge}
@@ -10,6 +11,7 @@ use Rattle.fault_queue.specs.Requests.{request_of}
 use Rattle.transfers.specs.Copies.{in_frame, in_cartridge, copy_of, AddsAtMost}
 use Rattle.transfers.specs.declared.transfer.Transfer.{Transfer}
 use Rattle.transfers.specs.declared.transfer.TransferKind.TheVariants.{Destage}
+use Rattle.core_state.specs.declared.session.Event.TheVariants.{Work}
 use Rattle.core_state.specs.declared.rule.WorkAnswer.{WorkAnswer}
 use Rattle.core_state.specs.declared.rule.WorkAnswer.TheVariants.{Did, Idle, Stopped, Memory}
 use Rattle.core_state.specs.declared.rule.WorkRule.TheVariants.{IsIdle, Copies}
@@ -30,6 +32,13 @@ pub record LeavesHosts (core left : CoreData) : Type 0 where
 pub record IsRecorder (core : CoreData) (recorder : ℕ) : Type 0 where
   pub there : recorder < core.config.recorders
   pub kept : core.stopped ≡ None → IsCore core
+
+-- ---- the events
+
+-- the event is noted, and more of the core changed than its devices and what is noted
+pub record NotesChange (core : CoreData) (recorder : ℕ) (left : CoreData) : Type 0 where
+  pub noted : left.events ≡ core.events ++ Work recorder ∷ []
+  pub changed : left ≢ record core { site = left.site; events = left.events }
 
 -- ---- the volumes
 

@@ -14,6 +14,7 @@ ghost use Rattle.work_events.specs.WorkLaws.{
   FailsByCopy,
   IsRecorder,
   LeavesHosts,
+  NotesChange,
   ShowsTheSame,
   WritesCartridges,
 };
@@ -51,6 +52,14 @@ pub fn work_writes_whole_blocks_of_changed_cylinders_only<S: Site, C: Choose>()
         → IsRecorder core recorder → S.tells
         → WorkEvent S.tells (C.may chooser) core recorder told left
         → WritesCartridges core recorder left }
+{}
+
+/// The events that are noted are those that changed the core: an event of a recorder changes
+/// nothing, or it is noted, and the core that it leaves is another one.
+pub fn noted_work_changes_the_core<S: Site, C: Choose>()
+    ensures { (chooser : C) (core : CoreData) (recorder : ℕ) (told : WorkAnswer) (left : CoreData)
+        → IsRecorder core recorder → WorkEvent S.tells (C.may chooser) core recorder told left
+        → IsSame S.tells core left ⊎ NotesChange core recorder left }
 {}
 
 /// A stopped core answers its fault, and stays as it is.
