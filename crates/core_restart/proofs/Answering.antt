@@ -1,14 +1,18 @@
 -- What restart hands on of what opening answers.
-use Rattle.std.proofs.Common.{inl, [], Ok, Err, refl}
+use Rattle.std.proofs.Common.{◌≡◌, inl, List, [], Option, Ok, Err, refl, sym, subst}
 use Rattle.std.proofs.lemmas.List.{append-nil}
 use Rattle.mss_base.specs.Configs.{ConfigData}
 use Rattle.mss_base.specs.Content.{content}
 use Rattle.mss_base.proofs.Moments.{started}
+use Rattle.volume_table.specs.Row.{RowValue}
 use Rattle.shown_volumes.specs.declared.refused.Refused.TheVariants.{Memory}
 use Rattle.shown_volumes.specs.Shown.{rows_of, shown}
 use Rattle.mss_restart.specs.declared.opening.Opened.{Opened}
-use Rattle.mss_restart.specs.Opening.{ShowsFront, missing}
+use Rattle.mss_restart.specs.Opening.{IsOpened, ShowsFront, missing}
+use Rattle.mss_restart.specs.Creations.{CompletesWhole}
+use Rattle.mss_restart.specs.declared.creations.Creation.{Creation}
 use Rattle.mss_restart.proofs.Finishing.{none_complete}
+use Rattle.mss_restart.proofs.OtherRows.{nothing_else}
 use Rattle.core_state.specs.CoreValue.{DevicesSeen}
 use Rattle.core_restart.specs.Opening.{OpensTold}
 
@@ -21,6 +25,8 @@ none_told config now = record {
       started (ShowsFront frames (missing (rows_of (content now.told)) config.volumes) (shown (content now.told))) now.told
       (record { sound = sound; made = []; later = missing (rows_of (content now.told)) config.volumes; order = refl; same = refl });
   complete = none_complete (missing (rows_of (content now.told)) config.volumes) [] (rows_of (content now.told)) (rows_of (content now.told)) now.told now.told Memory refl;
+  others = nothing_else (missing (rows_of (content now.told)) config.volumes) now.told now.told refl;
+  paired = λ paired. paired;
   untouched = inl refl;
 }
 
@@ -46,5 +52,20 @@ module _ (config : ConfigData) (old new : DevicesSeen) (opened : Opened) where
         },
       ),
     );
+    others = is.others;
+    paired = is.paired;
+    untouched = is.untouched;
+  }
+
+  -- so it is of the same rows and creations in other lists
+  pub told_as : (rows : List (Option RowValue)) (made : List Creation) → rows ≡ opened.rows.items → made ≡ opened.creations.items → OpensTold config old new (Ok opened)
+      → OpensTold config old new (Ok (record { rows = record { items = rows; spare = 0 }; creations = record { items = made; spare = 0 } }))
+  told_as rows made rows_are made_are is = record {
+    opens = subst (λ (rs : List (Option RowValue)). IsOpened config (content old.told) (content new.told) rs) (sym rows_are) is.opens;
+    exact = is.exact;
+    moments = is.moments;
+    complete = subst (λ (cs : List Creation). CompletesWhole {T = Unit {0}} (missing (rows_of (content old.told)) config.volumes) cs (rows_of (content old.told)) (rows_of (content new.told)) old.told new.told (Ok tt)) (sym made_are) is.complete;
+    others = is.others;
+    paired = is.paired;
     untouched = is.untouched;
   }

@@ -9,6 +9,8 @@ use Rattle.shown_volumes.specs.Sound.{IsSound}
 use Rattle.mss_restart.specs.declared.opening.Opened.{Opened}
 use Rattle.mss_restart.specs.Opening.{ShowsFront, missing}
 use Rattle.mss_restart.specs.Usable.{AreUsableFor}
+use Rattle.mss_restart.specs.Creations.{RepairsOthers}
+use Rattle.mss_restart.specs.OneCopy.{StayPaired}
 use Rattle.mss_restart.specs.Answers.{Opens, OpensExactly, OpensWhole, WritesIfFaultless, MakesCounted, RefusalLeaves, KeepsOpening}
 use Rattle.core_state.specs.CoreValue.{CoreValue, DevicesSeen}
 use Rattle.core_restart.specs.Console.{creations_of}
@@ -38,7 +40,8 @@ seen_of told writes faults site =
 
 -- of a site that tells: what is answered, exactly where no call failed; what a stop or a failing
 -- call leaves at each moment; that each repair and creation that was begun is whole after Ok and
--- after want of memory; that a content with a fault isn't written
+-- after want of memory; that no row but the further ones is more than repaired, and that each copy
+-- goes on to tell its row alone, unless a call failed; that a content with a fault isn't written
 pub record OpensTold (config : ConfigData) (old new : DevicesSeen) (answer : Result Opened Refused)
     : Type 0 where
   pub opens : Opens old.faults new.faults config old.told new.told answer
@@ -48,6 +51,8 @@ pub record OpensTold (config : ConfigData) (old new : DevicesSeen) (answer : Res
       → Writes (ShowsFront frames (missing (rows_of (content old.told)) config.volumes)
       (shown (content old.told))) old.told new.told
   pub complete : OpensWhole config old.told new.told answer
+  pub others : RepairsOthers (missing (rows_of (content old.told)) config.volumes) old.told new.told
+  pub paired : StayPaired (content old.told) (content new.told) answer
   pub untouched : WritesIfFaultless config old.told new.told
 
 -- of every site: the rows can be used, and each configured volume has one; the creations are told

@@ -17,6 +17,7 @@ use Rattle.shown_volumes.specs.Faults.{first_fault}
 use Rattle.shown_volumes.proofs.FaultFacts.{sound_from_none}
 use Rattle.volume_table.specs.Listed.{listed}
 use Rattle.mss_restart.specs.Opening.{RowsAre, AreHeld, missing, with_blanks, ShowsFront, Creates, AreCreated, IsOpened}
+use Rattle.mss_restart.specs.Creations.{RepairsOthers}
 use Rattle.mss_restart.proofs.Creating.{AreRising}
 use Rattle.mss_restart.proofs.KnownRows.{rows_listed}
 use Rattle.mss_restart.proofs.OpenedRows.{creates_kept, creates_asked}
@@ -85,3 +86,9 @@ pub moments_at : (s mid now : SiteLog) (rows : List (Option RowValue)) (volumes 
 moments_at s mid now rows volumes same long are moments frames sound =
     subst (λ (x : RowsOf). Writes (ShowsFront frames (missing x volumes) (shown (content s))) s now) (rows_listed rows (content s) long are)
     (subst (λ (x : SiteLog). (n : ℕ) → IsSound n (content x) → Writes (ShowsFront n (missing (listed rows) volumes) (shown (content x))) x now) same moments frames sound)
+
+-- so are the other rows
+pub others_at : (s mid now : SiteLog) (rows : List (Option RowValue)) (volumes : List VolumeData) → mid ≡ s → length rows ≡ 32 → RowsAre rows (content s)
+    → RepairsOthers (missing (listed rows) volumes) mid now → RepairsOthers (missing (rows_of (content s)) volumes) s now
+others_at s mid now rows volumes same long are others =
+    subst (λ (x : RowsOf). RepairsOthers (missing x volumes) s now) (rows_listed rows (content s) long are) (subst (λ (x : SiteLog). RepairsOthers (missing (listed rows) volumes) x now) same others)

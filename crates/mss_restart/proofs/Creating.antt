@@ -1,5 +1,5 @@
 -- One creation after another.
-use Rattle.std.proofs.Common.{◌≡◌, inl, inr, ℕ, suc, ◌+◌, ◌<◌, ◌≤◌, true, false, cond, List, [], ◌∷◌, ◌++◌, length, map, drop, get_or, append_assoc, Option, refl, sym, ◌∙◌, ap, subst, arith}
+use Rattle.std.proofs.Common.{◌≡◌, ◌≢◌, inl, inr, ℕ, suc, ◌+◌, ◌<◌, ◌≤◌, true, false, cond, List, [], ◌∷◌, ◌++◌, length, map, drop, get_or, append_assoc, Option, refl, sym, ◌∙◌, ap, subst, arith}
 use Rattle.std.specs.Prelude.{is_some}
 use Rattle.std.proofs.lemmas.List.{append-nil}
 use Rattle.std.specs.List.{AllByRecursion}
@@ -19,6 +19,8 @@ use Rattle.shown_volumes.specs.Changing.{WithOrWithout, with_row, with_blank}
 use Rattle.std.proofs.Math.Seq.{drop-cons}
 use Rattle.mss_restart.proofs.ListedFacts.{listed_at}
 use Rattle.volume_table.specs.Listed.{listed}
+use Rattle.mss_restart.specs.Creations.{RepairsOthers}
+use Rattle.mss_restart.proofs.OtherRows.{nothing_else, others_then, others_of, is_apart}
 use Rattle.mss_restart.specs.Opening.{RowsAre, AreHeld, missing, with_blanks, ShowsFront, IsNewRow, Creates, IsCreated, AreCreated}
 
 abbrev pub AreRising : List VolumeData → Type 0
@@ -33,6 +35,7 @@ pub record IsCreating (all : List VolumeData) (start : RowsOf) (begun now : Site
   pub are : RowsAre rows (content now)
   pub held : AreHeld (listed rows) (content now)
   pub created : Creates made start (listed rows)
+  pub others : RepairsOthers (missing start all) begun now
 
 pub nothing_created : (all : List VolumeData) (s : SiteLog) (rows : List (Option RowValue)) → RowsAre rows (content s) → AreHeld (listed rows) (content s) → IsCreating all (listed rows) s s rows all
 nothing_created all s rows are held = record {
@@ -44,6 +47,7 @@ nothing_created all s rows are held = record {
   are = are;
   held = held;
   created = refl;
+  others = nothing_else (missing (listed rows) all) s s refl;
 }
 
 all_above : (n : ℕ) (vs : List VolumeData) → AllByRecursion (λ m. nat_cmp n m ≡ Less) (map (λ v. v.0) vs) → AllByRecursion (λ v. n < v.0) vs
@@ -81,6 +85,7 @@ module _ (all : List VolumeData) (start : RowsOf) (begun mid : SiteLog) (rows : 
     are = so_far.are;
     held = so_far.held;
     created = so_far.created;
+    others = so_far.others;
   }
 
   -- it has none
@@ -90,6 +95,12 @@ module _ (all : List VolumeData) (start : RowsOf) (begun mid : SiteLog) (rows : 
 
     front_with : (so_far.made ++ v ∷ []) ++ missing (listed rows) rest ≡ missing start all
     front_with = append_assoc so_far.made (v ∷ []) (missing (listed rows) rest) ∙ front
+
+    -- its creation leaves the others
+    pub others_on : (now : SiteLog) → RepairsOthers (v ∷ []) mid now → RepairsOthers (missing start all) begun now
+    others_on now one =
+        others_then (missing start all) begun mid now so_far.others (others_of (v ∷ []) (missing start all) mid now (λ volume apart.
+        (is_apart volume so_far.made v (missing (listed rows) rest) (subst (AllByRecursion (λ w. w.0 ≢ volume)) (sym front) apart), tt)) one)
 
     within : (frames : ℕ) → IsSound frames (content begun) → (d : Content) → IsSound frames d × WithOrWithout v.0 v.1 (shown (content mid)) (shown d) → ShowsFront frames (missing start all) (shown (content begun)) d
     within frames sound d is =
@@ -113,8 +124,8 @@ module _ (all : List VolumeData) (start : RowsOf) (begun mid : SiteLog) (rows : 
           (weaker (λ d. IsSound frames d × WithOrWithout v.0 v.1 (shown (content mid)) (shown d)) (ShowsFront frames (missing start all) (shown (content begun))) (within frames sound) mid now
           (moments frames (so_far.shows frames sound).sound))
 
-      pub created_too : (after : List (Option RowValue)) → IsCreated v.0 v.1 (content mid) (content now) rows after → AllByRecursion (λ w. v.0 < w.0) rest → IsCreating all start begun now after rest
-      created_too after one above = record {
+      pub created_too : RepairsOthers (v ∷ []) mid now → (after : List (Option RowValue)) → IsCreated v.0 v.1 (content mid) (content now) rows after → AllByRecursion (λ w. v.0 < w.0) rest → IsCreating all start begun now after rest
+      created_too others after one above = record {
         made = so_far.made ++ v ∷ [];
         order = ap (λ (r : RowsOf). (so_far.made ++ v ∷ []) ++ missing r rest) one.now ∙ ap (λ (vs : List VolumeData). (so_far.made ++ v ∷ []) ++ vs) (missing_past v.0 one.row (listed rows) rest above) ∙ front_with;
         moments = moments_on;
@@ -125,6 +136,7 @@ module _ (all : List VolumeData) (start : RowsOf) (begun mid : SiteLog) (rows : 
         are = one.are;
         held = one.held so_far.held;
         created = creates_last so_far.made v start (listed rows) (listed after) one.row so_far.created one.is_new one.now;
+        others = others_on now others;
       }
 
 -- none are to come

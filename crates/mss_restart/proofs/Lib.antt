@@ -5,6 +5,7 @@ pub mod ReadRows
 pub mod SurveyFacts
 pub mod Surveyed
 pub mod Repaired
+pub mod OtherRows
 pub mod Pigeons
 pub mod FreshFacts
 pub mod CreatedFacts
@@ -16,4 +17,5 @@ pub mod KnownRows
 pub mod Completed
 pub mod Finishing
 pub mod OneCopy
+pub mod Paired
 pub mod OneTable

@@ -1,12 +1,14 @@
 -- Repairs and creations, each written to its end.
-use Rattle.std.specs.Prelude.{◌≡◌, ◌≤◌, ℕ, zero, suc, List, [], ◌∷◌, ◌++◌, length, Result, Ok, Err}
+use Rattle.std.specs.Prelude.{◌≡◌, ◌≢◌, ◌≤◌, ℕ, zero, suc, List, [], ◌∷◌, ◌++◌, length, Result, Ok, Err}
+use Rattle.std.specs.List.{AllByRecursion}
 use Rattle.mss_base.specs.Configs.{VolumeData}
-use Rattle.mss_base.specs.Content.{SiteLog, content, Writes}
+use Rattle.mss_base.specs.Content.{Content, SiteLog, content, Writes}
+use Rattle.mss_base.specs.declared.place.UnitNo.TheVariants.{TableA, TableB}
 use Rattle.mss_base.specs.Counts.{IsFaultSince}
 use Rattle.mss_base.specs.Sites.{FailingReads, StaysSound}
 use Rattle.volume_table.specs.Row.{RowValue}
 use Rattle.table_pair.specs.Pair.{ChangesRow, NoneOrNew, HoldsRow}
-use Rattle.table_pair.specs.Repairs.{KeepsRow, HoldsToldRow}
+use Rattle.table_pair.specs.Repairs.{NeedsNoRepair, KeepsRow, KeepsMarks, HoldsToldRow}
 use Rattle.shown_volumes.specs.declared.refused.Refused.{Refused}
 use Rattle.shown_volumes.specs.declared.refused.Refused.TheVariants.{Stopped, Memory}
 use Rattle.shown_volumes.specs.Shown.{RowsOf}
@@ -30,10 +32,30 @@ abbrev pub StopsAlone : {T : Type 0} → ℕ → ℕ → Result T Refused → Ty
 StopsAlone before now (Ok value) = now ≡ before
 StopsAlone before now (Err e) = IsStop before now e
 
--- a volume's row was repaired: it is the same at each moment, and stands in both copies now
+-- a volume's row was repaired: it is the same at each moment, as the made marks are, and stands in
+-- both copies now; copies that needed no repair weren't written
 pub record IsRepair (volume : ℕ) (old new : SiteLog) : Type 0 where
   pub moments : Writes (ChangesRow volume (KeepsRow volume (content old)) (content old)) old new
+  pub marks : Writes (KeepsMarks volume (content old)) old new
   pub held : HoldsToldRow volume (content old) (content new)
+  pub alone : NeedsNoRepair volume (content old) → new ≡ old
+
+-- both copies of a volume's row are as they were
+pub record SameCopies (volume : ℕ) (old now : Content) : Type 0 where
+  pub a : now TableA volume ≡ old TableA volume
+  pub b : now TableB volume ≡ old TableB volume
+
+-- a volume's row is being repaired at most: its made marks stay, and so do copies that need no
+-- repair
+pub record IsRepairing (volume : ℕ) (old now : Content) : Type 0 where
+  pub marks : KeepsMarks volume old now
+  pub equal : NeedsNoRepair volume old → SameCopies volume old now
+
+-- at each moment no row but those of these volumes is more than repaired
+abbrev pub RepairsOthers : List VolumeData → SiteLog → SiteLog → Type 0
+RepairsOthers volumes old new =
+    (volume : ℕ) → AllByRecursion (λ v. v.0 ≢ volume) volumes
+    → Writes (IsRepairing volume (content old)) old new
 
 -- the rows of the first volumes were repaired, one after the other
 unfoldable pub AreRepaired : ℕ → SiteLog → SiteLog → Type 0

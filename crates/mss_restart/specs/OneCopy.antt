@@ -1,5 +1,5 @@
 -- One copy of the table that can't be read, where each copy tells its row alone.
-use Rattle.std.specs.Prelude.{◌≡◌, ◌≢◌, ◌⊎◌, ◌<◌, ℕ, true, false}
+use Rattle.std.specs.Prelude.{◌≡◌, ◌≢◌, ◌⊎◌, ◌<◌, ℕ, true, false, Result, Err}
 use Rattle.mss_base.specs.Content.{Content}
 use Rattle.mss_base.specs.Sites.{FailingReads}
 use Rattle.mss_base.specs.declared.place.UnitNo.{UnitNo}
@@ -8,6 +8,8 @@ use Rattle.volume_table.specs.Row.{RowValue}
 use Rattle.table_pair.specs.Copies.{copy_at}
 use Rattle.table_pair.specs.Pair.{HoldsRow, AreClosed, is_table}
 use Rattle.table_pair.specs.Reads.{IsReadable}
+use Rattle.shown_volumes.specs.declared.refused.Refused.{Refused}
+use Rattle.shown_volumes.specs.declared.refused.Refused.TheVariants.{Stopped}
 
 -- ---- the content
 
@@ -24,6 +26,11 @@ IsPaired volume c = ((row : RowValue) × HoldsRow row volume c) ⊎ AreUnmade vo
 
 abbrev pub ArePaired : Content → Type 0
 ArePaired c = (volume : ℕ) → volume < 32 → IsPaired volume c
+
+-- where they did so, they do so now, unless a call failed
+abbrev pub StayPaired : {T : Type 0} → Content → Content → Result T Refused → Type 0
+StayPaired old new (Err (Stopped fault)) = Unit {0}
+StayPaired old new _ = ArePaired old → ArePaired new
 
 -- ---- the devices
 

@@ -1,5 +1,5 @@
 // Volumes that have no row get one.
-ghost use Rattle.std.specs.Prelude.{◌≡◌, ◌≤◌, ℕ, None, Err, OnOk, IfOk, [], length, map};
+ghost use Rattle.std.specs.Prelude.{◌≡◌, ◌≤◌, ℕ, None, Err, OnOk, IfOk, [], ◌∷◌, length, map};
 ghost use Rattle.std.specs.Ordering.{nat_cmp};
 ghost use Rattle.std.specs.List.Sorted.{IsStrictlySortedBy};
 ghost use Rattle.mss_base.specs.Content.{content, Writes};
@@ -23,6 +23,7 @@ ghost use Rattle.mss_restart.specs.Creations.{
   AreCounted,
   CreatesWhole,
   IsCreation,
+  RepairsOthers,
   StopsAlone,
   WritesOn,
 };
@@ -64,6 +65,8 @@ fn create_volume<S: Site>(
         (content (S.told site.old)) (content (S.told site.new)) rows.old.items rows.new.items) }
     ensures complete { S.tells → IfOk result (λ made. IsCreation (listed rows.old.items)
         (listed rows.new.items) (volume, serial) made (S.told site.old) (S.told site.new)) }
+    ensures others { S.tells →
+        RepairsOthers ((volume, serial) ∷ []) (S.told site.old) (S.told site.new) }
     ensures row { OnOk result
         (HasNewRow volume serial (listed rows.old.items) (listed rows.new.items)) }
     ensures counted { IfOk result (λ made.
@@ -115,6 +118,8 @@ pub fn create_volumes<S: Site>(
     ensures complete { S.tells → CreatesWhole (missing (listed rows.old.items) volumes.now)
         creations.new.items (listed rows.old.items) (listed rows.new.items)
         (S.told site.old) (S.told site.new) result }
+    ensures others { S.tells → RepairsOthers (missing (listed rows.old.items) volumes.now)
+        (S.told site.old) (S.told site.new) }
     ensures rows { OnOk result (Creates (missing (listed rows.old.items) volumes.now)
         (listed rows.old.items) (listed rows.new.items)) }
     ensures counted { OnOk result (AreCounted (S.writes site.old) (S.writes site.new)

@@ -17,7 +17,13 @@ ghost use Rattle.mss_restart.specs.Opening.{
   missing,
   site_of,
 };
-ghost use Rattle.mss_restart.specs.Creations.{AreCounted, CompletesWhole, StopsAlone, WritesOn};
+ghost use Rattle.mss_restart.specs.Creations.{
+  AreCounted,
+  CompletesWhole,
+  RepairsOthers,
+  StopsAlone,
+  WritesOn,
+};
 ghost use Rattle.mss_restart.specs.Answers.{
   KeepsOpening,
   MakesCounted,
@@ -28,6 +34,7 @@ ghost use Rattle.mss_restart.specs.Answers.{
   RefusesAs,
   WritesIfFaultless,
 };
+ghost use Rattle.mss_restart.specs.OneCopy.{StayPaired};
 ghost use Rattle.mss_restart.specs.Survey.{NeverFails, TellsNoFailure};
 
 use crate::creations::{Creations, create_volumes};
@@ -91,6 +98,8 @@ fn complete_rows<S: Site>(
     ensures complete { S.tells → CompletesWhole (missing (listed rows.old.items) config.now.volumes)
         creations.new.items (listed rows.old.items) (listed rows.new.items)
         (S.told site.old) (S.told site.new) result }
+    ensures others { S.tells → RepairsOthers (missing (listed rows.old.items) config.now.volumes)
+        (S.told site.old) (S.told site.new) }
     ensures rows { OnOk result (Creates (missing (listed rows.old.items) config.now.volumes)
         (listed rows.old.items) (listed rows.new.items)) }
     ensures counted { OnOk result (AreCounted (S.writes site.old) (S.writes site.new)
@@ -115,6 +124,9 @@ fn open_lent<S: Site>(alloc: Global, site: &mut S, config: &Config) -> Result<Op
         (ShowsFront frames (missing (rows_of (content (S.told site.old))) config.now.volumes)
         (shown (content (S.told site.old)))) (S.told site.old) (S.told site.new) }
     ensures complete { S.tells → OpensWhole config.now (S.told site.old) (S.told site.new) result }
+    ensures others { S.tells → RepairsOthers
+        (missing (rows_of (content (S.told site.old))) config.now.volumes)
+        (S.told site.old) (S.told site.new) }
     ensures untouched { S.tells → WritesIfFaultless config.now (S.told site.old) (S.told site.new) }
     ensures usable { IfOk result (λ opened. AreUsableFor config.now (listed opened.rows.items)) }
     ensures whole { IfOk result (λ opened. length opened.rows.items ≡ 32) }
@@ -142,7 +154,9 @@ fn open_lent<S: Site>(alloc: Global, site: &mut S, config: &Config) -> Result<Op
 /// front of the new ones. A content with a fault is refused by its first fault, and nothing is written. `RowUnread` and
 /// `Stopped` come only where a call of the site failed, and keep its count of faults behind that; `Stopped` also where one
 /// copy alone told a row, since a read of the other failed: then it keeps the count of the first such row, and nothing is
-/// written. After want of memory each repair and creation that was begun was written to its end.
+/// written. After want of memory each repair and creation that was begun was written to its end. At each moment the made
+/// marks of all other volumes stay, and so do their copies where they need no repair; and where each copy told its row
+/// alone, it does so afterwards, unless a call failed.
 pub fn open_rows<S: Site>(
     alloc: Global,
     site: S,
@@ -158,6 +172,11 @@ pub fn open_rows<S: Site>(
         (shown (content (S.told site)))) (S.told site) (S.told (site_of result)) }
     ensures complete { S.tells → OpensWhole config.now (S.told site) (S.told (site_of result))
         (answer_of result) }
+    ensures others { S.tells → RepairsOthers
+        (missing (rows_of (content (S.told site))) config.now.volumes)
+        (S.told site) (S.told (site_of result)) }
+    ensures paired { S.tells → StayPaired
+        (content (S.told site)) (content (S.told (site_of result))) (answer_of result) }
     ensures untouched { S.tells →
         WritesIfFaultless config.now (S.told site) (S.told (site_of result)) }
     ensures usable { IfOk (answer_of result) (λ opened.

@@ -1,5 +1,5 @@
 // The copies of each row made equal.
-ghost use Rattle.std.specs.Prelude.{◌≡◌, ◌<◌, ℕ, Err, OnOk};
+ghost use Rattle.std.specs.Prelude.{◌≡◌, ◌<◌, ℕ, [], Err, OnOk};
 ghost use Rattle.mss_base.specs.Content.{content, Writes};
 ghost use Rattle.table_pair.specs.Pair.{row_of};
 ghost use Rattle.table_pair.specs.Repairs.{FailsNever, HoldsToldRow, KeepsRepairFault};
@@ -7,7 +7,7 @@ ghost use Rattle.table_pair.specs.declared.copy.RepairFault.TheVariants as troub
 ghost use Rattle.shown_volumes.specs.declared.refused.Refused.TheVariants.{Memory};
 ghost use Rattle.shown_volumes.specs.Shown.{shown};
 ghost use Rattle.shown_volumes.specs.Sound.{IsSound, SoundAs};
-ghost use Rattle.mss_restart.specs.Creations.{IsStop, RepairsWhole, StopsAlone, WritesOn};
+ghost use Rattle.mss_restart.specs.Creations.{IsStop, RepairsOthers, RepairsWhole, StopsAlone, WritesOn};
 ghost use Rattle.mss_restart.specs.Survey.{IsNoFailure, NeverFails, TellsNoFailure};
 
 use crate::numbers::volume_at;
@@ -30,7 +30,8 @@ fn refused_repair(fault: RepairFault) -> Refused
 }
 
 /// Makes the two copies of each row equal, and open with it. The rows stay, and a sound content shows the same at each
-/// moment. After want of memory each repair that was begun was written to its end.
+/// moment; so do the made marks, and copies that need no repair. After want of memory each repair that was begun was
+/// written to its end.
 pub fn repair_rows<S: Site>(alloc: Global, site: &mut S) -> Result<(), Refused>
     ensures moments { S.tells → (frames : ℕ) → IsSound frames (content (S.told site.old))
         → Writes (SoundAs frames (shown (content (S.told site.old))))
@@ -40,6 +41,7 @@ pub fn repair_rows<S: Site>(alloc: Global, site: &mut S) -> Result<(), Refused>
     ensures held { S.tells → OnOk result ((volume : ℕ) → volume < 32
         → HoldsToldRow volume (content (S.told site.old)) (content (S.told site.new))) }
     ensures complete { S.tells → RepairsWhole (S.told site.old) (S.told site.new) result }
+    ensures others { S.tells → RepairsOthers [] (S.told site.old) (S.told site.new) }
     ensures stops { StopsAlone (S.faults site.old) (S.faults site.new) result }
     ensures works { NeverFails S.never_fails_but site.old → TellsNoFailure result }
     ensures devices { WritesOn S.writes S.faults S.never_fails_but site.old site.new }

@@ -1,19 +1,21 @@
 -- The moments of a repair.
-use Rattle.std.proofs.Common.{◌≡◌, inl, inr, true, false, ℕ, Some, Result, Ok, Err, refl, sym, ◌∙◌, ap, subst}
+use Rattle.std.proofs.Common.{◌≡◌, inl, inr, true, false, ℕ, List, Some, Result, Ok, Err, refl, sym, ◌∙◌, ap, subst}
 use Rattle.std.specs.Prelude.{IsOk}
-use Rattle.mss_base.specs.Content.{SiteLog, content, Writes}
+use Rattle.mss_base.specs.Content.{SiteLog, content, Writes, ChangesBlock}
+use Rattle.mss_base.specs.declared.place.UnitNo.TheVariants.{TableA, TableB}
+use Rattle.mss_base.proofs.Moments.{started, weaker}
 use Rattle.volume_table.specs.Row.{RowValue}
 use Rattle.volume_table.specs.Grammar.{decode}
 use Rattle.table_pair.specs.declared.copy.TableCopy.TheVariants as copy
 use Rattle.table_pair.specs.Places.{place_of}
-use Rattle.table_pair.specs.Copies.{CopyView, filled, IsRewriting, WritesCopy}
+use Rattle.table_pair.specs.Copies.{CopyView, copy_at, filled, IsRewriting, WritesCopy}
 use Rattle.table_pair.specs.Pair.{known, row_of_copies, IsOpenWith, HoldsRow, ChangesRow}
-use Rattle.table_pair.specs.Repairs.{AreEqual, NeedNoRepair, NeedsNoRepair, KeepsRow, HoldsToldRow, KeepsRepairFault}
+use Rattle.table_pair.specs.Repairs.{AreEqual, NeedNoRepair, NeedsNoRepair, KeepsRow, KeepsMarks, HoldsToldRow, KeepsRepairFault}
 use Rattle.table_pair.specs.declared.copy.RepairFault.{RepairFault}
 use Rattle.table_pair.specs.declared.copy.RepairFault.TheVariants.{Memory}
 use Rattle.table_pair.proofs.PairFacts.{row_by_a, row_by_b, one_row, spells_row}
 use Rattle.table_pair.proofs.PairLemmas.{copy_a, copy_b, InPair, kept_a, kept_b, from_a, from_b, pair_row, row_unwritten, equal_settled}
-use Rattle.table_pair.proofs.StayLemmas.{stays, stays_rewriting}
+use Rattle.table_pair.proofs.StayLemmas.{stays, stays_rewriting, rewriting_keeps_mark}
 use Rattle.table_pair.proofs.ChangeLemmas.{open_filled, open_as}
 
 -- an open copy is filled with what it spells
@@ -33,6 +35,22 @@ module _ (volume : ℕ) (s t : SiteLog) where
   -- nothing is written
   pub unwritten : t ≡ s → Writes (ChangesRow volume (KeepsRow volume (content s)) (content s)) s t
   unwritten same = row_unwritten volume (KeepsRow volume (content s)) s t same refl
+
+  pub no_marks : t ≡ s → Writes (KeepsMarks volume (content s)) s t
+  no_marks same = subst (λ (u : SiteLog). Writes (KeepsMarks volume (content s)) s u) (sym same) (started (KeepsMarks volume (content s)) s (record { a = refl; b = refl }))
+
+  -- a copy that is rewritten keeps its mark, and the other one isn't written
+  pub a_marks : (bytes : List ℕ) → WritesCopy (place_of copy.A volume) (IsRewriting bytes a) s t → Writes (KeepsMarks volume (content s)) s t
+  a_marks bytes w = weaker (ChangesBlock TableA volume (λ block. IsRewriting bytes a (copy_at block)) (content s)) (KeepsMarks volume (content s)) (λ c has. record {
+    a = rewriting_keeps_mark bytes a (copy_at (c TableA volume)) has.here;
+    b = ap (λ (block : List ℕ). (copy_at block).is_made) (has.others TableB volume refl);
+  }) s t w
+
+  pub b_marks : (bytes : List ℕ) → WritesCopy (place_of copy.B volume) (IsRewriting bytes b) s t → Writes (KeepsMarks volume (content s)) s t
+  b_marks bytes w = weaker (ChangesBlock TableB volume (λ block. IsRewriting bytes b (copy_at block)) (content s)) (KeepsMarks volume (content s)) (λ c has. record {
+    a = ap (λ (block : List ℕ). (copy_at block).is_made) (has.others TableA volume refl);
+    b = rewriting_keeps_mark bytes b (copy_at (c TableB volume)) has.here;
+  }) s t w
 
   pub none_settled : NeedNoRepair a b → t ≡ s → NeedsNoRepair volume (content t)
   none_settled none same = subst (λ (u : SiteLog). NeedsNoRepair volume (content u)) (sym same) none
@@ -101,6 +119,9 @@ module _ (volume : ℕ) (s t : SiteLog) where
     a_needed none = elim none [ inl gone ↦ absurd (gone row told_row) | inr equal ↦ absurd (let e : false ≡ true = sym closed_a ∙ equal.open_a in cc) ]
 
 -- what a call that wrote nothing before keeps
+pub marks_since : (volume : ℕ) (s r t : SiteLog) → r ≡ s → Writes (KeepsMarks volume (content r)) r t → Writes (KeepsMarks volume (content s)) s t
+marks_since volume s r t same w = subst (λ (q : SiteLog). Writes (KeepsMarks volume (content q)) q t) same w
+
 pub since : (volume : ℕ) (s r t : SiteLog) → r ≡ s → Writes (ChangesRow volume (KeepsRow volume (content r)) (content r)) r t → Writes (ChangesRow volume (KeepsRow volume (content s)) (content s)) s t
 since volume s r t same w = subst (λ (q : SiteLog). Writes (ChangesRow volume (KeepsRow volume (content q)) (content q)) q t) same w
 

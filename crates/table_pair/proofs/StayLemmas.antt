@@ -1,5 +1,5 @@
 -- What stays of a copy while it is written.
-use Rattle.std.proofs.Common.{◌≡◌, inl, inr, true, List, ℕ, refl, sym, ◌∙◌, subst}
+use Rattle.std.proofs.Common.{◌≡◌, inl, inr, true, List, ℕ, refl, sym, ◌∙◌, ap, subst}
 use Rattle.table_pair.specs.Copies.{CopyView, marked, filled, IsRewriting}
 use Rattle.table_pair.specs.Pair.{StaysCopy}
 
@@ -27,3 +27,7 @@ stays_since old now is = record { behind = is.behind; made = λ _. is.made refl 
 
 pub rewriting_made : (bytes : List ℕ) (old now : CopyView) → IsRewriting bytes (marked old) now → now.is_made ≡ true
 rewriting_made bytes old now is = (stays_rewriting bytes (marked old) now is).made refl
+
+-- a rewritten copy has the mark that it had
+pub rewriting_keeps_mark : (bytes : List ℕ) (old now : CopyView) → IsRewriting bytes old now → now.is_made ≡ old.is_made
+rewriting_keeps_mark bytes old now is = elim is [ inl same ↦ ap (λ (c : CopyView). c.is_made) same | inr filling ↦ filling.made ]

@@ -35,6 +35,11 @@ IsStale (Some copy.B) a b = (AreEqual a b → ⊥) × ((row : RowValue) × IsOpe
 abbrev pub KeepsRow : ℕ → Content → Content → Type 0
 KeepsRow volume old new = row_of new volume ≡ row_of old volume
 
+-- no copy gets a made mark, and none loses its
+pub record KeepsMarks (volume : ℕ) (old new : Content) : Type 0 where
+  pub a : (copy_at (new TableA volume)).is_made ≡ (copy_at (old TableA volume)).is_made
+  pub b : (copy_at (new TableB volume)).is_made ≡ (copy_at (old TableB volume)).is_made
+
 -- the row that was told, if any, stands in both copies
 abbrev pub HoldsToldRow : ℕ → Content → Content → Type 0
 HoldsToldRow volume old new = (row : RowValue) → row_of old volume ≡ known (Some row) false → HoldsRow row volume new

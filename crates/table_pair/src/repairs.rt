@@ -10,7 +10,7 @@ ghost use Rattle.volume_table.specs.Grammar.{decode};
 ghost use Rattle.table_pair.specs.Copies.{copy_at};
 ghost use Rattle.table_pair.specs.Pair.{ChangesRow};
 ghost use Rattle.table_pair.specs.Reads.{IsReadable};
-ghost use Rattle.table_pair.specs.Repairs.{NeedsNoRepair, IsStale, KeepsRow, HoldsToldRow, KeepsRepairFault, LeavesSite, FailsNever};
+ghost use Rattle.table_pair.specs.Repairs.{NeedsNoRepair, IsStale, KeepsRow, KeepsMarks, HoldsToldRow, KeepsRepairFault, LeavesSite, FailsNever};
 ghost use Rattle.table_pair.specs.declared.copy.RepairFault.TheVariants.{Memory};
 
 use crate::copy::{RepairFault, TableCopy, place_of};
@@ -74,6 +74,8 @@ fn follow<S: Site>(site: &mut S, volume: VolumeNo, a: &[u8], b: &[u8]) -> Result
     ensures moments { S.tells → Writes
         (ChangesRow volume (KeepsRow volume (content (S.told site.old))) (content (S.told site.old)))
         (S.told site.old) (S.told site.new) }
+    ensures marks { S.tells → Writes (KeepsMarks volume (content (S.told site.old)))
+        (S.told site.old) (S.told site.new) }
     ensures done { S.tells → OnOk result
         (HoldsToldRow volume (content (S.told site.old)) (content (S.told site.new))) }
     ensures settled { S.tells → OnOk result (NeedsNoRepair volume (content (S.told site.new))) }
@@ -124,11 +126,13 @@ fn read_block<S: Site>(site: &mut S, at: &BlockPlace, block: &mut [u8]) -> Resul
 /// Makes the two copies of a volume's row equal, where one of them tells a row: the row that `read_row` tells stands in
 /// both after that. Elsewhere, and where they are equal, nothing is written.
 ///
-/// It makes at most three writes, for which it takes the room itself. The row is the same at every moment. After want
-/// of memory the devices are as they were.
+/// It makes at most three writes, for which it takes the room itself. The row is the same at every moment, and so are
+/// the made marks. After want of memory the devices are as they were.
 pub fn repair<S: Site>(alloc: Global, site: &mut S, volume: VolumeNo) -> Result<(), RepairFault>
     ensures moments { S.tells → Writes
         (ChangesRow volume (KeepsRow volume (content (S.told site.old))) (content (S.told site.old)))
+        (S.told site.old) (S.told site.new) }
+    ensures marks { S.tells → Writes (KeepsMarks volume (content (S.told site.old)))
         (S.told site.old) (S.told site.new) }
     ensures done { S.tells → OnOk result
         (HoldsToldRow volume (content (S.told site.old)) (content (S.told site.new))) }

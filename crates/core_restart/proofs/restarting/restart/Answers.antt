@@ -1,11 +1,13 @@
-use Rattle.std.proofs.Common.{◌≡◌, List, sym, ◌∙◌, subst}
+use Rattle.std.proofs.Common.{◌≡◌, List, Ok, sym, ◌∙◌, subst}
 use Rattle.mss_base.specs.Configs.{ConfigData}
 use Rattle.mss_restart.specs.declared.creations.Creation.{Creation}
 use Rattle.core_restart.specs.Parts.{MayBegin}
 use Rattle.core_restart.proofs.Beginning.{may_begin}
 use Rattle.shown_volumes.specs.declared.refused.Refused.TheVariants.{Memory}
-use Rattle.core_restart.specs.Opening.{seen_of}
-use Rattle.core_restart.proofs.Answering.{none_told, then_none_told}
+use Rattle.core_state.specs.CoreValue.{DevicesSeen}
+use Rattle.core_restart.specs.Console.{creations_of}
+use Rattle.core_restart.specs.Opening.{OpensTold, opened_in, seen_of}
+use Rattle.core_restart.proofs.Answering.{none_told, then_none_told, told_as}
 use Rattle.core_restart.proofs.TakenUp.{refusal_taken, begun_taken}
 use Rattle.core_restart.proofs.restarting.restart.Goals as goal
 
@@ -18,7 +20,7 @@ returns-in_default-copies_of-clause-told g c = λ tells.
     let new = seen_of g.S.Site.told g.S.Site.writes g.S.Site.faults c.in-Ok-open_rows.site in
     let are = c.in-Ok-open_rows.ensures in
     then_none_told c.args.config.now old new c.in-Ok-open_rows.opened
-    (record { opens = are.opens tells; exact = are.exact tells; moments = are.moments tells; complete = are.complete tells; untouched = are.untouched tells })
+    (record { opens = are.opens tells; exact = are.exact tells; moments = are.moments tells; complete = are.complete tells; others = are.others tells; paired = are.paired tells; untouched = are.untouched tells })
 
 pub begin-requires-clause-opened : goal.begin-requires-clause-opened
 begin-requires-clause-opened g c =
@@ -36,7 +38,7 @@ begin-requires-clause-opened g c =
 pub returns-in-Err-clause-told : goal.returns-in-Err-clause-told
 returns-in-Err-clause-told g c = λ tells.
     let are = c.in-Err.ensures in
-    record { opens = are.opens tells; exact = are.exact tells; moments = are.moments tells; complete = are.complete tells; untouched = are.untouched tells }
+    record { opens = are.opens tells; exact = are.exact tells; moments = are.moments tells; complete = are.complete tells; others = are.others tells; paired = are.paired tells; untouched = are.untouched tells }
 
 pub returns-in_default-clause-takes_up : goal.returns-in_default-clause-takes_up
 returns-in_default-clause-takes_up g c = λ tells.
@@ -59,3 +61,14 @@ pub returns-in-Ok-copies_of-clause-takes_up : goal.returns-in-Ok-copies_of-claus
 returns-in-Ok-copies_of-clause-takes_up g c = λ tells.
     begun_taken g.S.Site.told g.S.Site.writes g.S.Site.faults c.args.config.now c.in-Ok.parts.config c.args.chooser (seen_of g.S.Site.told g.S.Site.writes g.S.Site.faults c.args.site) c.in-Ok-open_rows.site c.begin.result
     c.in-Ok-open_rows.opened.rows.items c.begin.ensures.site c.in-Ok.ensures.config_ c.begin.ensures.begins (c.in-Ok-open_rows.ensures.opens tells) (g.met.S.Site.counted c.in-Ok-open_rows.site tells)
+
+pub returns-in-Ok-copies_of-clause-told : goal.returns-in-Ok-copies_of-clause-told
+returns-in-Ok-copies_of-clause-told g c = λ tells.
+    let seen : g.row.S.Denot → DevicesSeen = seen_of g.S.Site.told g.S.Site.writes g.S.Site.faults in
+    let are = c.in-Ok-open_rows.ensures in
+    let core = c.begin.result in
+    let rows_are : core.rows ≡ c.in-Ok-open_rows.opened.rows.items = c.begin.ensures.rows ∙ c.in-Ok-copies_of.ensures.same ∙ c.as_slice.ensures in
+    let made_are : creations_of core.console ≡ c.in-Ok-open_rows.opened.creations.items = c.begin.ensures.creations ∙ c.as_slice-in-Ok-open_rows.ensures in
+    subst (λ (x : g.row.S.Denot). OpensTold c.args.config.now (seen c.args.site) (seen x) (Ok (opened_in core))) (sym c.begin.ensures.site)
+    (told_as c.args.config.now (seen c.args.site) (seen c.in-Ok-open_rows.site) c.in-Ok-open_rows.opened core.rows (creations_of core.console) rows_are made_are
+    (record { opens = are.opens tells; exact = are.exact tells; moments = are.moments tells; complete = are.complete tells; others = are.others tells; paired = are.paired tells; untouched = are.untouched tells }))

@@ -6,6 +6,7 @@ use Rattle.volume_table.specs.Listed.{listed}
 use Rattle.mss_restart.specs.Cartridges.{IsLowestFree}
 use Rattle.mss_restart.proofs.CreatedFacts.{moments_of, created_of, listed_new, on_ok}
 use Rattle.mss_restart.proofs.Counting.{new_row}
+use Rattle.mss_restart.proofs.OtherRows.{creation_others}
 use Rattle.mss_restart.proofs.creations.create_volume.Goals as goal
 
 pub returns-then-is_err-clause-moments : goal.returns-then-is_err-clause-moments
@@ -60,3 +61,13 @@ returns-clause-complete g c = λ tells.
       named = refl;
       count = c.writes.ensures ∙ g.met.S.Site.counted c.create_row.new.site tells;
     }
+
+pub returns-then-is_err-clause-others : goal.returns-then-is_err-clause-others
+returns-then-is_err-clause-others g c = λ tells.
+    creation_others c.args.volume c.args.serial c.in_ok-row.row (g.S.Site.told c.args.site.now) (g.S.Site.told c.create_row.new.site)
+    (subst (λ (x : SiteLog). Writes (ChangesRow c.args.volume (NoneOrNew c.args.volume c.in_ok-row.row) (content x)) x (g.S.Site.told c.create_row.new.site)) (c.reserve.ensures.told tells) (c.create_row.ensures.moments tells))
+
+pub returns-clause-others : goal.returns-clause-others
+returns-clause-others g c = λ tells.
+    creation_others c.args.volume c.args.serial c.in_ok-row.row (g.S.Site.told c.args.site.now) (g.S.Site.told c.create_row.new.site)
+    (subst (λ (x : SiteLog). Writes (ChangesRow c.args.volume (NoneOrNew c.args.volume c.in_ok-row.row) (content x)) x (g.S.Site.told c.create_row.new.site)) (c.reserve.ensures.told tells) (c.create_row.ensures.moments tells))

@@ -4,7 +4,7 @@ use Rattle.std.proofs.Math.ListN.{drop_of_length-le}
 use Rattle.mss_base.specs.Configs.{VolumeData}
 use Rattle.volume_table.specs.Row.{RowValue}
 use Rattle.volume_table.specs.Listed.{listed}
-use Rattle.mss_restart.proofs.Creating.{AreRising, IsCreating, nothing_created, rest_is, has_row, rising_first, passed_over, moments_on, created_too, all_created}
+use Rattle.mss_restart.proofs.Creating.{AreRising, IsCreating, nothing_created, rest_is, has_row, rising_first, passed_over, moments_on, others_on, created_too, all_created}
 use Rattle.mss_restart.proofs.Counting.{AreComing, AreLogged, none_coming, none_logged, coming_past, coming_on, logged_past, logged_on, all_come, all_logged, memory_creates}
 use Rattle.mss_restart.proofs.Repaired.{nothing_written, written_on, stop_since}
 use Rattle.std.proofs.lemmas.Result.{err_from_is_err_and}
@@ -59,7 +59,7 @@ loop-entry-preserved g c =
         creating = λ tells.
             created_too all start begun mid rows v behind (subst (λ (x : List VolumeData). IsCreating all start begun mid rows x) rest (known.creating tells))
             (ap (λ (o : Option RowValue). is_some o) row ∙ c.is_none-missing.ensures ∙ ap not w.if-missing.true) (g.S.Site.told w.create_volume.new.site) (w.create_volume.ensures.moments tells)
-            w.create_volume.new.rows.items (w.in_ok-create_volume.ensures.created tells) rising.0;
+            (w.create_volume.ensures.others tells) w.create_volume.new.rows.items (w.in_ok-create_volume.ensures.created tells) rising.0;
         coming =
             coming_on all start (listed rows) c.loop-entry.creations.items v behind (g.S.Site.writes c.args.site.now) (g.S.Site.writes c.loop-entry.site)
             (subst (λ (x : List VolumeData). AreComing all start (g.S.Site.writes c.args.site.now) (g.S.Site.writes c.loop-entry.site) (listed rows) c.loop-entry.creations.items x) rest known.coming)
@@ -145,3 +145,21 @@ returns-clause-counted g c =
     let start = listed c.args.rows.now.items in
     (all_come c.args.volumes.now start (listed c.loop-entry.rows.items) (g.S.Site.writes c.args.site.now) (g.S.Site.writes c.loop-entry.site) c.loop-entry.creations.items
     (subst (λ (x : List VolumeData). AreComing c.args.volumes.now start (g.S.Site.writes c.args.site.now) (g.S.Site.writes c.loop-entry.site) (listed c.loop-entry.rows.items) c.loop-entry.creations.items x) none c.loop-entry.invariant.coming)).1
+
+pub returns-in_err-create_volume-clause-others : goal.returns-in_err-create_volume-clause-others
+returns-in_err-create_volume-clause-others g c = λ tells.
+    let all = c.args.volumes.now in
+    let start = listed c.args.rows.now.items in
+    let begun = g.S.Site.told c.args.site.now in
+    let mid = g.S.Site.told c.loop-entry.site in
+    let rows = c.loop-entry.rows.items in
+    let behind : List VolumeData = drop (c.loop-entry.entry-index + 1) all in
+    let v : VolumeData = c.entry-item.result in
+    let known = c.loop-entry.invariant in
+    let rest = rest_is all c.loop-entry.entry-index v (omega (arith, c.loop-entry-test.true)) c.entry-item.is in
+    let row = has_row rows c.as_slice.result.now c.from.result c.get.result v.0 c.index-as_slice-from.result c.as_slice.ensures known.whole c.from.ensures c.get.ensures.value c.get.ensures.in_range c.index-as_slice-from.is in
+    others_on all start begun mid rows v behind (subst (λ (x : List VolumeData). IsCreating all start begun mid rows x) rest (known.creating tells))
+    (ap (λ (o : Option RowValue). is_some o) row ∙ c.is_none-missing.ensures ∙ ap not c.if-missing.true) (g.S.Site.told c.create_volume.new.site) (c.create_volume.ensures.others tells)
+
+pub returns-clause-others : goal.returns-clause-others
+returns-clause-others g c = λ tells. (c.loop-entry.invariant.creating tells).others

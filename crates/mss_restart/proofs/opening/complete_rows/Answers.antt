@@ -8,8 +8,9 @@ use Rattle.shown_volumes.specs.Shown.{shown}
 use Rattle.shown_volumes.specs.Sound.{IsSound}
 use Rattle.volume_table.specs.Listed.{listed}
 use Rattle.mss_restart.specs.Opening.{AreCreated, Creates, ShowsFront, missing}
-use Rattle.mss_restart.specs.Creations.{AreCounted, CreatesWhole, CompletesWhole, StopsAlone}
+use Rattle.mss_restart.specs.Creations.{AreCounted, CreatesWhole, CompletesWhole, RepairsOthers, StopsAlone}
 use Rattle.mss_restart.proofs.Repaired.{written_on}
+use Rattle.mss_restart.proofs.OtherRows.{others_then, none_of}
 use Rattle.mss_restart.proofs.Finishing.{repairs_complete, creates_complete, counted_since}
 use Rattle.mss_restart.proofs.Completed.{on_ok_too, no_front, rows_held, then_created, created_since}
 use Rattle.mss_restart.proofs.opening.complete_rows.Goals as goal
@@ -96,3 +97,18 @@ returns-clause-works g c = λ never. c.create_volumes.ensures.works (c.repair_ro
 pub returns-clause-devices : goal.returns-clause-devices
 returns-clause-devices g c =
     written_on g.S.Site.writes g.S.Site.faults g.S.Site.never_fails_but c.args.site.now c.repair_rows.new.site c.create_volumes.new.site c.repair_rows.ensures.devices c.create_volumes.ensures.devices
+
+pub returns-in_err-repair_rows-clause-others : goal.returns-in_err-repair_rows-clause-others
+returns-in_err-repair_rows-clause-others g c = λ tells.
+    none_of (missing (listed c.args.rows.now.items) c.args.config.now.volumes) (g.S.Site.told c.args.site.now) (g.S.Site.told c.repair_rows.new.site) (c.repair_rows.ensures.others tells)
+
+pub returns-clause-others : goal.returns-clause-others
+returns-clause-others g c = λ tells.
+    let s = g.S.Site.told c.args.site.now in
+    let mid = g.S.Site.told c.repair_rows.new.site in
+    let now = g.S.Site.told c.create_volumes.new.site in
+    let rows = listed c.args.rows.now.items in
+    let volumes = missing rows c.args.config.now.volumes in
+    let same : c.as_slice.result.now ≡ c.args.config.now.volumes = c.as_slice.ensures ∙ ap (λ (x : ConfigData). x.volumes) c.config.view_is in
+    others_then volumes s mid now (none_of volumes s mid (c.repair_rows.ensures.others tells))
+    (subst (λ (x : List VolumeData). RepairsOthers (missing rows x) mid now) same (c.create_volumes.ensures.others tells))

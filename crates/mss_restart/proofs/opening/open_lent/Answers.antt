@@ -14,7 +14,8 @@ use Rattle.mss_base.specs.Configs.{ConfigData, IsConfig}
 use Rattle.mss_base.specs.Content.{SiteLog, content}
 use Rattle.mss_restart.specs.Opening.{AreCreated}
 use Rattle.mss_restart.proofs.Creating.{AreRising}
-use Rattle.mss_restart.proofs.Completed.{moments_at, opened}
+use Rattle.mss_restart.proofs.Completed.{moments_at, others_at, opened}
+use Rattle.mss_restart.proofs.OtherRows.{nothing_else}
 use Rattle.mss_restart.proofs.opening.open_lent.Goals as goal
 
 pub returns-in_err-complete_rows-clause-moments : goal.returns-in_err-complete_rows-clause-moments
@@ -91,3 +92,23 @@ returns-clause-untouched g c = λ tells. inr (c.in_ok-rows.ensures.faultless tel
 pub returns-clause-usable : goal.returns-clause-usable
 returns-clause-usable g c =
     usable_for c.args.config.now c.in_ok-rows.rows.items c.complete_rows.new.rows.items (subst IsConfig c.config.view_is c.config.invariant) c.in_ok-rows.ensures.whole c.in_ok-rows.ensures.usable c.in_ok-complete_rows.ensures.rows
+
+pub returns-in_err-reserve-clause-others : goal.returns-in_err-reserve-clause-others
+returns-in_err-reserve-clause-others g c = λ tells.
+    let s = g.S.Site.told c.args.site.now in
+    nothing_else (missing (rows_of (content s)) c.args.config.now.volumes) s s refl
+
+pub returns-in_err-rows-clause-others : goal.returns-in_err-rows-clause-others
+returns-in_err-rows-clause-others g c = λ tells.
+    let s = g.S.Site.told c.args.site.now in
+    nothing_else (missing (rows_of (content s)) c.args.config.now.volumes) s (g.S.Site.told c.known_rows.new.site) (c.known_rows.ensures.devices.log tells)
+
+pub returns-in_err-complete_rows-clause-others : goal.returns-in_err-complete_rows-clause-others
+returns-in_err-complete_rows-clause-others g c = λ tells.
+    others_at (g.S.Site.told c.args.site.now) (g.S.Site.told c.known_rows.new.site) (g.S.Site.told c.complete_rows.new.site) c.in_ok-rows.rows.items c.args.config.now.volumes (c.known_rows.ensures.devices.log tells)
+    c.in_ok-rows.ensures.whole (c.in_ok-rows.ensures.known tells) (c.complete_rows.ensures.others tells)
+
+pub returns-clause-others : goal.returns-clause-others
+returns-clause-others g c = λ tells.
+    others_at (g.S.Site.told c.args.site.now) (g.S.Site.told c.known_rows.new.site) (g.S.Site.told c.complete_rows.new.site) c.in_ok-rows.rows.items c.args.config.now.volumes (c.known_rows.ensures.devices.log tells)
+    c.in_ok-rows.ensures.whole (c.in_ok-rows.ensures.known tells) (c.complete_rows.ensures.others tells)

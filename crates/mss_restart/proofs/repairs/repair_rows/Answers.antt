@@ -1,10 +1,11 @@
-use Rattle.std.proofs.Common.{rules, ◌≡◌, ◌∙◌, ℕ, false, Err, refl, ap, subst, arith}
+use Rattle.std.proofs.Common.{rules, ◌≡◌, ◌∙◌, ℕ, false, Err, [], refl, ap, subst, arith}
 use Rattle.mss_restart.specs.Creations.{AreRepaired}
+use Rattle.mss_restart.proofs.OtherRows.{nothing_else, others_then, repair_others}
 use Rattle.mss_restart.proofs.Repaired.{nothing_repaired, repaired_too, held_too, none_repaired, one_repaired, nothing_written, written_on, may_be_written, stop_since, memory_repairs}
 use Rattle.mss_restart.proofs.repairs.repair_rows.Goals as goal
 
 pub loop-number-init : goal.loop-number-init
-loop-number-init g c = record { repaired = λ tells. nothing_repaired (g.S.Site.told c.args.site.now); held = λ tells v lt. absurd (omega arith); complete = λ tells. none_repaired (g.S.Site.told c.args.site.now); count = refl; devices = nothing_written g.S.Site.writes g.S.Site.faults g.S.Site.never_fails_but c.args.site.now }
+loop-number-init g c = record { repaired = λ tells. nothing_repaired (g.S.Site.told c.args.site.now); held = λ tells v lt. absurd (omega arith); complete = λ tells. none_repaired (g.S.Site.told c.args.site.now); others = λ tells. nothing_else [] (g.S.Site.told c.args.site.now) (g.S.Site.told c.args.site.now) refl; count = refl; devices = nothing_written g.S.Site.writes g.S.Site.faults g.S.Site.never_fails_but c.args.site.now }
 
 pub returns-in-Err-clause-moments : goal.returns-in-Err-clause-moments
 returns-in-Err-clause-moments g c = λ tells.
@@ -42,7 +43,10 @@ loop-number-preserved g c = record {
       c.loop-number.number (c.loop-number.invariant.held tells) c.volume_at.ensures (c.in_default.ensures.done tells);
   complete = λ tells.
       one_repaired c.loop-number.number c.volume_at.result (g.S.Site.told c.args.site.now) (g.S.Site.told c.loop-number.site) (g.S.Site.told c.repair.new.site) (c.loop-number.invariant.complete tells) c.volume_at.ensures
-      (record { moments = c.repair.ensures.moments tells; held = c.in_default.ensures.done tells });
+      (record { moments = c.repair.ensures.moments tells; marks = c.repair.ensures.marks tells; held = c.in_default.ensures.done tells; alone = c.repair.ensures.untouched tells });
+  others = λ tells.
+      others_then [] (g.S.Site.told c.args.site.now) (g.S.Site.told c.loop-number.site) (g.S.Site.told c.repair.new.site) (c.loop-number.invariant.others tells)
+      (repair_others c.volume_at.result (g.S.Site.told c.loop-number.site) (g.S.Site.told c.repair.new.site) (c.repair.ensures.moments tells) (c.repair.ensures.marks tells) (c.repair.ensures.untouched tells));
   count = c.in_default.ensures.kept ∙ c.loop-number.invariant.count;
   devices = written_on g.S.Site.writes g.S.Site.faults g.S.Site.never_fails_but c.args.site.now c.loop-number.site c.repair.new.site c.loop-number.invariant.devices
       (may_be_written g.S.Site.writes g.S.Site.faults g.S.Site.never_fails_but 3 g.S.Site.spare c.loop-number.site c.repair.new.site c.repair.ensures.devices);
@@ -55,3 +59,8 @@ pub returns-clause-complete : goal.returns-clause-complete
 returns-clause-complete g c = λ tells.
     let n : c.loop-number.number ≡ 32 = search rules in
     subst (λ (k : ℕ). AreRepaired k (g.S.Site.told c.args.site.now) (g.S.Site.told c.loop-number.site)) n (c.loop-number.invariant.complete tells)
+
+pub returns-in-Err-clause-others : goal.returns-in-Err-clause-others
+returns-in-Err-clause-others g c = λ tells.
+    others_then [] (g.S.Site.told c.args.site.now) (g.S.Site.told c.loop-number.site) (g.S.Site.told c.repair.new.site) (c.loop-number.invariant.others tells)
+    (repair_others c.volume_at.result (g.S.Site.told c.loop-number.site) (g.S.Site.told c.repair.new.site) (c.repair.ensures.moments tells) (c.repair.ensures.marks tells) (c.repair.ensures.untouched tells))

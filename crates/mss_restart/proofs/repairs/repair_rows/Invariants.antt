@@ -1,7 +1,7 @@
-use Rattle.std.proofs.Common.{◌≡◌, ◌<◌, ℕ}
+use Rattle.std.proofs.Common.{◌≡◌, ◌<◌, ℕ, []}
 use Rattle.mss_base.specs.Content.{content}
 use Rattle.table_pair.specs.Repairs.{HoldsToldRow}
-use Rattle.mss_restart.specs.Creations.{AreRepaired, WritesOn}
+use Rattle.mss_restart.specs.Creations.{AreRepaired, RepairsOthers, WritesOn}
 use Rattle.mss_restart.proofs.Repaired.{IsRepaired}
 use Rattle.mss_restart.proofs.repairs.repair_rows.Given as goal
 
@@ -10,6 +10,7 @@ invariant-loop-number g l = record {
   repaired : g.S.Site.tells → IsRepaired (g.S.Site.told l.initial.site) (g.S.Site.told l.site);
   held : g.S.Site.tells → (v : ℕ) → v < l.number → HoldsToldRow v (content (g.S.Site.told l.initial.site)) (content (g.S.Site.told l.site));
   complete : g.S.Site.tells → AreRepaired l.number (g.S.Site.told l.initial.site) (g.S.Site.told l.site);
+  others : g.S.Site.tells → RepairsOthers [] (g.S.Site.told l.initial.site) (g.S.Site.told l.site);
   count : g.S.Site.faults l.site ≡ g.S.Site.faults l.initial.site;
   devices : WritesOn g.S.Site.writes g.S.Site.faults g.S.Site.never_fails_but l.initial.site l.site;
 }

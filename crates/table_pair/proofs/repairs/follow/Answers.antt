@@ -10,7 +10,7 @@ use Rattle.table_pair.specs.Places.{place_of}
 use Rattle.table_pair.specs.Copies.{copy_at, copy_on, filled, IsRewriting, WritesCopy}
 use Rattle.table_pair.specs.Repairs.{IsStale, HoldsToldRow, NeedsNoRepair}
 use Rattle.table_pair.proofs.FollowLemmas.{stale_told, spelled_told, on_ok_gives}
-use Rattle.table_pair.proofs.RepairLemmas.{a_moments, a_hold, a_settled, a_needed, b_moments, b_hold, b_settled, b_needed}
+use Rattle.table_pair.proofs.RepairLemmas.{a_moments, a_marks, a_hold, a_settled, a_needed, b_moments, b_marks, b_hold, b_settled, b_needed}
 use Rattle.table_pair.proofs.repairs.follow.Goals as goal
 
 pub returns-in-Some-A-clause-moments : goal.returns-in-Some-A-clause-moments
@@ -124,3 +124,19 @@ returns-in-Some-B-clause-settled g c = λ tells.
     let there = subst (λ (at : BlockPlace). copy_on t at ≡ filled (body c.args.a.now) (copy_on s at)) c.place_of-in-Some-B.ensures is in
     let same = subst (λ (l : List ℕ). copy_on t (place_of copy.B volume) ≡ filled l (copy_on s (place_of copy.B volume))) bytes there in
     b_settled volume s t stale.1.0 stale.1.1 w same) done
+
+pub returns-in-Some-A-clause-marks : goal.returns-in-Some-A-clause-marks
+returns-in-Some-A-clause-marks g c = λ tells.
+    let volume = c.args.volume in
+    let s = g.S.Site.told c.args.site.now in
+    let t = g.S.Site.told c.rewrite_copy.new.site in
+    let bytes = body c.args.b.now in
+    a_marks volume s t bytes (subst (λ (at : BlockPlace). WritesCopy at (IsRewriting bytes (copy_on s at)) s t) c.place_of.ensures (c.rewrite_copy.ensures.moments tells))
+
+pub returns-in-Some-B-clause-marks : goal.returns-in-Some-B-clause-marks
+returns-in-Some-B-clause-marks g c = λ tells.
+    let volume = c.args.volume in
+    let s = g.S.Site.told c.args.site.now in
+    let t = g.S.Site.told c.rewrite_copy-in-Some-B.new.site in
+    let bytes = body c.args.a.now in
+    b_marks volume s t bytes (subst (λ (at : BlockPlace). WritesCopy at (IsRewriting bytes (copy_on s at)) s t) c.place_of-in-Some-B.ensures (c.rewrite_copy-in-Some-B.ensures.moments tells))

@@ -9,7 +9,7 @@ use Rattle.table_pair.specs.Reads.{IsReadable}
 use Rattle.table_pair.specs.Repairs.{NeedsNoRepair, KeepsRepairFault}
 use Rattle.table_pair.proofs.FollowLemmas.{lent_back}
 use Rattle.table_pair.proofs.SiteLemmas.{got_room, room_read, room_may, room_leaves, room_write, readable_on}
-use Rattle.table_pair.proofs.RepairLemmas.{unwritten, since, kept_since, memory_count, never_err}
+use Rattle.table_pair.proofs.RepairLemmas.{unwritten, no_marks, since, marks_since, kept_since, memory_count, never_err}
 use Rattle.table_pair.proofs.repairs.repair.Goals as goal
 
 pub returns-in_err-reserve-clause-moments : goal.returns-in_err-reserve-clause-moments
@@ -189,3 +189,46 @@ returns-clause-works g c = λ a_readable _.
     let r1 = room_read g.S.Site.tells g.S.Site.told g.S.Site.spare g.S.Site.writes g.S.Site.faults g.S.Site.never_fails_but c.args.site.now c.reserve.new.self c.read_block.new.site r0 c.read_block.ensures.devices in
     let r2 = room_read g.S.Site.tells g.S.Site.told g.S.Site.spare g.S.Site.writes g.S.Site.faults g.S.Site.never_fails_but c.args.site.now c.read_block.new.site c.read_block-2.new.site r1 c.read_block-2.ensures.devices in
     never_err (Unit {0}) c.in-Err.field-0 ⊥ (c.in-Err.ensures.works a_readable.0 (r2.sound a_readable.0 a_readable.1))
+
+pub returns-in_err-reserve-clause-marks : goal.returns-in_err-reserve-clause-marks
+returns-in_err-reserve-clause-marks g c = λ tells.
+    no_marks c.args.volume _ _ (c.reserve.ensures.told tells)
+
+pub returns-in_err-a-clause-marks : goal.returns-in_err-a-clause-marks
+returns-in_err-a-clause-marks g c = λ tells.
+    no_marks c.args.volume _ _ (c.reserve.ensures.told tells)
+
+pub returns-in_err-b-clause-marks : goal.returns-in_err-b-clause-marks
+returns-in_err-b-clause-marks g c = λ tells.
+    no_marks c.args.volume _ _ (c.reserve.ensures.told tells)
+
+pub returns-in_err-read_block-clause-marks : goal.returns-in_err-read_block-clause-marks
+returns-in_err-read_block-clause-marks g c = λ tells.
+    let s = g.S.Site.told c.args.site.now in
+    let r0 : g.S.Site.told c.reserve.new.self ≡ s = c.reserve.ensures.told tells in
+    let r1 : g.S.Site.told c.read_block.new.site ≡ s = c.read_block.ensures.devices.log tells ∙ r0 in
+    no_marks c.args.volume _ _ r1
+
+pub returns-in_err-read_block-2-clause-marks : goal.returns-in_err-read_block-2-clause-marks
+returns-in_err-read_block-2-clause-marks g c = λ tells.
+    let s = g.S.Site.told c.args.site.now in
+    let r0 : g.S.Site.told c.reserve.new.self ≡ s = c.reserve.ensures.told tells in
+    let r1 : g.S.Site.told c.read_block.new.site ≡ s = c.read_block.ensures.devices.log tells ∙ r0 in
+    let r2 : g.S.Site.told c.read_block-2.new.site ≡ s = c.read_block-2.ensures.devices.log tells ∙ r1 in
+    no_marks c.args.volume _ _ r2
+
+pub returns-in-Ok-clause-marks : goal.returns-in-Ok-clause-marks
+returns-in-Ok-clause-marks g c = λ tells.
+    let s = g.S.Site.told c.args.site.now in
+    let r0 : g.S.Site.told c.reserve.new.self ≡ s = c.reserve.ensures.told tells in
+    let r1 : g.S.Site.told c.read_block.new.site ≡ s = c.read_block.ensures.devices.log tells ∙ r0 in
+    let r2 : g.S.Site.told c.read_block-2.new.site ≡ s = c.read_block-2.ensures.devices.log tells ∙ r1 in
+    marks_since c.args.volume s _ _ r2 (c.follow.ensures.marks tells)
+
+pub returns-clause-marks : goal.returns-clause-marks
+returns-clause-marks g c = λ tells.
+    let s = g.S.Site.told c.args.site.now in
+    let r0 : g.S.Site.told c.reserve.new.self ≡ s = c.reserve.ensures.told tells in
+    let r1 : g.S.Site.told c.read_block.new.site ≡ s = c.read_block.ensures.devices.log tells ∙ r0 in
+    let r2 : g.S.Site.told c.read_block-2.new.site ≡ s = c.read_block-2.ensures.devices.log tells ∙ r1 in
+    marks_since c.args.volume s _ _ r2 (c.follow.ensures.marks tells)
