@@ -18,7 +18,7 @@ use Rattle.mss_restart.specs.Creations.{IsStop, AreRepaired, IsFrontCreated, Are
 use Rattle.mss_restart.specs.Answers.{RefusesAs, KeepsOpening, RefusalLeaves}
 use Rattle.mss_restart.specs.declared.creations.Creation.{Creation}
 use Rattle.mss_restart.proofs.ReadRows.{right_readings}
-use Rattle.mss_restart.proofs.Surveyed.{row_walk, is_rest}
+use Rattle.mss_restart.proofs.Surveyed.{row_walk, is_rest, none_apart}
 use Rattle.mss_restart.proofs.Repaired.{none_repaired}
 
 none_created : (volumes : List VolumeData) (rows : RowsOf) (s : SiteLog) → IsFrontCreated volumes rows s s
@@ -91,6 +91,6 @@ faultless_rows config c rows are none =
 
 pub stop_refuses : (before now : ℕ) (config : ConfigData) (old new : SiteLog) (rows : List (Option RowValue)) (e : Refused) → RowsAre rows (content old) → first_fault config.frames (serial_in config.volumes) (content old) ≡ None
     → IsStop before now e → RefusesAs before now config old new e
-stop_refuses before now config old new rows (Stopped f) are none stops = record { mid = before; readings = right_readings before (content old); faultless = faultless_rows config (content old) rows are none; cause = inr stops }
+stop_refuses before now config old new rows (Stopped f) are none stops = record { mid = before; readings = right_readings before (content old); faultless = faultless_rows config (content old) rows are none; apart = none_apart config.frames (serial_in config.volumes) (row_of (content old)) (content old) none; cause = inr stops }
 stop_refuses before now config old new rows Memory are none stops = tt
 stop_refuses before now config old new rows _ are none stops = absurd stops

@@ -17,10 +17,10 @@ use Rattle.shown_volumes.specs.Faults.{read_fault, row_fault, first_fault}
 use Rattle.mss_base.proofs.FirstFacts.{none_below, all_none, or_none}
 use Rattle.volume_table.specs.Listed.{listed}
 use Rattle.mss_restart.specs.Walks.{rest_fault}
-use Rattle.mss_restart.specs.Survey.{KeepsCause, IsReading, FirstAlone, AreRead, Surveys, IsExact}
+use Rattle.mss_restart.specs.Survey.{KeepsCause, IsReading, FirstAlone, AreRead, StandApart, Surveys, IsExact}
 use Rattle.mss_restart.specs.Opening.{RowsAre}
 use Rattle.mss_restart.specs.Answers.{OpensExactly, RefusesAs, KeepsOpening}
-use Rattle.mss_restart.proofs.Surveyed.{is_rest, behind, row_walk, are_known}
+use Rattle.mss_restart.proofs.Surveyed.{is_rest, behind, row_walk, none_apart, listed_is, are_known}
 
 no_copy_a : (b : CopyRead) (o : Option RowValue) → known o false ≡ reading unread b → ⊥
 no_copy_a unread o is = cc
@@ -89,7 +89,7 @@ exact_refusal T config c _ is = is
 
 -- what the survey refuses, opening does
 pub survey_refuses : (before now : ℕ) (config : ConfigData) (old new : SiteLog) (e : Refused) → new ≡ old → Surveys before now config.frames (serial_in config.volumes) (content old) (Err e) → RefusesAs before now config old new e
-survey_refuses before now config old new (Stopped f) same surveys = record { mid = surveys.mid; readings = surveys.readings; faultless = surveys.tells; cause = inr surveys.counts }
+survey_refuses before now config old new (Stopped f) same surveys = record { mid = surveys.mid; readings = surveys.readings; faultless = surveys.tells.0; apart = surveys.tells.1; cause = inr surveys.counts }
 survey_refuses before now config old new Memory same surveys = tt
 survey_refuses before now config old new e same surveys = (same, surveys)
 
@@ -99,11 +99,13 @@ cause_opens T before now (Stopped f) kept = let same : f ≡ now = kept.count in
 cause_opens T before now _ kept = kept
 
 -- a row that one copy alone told stops it
-pub alone_stops : (before now : ℕ) (config : ConfigData) (old new : SiteLog) (rows : List (Option RowValue)) (unread : Option ℕ) (fault : ℕ) → unread ≡ Some fault → new ≡ old → AreRead before now (serial_in config.volumes) (content old) rows unread
+pub alone_stops : (before now : ℕ) (config : ConfigData) (old new : SiteLog) (rows : List (Option RowValue)) (unread : Option ℕ) (fault : ℕ) → unread ≡ Some fault → new ≡ old → length rows ≡ 32 → AreRead before now (serial_in config.volumes) (content old) rows unread
+    → Surveys before now config.frames (serial_in config.volumes) (content old) (Ok rows)
     → RefusesAs before now config old new (Stopped fault)
-alone_stops before now config old new rows one fault is same read = record {
+alone_stops before now config old new rows one fault is same long read surveys = record {
   mid = now;
   readings = read.readings;
   faultless = record { known = are_known rows read.readings.row read.known; none = read.none };
+  apart = subst (StandApart config.frames) (sym surveys.tells.1 ∙ listed_is before now now config.frames (serial_in config.volumes) (content old) rows one read long) (none_apart config.frames (serial_in config.volumes) surveys.readings.row (content old) surveys.tells.2);
   cause = inl (subst (FirstAlone 32 read.readings.row read.readings.counts) is read.alone, refl, same);
 }

@@ -9,7 +9,8 @@ use Rattle.shown_volumes.specs.Sound.{cartridge_of, frame_in}
 use Rattle.mss_base.specs.Firsts.{◌or◌, first_below, where_so}
 use Rattle.shown_volumes.specs.Faults.{half, earlier_half, half_fault, halves_fault, earlier_page, frame_fault, page_fault, pages_fault, tracks_fault}
 use Rattle.mss_base.proofs.FirstFacts.{or_first, or_second}
-use Rattle.mss_restart.specs.Survey.{is_of_content, CountsCause, IsNoFailure, FindsFault}
+use Rattle.std.specs.Prelude.{Result, Ok, Err, IfErr}
+use Rattle.mss_restart.specs.Survey.{is_of_content, CountsCause, IsNoFailure, FindsFault, StandApart, StopsBehind}
 use Rattle.mss_restart.specs.Walks.{rest_fault}
 
 -- faults of the content alone
@@ -73,6 +74,19 @@ pages_content frames rows =
 pub rest_is : (frames : ℕ) (rows : RowsOf) (c : Content) → first_below 32 (halves_fault rows) ≡ None → first_below 32 (pages_fault frames rows) ≡ None → rest_fault frames rows c ≡ first_below 32 (tracks_fault rows c)
 rest_is frames rows c halves pages =
     ap (λ o. o or first_below 32 (pages_fault frames rows) or first_below 32 (tracks_fault rows c)) halves ∙ ap (λ o. o or first_below 32 (tracks_fault rows c)) pages
+
+-- neither does a fault of the content, nor one behind walks that found nothing
+pub content_behind : (frames : ℕ) (rows : RowsOf) (e : Refused) → is_of_content e ≡ true → StopsBehind frames rows e
+content_behind frames rows (Stopped f) is = absurd cc
+content_behind frames rows _ is = tt
+
+pub any_behind : {T : Type 0} (frames : ℕ) (rows : RowsOf) (r : Result T Refused) → StandApart frames rows → IfErr r (StopsBehind frames rows)
+any_behind frames rows (Ok value) apart = tt
+any_behind frames rows (Err e) apart = by e
+  where
+    by : (e : Refused) → StopsBehind frames rows e
+    by (Stopped f) = apart
+    by _ = tt
 
 pub found_content : (e : Refused) (o : Option Refused) → is_of_content e ≡ true → o ≡ Some e → FindsFault e o
 found_content (RowUnread v f) o good is = absurd cc

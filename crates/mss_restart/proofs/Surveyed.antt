@@ -13,12 +13,12 @@ use Rattle.shown_volumes.specs.declared.refused.Refused.{Refused}
 use Rattle.shown_volumes.specs.declared.refused.Refused.TheVariants.{RowUnread, Stopped, Memory}
 use Rattle.shown_volumes.specs.Shown.{RowsOf, told_row, rows_in, rows_of}
 use Rattle.mss_base.specs.Firsts.{◌or◌, first_below}
-use Rattle.shown_volumes.specs.Faults.{read_fault, row_fault, first_fault_of, first_fault}
+use Rattle.shown_volumes.specs.Faults.{read_fault, row_fault, halves_fault, pages_fault, tracks_fault, first_fault_of, first_fault}
 use Rattle.shown_volumes.proofs.FaultFacts.{row_in}
-use Rattle.mss_base.proofs.FirstFacts.{none_below, found_first, or_first}
+use Rattle.mss_base.proofs.FirstFacts.{none_below, found_first, or_first, or_none}
 use Rattle.volume_table.specs.Listed.{listed}
 use Rattle.mss_restart.specs.Walks.{rest_fault}
-use Rattle.mss_restart.specs.Survey.{FindsFault, KeepsFault, CountsCause, CountsSince, IsReading, Readings, TellsRow, AreKnown, IsKnown, IsFirstUnread, AreBehindFaults, AreFaultless, AreRead, EndsAtRow, ReadsRows, SurveyTells, Surveys, IsExact}
+use Rattle.mss_restart.specs.Survey.{FindsFault, KeepsFault, CountsCause, CountsSince, IsReading, Readings, TellsRow, AreKnown, IsKnown, IsFirstUnread, AreBehindFaults, AreFaultless, AreRead, EndsAtRow, ReadsRows, StandApart, StopsBehind, SurveyTells, Surveys, IsExact}
 use Rattle.mss_restart.proofs.ReadRows.{first_same, right_readings}
 
 module _ (frames : ℕ) (asked : ℕ → Option (List ℕ)) (readings : ℕ → RowReading) (c : Content) where
@@ -35,12 +35,22 @@ module _ (frames : ℕ) (asked : ℕ → Option (List ℕ)) (readings : ℕ → 
   pub behind : (o : Option Refused) → row_walk ≡ None → rest_fault frames (rows_in readings) c ≡ o → first_fault_of frames asked readings c ≡ o
   behind o none is = is_rest ∙ ap (λ x. x or rest_fault frames (rows_in readings) c) none ∙ is
 
+  -- without a fault the rows stand apart
+  pub none_apart : first_fault_of frames asked readings c ≡ None → StandApart frames (rows_in readings)
+  none_apart none =
+      let halves = first_below 32 (halves_fault (rows_in readings)) in
+      let pages = first_below 32 (pages_fault frames (rows_in readings)) in
+      let tracks = first_below 32 (tracks_fault (rows_in readings) c) in
+      let rest = or_none row_walk (rest_fault frames (rows_in readings) c) (sym is_rest ∙ none) in
+      let behind_halves = or_none halves (pages or tracks) rest.1 in
+      record { halves = behind_halves.0; pages = (or_none pages tracks behind_halves.1).0 }
+
   -- a fault behind the walk over the rows
-  tells_rest : AreFaultless asked readings → (e : Refused) (part : Option Refused) → FindsFault e part → (part ≡ Some e → first_fault_of frames asked readings c ≡ Some e) → SurveyTells frames asked readings c (Err e)
-  tells_rest good (RowUnread v f) part found more = absurd found
-  tells_rest good (Stopped f) part found more = good
-  tells_rest good Memory part found more = tt
-  tells_rest good e part found more = (λ v low un. absurd (good.known v low un), more (found refl))
+  tells_rest : AreFaultless asked readings → (e : Refused) (part : Option Refused) → StopsBehind frames (rows_in readings) e → FindsFault e part → (part ≡ Some e → first_fault_of frames asked readings c ≡ Some e) → SurveyTells frames asked readings c (Err e)
+  tells_rest good (RowUnread v f) part apart found more = absurd found
+  tells_rest good (Stopped f) part apart found more = (good, apart)
+  tells_rest good Memory part apart found more = tt
+  tells_rest good e part apart found more = (λ v low un. absurd (good.known v low un), more (found refl))
 
   -- a row at fault behind rows that are known
   behind_fault : (volume : ℕ) (e : Refused) → AreKnown volume readings → read_fault volume (asked volume) (readings volume) ≡ Some e → AreBehindFaults asked readings
@@ -107,11 +117,11 @@ module _ (before mid now frames : ℕ) (asked : ℕ → Option (List ℕ)) (c : 
   pub good_survey : now ≡ mid → rest_fault frames (listed rows) c ≡ None → Surveys before now frames asked c (Ok rows)
   good_survey same none = record { mid = mid; readings = read.readings; tells = (faultless_rows, listed_is, rest None none); counts = same }
 
-  pub bad_survey : (e : Refused) → FindsFault e (rest_fault frames (listed rows) c) → CountsCause mid now e → Surveys before now frames asked c (Err e)
-  bad_survey e found counts = record {
+  pub bad_survey : (e : Refused) → StopsBehind frames (listed rows) e → FindsFault e (rest_fault frames (listed rows) c) → CountsCause mid now e → Surveys before now frames asked c (Err e)
+  bad_survey e apart found counts = record {
     mid = mid;
     readings = read.readings;
-    tells = tells_rest frames asked read.readings.row c faultless_rows e (rest_fault frames (listed rows) c) found (rest (Some e));
+    tells = tells_rest frames asked read.readings.row c faultless_rows e (rest_fault frames (listed rows) c) (subst (λ (x : RowsOf). StopsBehind frames x e) listed_is apart) found (rest (Some e));
     counts = rest_counts mid now e (rest_fault frames (listed rows) c) found counts;
   }
 

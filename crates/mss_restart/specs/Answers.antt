@@ -6,10 +6,10 @@ use Rattle.mss_base.specs.Counts.{IsFaultSince, IsFaultWithin}
 use Rattle.ckd_plain.specs.Plain.{serial_in}
 use Rattle.shown_volumes.specs.declared.refused.Refused.{Refused}
 use Rattle.shown_volumes.specs.declared.refused.Refused.TheVariants.{RowUnread, Stopped, Memory}
-use Rattle.shown_volumes.specs.Shown.{RowsOf, rows_of}
+use Rattle.shown_volumes.specs.Shown.{RowsOf, rows_in, rows_of}
 use Rattle.shown_volumes.specs.Faults.{first_fault}
 use Rattle.volume_table.specs.Listed.{listed}
-use Rattle.mss_restart.specs.Survey.{Readings, AreFaultless, IsFirstAlone, Surveys}
+use Rattle.mss_restart.specs.Survey.{Readings, AreFaultless, StandApart, IsFirstAlone, Surveys}
 use Rattle.mss_restart.specs.Opening.{IsOpened, Creates, missing}
 use Rattle.mss_restart.specs.Creations.{CompletesWhole, AreCounted}
 use Rattle.mss_restart.specs.declared.creations.Creation.{Creation}
@@ -19,12 +19,14 @@ use Rattle.mss_restart.specs.declared.opening.Opened.{Opened}
 abbrev pub WritesIfFaultless : ConfigData → SiteLog → SiteLog → Type 0
 WritesIfFaultless config old new = (new ≡ old) ⊎ (first_fault config.frames (serial_in config.volumes) (content old) ≡ None)
 
--- a stop: each row was known and without fault. Of the first that one copy alone told the count is kept, and nothing was
--- written; else a call failed behind the reads of the rows.
+-- a stop: each row was known and without fault, as halves and pages are. Of the first that one
+-- copy alone told the count is kept, and nothing was written; else a call failed behind the reads
+-- of the rows.
 pub record IsStopped (before now : ℕ) (config : ConfigData) (old new : SiteLog) (fault : ℕ) : Type 0 where
   pub mid : ℕ
   pub readings : Readings before mid (content old)
   pub faultless : AreFaultless (serial_in config.volumes) readings.row
+  pub apart : StandApart config.frames (rows_in readings.row)
   pub cause : (IsFirstAlone 32 readings.row readings.counts fault × (now ≡ mid) × (new ≡ old)) ⊎ IsFaultSince mid now fault
 
 -- a refusal but for a failed call or want of memory is the survey's, and nothing was written

@@ -11,8 +11,8 @@ use Rattle.table_pair.specs.Pair.{CopyRead, RowReading, known, unknown, reading}
 use Rattle.table_pair.specs.Reads.{IsReadOf, MissingKeeps}
 use Rattle.table_pair.specs.declared.copy.RowRead.{RowRead}
 use Rattle.mss_base.specs.Firsts.{first_below}
-use Rattle.shown_volumes.specs.Faults.{read_fault, row_fault, first_fault_of, first_fault}
-use Rattle.shown_volumes.specs.Shown.{rows_in, rows_of}
+use Rattle.shown_volumes.specs.Faults.{read_fault, row_fault, halves_fault, pages_fault, first_fault_of, first_fault}
+use Rattle.shown_volumes.specs.Shown.{RowsOf, rows_in, rows_of}
 use Rattle.mss_base.specs.Listing.{Listing}
 use Rattle.shown_volumes.specs.declared.refused.Refused.{Refused}
 use Rattle.shown_volumes.specs.declared.refused.Refused.TheVariants.{RowUnread, Stopped, Memory}
@@ -191,12 +191,23 @@ pub record AreFaultless (asked : ℕ → Option (List ℕ)) (row : ℕ → RowRe
   pub known : AreKnown 32 row
   pub none : first_below 32 (row_fault asked row) ≡ None
 
+-- the halves of the rows, and then their pages, are without a fault
+pub record StandApart (frames : ℕ) (rows : RowsOf) : Type 0 where
+  pub halves : first_below 32 (halves_fault rows) ≡ None
+  pub pages : first_below 32 (pages_fault frames rows) ≡ None
+
+-- a stop comes behind the walks over halves and pages
+abbrev pub StopsBehind : ℕ → RowsOf → Refused → Type 0
+StopsBehind frames rows (Stopped fault) = StandApart frames rows
+StopsBehind frames rows _ = Unit {0}
+
 -- what a survey answers of rows as they were read: the rows, where there is no fault, or the first fault
 abbrev pub SurveyTells : ℕ → (ℕ → Option (List ℕ)) → (ℕ → RowReading) → Content → Result (List (Option RowValue)) Refused → Type 0
 SurveyTells frames asked row c (Ok rows) =
     AreFaultless asked row × (listed rows ≡ rows_in row) × (first_fault_of frames asked row c ≡ None)
 SurveyTells frames asked row c (Err (RowUnread volume fault)) = IsFirstUnread asked row volume
-SurveyTells frames asked row c (Err (Stopped fault)) = AreFaultless asked row
+SurveyTells frames asked row c (Err (Stopped fault)) =
+    AreFaultless asked row × StandApart frames (rows_in row)
 SurveyTells frames asked row c (Err Memory) = Unit {0}
 SurveyTells frames asked row c (Err e) = AreBehindFaults asked row × (first_fault_of frames asked row c ≡ Some e)
 

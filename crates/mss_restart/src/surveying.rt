@@ -1,5 +1,5 @@
 // The survey: four walks, one after the other, which end at the first fault.
-ghost use Rattle.std.specs.Prelude.{◌≡◌, ◌≤◌, ◌<◌, ℕ, List, Option, length, IfOk, OnOk};
+ghost use Rattle.std.specs.Prelude.{◌≡◌, ◌≤◌, ◌<◌, ℕ, List, Option, length, IfOk, IfErr, OnOk};
 ghost use Rattle.mss_base.specs.Content.{content};
 ghost use Rattle.mss_base.specs.Sites.{OnlyReads};
 ghost use Rattle.ckd_plain.specs.Plain.{serial_in};
@@ -16,6 +16,7 @@ ghost use Rattle.mss_restart.specs.Survey.{
   KeepsRows,
   NeverFails,
   ReadsWholeRows,
+  StopsBehind,
   Surveys,
   TellsNoFailure,
   rows_given,
@@ -43,6 +44,7 @@ fn check_rows<S: Site>(
     requires { length rows.now ≡ 32 }
     ensures finds { S.tells → Finds result
         (rest_fault frames (listed rows.now) (content (S.told site.old))) }
+    ensures behind { IfErr result (StopsBehind frames (listed rows.now)) }
     ensures usable { (asked : ℕ → Option (List ℕ)) → HasSerialsAsked asked (listed rows.now)
         → OnOk result (AreUsable frames asked (listed rows.now)) }
     ensures counts { CountsFaults (S.faults site.old) (S.faults site.new) result }
@@ -90,8 +92,9 @@ pub fn survey_rows<S: Site>(
 ///
 /// Nothing is written. Where no read failed, the answer is exactly the content's. So it is where reads of one unit of
 /// the table fail, and no others, if each copy tells its row alone. `RowUnread` and `Stopped` come only where a read
-/// failed, the last one, and keep the site's count of faults behind it. The rows can be used whatever the devices
-/// tell: no cartridge and no frame stands in two of them.
+/// failed, the last one, and keep the site's count of faults behind it; `Stopped` comes behind the walks over rows,
+/// halves and pages, where these found no fault. The rows can be used whatever the devices tell: no cartridge and no
+/// frame stands in two of them.
 pub fn survey<S: Site>(alloc: Global, site: &mut S, config: &Config) -> Result<Rows, Refused>
     ensures found { S.tells → Surveys (S.faults site.old) (S.faults site.new) config.now.frames
         (serial_in config.now.volumes) (content (S.told site.old)) (rows_given result) }

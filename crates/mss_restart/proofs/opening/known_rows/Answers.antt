@@ -52,7 +52,7 @@ returns-in_err-read-clause-kept g c =
 pub returns-in-Some-clause-refused : goal.returns-in-Some-clause-refused
 returns-in-Some-clause-refused g c = λ tells.
     alone_stops (g.S.Site.faults c.args.site.now) (g.S.Site.faults c.survey_rows.new.site) c.args.config.now (g.S.Site.told c.args.site.now) (g.S.Site.told c.survey_rows.new.site) c.in_ok-read.read.rows.items c.in_ok-read.read.unread c.in-Some.fault
-    c.in-Some.is (c.survey_rows.ensures.devices.log tells) (c.in_ok-read.ensures.read tells)
+    c.in-Some.is (c.survey_rows.ensures.devices.log tells) c.in_ok-read.ensures.whole (c.in_ok-read.ensures.read tells) (c.in_ok-read.ensures.found tells)
 
 pub returns-in-None-clause-exact : goal.returns-in-None-clause-exact
 returns-in-None-clause-exact g c = λ tells still low.

@@ -4,7 +4,7 @@ use Rattle.shown_volumes.specs.declared.refused.Refused.{Refused}
 use Rattle.volume_table.specs.Listed.{listed}
 use Rattle.mss_restart.specs.Survey.{Finds}
 use Rattle.mss_restart.specs.Walks.{rest_fault}
-use Rattle.mss_restart.proofs.SurveyFacts.{content_counts, found_content, halves_content, pages_content, halves_rest, pages_rest, rest_is}
+use Rattle.mss_restart.proofs.SurveyFacts.{content_counts, content_behind, any_behind, found_content, halves_content, pages_content, halves_rest, pages_rest, rest_is}
 use Rattle.mss_restart.proofs.UsableFacts.{few_listed, walks_usable, on_ok_any}
 use Rattle.mss_restart.proofs.surveying.check_rows.Goals as goal
 
@@ -47,3 +47,15 @@ returns-in-Some-pages_fault-clause-finds g c = λ tells.
     let is = sym c.pages_fault.ensures ∙ c.in-Some-pages_fault.is in
     found_content c.in-Some-pages_fault.fault (rest_fault c.args.frames rows _) (pages_content c.args.frames rows c.in-Some-pages_fault.fault is)
     (pages_rest c.args.frames rows _ c.in-Some-pages_fault.fault (sym c.halves_fault.ensures ∙ c.in_default.is) is)
+
+pub returns-in-Some-clause-behind : goal.returns-in-Some-clause-behind
+returns-in-Some-clause-behind g c =
+    content_behind c.args.frames (listed c.args.rows.now) c.in-Some.fault (halves_content (listed c.args.rows.now) c.in-Some.fault (sym c.halves_fault.ensures ∙ c.in-Some.is))
+
+pub returns-in-Some-pages_fault-clause-behind : goal.returns-in-Some-pages_fault-clause-behind
+returns-in-Some-pages_fault-clause-behind g c =
+    content_behind c.args.frames (listed c.args.rows.now) c.in-Some-pages_fault.fault (pages_content c.args.frames (listed c.args.rows.now) c.in-Some-pages_fault.fault (sym c.pages_fault.ensures ∙ c.in-Some-pages_fault.is))
+
+pub returns-clause-behind : goal.returns-clause-behind
+returns-clause-behind g c =
+    any_behind c.args.frames (listed c.args.rows.now) c.check_tracks.result (record { halves = sym c.halves_fault.ensures ∙ c.in_default.is; pages = sym c.pages_fault.ensures ∙ c.in_default-pages_fault.is })

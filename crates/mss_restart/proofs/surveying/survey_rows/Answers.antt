@@ -8,7 +8,7 @@ use Rattle.shown_volumes.specs.declared.refused.Refused.{Refused}
 use Rattle.mss_restart.specs.declared.rows.RowsRead.{RowsRead}
 use Rattle.volume_table.specs.Listed.{listed}
 use Rattle.mss_restart.specs.Walks.{rest_fault}
-use Rattle.mss_restart.specs.Survey.{FindsFault, Surveys, rows_read}
+use Rattle.mss_restart.specs.Survey.{FindsFault, StopsBehind, Surveys, rows_read}
 use Rattle.mss_restart.proofs.Surveyed.{rows_survey, good_survey, bad_survey, renamed, read_renamed, later_rows}
 use Rattle.mss_restart.proofs.OneTable.{all_read_tracks, loses_on, reads_tracks}
 use Rattle.mss_restart.proofs.surveying.survey_rows.Goals as goal
@@ -36,10 +36,11 @@ returns-in_err-check_rows-clause-found g c = λ tells.
     let rows = c.in_ok-read.read.rows.items in
     let found = subst (λ (x : Content). FindsFault e (rest_fault c.config.inside.frames (listed rows) x)) (ap content (c.in_ok-read.ensures.devices.log tells))
     (subst (λ (x : List (Option RowValue)). FindsFault e (rest_fault c.config.inside.frames (listed x) (content (g.S.Site.told c.read_rows.new.site)))) c.as_slice-2.ensures (c.in_err-check_rows.ensures.finds tells)) in
+    let behind = subst (λ (x : List (Option RowValue)). StopsBehind c.config.inside.frames (listed x) e) c.as_slice-2.ensures c.in_err-check_rows.ensures.behind in
     subst (λ (r : Result RowsRead Refused). Surveys before now c.args.config.now.frames (serial_in c.args.config.now.volumes) k (rows_read r)) (sym (p.1 ∙ ap Err p.2))
     (renamed before now c.config.inside.frames c.args.config.now.frames c.as_slice.result.now c.args.config.now.volumes k k (Err e)
     (ap (λ (x : ConfigData). x.frames) c.config.view_is) (c.as_slice.ensures ∙ ap (λ (x : ConfigData). x.volumes) c.config.view_is) refl
-    (bad_survey before mid now c.config.inside.frames (serial_in c.as_slice.result.now) k rows c.in_ok-read.read.unread (c.in_ok-read.ensures.read tells) c.in_ok-read.ensures.whole e found c.in_err-check_rows.ensures.counts))
+    (bad_survey before mid now c.config.inside.frames (serial_in c.as_slice.result.now) k rows c.in_ok-read.read.unread (c.in_ok-read.ensures.read tells) c.in_ok-read.ensures.whole e behind found c.in_err-check_rows.ensures.counts))
 
 pub returns-clause-found : goal.returns-clause-found
 returns-clause-found g c = λ tells.
