@@ -19,3 +19,4 @@ pub mod Finishing
 pub mod OneCopy
 pub mod Paired
 pub mod OneTable
+pub mod TrackReads

@@ -2,16 +2,19 @@
 use Rattle.std.specs.Prelude.{◌≡◌, ◌≢◌, ◌<◌, ◌≤◌, ◌+◌, ℕ, Bool, true, false, List, Option, Some, None, Result, Ok, Err, is_some}
 use Rattle.mss_base.specs.Content.{Content}
 use Rattle.mss_base.specs.Counts.{IsFaultSince, IsFaultWithin}
+use Rattle.std.specs.Option.{ForSome}
 use Rattle.mss_base.specs.Sites.{FailingReads}
+use Rattle.mss_base.specs.declared.place.BlockPlace.{BlockPlace}
 use Rattle.mss_base.specs.declared.place.UnitNo.TheVariants.{TableA, TableB}
 use Rattle.volume_table.specs.Row.{RowValue}
 use Rattle.volume_table.specs.Listed.{listed}
 use Rattle.mss_restart.specs.declared.rows.RowsRead.{RowsRead}
 use Rattle.table_pair.specs.Pair.{CopyRead, RowReading, known, unknown, reading}
-use Rattle.table_pair.specs.Reads.{IsReadOf, MissingKeeps}
+use Rattle.table_pair.specs.Reads.{IsReadable, IsReadOf, MissingKeeps}
 use Rattle.table_pair.specs.declared.copy.RowRead.{RowRead}
 use Rattle.mss_base.specs.Firsts.{first_below}
 use Rattle.shown_volumes.specs.Faults.{read_fault, row_fault, halves_fault, pages_fault, first_fault_of, first_fault}
+use Rattle.shown_volumes.specs.Changing.{StandsOn}
 use Rattle.shown_volumes.specs.Shown.{RowsOf, rows_in, rows_of}
 use Rattle.mss_base.specs.Listing.{Listing}
 use Rattle.shown_volumes.specs.declared.refused.Refused.{Refused}
@@ -39,6 +42,21 @@ Finds (Err r) found = FindsFault r found
 -- no call of the site fails
 abbrev pub NeverFails : {S : Type 0} → FailingReads S → S → Type 0
 NeverFails never_fails_but s = never_fails_but s (λ unit. false)
+
+-- no read of either copy of the table fails
+abbrev pub CanReadTable : {S : Type 0} → FailingReads S → S → Type 0
+CanReadTable never_fails_but s =
+    IsReadable never_fails_but s TableA × IsReadable never_fails_but s TableB
+
+-- no read of a block that a track of the row stands on fails
+abbrev pub CanReadRow : {S : Type 0} → FailingReads S → S → RowValue → Type 0
+CanReadRow never_fails_but s r =
+    (cylinder head : ℕ) (place : BlockPlace) → StandsOn r cylinder head place
+    → IsReadable never_fails_but s place.unit
+
+abbrev pub CanReadRows : {S : Type 0} → FailingReads S → S → RowsOf → Type 0
+CanReadRows never_fails_but s rows =
+    (volume : ℕ) → ForSome (rows volume) (CanReadRow never_fails_but s)
 
 -- a failed call isn't what was answered
 abbrev pub IsNoFailure : Refused → Type 0

@@ -9,11 +9,11 @@ ghost use Rattle.shown_volumes.specs.Faults.{serial_fault};
 ghost use Rattle.shown_volumes.specs.Sound.{HasSerialsAsked};
 ghost use Rattle.volume_table.specs.Listed.{listed};
 ghost use Rattle.mss_restart.specs.Survey.{
+  CanReadTable,
   IsNoFailure,
   KeepsCause,
   KeepsRead,
   KeepsRows,
-  NeverFails,
   ReadsRows,
   ReadsVolume,
   ReadsWhole,
@@ -103,7 +103,7 @@ fn read_volume<S: Site>(
         (content (S.told site.old)) result }
     ensures serial { IfOk result (λ read. serial_fault volume read.row asked ≡ None) }
     ensures counts { KeepsRead (S.faults site.old) (S.faults site.new) result }
-    ensures works { NeverFails S.never_fails_but site.old → ReadsWhole result }
+    ensures works { CanReadTable S.never_fails_but site.old → ReadsWhole result }
     ensures one_copy { S.tells → LosesOneTable S.never_fails_but site.old
         → IsPaired volume (content (S.told site.old)) → TellsNoFailure result }
     ensures devices { OnlyReads S.tells S.told S.spare S.writes S.faults S.never_fails_but
@@ -130,7 +130,7 @@ pub fn read_rows<S: Site>(
         HasSerialsAsked (serial_in volumes.now) (listed read.rows.items)) }
     ensures whole { IfOk result (λ read. length read.rows.items ≡ 32) }
     ensures counts { KeepsRows (S.faults site.old) (S.faults site.new) result }
-    ensures works { NeverFails S.never_fails_but site.old → ReadsWholeRows result }
+    ensures works { CanReadTable S.never_fails_but site.old → ReadsWholeRows result }
     ensures one_copy { S.tells → LosesOneTable S.never_fails_but site.old
         → ArePaired (content (S.told site.old)) → TellsNoFailure result }
     ensures devices { OnlyReads S.tells S.told S.spare S.writes S.faults S.never_fails_but

@@ -4,11 +4,12 @@ ghost use Rattle.mss_base.specs.Content.{content};
 ghost use Rattle.mss_base.specs.Sites.{OnlyReads};
 ghost use Rattle.ckd_plain.specs.Plain.{serial_in};
 ghost use Rattle.volume_table.specs.Listed.{listed};
-ghost use Rattle.table_pair.specs.Reads.{CanReadTracks};
 ghost use Rattle.mss_restart.specs.Walks.{rest_fault};
 ghost use Rattle.mss_restart.specs.OneCopy.{ArePaired, LosesOneTable};
 ghost use Rattle.mss_restart.specs.Survey.{
   AreRead,
+  CanReadRows,
+  CanReadTable,
   CountsFaults,
   Finds,
   IsExact,
@@ -23,6 +24,7 @@ ghost use Rattle.mss_restart.specs.Survey.{
   rows_read,
 };
 ghost use Rattle.mss_restart.specs.Usable.{AreUsable};
+ghost use Rattle.shown_volumes.specs.Shown.{rows_of};
 ghost use Rattle.shown_volumes.specs.Sound.{HasSerialsAsked};
 
 use crate::halves::halves_fault;
@@ -48,7 +50,8 @@ fn check_rows<S: Site>(
     ensures usable { (asked : ℕ → Option (List ℕ)) → HasSerialsAsked asked (listed rows.now)
         → OnOk result (AreUsable frames asked (listed rows.now)) }
     ensures counts { CountsFaults (S.faults site.old) (S.faults site.new) result }
-    ensures works { CanReadTracks S.never_fails_but site.old → TellsNoFailure result }
+    ensures works { CanReadRows S.never_fails_but site.old (listed rows.now)
+        → TellsNoFailure result }
     ensures devices { OnlyReads S.tells S.told S.spare S.writes S.faults S.never_fails_but
         site.old site.new }
 {
@@ -78,6 +81,9 @@ pub fn survey_rows<S: Site>(
     ensures whole { IfOk result (λ read. length read.rows.items ≡ 32) }
     ensures counts { KeepsRows (S.faults site.old) (S.faults site.new) result }
     ensures works { NeverFails S.never_fails_but site.old → ReadsWholeRows result }
+    ensures reads { S.tells → CanReadTable S.never_fails_but site.old
+        → CanReadRows S.never_fails_but site.old (rows_of (content (S.told site.old)))
+        → TellsNoFailure result }
     ensures one_copy { S.tells → LosesOneTable S.never_fails_but site.old
         → ArePaired (content (S.told site.old)) → TellsNoFailure result }
     ensures devices { OnlyReads S.tells S.told S.spare S.writes S.faults S.never_fails_but
@@ -93,8 +99,9 @@ pub fn survey_rows<S: Site>(
 /// Nothing is written. Where no read failed, the answer is exactly the content's. So it is where reads of one unit of
 /// the table fail, and no others, if each copy tells its row alone. `RowUnread` and `Stopped` come only where a read
 /// failed, the last one, and keep the site's count of faults behind it; `Stopped` comes behind the walks over rows,
-/// halves and pages, where these found no fault. The rows can be used whatever the devices tell: no cartridge and no
-/// frame stands in two of them.
+/// halves and pages, where these found no fault. Neither comes where the table can be read, and each block on which a
+/// track of a row stands. The rows can be used whatever the devices tell: no cartridge and no frame stands in two of
+/// them.
 pub fn survey<S: Site>(alloc: Global, site: &mut S, config: &Config) -> Result<Rows, Refused>
     ensures found { S.tells → Surveys (S.faults site.old) (S.faults site.new) config.now.frames
         (serial_in config.now.volumes) (content (S.told site.old)) (rows_given result) }
@@ -107,6 +114,9 @@ pub fn survey<S: Site>(alloc: Global, site: &mut S, config: &Config) -> Result<R
     ensures whole { IfOk result (λ rows. length rows.items ≡ 32) }
     ensures kept { KeepsFault (S.faults site.old) (S.faults site.new) result }
     ensures works { NeverFails S.never_fails_but site.old → TellsNoFailure result }
+    ensures reads { S.tells → CanReadTable S.never_fails_but site.old
+        → CanReadRows S.never_fails_but site.old (rows_of (content (S.told site.old)))
+        → TellsNoFailure result }
     ensures one_copy { S.tells → LosesOneTable S.never_fails_but site.old
         → ArePaired (content (S.told site.old))
         → IsExact config.now.frames (serial_in config.now.volumes) (content (S.told site.old))

@@ -4,7 +4,7 @@ ghost use Rattle.mss_base.specs.Content.{content};
 ghost use Rattle.mss_base.specs.Sites.{OnlyReads};
 ghost use Rattle.ckd_track.specs.Track.{reading};
 ghost use Rattle.volume_table.specs.Row.{frame_of, state_of};
-ghost use Rattle.table_pair.specs.Reads.{CanReadTracks};
+ghost use Rattle.std.specs.Option.{ForSome};
 ghost use Rattle.shown_volumes.specs.Shown.{block_at, on_cartridge};
 ghost use Rattle.mss_base.specs.Firsts.{where_so, first_below};
 ghost use Rattle.shown_volumes.specs.Faults.{is_torn, is_blank, is_same_list, row_track_fault, track_fault, cylinder_fault, tracks_fault};
@@ -12,7 +12,7 @@ ghost use Rattle.shown_volumes.specs.declared.refused.Refused.TheVariants.{TornT
 ghost use Rattle.volume_table.specs.Listed.{listed};
 ghost use Rattle.mss_restart.specs.Walks.{row_cylinder_fault, row_tracks_fault};
 ghost use Rattle.table_pair.specs.Reads.{IsReadable};
-ghost use Rattle.mss_restart.specs.Survey.{FindsFault, Finds, CountsFaults, TellsNoFailure};
+ghost use Rattle.mss_restart.specs.Survey.{FindsFault, Finds, CanReadRow, CanReadRows, CountsFaults, TellsNoFailure};
 ghost use Rattle.shown_volumes.specs.declared.refused.Refused.{Refused};
 
 use crate::numbers::{cylinder_at, head_at, volume_at};
@@ -174,7 +174,7 @@ fn check_track_of<S: Site>(
     ensures finds { S.tells → Finds result
         (row_track_fault (content (S.told site.old)) volume cylinder head row.now) }
     ensures counts { CountsFaults (S.faults site.old) (S.faults site.new) result }
-    ensures works { CanReadTracks S.never_fails_but site.old → TellsNoFailure result }
+    ensures works { CanReadRow S.never_fails_but site.old row.now → TellsNoFailure result }
     ensures devices { OnlyReads S.tells S.told S.spare S.writes S.faults S.never_fails_but
         site.old site.new }
 {
@@ -216,7 +216,7 @@ fn check_cylinder<S: Site>(
     ensures finds { S.tells → Finds result
         (row_cylinder_fault (content (S.told site.old)) volume row.now cylinder) }
     ensures counts { CountsFaults (S.faults site.old) (S.faults site.new) result }
-    ensures works { CanReadTracks S.never_fails_but site.old → TellsNoFailure result }
+    ensures works { CanReadRow S.never_fails_but site.old row.now → TellsNoFailure result }
     ensures devices { OnlyReads S.tells S.told S.spare S.writes S.faults S.never_fails_but
         site.old site.new }
 {
@@ -242,7 +242,7 @@ fn check_row<S: Site>(
     ensures finds { S.tells → Finds result
         (row_tracks_fault (content (S.told site.old)) volume row.now) }
     ensures counts { CountsFaults (S.faults site.old) (S.faults site.new) result }
-    ensures works { CanReadTracks S.never_fails_but site.old → TellsNoFailure result }
+    ensures works { CanReadRow S.never_fails_but site.old row.now → TellsNoFailure result }
     ensures devices { OnlyReads S.tells S.told S.spare S.writes S.faults S.never_fails_but
         site.old site.new }
 {
@@ -266,7 +266,8 @@ fn check_volume<S: Site>(
     ensures finds { S.tells → Finds result
         (tracks_fault (listed rows.now) (content (S.told site.old)) volume) }
     ensures counts { CountsFaults (S.faults site.old) (S.faults site.new) result }
-    ensures works { CanReadTracks S.never_fails_but site.old → TellsNoFailure result }
+    ensures works { ForSome (listed rows.now volume) (CanReadRow S.never_fails_but site.old)
+        → TellsNoFailure result }
     ensures devices { OnlyReads S.tells S.told S.spare S.writes S.faults S.never_fails_but
         site.old site.new }
 {
@@ -291,7 +292,8 @@ pub fn check_tracks<S: Site>(
     ensures finds { S.tells → Finds result
         (first_below 32 (tracks_fault (listed rows.now) (content (S.told site.old)))) }
     ensures counts { CountsFaults (S.faults site.old) (S.faults site.new) result }
-    ensures works { CanReadTracks S.never_fails_but site.old → TellsNoFailure result }
+    ensures works { CanReadRows S.never_fails_but site.old (listed rows.now)
+        → TellsNoFailure result }
     ensures devices { OnlyReads S.tells S.told S.spare S.writes S.faults S.never_fails_but
         site.old site.new }
 {

@@ -12,6 +12,7 @@ use Rattle.mss_restart.specs.declared.rows.RowsRead.{RowsRead}
 use Rattle.volume_table.specs.Listed.{listed}
 use Rattle.mss_restart.specs.Survey.{ReadsRows, KeepsFirst, KeepsRows}
 use Rattle.mss_restart.proofs.RowLemmas.{cause_since}
+use Rattle.mss_restart.proofs.TrackReads.{table_on}
 use Rattle.mss_restart.proofs.ReadRows.{SoFar, none_read, all_read, row_read, row_ends, rows_end, named, first_kept, one_longer, serials_on, no_serials}
 use Rattle.mss_restart.specs.OneCopy.{IsPaired}
 use Rattle.mss_restart.proofs.OneTable.{loses_on}
@@ -77,7 +78,7 @@ loop-number-preserved g c =
       long = ap length c.push.ensures.items ∙ one_longer c.loop-number.rows.items read.row ∙ ap (λ (m : ℕ). m + 1) known.long;
       room = omega (arith, known.room, c.push.ensures.spare);
       counts = subst (λ (u : Option ℕ). KeepsFirst begun now u) (sym c.or-unread.ensures) (first_kept begun mid now c.loop-number.unread read.unread known.counts known.devices.later c.in_ok-read.ensures.devices.later c.in_ok-read.ensures.counts);
-      works = λ never. c.or-unread.ensures ∙ (λ i. option_or (known.works never i) (c.in_ok-read.ensures.works (known.devices.sound _ never) i));
+      works = λ never. c.or-unread.ensures ∙ (λ i. option_or (known.works never i) (c.in_ok-read.ensures.works (table_on g.S.Site.never_fails_but c.args.site.now c.loop-number.site known.devices.sound never) i));
       devices = reads_then g.S.Site.tells g.S.Site.told g.S.Site.spare g.S.Site.writes g.S.Site.faults g.S.Site.never_fails_but c.args.site.now c.loop-number.site c.read_volume.new.site known.devices c.in_ok-read.ensures.devices;
     }
 

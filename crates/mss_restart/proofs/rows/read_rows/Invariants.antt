@@ -4,7 +4,7 @@ use Rattle.mss_base.specs.Sites.{OnlyReads}
 use Rattle.ckd_plain.specs.Plain.{serial_in}
 use Rattle.shown_volumes.specs.Sound.{HasSerialsAsked}
 use Rattle.volume_table.specs.Listed.{listed}
-use Rattle.mss_restart.specs.Survey.{KeepsFirst, NeverFails}
+use Rattle.mss_restart.specs.Survey.{CanReadTable, KeepsFirst}
 use Rattle.std.proofs.Common.{None}
 use Rattle.mss_restart.proofs.ReadRows.{SoFar}
 use Rattle.mss_restart.proofs.rows.read_rows.Given as goal
@@ -16,6 +16,6 @@ invariant-loop-number g l = record {
   long : length l.rows.items ≡ l.number;
   room : 32 ≤ l.rows.spare + l.number;
   counts : KeepsFirst (g.S.Site.faults l.initial.site) (g.S.Site.faults l.site) l.unread;
-  works : NeverFails g.S.Site.never_fails_but l.initial.site → l.unread ≡ None;
+  works : CanReadTable g.S.Site.never_fails_but l.initial.site → l.unread ≡ None;
   devices : OnlyReads g.S.Site.tells g.S.Site.told g.S.Site.spare g.S.Site.writes g.S.Site.faults g.S.Site.never_fails_but l.initial.site l.site;
 }

@@ -1,4 +1,4 @@
-use Rattle.std.proofs.Common.{◌≡◌, refl, sym, ◌∙◌, ap, subst, Ok, Err, List, Option, None, Result}
+use Rattle.std.proofs.Common.{◌≡◌, ℕ, refl, sym, ◌∙◌, ap, subst, Ok, Err, List, Option, None, Result}
 use Rattle.std.proofs.lemmas.Result.{err_from_is_err_and}
 use Rattle.mss_base.specs.Content.{Content, content}
 use Rattle.ckd_plain.specs.Plain.{serial_in}
@@ -11,6 +11,10 @@ use Rattle.mss_restart.specs.Walks.{rest_fault}
 use Rattle.mss_restart.specs.Survey.{FindsFault, StopsBehind, Surveys, rows_read}
 use Rattle.mss_restart.proofs.Surveyed.{rows_survey, good_survey, bad_survey, renamed, read_renamed, later_rows}
 use Rattle.mss_restart.proofs.OneTable.{all_read_tracks, loses_on, reads_tracks}
+use Rattle.mss_restart.proofs.TrackReads.{rows_on, all_read_table, rows_readable}
+use Rattle.mss_restart.proofs.KnownRows.{rows_told, rows_listed}
+use Rattle.mss_restart.specs.Survey.{AreRead, CanReadRows}
+use Rattle.shown_volumes.specs.Shown.{RowsOf, rows_of}
 use Rattle.mss_restart.proofs.surveying.survey_rows.Goals as goal
 
 pub returns-in_err-read-clause-found : goal.returns-in_err-read-clause-found
@@ -68,10 +72,36 @@ returns-clause-read g c = λ tells.
 pub returns-in_err-check_rows-clause-works : goal.returns-in_err-check_rows-clause-works
 returns-in_err-check_rows-clause-works g c = λ never.
     let p = err_from_is_err_and c.from_residual-in_err-check_rows.result c.from_residual-in_err-check_rows.ensures.1 in
-    rw (p.1, p.2) (c.in_err-check_rows.ensures.works (all_read_tracks g.S.Site.never_fails_but c.read_rows.new.site (c.in_ok-read.ensures.devices.sound _ never)))
+    rw (p.1, p.2) (c.in_err-check_rows.ensures.works (rows_readable g.S.Site.never_fails_but c.read_rows.new.site (all_read_tracks g.S.Site.never_fails_but c.read_rows.new.site (c.in_ok-read.ensures.devices.sound _ never)) (listed c.as_slice-2.result.now)))
 
 pub returns-in_err-check_rows-clause-one_copy : goal.returns-in_err-check_rows-clause-one_copy
 returns-in_err-check_rows-clause-one_copy g c = λ tells loses paired.
     let p = err_from_is_err_and c.from_residual-in_err-check_rows.result c.from_residual-in_err-check_rows.ensures.1 in
     rw (p.1, p.2)
-    (c.in_err-check_rows.ensures.works (reads_tracks g.S.Site.never_fails_but c.read_rows.new.site (loses_on g.S.Site.never_fails_but c.args.site.now c.read_rows.new.site c.in_ok-read.ensures.devices.sound loses)))
+    (c.in_err-check_rows.ensures.works (rows_readable g.S.Site.never_fails_but c.read_rows.new.site (reads_tracks g.S.Site.never_fails_but c.read_rows.new.site (loses_on g.S.Site.never_fails_but c.args.site.now c.read_rows.new.site c.in_ok-read.ensures.devices.sound loses)) (listed c.as_slice-2.result.now)))
+
+pub returns-in_err-read-clause-works : goal.returns-in_err-read-clause-works
+returns-in_err-read-clause-works g c = λ never.
+    let p = err_from_is_err_and c.from_residual.result c.from_residual.ensures.1 in
+    rw (p.1, p.2) (c.in_err-read.ensures.works (all_read_table g.S.Site.never_fails_but c.args.site.now never))
+
+pub returns-clause-works : goal.returns-clause-works
+returns-clause-works g c = λ never. c.in_ok-read.ensures.works (all_read_table g.S.Site.never_fails_but c.args.site.now never)
+
+pub returns-in_err-read-clause-reads : goal.returns-in_err-read-clause-reads
+returns-in_err-read-clause-reads g c = λ tells table shown.
+    let p = err_from_is_err_and c.from_residual.result c.from_residual.ensures.1 in
+    rw (p.1, p.2) (c.in_err-read.ensures.works table)
+
+pub returns-in_err-check_rows-clause-reads : goal.returns-in_err-check_rows-clause-reads
+returns-in_err-check_rows-clause-reads g c = λ tells table shown.
+    let p = err_from_is_err_and c.from_residual-in_err-check_rows.result c.from_residual-in_err-check_rows.ensures.1 in
+    let before = g.S.Site.faults c.args.site.now in
+    let mid = g.S.Site.faults c.read_rows.new.site in
+    let k = content (g.S.Site.told c.args.site.now) in
+    let rows = c.in_ok-read.read.rows.items in
+    let none : c.in_ok-read.read.unread ≡ None = c.in_ok-read.ensures.works table in
+    let read = subst (λ (u : Option ℕ). AreRead before mid (serial_in c.as_slice.result.now) k rows u) none (c.in_ok-read.ensures.read tells) in
+    let are : listed c.as_slice-2.result.now ≡ rows_of k = ap listed c.as_slice-2.ensures ∙ rows_listed rows k c.in_ok-read.ensures.whole (rows_told before mid (serial_in c.as_slice.result.now) k rows read) in
+    let later = rows_on g.S.Site.never_fails_but c.args.site.now c.read_rows.new.site c.in_ok-read.ensures.devices.sound (rows_of k) shown in
+    rw (p.1, p.2) (c.in_err-check_rows.ensures.works (subst (λ (x : RowsOf). CanReadRows g.S.Site.never_fails_but c.read_rows.new.site x) (sym are) later))

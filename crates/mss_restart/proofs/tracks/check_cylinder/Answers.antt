@@ -1,7 +1,8 @@
 use Rattle.std.proofs.Common.{refl, ap, Err, ◌∙◌, arith, ℕ}
 use Rattle.std.proofs.lemmas.Result.{err_from_is_err_and}
 use Rattle.mss_base.specs.Content.{Content, content}
-use Rattle.table_pair.proofs.SiteLemmas.{reads_none, reads_then, tracks_on}
+use Rattle.table_pair.proofs.SiteLemmas.{reads_none, reads_then}
+use Rattle.mss_restart.proofs.TrackReads.{row_on}
 use Rattle.shown_volumes.specs.Faults.{row_track_fault}
 use Rattle.mss_base.proofs.FirstFacts.{none_yet}
 use Rattle.mss_restart.proofs.Going.{goes_on, ends_at}
@@ -38,4 +39,4 @@ loop-number-preserved g c =
 pub returns-in_err-check_track_of-clause-works : goal.returns-in_err-check_track_of-clause-works
 returns-in_err-check_track_of-clause-works g c = λ reads.
     let p = err_from_is_err_and c.from_residual.result c.from_residual.ensures.1 in
-    rw (p.1, p.2) (c.in_err-check_track_of.ensures.works (tracks_on g.S.Site.never_fails_but c.args.site.now c.loop-number.site c.loop-number.invariant.devices.sound reads))
+    rw (p.1, p.2) (c.in_err-check_track_of.ensures.works (row_on g.S.Site.never_fails_but c.args.site.now c.loop-number.site c.loop-number.invariant.devices.sound c.args.row.now reads))

@@ -1,7 +1,8 @@
 use Rattle.std.proofs.Common.{refl, ap, Err, ◌∙◌, arith}
 use Rattle.std.proofs.lemmas.Result.{err_from_is_err_and}
 use Rattle.mss_base.specs.Content.{Content, content}
-use Rattle.table_pair.proofs.SiteLemmas.{reads_none, reads_then, tracks_on}
+use Rattle.table_pair.proofs.SiteLemmas.{reads_none, reads_then}
+use Rattle.mss_restart.proofs.TrackReads.{rows_on}
 use Rattle.shown_volumes.specs.Faults.{tracks_fault}
 use Rattle.mss_base.proofs.FirstFacts.{none_yet}
 use Rattle.volume_table.specs.Listed.{listed}
@@ -39,4 +40,4 @@ loop-number-preserved g c =
 pub returns-in_err-check_volume-clause-works : goal.returns-in_err-check_volume-clause-works
 returns-in_err-check_volume-clause-works g c = λ reads.
     let p = err_from_is_err_and c.from_residual.result c.from_residual.ensures.1 in
-    rw (p.1, p.2) (c.in_err-check_volume.ensures.works (tracks_on g.S.Site.never_fails_but c.args.site.now c.loop-number.site c.loop-number.invariant.devices.sound reads))
+    rw (p.1, p.2) (c.in_err-check_volume.ensures.works (rows_on g.S.Site.never_fails_but c.args.site.now c.loop-number.site c.loop-number.invariant.devices.sound (listed c.args.rows.now) reads c.volume_at.result))

@@ -15,3 +15,7 @@ pub returns-clause-finds : goal.returns-clause-finds
 returns-clause-finds g c = λ tells.
     let there = listed_at c.args.rows.now c.get.result c.args.volume c.index-rows-get.result c.get.ensures.value (omega (arith, c.requires.rows, c.get.ensures.value, c.get.ensures.in_range)) c.index-rows-get.is ∙ c.in-Some.is in
     subst (λ (o : Option Refused). Finds c.check_row.result o) (sym (row_tracks (listed c.args.rows.now) (content (g.S.Site.told c.args.site.now)) c.args.volume c.in-Some.row there)) (c.check_row.ensures.finds tells)
+
+pub returns-clause-works : goal.returns-clause-works
+returns-clause-works g c = λ reads.
+    c.check_row.ensures.works (reads c.in-Some.row (listed_at c.args.rows.now c.get.result c.args.volume c.index-rows-get.result c.get.ensures.value (omega (arith, c.requires.rows, c.get.ensures.value, c.get.ensures.in_range)) c.index-rows-get.is ∙ c.in-Some.is))

@@ -1,0 +1,36 @@
+-- What a survey reads can be read later too, and where each frame and each cartridge can.
+use Rattle.std.proofs.Common.{◌≡◌, ◌⊎◌, inl, inr, false, ℕ, ◌<◌, ◌≤◌, ◌/◌, Some, refl}
+use Rattle.mss_base.specs.Places.{frame_block}
+use Rattle.mss_base.specs.Sites.{FailingReads, StaysSound}
+use Rattle.mss_base.specs.declared.place.UnitNo.TheVariants.{TableA, TableB}
+use Rattle.volume_table.specs.Row.{RowValue, frame_of, state_of}
+use Rattle.table_pair.specs.Reads.{CanReadTracks}
+use Rattle.table_pair.proofs.SiteLemmas.{readable_on}
+use Rattle.shown_volumes.specs.Changing.{StandsOn}
+use Rattle.shown_volumes.specs.Shown.{RowsOf, on_cartridge}
+use Rattle.shown_volumes.proofs.PlaceFacts.{in_frame, no_table, source_cartridge}
+use Rattle.mss_restart.specs.Survey.{NeverFails, CanReadTable, CanReadRow, CanReadRows}
+
+module _ {S : Type 0} (never_fails_but : FailingReads S) where
+  pub table_on : (old new : S) → StaysSound never_fails_but old new → CanReadTable never_fails_but old → CanReadTable never_fails_but new
+  table_on old new sound can = (readable_on never_fails_but old new sound TableA can.0, readable_on never_fails_but old new sound TableB can.1)
+
+  pub row_on : (old new : S) → StaysSound never_fails_but old new → (r : RowValue) → CanReadRow never_fails_but old r → CanReadRow never_fails_but new r
+  row_on old new sound r can cylinder head place on = readable_on never_fails_but old new sound place.unit (can cylinder head place on)
+
+  pub rows_on : (old new : S) → StaysSound never_fails_but old new → (rows : RowsOf) → CanReadRows never_fails_but old rows → CanReadRows never_fails_but new rows
+  rows_on old new sound rows can volume r at = row_on old new sound r (can volume r at)
+
+  -- where no call fails
+  pub all_read_table : (s : S) → NeverFails never_fails_but s → CanReadTable never_fails_but s
+  all_read_table s never = (((λ _. false), never, refl), ((λ _. false), never, refl))
+
+  pub rows_readable : (s : S) → CanReadTracks never_fails_but s → (rows : RowsOf) → CanReadRows never_fails_but s rows
+  rows_readable s can rows volume r at cylinder head place on = can place.unit (no_table r cylinder head place on)
+
+-- the blocks that are read
+pub on_cartridge_stands : (r : RowValue) (y h : ℕ) → y < 404 → h < 19 → (state_of r y ≡ 1) ⊎ (state_of r y ≡ 3) → StandsOn r y h (on_cartridge r y h)
+on_cartridge_stands r y h y_low h_low state = record { cylinder_in = y_low; head_in = h_low; there = inl (source_cartridge r y h y_low h_low state) }
+
+pub in_frame_stands : (r : RowValue) (y h f : ℕ) → y < 404 → h < 19 → 2 ≤ state_of r y → frame_of r (y / 8) ≡ Some f → StandsOn r y h (frame_block f y h)
+in_frame_stands r y h f y_low h_low staged has = record { cylinder_in = y_low; head_in = h_low; there = inr (staged, in_frame r y h f has) }
