@@ -202,15 +202,23 @@ impl<R: Files<File = File> + Drop> Folder<R> {
             return Err(io::Error::from(ErrorKind::NotFound));
         }
         self.paths.spell(unit);
-        let path = self.paths.spelled();
-        let mut file = open_there(&self.rt, path)?;
+        let mut file = open_there(&self.rt, self.paths.spelled())?;
         if make && file.is_none() {
-            self.names_synced = false;
-            file = Some(make_file(&self.rt, path)?);
+            file = Some(self.make_spelled()?);
         }
         let slot = slot_of(unit);
         self.slots[slot] = Some(UnitFile { unit: *unit, file });
         Ok(())
+    }
+
+    /// Makes the file whose path is spelled. Its name may not last until the folder is synced again.
+    fn make_spelled(&mut self) -> io::Result<SiteFile>
+        ensures unsynced { self.new.names_synced ≡ false }
+        ensures folder { self.new.folder_synced ≡ self.old.folder_synced }
+        ensures access { self.new.access ≡ self.old.access }
+    {
+        self.names_synced = false;
+        make_file(&self.rt, self.paths.spelled())
     }
 
     /// Makes the names of the files in the folder last, where that isn't known: at the first write,
