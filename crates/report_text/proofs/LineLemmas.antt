@@ -1,5 +1,5 @@
 -- Lines put one behind the other.
-use Rattle.std.proofs.Common.{◌≡◌, ℕ, suc, ◌+◌, ◌<◌, List, [], ◌∷◌, ◌++◌, length, drop, get_or, drop-cons, add-one, subst, sym, ap, ◌∙◌, append_assoc, Result, Ok, Err}
+use Rattle.std.proofs.Common.{◌≡◌, ℕ, suc, ◌+◌, ◌<◌, ◌≤◌, List, [], ◌∷◌, ◌++◌, length, length-append, drop, get_or, drop-cons, add-one, arith, subst, sym, ap, ◌∙◌, append_assoc, Result, Ok, Err}
 use Rattle.std.specs.Prelude.{IsErrAnd}
 use Rattle.std.specs.List.{flat_map}
 use Rattle.std.proofs.lemmas.List.{append-nil}
@@ -80,3 +80,14 @@ twice_pieces text number twice volume a word b c d end =
     ap (λ l. text ++ (number ++ (twice ++ l)))
     (grouped volume (a ∷ word ∷ b ∷ []) (volume ∷ c ∷ word ∷ d ∷ end ∷ []) ∙ ap (λ l. (volume ++ a ++ word ++ b) ++ l) (grouped volume (c ∷ word ∷ d ∷ []) (end ∷ [])))
     ∙ pieces_joined text (number ∷ twice ∷ (volume ++ a ++ word ++ b) ∷ (volume ++ c ++ word ++ d) ∷ end ∷ [])
+
+-- where a text that isn't empty was put, whatever was put behind it, something was put
+pub put_some : (old mid new first more : List ℕ) → 1 ≤ length first → mid ≡ old ++ first → new ≡ mid ++ more → new ≡ old → ⊥
+put_some old mid new first more some put next same =
+    let sizes : length old ≡ length (mid ++ more) = ap length (sym same ∙ next) in
+    let before : length mid ≡ length (old ++ first) = ap length put in
+    absurd (omega (arith, sizes, before, length-append mid more, length-append old first))
+
+pub begun_behind : {T E : Type 0} (r : Result T E) (old mid new first text : List ℕ) → 1 ≤ length first → mid ≡ old ++ first → Puts r mid new text → new ≡ old → ⊥
+begun_behind (Ok _) old mid new first text some put next same = put_some old mid new first text some put next same
+begun_behind (Err _) old mid new first text some put next same = put_some old mid new first next.front some put next.put same

@@ -1,5 +1,5 @@
 // The parts of a report, each put into a sink.
-ghost use Rattle.std.specs.Prelude.{◌≡◌, [], IsOk, IsOkUnless, length};
+ghost use Rattle.std.specs.Prelude.{◌≡◌, ◌≢◌, [], IsOk, IsErrOf, IsOkUnless, length};
 ghost use Rattle.mss_base.specs.Counts.{HasCause};
 ghost use Rattle.mss_base.specs.Puts.{Puts};
 ghost use Rattle.ckd_track.specs.Track.{reading};
@@ -100,7 +100,7 @@ fn put_entries<O: Sink>(
 
 /// Puts the first line of a report and the lines of its entries, each by a call of its own.
 ///
-/// The content of the buffer means nothing afterwards.
+/// The first line wants no memory. The content of the buffer means nothing afterwards.
 pub fn put_history<O: Sink>(
     output: &mut O,
     buffer: &mut Bytes,
@@ -109,6 +109,8 @@ pub fn put_history<O: Sink>(
     ensures bytes { O.tells → Puts result (O.told output.old) (O.told output.new)
         (history_text entries.now) }
     ensures cause { HasOutputCause (O.faults output.old) (O.faults output.new) result }
+    ensures begun { O.tells → IsErrOf result ReportFault.Memory
+        → O.told output.new ≢ O.told output.old }
 {
     put_text(output, "MSS REPORT 1\n")?;
     put_entries(output, buffer, entries)

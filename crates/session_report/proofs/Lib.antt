@@ -1,5 +1,6 @@
 pub mod VolumeTexts
 pub mod SiteReads
 pub mod Told
+pub mod Framing
 pub mod Listings
 mod Lines

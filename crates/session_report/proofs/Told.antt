@@ -11,7 +11,7 @@ use Rattle.report_text.specs.declared.report.ReportFault.TheVariants as part
 use Rattle.session_report.specs.Answers.{Answer, IsPut, whole as put_whole, broken, cut, fault_of}
 use Rattle.session_report.specs.Parties.{Stream, Devices, seen_with}
 use Rattle.session_report.specs.Parts.{TracksOfVolume, Told, PutsTracks, PutsVolumes, CountsReads}
-use Rattle.session_report.specs.Reports.{Heading, Matter, Ending, finished, stopped, Telling, whole, unread, untitled, volumes_text, front_text, last_text, told_text, told_answer, IsReported}
+use Rattle.session_report.specs.Reports.{Heading, Matter, Ending, finished, stopped, Telling, whole, unread, untitled, volumes_text, front_text, last_text, told_text, told_answer, BreaksOff, IsReported, OnRead}
 use Rattle.session_report.specs.declared.fault.ReportFault.TheVariants as report_fault
 use Rattle.session_report.specs.declared.fault.VolumesFault.{VolumesFault}
 use Rattle.session_report.specs.declared.fault.VolumesFault.TheVariants as volumes_fault
@@ -27,21 +27,23 @@ blank_tracks track blank (suc n) =
     ap (λ t. tracks_text track n ++ track_text (n / 19) (n % 19) t) (blank (n / 19) (n % 19)) ∙ append-nil (tracks_text track n) ∙ blank_tracks track blank n
 
 -- the heading was put, and the tracks were behind it or not
-pub volume_put : (tells : Type 0) (heading : List ℕ) (track : TracksOfVolume) (old mid new : List ℕ) (r : Told) → (tells → mid ≡ old ++ heading) → PutsTracks tells [] track mid new r → PutsTracks tells heading track old new r
-volume_put tells heading track old mid new (Ok _) first put = λ t. puts_after {T = Unit {0}} {E = Unit {0}} (Ok tt) old mid new heading (tracks_text track 7676) (first t) (put t)
-volume_put tells heading track old mid new (Err (volumes_fault.Read fault)) first put = record {
+pub volume_put : (tells : Type 0) (Unread : ℕ → Type 0) (heading : List ℕ) (track : TracksOfVolume) (old mid new : List ℕ) (r : Told) → (tells → mid ≡ old ++ heading) → PutsTracks tells Unread [] track mid new r
+    → PutsTracks tells Unread heading track old new r
+volume_put tells Unread heading track old mid new (Ok _) first put = λ t. puts_after {T = Unit {0}} {E = Unit {0}} (Ok tt) old mid new heading (tracks_text track 7676) (first t) (put t)
+volume_put tells Unread heading track old mid new (Err (volumes_fault.Read fault)) first put = record {
   tracks = put.tracks;
   few = put.few;
+  unread = put.unread;
   put = λ t. puts_after {T = Unit {0}} {E = Unit {0}} (Ok tt) old mid new heading (tracks_text track put.tracks) (first t) (put.put t);
 }
-volume_put tells heading track old mid new (Err (volumes_fault.Put fault)) first put =
+volume_put tells Unread heading track old mid new (Err (volumes_fault.Put fault)) first put =
     λ t. puts_after {T = Unit {0}} {E = Unit {0}} (Err tt) old mid new heading (tracks_text track 7676) (first t) (put t)
 
 -- ---- the volumes and a line behind them
-pub volumes_fail : (tells : Type 0) (shown : Volumes) (volumes : List Heading) (line old new : List ℕ) (e : VolumesFault) → PutsVolumes tells shown volumes (volumes_text shown volumes) old new (Err e)
-    → PutsVolumes tells shown volumes (volumes_text shown volumes ++ line) old new (Err e)
-volumes_fail tells shown volumes line old new (volumes_fault.Read fault) put = put
-volumes_fail tells shown volumes line old new (volumes_fault.Put fault) put = λ t. puts_stops old new (volumes_text shown volumes) line (put t)
+pub volumes_fail : (tells : Type 0) (Unread : ℕ → ℕ → Type 0) (shown : Volumes) (volumes : List Heading) (line old new : List ℕ) (e : VolumesFault) → PutsVolumes tells Unread shown volumes (volumes_text shown volumes) old new (Err e)
+    → PutsVolumes tells Unread shown volumes (volumes_text shown volumes ++ line) old new (Err e)
+volumes_fail tells Unread shown volumes line old new (volumes_fault.Read fault) put = put
+volumes_fail tells Unread shown volumes line old new (volumes_fault.Put fault) put = λ t. puts_stops old new (volumes_text shown volumes) line (put t)
 
 -- ---- how it was told
 
@@ -85,22 +87,22 @@ module _ (shown : Volumes) (volumes : List Heading) (site : Devices) (sink : Str
   cut_by part.Output is rose counted front = record { telling = whole (finished l); reason = refl; put = broken is (rose refl) front }
   cut_by part.Memory is rose counted front = record { telling = whole (finished l); reason = refl; put = cut is (counted refl) front }
 
-  pub told_fault : (e : VolumesFault) (fault : PartFault) → e ≡ volumes_fault.Put fault → answer ≡ Err (fault_of fault)
+  pub told_fault : (Unread : ℕ → ℕ → Type 0) (e : VolumesFault) (fault : PartFault) → e ≡ volumes_fault.Put fault → answer ≡ Err (fault_of fault)
       → (◌≡◌ {A = Told} (Err e) (Err (volumes_fault.Put part.Output)) → Rises sink.faults_was sink.faults_now)
       → (◌≡◌ {A = Told} (Err e) (Err (volumes_fault.Put part.Memory)) → sink.faults_now ≡ sink.faults_was)
-      → PutsVolumes Both shown volumes due sink.was sink.now (Err e) → Reported
-  told_fault e fault e_is is rose counted put =
+      → PutsVolumes Both Unread shown volumes due sink.was sink.now (Err e) → Reported
+  told_fault Unread e fault e_is is rose counted put =
       cut_by fault is (λ output. rose (ap (λ (x : VolumesFault). Err x) (e_is ∙ ap volumes_fault.Put output)))
       (λ memory. counted (ap (λ (x : VolumesFault). Err x) (e_is ∙ ap volumes_fault.Put memory)))
-      (subst (λ (x : VolumesFault). PutsVolumes Both shown volumes due sink.was sink.now (Err x)) e_is put)
+      (subst (λ (x : VolumesFault). PutsVolumes Both Unread shown volumes due sink.was sink.now (Err x)) e_is put)
 
-  module _ (e : VolumesFault) (fault : ℕ) (mid : List ℕ) (e_is : e ≡ volumes_fault.Read fault) (counted : CountsReads site.faults_was site.faults_now (Err e))
-      (put : PutsVolumes Both shown volumes due sink.was mid (Err e)) where
+  module _ (Unread : ℕ → ℕ → Type 0) (e : VolumesFault) (fault : ℕ) (mid : List ℕ) (e_is : e ≡ volumes_fault.Read fault) (counted : CountsReads site.faults_was site.faults_now (Err e))
+      (put : PutsVolumes Both Unread shown volumes due sink.was mid (Err e)) where
     since : IsFaultSince site.faults_was site.faults_now fault
     since = subst (λ (x : VolumesFault). CountsReads site.faults_was site.faults_now (Err x)) e_is counted
 
-    before : PutsVolumes Both shown volumes due sink.was mid (Err (volumes_fault.Read fault))
-    before = subst (λ (x : VolumesFault). PutsVolumes Both shown volumes due sink.was mid (Err x)) e_is put
+    before : PutsVolumes Both Unread shown volumes due sink.was mid (Err (volumes_fault.Read fault))
+    before = subst (λ (x : VolumesFault). PutsVolumes Both Unread shown volumes due sink.was mid (Err x)) e_is put
 
     -- the count of faults was put behind the volumes before the track that couldn't be read
     pub told_unread : answer ≡ Err (report_fault.Read fault) → (Both → sink.now ≡ mid ++ stopped_text fault) → Reported
@@ -108,6 +110,17 @@ module _ (shown : Volumes) (volumes : List Heading) (site : Devices) (sink : Str
       telling = unread before.place before.tracks fault;
       reason = (tt, before.there, before.few, since);
       put = put_whole is (λ t. puts_after {T = Unit {0}} {E = Unit {0}} (Ok tt) sink.was mid sink.now (front_text shown volumes before.place before.tracks) (stopped_text fault) (before.put t) (bytes t));
+    }
+
+    -- so it broke off there
+    pub told_broken_off : (Both → sink.now ≡ mid ++ stopped_text fault) → BreaksOff Unread (untitled volumes shown) (seen_with site sink) fault
+    told_broken_off bytes = record {
+      place = before.place;
+      tracks = before.tracks;
+      there = before.there;
+      few = before.few;
+      unread_ = before.unread;
+      put = λ t. puts_after {T = Unit {0}} {E = Unit {0}} (Ok tt) sink.was mid sink.now (front_text shown volumes before.place before.tracks) (stopped_text fault) (before.put t) (bytes t);
     }
 
     -- or of that line a front
@@ -146,6 +159,21 @@ module _ (opening : List ℕ) (shown : Volumes) (volumes : List Heading) where
         reason = told.reason;
         put = subst (λ (text : List ℕ). IsPut (told_answer told.telling) text (seen_with site sink) answer) (behind told.telling) (put_behind (told_answer told.telling) (told_text (untitled volumes shown) told.telling) told.put);
       }
+
+      -- the opening was put, and the rest broke off
+      pub broken_behind : (Unread : ℕ → ℕ → Type 0) (told : Answer) → OnRead told (BreaksOff Unread (untitled volumes shown) (seen_with site late)) → OnRead told (BreaksOff Unread titled (seen_with site sink))
+      broken_behind Unread (Err (report_fault.Read fault)) off = record {
+        place = off.place;
+        tracks = off.tracks;
+        there = off.there;
+        few = off.few;
+        unread_ = off.unread_;
+        put = λ t. puts_after {T = Unit {0}} {E = Unit {0}} (Ok tt) sink.was mid sink.now opening (told_text (untitled volumes shown) (unread off.place off.tracks fault)) (first t.1) (off.put t)
+            ∙ ap (λ (text : List ℕ). sink.was ++ text) (behind (unread off.place off.tracks fault));
+      }
+      broken_behind Unread (Ok x) off = tt
+      broken_behind Unread (Err report_fault.Output) off = tt
+      broken_behind Unread (Err report_fault.Memory) off = tt
 
     rest_of : (e : Ending) → List ℕ
     rest_of (finished l) = volumes_text shown volumes ++ last_text l

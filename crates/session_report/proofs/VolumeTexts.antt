@@ -16,7 +16,7 @@ use Rattle.report_text.specs.Texts.{track_text, tracks_text, heading_text, volum
 use Rattle.report_text.proofs.LineLemmas.{no_track_text}
 use Rattle.report_text.proofs.TrackTexts.{Tracks, volume_text_is, no_tracks, tracks_text-next, tracks_go_on, tracks_stop}
 use Rattle.session_report.specs.Parts.{row_tracks, PutsTrack, PutsTracks, PutsVolumes}
-use Rattle.session_report.specs.Reports.{volumes_text, begun_text}
+use Rattle.session_report.specs.Reports.{Grows, volumes_text, begun_text}
 use Rattle.session_report.specs.declared.fault.VolumesFault.{VolumesFault}
 use Rattle.session_report.specs.declared.fault.VolumesFault.TheVariants as volumes_fault
 
@@ -26,21 +26,23 @@ pub record IsPutting {S : Type 0} (tells sink_tells : Type 0) (site_told : S →
   pub site : OnlyReads tells site_told spare writes faults never_fails_but begun now
   pub same : faults now ≡ faults begun
   pub put : tells → sink_tells → new ≡ old ++ so_far (content (site_told begun))
+  pub grown : sink_tells → Grows old new
   pub output_same : sink_now ≡ sink_begun
   pub whole : long ≡ 16384
 
 -- ---- the tracks of a volume
 
 -- a track put with an equal text
-pub track_put_same : (tells : Type 0) (a b old new : List ℕ) (e : VolumesFault) → (tells → a ≡ b) → PutsTrack tells a old new (Err e) → PutsTrack tells b old new (Err e)
-track_put_same tells a b old new (volumes_fault.Read fault) same put = put
-track_put_same tells a b old new (volumes_fault.Put fault) same put = λ t. subst (λ (l : List ℕ). PutsFront old new l) (same t) (put t)
+pub track_put_same : (tells Unread : Type 0) (a b old new : List ℕ) (e : VolumesFault) → (tells → a ≡ b) → PutsTrack tells Unread a old new (Err e) → PutsTrack tells Unread b old new (Err e)
+track_put_same tells Unread a b old new (volumes_fault.Read fault) same put = put
+track_put_same tells Unread a b old new (volumes_fault.Put fault) same put = λ t. subst (λ (l : List ℕ). PutsFront old new l) (same t) (put t)
 
 -- a volume put with equal tracks
-pub tracks_put_same : (tells : Type 0) (heading : List ℕ) (a b : Tracks) (old new : List ℕ) (e : VolumesFault) → (tells → a ≡ b) → PutsTracks tells heading a old new (Err e) → PutsTracks tells heading b old new (Err e)
-tracks_put_same tells heading a b old new (volumes_fault.Read fault) same put =
-    record { tracks = put.tracks; few = put.few; put = λ t. put.put t ∙ ap (λ (x : Tracks). old ++ (heading ++ tracks_text x put.tracks)) (same t) }
-tracks_put_same tells heading a b old new (volumes_fault.Put fault) same put = λ t. subst (λ (x : Tracks). PutsFront old new (heading ++ tracks_text x 7676)) (same t) (put t)
+pub tracks_put_same : (tells : Type 0) (Unread : ℕ → Type 0) (heading : List ℕ) (a b : Tracks) (old new : List ℕ) (e : VolumesFault) → (tells → a ≡ b) → PutsTracks tells Unread heading a old new (Err e)
+    → PutsTracks tells Unread heading b old new (Err e)
+tracks_put_same tells Unread heading a b old new (volumes_fault.Read fault) same put =
+    record { tracks = put.tracks; few = put.few; unread = put.unread; put = λ t. put.put t ∙ ap (λ (x : Tracks). old ++ (heading ++ tracks_text x put.tracks)) (same t) }
+tracks_put_same tells Unread heading a b old new (volumes_fault.Put fault) same put = λ t. subst (λ (x : Tracks). PutsFront old new (heading ++ tracks_text x 7676)) (same t) (put t)
 
 -- no track was put yet
 pub tracks_begin : (track : Tracks) (old : List ℕ) → old ≡ old ++ tracks_text track (0 * 19)
@@ -57,9 +59,11 @@ module _ (tells : Type 0) (track : Tracks) (old now new : List ℕ) (cylinder nu
       tracks_go_on track old now new cylinder head low_head (at_head t) (put t) ∙ ap (λ (n : ℕ). old ++ tracks_text track n) next
 
   -- the walk was left at the track
-  pub tracks_left : cylinder < 404 → (e : VolumesFault) → PutsTrack tells (track_text cylinder head (track cylinder head)) now new (Err e) → PutsTracks tells [] track old new (Err e)
-  tracks_left low (volumes_fault.Read fault) put = record { tracks = cylinder * 19 + head; few = omega arith; put = λ t. put t ∙ at_head t }
-  tracks_left low (volumes_fault.Put fault) put = λ t. tracks_stop track old now new cylinder head 7676 low_head (omega arith) (at_head t) (put t)
+  pub tracks_left : cylinder < 404 → (Here : Type 0) (Unread : ℕ → Type 0) → (Here → Unread (cylinder * 19 + head)) → (e : VolumesFault) → PutsTrack tells Here (track_text cylinder head (track cylinder head)) now new (Err e)
+      → PutsTracks tells Unread [] track old new (Err e)
+  tracks_left low Here Unread here (volumes_fault.Read fault) put =
+      record { tracks = cylinder * 19 + head; few = omega arith; unread = here put.1; put = λ t. put.0 t ∙ at_head t }
+  tracks_left low Here Unread here (volumes_fault.Put fault) put = λ t. tracks_stop track old now new cylinder head 7676 low_head (omega arith) (at_head t) (put t)
 
 -- of a cylinder that a row has as blank, staged or not, each track is blank
 pub blank_in_row : (c : Content) (r : RowValue) (cylinder : ℕ) → true ≡ ((state_of r cylinder == 0) || (state_of r cylinder == 2)) → (head : ℕ) → row_tracks c (Some r) cylinder head ≡ []
@@ -109,17 +113,19 @@ module _ (tells : Type 0) (shown : Volumes) (volumes : List (ℕ × List ℕ)) (
     begun_is n = ap (λ (t : Tracks). heading_text x.0 x.1 ++ tracks_text t n) (sym same)
 
     -- the walk was left within the volume
-    pub volumes_left : (e : VolumesFault) → PutsTracks tells (heading_text x.0 x.1) track now new (Err e) → PutsVolumes tells shown volumes (volumes_text shown volumes) old new (Err e)
-    volumes_left (volumes_fault.Read fault) put = record {
+    pub volumes_left : (Here : ℕ → Type 0) (Unread : ℕ → ℕ → Type 0) → ((n : ℕ) → Here n → Unread i n) → (e : VolumesFault) → PutsTracks tells Here (heading_text x.0 x.1) track now new (Err e)
+        → PutsVolumes tells Unread shown volumes (volumes_text shown volumes) old new (Err e)
+    volumes_left Here Unread here (volumes_fault.Read fault) put = record {
       place = i;
       tracks = put.tracks;
       there = below;
       few = put.few;
+      unread = here put.tracks put.unread;
       put = λ t. put.put t ∙ ap (λ (l : List ℕ). l ++ (heading_text x.0 x.1 ++ tracks_text track put.tracks)) (so_far t)
           ∙ append_assoc old (volumes_text shown (take i volumes)) (heading_text x.0 x.1 ++ tracks_text track put.tracks)
           ∙ ap (λ (l : List ℕ). old ++ (volumes_text shown (take i volumes) ++ l)) (begun_is put.tracks ∙ ap (begun_text shown put.tracks) (sym (slice_get_read volumes (length volumes) i x refl below is)));
     }
-    volumes_left (volumes_fault.Put fault) put = λ t.
+    volumes_left Here Unread here (volumes_fault.Put fault) put = λ t.
         let rest : List ℕ = volumes_text shown (drop (i + 1) volumes) in
         let split : volumes_text shown volumes ≡ volumes_text shown (take i volumes) ++ (volume_text x.0 x.1 (shown.track x.0) ++ rest) =
         ap (volumes_text shown) volumes_whole ∙ flat_map-append (λ (v : ℕ × List ℕ). volume_text v.0 v.1 (shown.track v.0)) (take i volumes) (x ∷ drop (i + 1) volumes) in

@@ -1,11 +1,12 @@
 -- What putting the volumes of a report says, or a part of them.
-use Rattle.std.specs.Prelude.{◌≡◌, ◌<◌, ◌≤◌, ℕ, List, ◌++◌, length, Option, Some}
-use Rattle.std.specs.Prelude.{Result, Ok, Err}
+use Rattle.std.specs.Prelude.{◌≡◌, ◌<◌, ◌≤◌, ◌/◌, ◌%◌, ℕ, List, ◌++◌, length, Option, Some}
+use Rattle.std.specs.Prelude.{slice_get, Result, Ok, Err}
 use Rattle.std.specs.Option.{option_and_then}
 use Rattle.mss_base.specs.Content.{Content}
 use Rattle.mss_base.specs.Counts.{Rises, IsFaultSince}
 use Rattle.mss_base.specs.Puts.{PutsFront}
 use Rattle.mss_base.specs.Sites.{FailingReads}
+use Rattle.mss_base.specs.declared.numbers.TheConstants.{HEADS}
 use Rattle.mss_base.specs.declared.place.BlockPlace.{BlockPlace}
 use Rattle.ckd_track.specs.Data.{RecordData, Volumes}
 use Rattle.volume_table.specs.Row.{RowValue}
@@ -35,6 +36,27 @@ CanReadRow never_fails_but s row = (cylinder head : ℕ) (place : BlockPlace)
 abbrev pub CanReadShown : {S : Type 0} → FailingReads S → S → RowsOf → Type 0
 CanReadShown never_fails_but s rows = (volume : ℕ) → CanReadRow never_fails_but s (rows volume)
 
+-- the block in which a row shows the track of this number, by cylinder and head
+abbrev pub block_of : Option RowValue → ℕ → Option BlockPlace
+block_of row n = option_and_then (λ r. source r (n / HEADS) (n % HEADS)) row
+
+-- there is such a block, and a read of its unit may fail
+pub record MayFail {S : Type 0} (never_fails_but : FailingReads S) (s : S)
+    (block : Option BlockPlace) : Type 0 where
+  pub place : BlockPlace
+  pub there : block ≡ Some place
+  pub fails : IsReadable never_fails_but s place.unit → ⊥
+
+-- the row of the volume at this place of those that are listed
+abbrev pub row_at : RowsOf → List Heading → ℕ → Option RowValue
+row_at rows volumes place = option_and_then (λ (v : Heading). rows v.0) (slice_get volumes place)
+
+-- a track of a listed volume that can't be read: its row shows it in a block, of whose unit a read
+-- may fail
+abbrev pub IsUnread : {S : Type 0} → FailingReads S → S → RowsOf → List Heading → ℕ → ℕ → Type 0
+IsUnread never_fails_but s rows volumes place n =
+    MayFail never_fails_but s (block_of (row_at rows volumes place) n)
+
 -- what is answered when volumes were put
 abbrev pub Told : Type 0
 Told = Result (Unit {0}) VolumesFault
@@ -42,18 +64,21 @@ Told = Result (Unit {0}) VolumesFault
 -- ---- one track
 
 -- a track's text was put, or nothing of one that couldn't be read, or after another fault a front
-abbrev pub PutsTrack : Type 0 → List ℕ → List ℕ → List ℕ → Told → Type 0
-PutsTrack tells text old new (Ok _) = tells → new ≡ old ++ text
-PutsTrack tells text old new (Err (volumes_fault.Read fault)) = tells → new ≡ old
-PutsTrack tells text old new (Err (volumes_fault.Put fault)) = tells → PutsFront old new text
+abbrev pub PutsTrack : Type 0 → Type 0 → List ℕ → List ℕ → List ℕ → Told → Type 0
+PutsTrack tells Unread text old new (Ok _) = tells → new ≡ old ++ text
+PutsTrack tells Unread text old new (Err (volumes_fault.Read fault)) =
+    (tells → new ≡ old) × Unread
+PutsTrack tells Unread text old new (Err (volumes_fault.Put fault)) =
+    tells → PutsFront old new text
 
 -- ---- one volume
 
 -- what was put of a volume, behind its heading, before a track that couldn't be read
-pub record PutsTracksBefore (tells : Type 0) (heading : List ℕ) (track : TracksOfVolume)
-    (old new : List ℕ) : Type 0 where
+pub record PutsTracksBefore (tells : Type 0) (Unread : ℕ → Type 0) (heading : List ℕ)
+    (track : TracksOfVolume) (old new : List ℕ) : Type 0 where
   pub tracks : ℕ
   pub few : tracks < TRACKS_OF_VOLUME
+  pub unread : Unread tracks
   pub put : tells → new ≡ old ++ (heading ++ tracks_text track tracks)
 
 -- the heading and the tracks of a whole volume
@@ -62,32 +87,35 @@ whole_volume heading track = heading ++ tracks_text track TRACKS_OF_VOLUME
 
 -- a volume's tracks were put behind its heading, or those before one that couldn't be read, or else
 -- a front
-abbrev pub PutsTracks : Type 0 → List ℕ → TracksOfVolume → List ℕ → List ℕ → Told → Type 0
-PutsTracks tells heading track old new (Ok _) = tells → new ≡ old ++ whole_volume heading track
-PutsTracks tells heading track old new (Err (volumes_fault.Read fault)) =
-    PutsTracksBefore tells heading track old new
-PutsTracks tells heading track old new (Err (volumes_fault.Put fault)) =
+abbrev pub PutsTracks : Type 0 → (ℕ → Type 0) → List ℕ → TracksOfVolume → List ℕ → List ℕ → Told
+    → Type 0
+PutsTracks tells Unread heading track old new (Ok _) =
+    tells → new ≡ old ++ whole_volume heading track
+PutsTracks tells Unread heading track old new (Err (volumes_fault.Read fault)) =
+    PutsTracksBefore tells Unread heading track old new
+PutsTracks tells Unread heading track old new (Err (volumes_fault.Put fault)) =
     tells → PutsFront old new (whole_volume heading track)
 
 -- ---- the listed volumes
 
 -- what was put of the listed volumes, before a track that couldn't be read
-pub record PutsBefore (tells : Type 0) (shown : Volumes) (volumes : List Heading)
-    (old new : List ℕ) : Type 0 where
+pub record PutsBefore (tells : Type 0) (Unread : ℕ → ℕ → Type 0) (shown : Volumes)
+    (volumes : List Heading) (old new : List ℕ) : Type 0 where
   pub place : ℕ
   pub tracks : ℕ
   pub there : place < length volumes
   pub few : tracks < TRACKS_OF_VOLUME
+  pub unread : Unread place tracks
   pub put : tells → new ≡ old ++ front_text shown volumes place tracks
 
 -- a text of the volumes was put, or what stands before a track that couldn't be read, or else a
 -- front
-abbrev pub PutsVolumes : Type 0 → Volumes → List Heading → List ℕ → List ℕ → List ℕ → Told
-    → Type 0
-PutsVolumes tells shown volumes text old new (Ok _) = tells → new ≡ old ++ text
-PutsVolumes tells shown volumes text old new (Err (volumes_fault.Read fault)) =
-    PutsBefore tells shown volumes old new
-PutsVolumes tells shown volumes text old new (Err (volumes_fault.Put fault)) =
+abbrev pub PutsVolumes : Type 0 → (ℕ → ℕ → Type 0) → Volumes → List Heading → List ℕ → List ℕ
+    → List ℕ → Told → Type 0
+PutsVolumes tells Unread shown volumes text old new (Ok _) = tells → new ≡ old ++ text
+PutsVolumes tells Unread shown volumes text old new (Err (volumes_fault.Read fault)) =
+    PutsBefore tells Unread shown volumes old new
+PutsVolumes tells Unread shown volumes text old new (Err (volumes_fault.Put fault)) =
     tells → PutsFront old new text
 
 -- ---- causes

@@ -1,8 +1,10 @@
 -- What a report says, and a listing.
-use Rattle.std.specs.Prelude.{◌≡◌, ◌≤◌, ℕ, zero, suc, ◌<◌, ◌*◌, List, [], ◌∷◌, ◌++◌, length, take}
+use Rattle.std.specs.Prelude.{◌≡◌, ◌≢◌, ◌⊎◌, ◌≤◌, ℕ, zero, suc, ◌<◌, ◌*◌, List, [], ◌∷◌, ◌++◌}
+use Rattle.std.specs.Prelude.{length, take}
 use Rattle.std.specs.Prelude.{slice_get, Option, Some, None, Ok, Err}
 use Rattle.std.specs.List.{flat_map}
 use Rattle.mss_base.specs.Counts.{IsFaultSince}
+use Rattle.mss_base.specs.Puts.{PutsFront}
 use Rattle.mss_base.specs.declared.numbers.TheConstants.{CYLINDERS, HEADS}
 use Rattle.ckd_track.specs.Data.{Volumes}
 use Rattle.core_state.specs.declared.session.Message.{Message}
@@ -143,6 +145,59 @@ pub record IsReported (m : Matter) (ending : Ending) (site : Devices) (sink : St
   pub telling : Telling
   pub reason : HasReason ending m.volumes site.faults_was site.faults_now telling
   pub put : IsPut (told_answer telling) (told_text m telling) (seen_with site sink) answer
+
+-- it broke off before a track that couldn't be read: which one that is, and what was put
+pub record BreaksOff (IsUnread : ℕ → ℕ → Type 0) (m : Matter) (sink : Stream) (fault : ℕ)
+    : Type 0 where
+  pub place : ℕ
+  pub tracks : ℕ
+  pub there : place < length m.volumes
+  pub few : tracks < TRACKS_OF_VOLUME
+  pub unread_ : IsUnread place tracks
+  pub put : sink.tells → sink.now ≡ sink.was ++ told_text m (unread place tracks fault)
+
+-- what is so where a failed read is told, with the count behind it
+abbrev pub OnRead : Answer → (ℕ → Type 0) → Type 0
+OnRead (Err (report_fault.Read fault)) P = P fault
+OnRead _ P = Unit {0}
+
+-- ---- over any devices
+
+-- a text grew
+pub record Grows (old new : List ℕ) : Type 0 where
+  pub added : List ℕ
+  pub put : new ≡ old ++ added
+
+-- some text was put, and then this line
+pub record EndsWith (old new line : List ℕ) : Type 0 where
+  pub middle : List ℕ
+  pub put : new ≡ old ++ middle ++ line
+
+-- What is put where the devices needn't tell what they hold: whatever stands for the volumes, and
+-- then the last line, or that of a failed read; or without it, where putting failed or memory ran
+-- out.
+abbrev pub Closes : Last → List ℕ → List ℕ → Answer → Type 0
+Closes l old new (Ok _) = EndsWith old new (last_text l)
+Closes l old new (Err (report_fault.Read fault)) = EndsWith old new (stopped_text fault)
+Closes l old new (Err _) = Grows old new
+
+-- a front of the opening, or all of it and whatever stands behind
+abbrev pub Opens : List ℕ → List ℕ → List ℕ → Type 0
+Opens opening old new = PutsFront old new opening ⊎ Grows (old ++ opening) new
+
+-- all of it: the opening, whatever stands for the volumes, and the last line
+abbrev pub FramesAll : List ℕ → Ending → List ℕ → List ℕ → Type 0
+FramesAll opening (finished l) old new = EndsWith (old ++ opening) new (last_text l)
+FramesAll opening (stopped fault) old new = new ≡ old ++ opening ++ stopped_text fault
+
+-- The same behind an opening, which is put whole, unless putting it failed or memory ran out. That
+-- comes when something was put.
+abbrev pub Frames : List ℕ → Ending → List ℕ → List ℕ → Answer → Type 0
+Frames opening ending old new (Ok _) = FramesAll opening ending old new
+Frames opening ending old new (Err (report_fault.Read fault)) =
+    EndsWith (old ++ opening) new (stopped_text fault)
+Frames opening ending old new (Err report_fault.Output) = Opens opening old new
+Frames opening ending old new (Err report_fault.Memory) = Opens opening old new × (new ≢ old)
 
 -- a failed read is told with the count of faults behind it, and where none failed the count stays
 abbrev pub SiteCounts : ℕ → ℕ → Answer → Type 0

@@ -5,10 +5,12 @@ ghost use Rattle.mss_base.specs.Content.{content};
 ghost use Rattle.mss_base.specs.Sites.{OnlyReads};
 ghost use Rattle.volume_table.specs.Listed.{listed};
 ghost use Rattle.shown_volumes.specs.Shown.{shown_by};
-ghost use Rattle.session_report.specs.Parts.{CanReadShown};
+ghost use Rattle.report_text.specs.Texts.{listing_title};
+ghost use Rattle.session_report.specs.Parts.{CanReadShown, IsUnread};
 ghost use Rattle.session_report.specs.Answers.{SinkCounts};
-ghost use Rattle.session_report.specs.Parties.{between};
+ghost use Rattle.session_report.specs.Parties.{between, seen_with};
 ghost use Rattle.session_report.specs.Reports.{AnswersNoRead, IsReported, SiteCounts};
+ghost use Rattle.session_report.specs.Reports.{BreaksOff, Frames, OnRead};
 ghost use Rattle.session_report.specs.Reports.{finished, listing_matter};
 ghost use Rattle.session_report.specs.Reports.{heading_of, volumes_below};
 ghost use Rattle.session_report.specs.declared.reporting.Last.TheVariants.{End};
@@ -57,7 +59,7 @@ fn listed_volumes(alloc: Global, rows: &[Option<VolumeRow>]) -> Result<VolumeLis
 /// Puts the listing of a site: every volume that has a row, as the rows show it over the devices.
 ///
 /// Where a read for a track fails, the listing ends before that track, with a line that tells the count of faults.
-/// `rows` has 32 items.
+/// The first line wants no memory, which may run out behind it. `rows` has 32 items.
 pub fn listing<S: Site, O: Sink>(
     alloc: Global,
     site: &mut S,
@@ -69,6 +71,14 @@ pub fn listing<S: Site, O: Sink>(
         IsReported (listing_matter shown) (finished End)
         (between S.tells S.told S.faults site.old site.new)
         (between O.tells O.told O.faults output.old output.new) result }
+    ensures unread { let shown = shown_by (listed rows.now) (content (S.told site.old)) in
+        OnRead result (BreaksOff
+        (IsUnread S.never_fails_but site.old (listed rows.now) (volumes_below 32 shown.serial))
+        (listing_matter shown)
+        (seen_with (between S.tells S.told S.faults site.old site.new)
+        (between O.tells O.told O.faults output.old output.new))) }
+    ensures framed { O.tells → Frames listing_title (finished End)
+        (O.told output.old) (O.told output.new) result }
     ensures counted { SiteCounts (S.faults site.old) (S.faults site.new) result }
     ensures works { CanReadShown S.never_fails_but site.old (listed rows.now)
         → AnswersNoRead result }
@@ -76,7 +86,7 @@ pub fn listing<S: Site, O: Sink>(
         site.old site.new }
     ensures output { SinkCounts (O.faults output.old) (O.faults output.new) result }
 {
-    let volumes = listed_volumes(alloc, rows)?;
     put_title(output)?;
+    let volumes = listed_volumes(alloc, rows)?;
     put_ending(alloc, site, rows, volumes.as_slice(), Last::End, output)
 }

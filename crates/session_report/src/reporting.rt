@@ -1,5 +1,5 @@
 // The report of a session.
-ghost use Rattle.std.specs.Prelude.{◌≡◌, ◌++◌, IfOk, length, vec_len};
+ghost use Rattle.std.specs.Prelude.{◌≡◌, ◌≢◌, ◌++◌, IfOk, IsErrOf, OnOk, length, vec_len};
 ghost use Rattle.mss_base.specs.Content.{content};
 ghost use Rattle.mss_base.specs.Counts.{HasCause};
 ghost use Rattle.mss_base.specs.Puts.{Puts};
@@ -9,10 +9,11 @@ ghost use Rattle.shown_volumes.specs.Shown.{shown_by};
 ghost use Rattle.core_state.specs.Sessions.{session_data};
 ghost use Rattle.report_text.specs.Causes.{HasOutputCause};
 ghost use Rattle.session_report.specs.Answers.{SinkCounts};
-ghost use Rattle.session_report.specs.Parties.{between};
+ghost use Rattle.session_report.specs.Parties.{between, seen_with};
 ghost use Rattle.session_report.specs.Parts.{PutsVolumes, CountsReads, CountsPuts};
-ghost use Rattle.session_report.specs.Parts.{CanReadShown, TellsNoRead};
+ghost use Rattle.session_report.specs.Parts.{CanReadShown, IsUnread, TellsNoRead};
 ghost use Rattle.session_report.specs.Reports.{AnswersNoRead, IsReported, SiteCounts};
+ghost use Rattle.session_report.specs.Reports.{BreaksOff, Closes, EndsWith, Frames, Grows, OnRead};
 ghost use Rattle.session_report.specs.Reports.{ending_of, finished};
 ghost use Rattle.session_report.specs.Reports.{last_text, opening_text, report_matter};
 ghost use Rattle.session_report.specs.Reports.{untitled, volumes_text};
@@ -45,7 +46,7 @@ pub fn put_last<O: Sink>(output: &mut O, last: Last) -> Result<(), Failed>
     }
 }
 
-/// Puts the history and the changes of rows.
+/// Puts the history and the changes of rows. Memory may run out behind the first line.
 fn put_opening<O: Sink>(
     output: &mut O,
     line: &mut Bytes,
@@ -54,6 +55,8 @@ fn put_opening<O: Sink>(
     ensures bytes { O.tells → Puts result (O.told output.old) (O.told output.new)
         (opening_text (session_data session.now)) }
     ensures cause { HasOutputCause (O.faults output.old) (O.faults output.new) result }
+    ensures begun { O.tells → IsErrOf result PartFault.Memory
+        → O.told output.new ≢ O.told output.old }
 {
     put_history(output, line, session.history.as_slice())?;
     put_changes(output, line, session.console.as_slice())
@@ -72,9 +75,13 @@ fn put_to_end<S: Site, O: Sink>(
     requires rows { length rows.now ≡ 32 }
     requires block { length block.old ≡ BLOCK_BYTES }
     ensures bytes { let shown = shown_by (listed rows.now) (content (S.told site.old)) in
-        PutsVolumes (S.tells × O.tells) shown volumes.now
-        (volumes_text shown volumes.now ++ last_text last)
+        PutsVolumes (S.tells × O.tells)
+        (IsUnread S.never_fails_but site.old (listed rows.now) volumes.now)
+        shown volumes.now (volumes_text shown volumes.now ++ last_text last)
         (O.told output.old) (O.told output.new) result }
+    ensures grown { O.tells → Grows (O.told output.old) (O.told output.new) }
+    ensures ended { O.tells → OnOk result
+        (EndsWith (O.told output.old) (O.told output.new) (last_text last)) }
     ensures counted { CountsReads (S.faults site.old) (S.faults site.new) result }
     ensures works { CanReadShown S.never_fails_but site.old (listed rows.now)
         → TellsNoRead result }
@@ -111,6 +118,13 @@ pub fn put_ending<S: Site, O: Sink>(
         IsReported (untitled volumes.now shown) (finished last)
         (between S.tells S.told S.faults site.old site.new)
         (between O.tells O.told O.faults output.old output.new) result }
+    ensures unread { let shown = shown_by (listed rows.now) (content (S.told site.old)) in
+        OnRead result (BreaksOff
+        (IsUnread S.never_fails_but site.old (listed rows.now) volumes.now)
+        (untitled volumes.now shown)
+        (seen_with (between S.tells S.told S.faults site.old site.new)
+        (between O.tells O.told O.faults output.old output.new))) }
+    ensures closed { O.tells → Closes last (O.told output.old) (O.told output.new) result }
     ensures counted { SiteCounts (S.faults site.old) (S.faults site.new) result }
     ensures works { CanReadShown S.never_fails_but site.old (listed rows.now)
         → AnswersNoRead result }
@@ -134,7 +148,8 @@ pub fn put_ending<S: Site, O: Sink>(
 /// show them over the devices, and a last line.
 ///
 /// A session that was stopped has no volumes, and its last line tells the fault. Where a read for a track fails, the
-/// report ends before that track, with a line that tells the count of faults. `rows` has 32 items.
+/// report ends before that track, with a line that tells the count of faults. Of devices that don't tell what they
+/// hold, all but the volumes is known. Memory may run out behind the first line. `rows` has 32 items.
 pub fn report<S: Site, O: Sink>(
     alloc: Global,
     site: &mut S,
@@ -150,6 +165,14 @@ pub fn report<S: Site, O: Sink>(
         (ending_of session.now.stopped last)
         (between S.tells S.told S.faults site.old site.new)
         (between O.tells O.told O.faults output.old output.new) result }
+    ensures unread { let shown = shown_by (listed rows.now) (content (S.told site.old)) in
+        OnRead result (BreaksOff
+        (IsUnread S.never_fails_but site.old (listed rows.now) volumes.now)
+        (report_matter (session_data session.now) volumes.now shown)
+        (seen_with (between S.tells S.told S.faults site.old site.new)
+        (between O.tells O.told O.faults output.old output.new))) }
+    ensures framed { O.tells → Frames (opening_text (session_data session.now))
+        (ending_of session.now.stopped last) (O.told output.old) (O.told output.new) result }
     ensures counted { SiteCounts (S.faults site.old) (S.faults site.new) result }
     ensures works { CanReadShown S.never_fails_but site.old (listed rows.now)
         → AnswersNoRead result }

@@ -3,12 +3,13 @@ ghost use Rattle.std.specs.Prelude.{◌≡◌, [], Some, length};
 ghost use Rattle.mss_base.specs.Content.{content};
 ghost use Rattle.mss_base.specs.Sites.{OnlyReads};
 ghost use Rattle.volume_table.specs.Listed.{listed};
-ghost use Rattle.shown_volumes.specs.Shown.{shown_by};
+ghost use Rattle.shown_volumes.specs.Shown.{shown_by, source};
 ghost use Rattle.report_text.specs.Texts.{track_text, heading_text};
 ghost use Rattle.session_report.specs.Parts.{row_tracks, PutsTrack, PutsTracks, PutsVolumes};
 ghost use Rattle.session_report.specs.Parts.{CountsReads, CountsPuts, TellsNoRead};
 ghost use Rattle.session_report.specs.Parts.{CanReadRow, CanReadShown};
-ghost use Rattle.session_report.specs.Reports.{volumes_text};
+ghost use Rattle.session_report.specs.Parts.{IsUnread, MayFail, block_of};
+ghost use Rattle.session_report.specs.Reports.{Grows, volumes_text};
 
 use crate::fault::VolumesFault;
 use crate::place::{is_blank, row_of, shown_place};
@@ -31,8 +32,11 @@ fn put_shown<S: Site, O: Sink>(
 ) -> Result<(), VolumesFault>
     requires { length block.old ≡ BLOCK_BYTES }
     ensures bytes { let tracks = row_tracks (content (S.told site.old)) (Some row.now) in
-        PutsTrack (S.tells × O.tells) (track_text cylinder head (tracks cylinder head))
+        PutsTrack (S.tells × O.tells)
+        (MayFail S.never_fails_but site.old (source row.now cylinder head))
+        (track_text cylinder head (tracks cylinder head))
         (O.told output.old) (O.told output.new) result }
+    ensures grown { O.tells → Grows (O.told output.old) (O.told output.new) }
     ensures counted { CountsReads (S.faults site.old) (S.faults site.new) result }
     ensures works { CanReadRow S.never_fails_but site.old (Some row.now) → TellsNoRead result }
     ensures site { OnlyReads S.tells S.told S.spare S.writes S.faults S.never_fails_but
@@ -60,9 +64,11 @@ fn put_tracks<S: Site, O: Sink>(
     line: &mut Bytes,
 ) -> Result<(), VolumesFault>
     requires { length block.old ≡ BLOCK_BYTES }
-    ensures bytes { PutsTracks (S.tells × O.tells) []
+    ensures bytes { PutsTracks (S.tells × O.tells)
+        (λ n. MayFail S.never_fails_but site.old (block_of (Some row.now) n)) []
         (row_tracks (content (S.told site.old)) (Some row.now))
         (O.told output.old) (O.told output.new) result }
+    ensures grown { O.tells → Grows (O.told output.old) (O.told output.new) }
     ensures counted { CountsReads (S.faults site.old) (S.faults site.new) result }
     ensures works { CanReadRow S.never_fails_but site.old (Some row.now) → TellsNoRead result }
     ensures site { OnlyReads S.tells S.told S.spare S.writes S.faults S.never_fails_but
@@ -95,9 +101,11 @@ fn put_row<S: Site, O: Sink>(
     line: &mut Bytes,
 ) -> Result<(), VolumesFault>
     requires { length block.old ≡ BLOCK_BYTES }
-    ensures bytes { PutsTracks (S.tells × O.tells) []
+    ensures bytes { PutsTracks (S.tells × O.tells)
+        (λ n. MayFail S.never_fails_but site.old (block_of row.now n)) []
         (row_tracks (content (S.told site.old)) row.now)
         (O.told output.old) (O.told output.new) result }
+    ensures grown { O.tells → Grows (O.told output.old) (O.told output.new) }
     ensures counted { CountsReads (S.faults site.old) (S.faults site.new) result }
     ensures works { CanReadRow S.never_fails_but site.old row.now → TellsNoRead result }
     ensures site { OnlyReads S.tells S.told S.spare S.writes S.faults S.never_fails_but
@@ -122,9 +130,12 @@ fn put_volume<S: Site, O: Sink>(
 ) -> Result<(), VolumesFault>
     requires rows { length rows.now ≡ 32 }
     requires block { length block.old ≡ BLOCK_BYTES }
-    ensures bytes { PutsTracks (S.tells × O.tells) (heading_text volume serial.now)
+    ensures bytes { PutsTracks (S.tells × O.tells)
+        (λ n. MayFail S.never_fails_but site.old (block_of (listed rows.now volume) n))
+        (heading_text volume serial.now)
         (row_tracks (content (S.told site.old)) (listed rows.now volume))
         (O.told output.old) (O.told output.new) result }
+    ensures grown { O.tells → Grows (O.told output.old) (O.told output.new) }
     ensures counted { CountsReads (S.faults site.old) (S.faults site.new) result }
     ensures works { CanReadRow S.never_fails_but site.old (listed rows.now volume)
         → TellsNoRead result }
@@ -150,8 +161,11 @@ pub fn put_volumes<S: Site, O: Sink>(
     requires rows { length rows.now ≡ 32 }
     requires block { length block.old ≡ BLOCK_BYTES }
     ensures bytes { let shown = shown_by (listed rows.now) (content (S.told site.old)) in
-        PutsVolumes (S.tells × O.tells) shown volumes.now (volumes_text shown volumes.now)
+        PutsVolumes (S.tells × O.tells)
+        (IsUnread S.never_fails_but site.old (listed rows.now) volumes.now)
+        shown volumes.now (volumes_text shown volumes.now)
         (O.told output.old) (O.told output.new) result }
+    ensures grown { O.tells → Grows (O.told output.old) (O.told output.new) }
     ensures counted { CountsReads (S.faults site.old) (S.faults site.new) result }
     ensures works { CanReadShown S.never_fails_but site.old (listed rows.now) → TellsNoRead result }
     ensures site { OnlyReads S.tells S.told S.spare S.writes S.faults S.never_fails_but

@@ -6,6 +6,7 @@ use Rattle.volume_table.specs.Listed.{listed}
 use Rattle.shown_volumes.specs.Shown.{shown_by}
 use Rattle.ckd_track.specs.Data.{Volumes}
 use Rattle.session_report.specs.Reports.{volumes_text, last_text}
+use Rattle.session_report.proofs.Framing.{grows_by, grows_front, grows_then, line_behind}
 use Rattle.session_report.proofs.Told.{volumes_fail}
 use Rattle.session_report.proofs.reporting.put_to_end.Goals as goal
 
@@ -13,7 +14,7 @@ pub returns-in_err-put_volumes-clause-bytes : goal.returns-in_err-put_volumes-cl
 returns-in_err-put_volumes-clause-bytes g c =
     let p = err_from_is_err_and c.from_residual.result c.from_residual.ensures.1 in
     rw (p.1, p.2)
-    (volumes_fail (g.S.Site.tells × g.O.Sink.tells) (shown_by (listed c.args.rows.now) (content (g.S.Site.told c.args.site.now))) c.args.volumes.now (last_text c.args.last) (g.O.Sink.told c.args.output.now) (g.O.Sink.told c.put_volumes.new.output)
+    (volumes_fail (g.S.Site.tells × g.O.Sink.tells) _ (shown_by (listed c.args.rows.now) (content (g.S.Site.told c.args.site.now))) c.args.volumes.now (last_text c.args.last) (g.O.Sink.told c.args.output.now) (g.O.Sink.told c.put_volumes.new.output)
     c.in_err-put_volumes.field-0.0 c.in_err-put_volumes.ensures.bytes)
 
 pub returns-in_err-put_last-clause-bytes : goal.returns-in_err-put_last-clause-bytes
@@ -29,3 +30,12 @@ returns-clause-bytes g c = λ t.
     let shown : Volumes = shown_by (listed c.args.rows.now) (content (g.S.Site.told c.args.site.now)) in
     puts_after {T = Unit {0}} {E = Unit {0}} (Ok tt) (g.O.Sink.told c.args.output.now) (g.O.Sink.told c.put_volumes.new.output) (g.O.Sink.told c.put_last.new.output) (volumes_text shown c.args.volumes.now) (last_text c.args.last)
     (c.in_ok-put_volumes.ensures.bytes t) (c.in_ok-put_last.ensures.bytes t.1)
+
+pub returns-in_err-put_last-clause-grown : goal.returns-in_err-put_last-clause-grown
+returns-in_err-put_last-clause-grown g c = λ told. grows_then _ _ _ (c.put_volumes.ensures.grown told) (grows_front _ _ _ (c.in_err-put_last.ensures.bytes told))
+
+pub returns-clause-grown : goal.returns-clause-grown
+returns-clause-grown g c = λ told. grows_then _ _ _ (c.put_volumes.ensures.grown told) (grows_by _ _ _ (c.in_ok-put_last.ensures.bytes told))
+
+pub returns-clause-ended : goal.returns-clause-ended
+returns-clause-ended g c = λ told. line_behind _ _ _ _ (c.put_volumes.ensures.grown told) (c.in_ok-put_last.ensures.bytes told)

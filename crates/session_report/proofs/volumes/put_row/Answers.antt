@@ -1,10 +1,11 @@
-use Rattle.std.proofs.Common.{List, Option, ℕ, ◌++◌, sym, ap, ◌∙◌, subst}
+use Rattle.std.proofs.Common.{List, [], Option, ℕ, ◌++◌, sym, ap, ◌∙◌, subst}
 use Rattle.std.specs.Option.{option_and_then}
 use Rattle.std.proofs.lemmas.List.{append-nil}
 use Rattle.mss_base.specs.Content.{content}
 use Rattle.volume_table.specs.Row.{RowValue}
 use Rattle.shown_volumes.specs.Shown.{source, track_at}
-use Rattle.session_report.specs.Parts.{CanReadRow, TellsNoRead}
+use Rattle.session_report.specs.Parts.{CanReadRow, MayFail, PutsTracks, TellsNoRead, block_of, row_tracks}
+use Rattle.session_report.proofs.Framing.{grows_none}
 use Rattle.session_report.proofs.Told.{blank_tracks}
 use Rattle.session_report.proofs.volumes.put_row.Goals as goal
 
@@ -18,3 +19,12 @@ pub returns-clause-works : goal.returns-clause-works
 returns-clause-works g c =
     subst (λ (row : Option RowValue). CanReadRow g.S.Site.never_fails_but c.args.site.now row → TellsNoRead c.put_tracks.result)
     (sym c.in-Some.is) c.put_tracks.ensures.works
+
+pub returns-clause-bytes : goal.returns-clause-bytes
+returns-clause-bytes g c =
+    subst (λ (row : Option RowValue). PutsTracks (g.S.Site.tells × g.O.Sink.tells) (λ n. MayFail g.S.Site.never_fails_but c.args.site.now (block_of row n)) [] (row_tracks (content (g.S.Site.told c.args.site.now)) row)
+    (g.O.Sink.told c.args.output.now) (g.O.Sink.told c.put_tracks.new.output) c.put_tracks.result)
+    (sym c.in-Some.is) c.put_tracks.ensures.bytes
+
+pub returns-in_default-clause-grown : goal.returns-in_default-clause-grown
+returns-in_default-clause-grown g c = λ told. grows_none (g.O.Sink.told c.args.output.now)

@@ -5,7 +5,8 @@ use Rattle.volume_table.specs.Row.{RowValue}
 use Rattle.volume_table.specs.Listed.{listed}
 use Rattle.mss_base.proofs.Putting.{puts_stops}
 use Rattle.report_text.specs.Texts.{heading_text, tracks_text}
-use Rattle.session_report.specs.Parts.{row_tracks, CanReadRow, PutsTracks, TellsNoRead}
+use Rattle.session_report.specs.Parts.{row_tracks, CanReadRow, MayFail, PutsTracks, TellsNoRead, block_of}
+use Rattle.session_report.proofs.Framing.{grows_by, grows_front, grows_then}
 use Rattle.session_report.proofs.Told.{volume_put}
 use Rattle.session_report.proofs.volumes.put_volume.Goals as goal
 
@@ -18,12 +19,18 @@ returns-in_err-put_heading-clause-bytes g c =
 
 pub returns-clause-bytes : goal.returns-clause-bytes
 returns-clause-bytes g c =
-    subst (λ (row : Option RowValue). PutsTracks (g.S.Site.tells × g.O.Sink.tells) (heading_text c.args.volume c.args.serial.now) (row_tracks (content (g.S.Site.told c.args.site.now)) row) (g.O.Sink.told c.args.output.now) (g.O.Sink.told c.put_row.new.output) c.put_row.result)
+    subst (λ (row : Option RowValue). PutsTracks (g.S.Site.tells × g.O.Sink.tells) (λ n. MayFail g.S.Site.never_fails_but c.args.site.now (block_of row n)) (heading_text c.args.volume c.args.serial.now) (row_tracks (content (g.S.Site.told c.args.site.now)) row) (g.O.Sink.told c.args.output.now) (g.O.Sink.told c.put_row.new.output) c.put_row.result)
     c.row_of.ensures
-    (volume_put (g.S.Site.tells × g.O.Sink.tells) (heading_text c.args.volume c.args.serial.now) _ (g.O.Sink.told c.args.output.now) (g.O.Sink.told c.put_heading.new.output) (g.O.Sink.told c.put_row.new.output) c.put_row.result
+    (volume_put (g.S.Site.tells × g.O.Sink.tells) _ (heading_text c.args.volume c.args.serial.now) _ (g.O.Sink.told c.args.output.now) (g.O.Sink.told c.put_heading.new.output) (g.O.Sink.told c.put_row.new.output) c.put_row.result
     (λ t. c.in_ok-put_heading.ensures.bytes t.1) c.put_row.ensures.bytes)
 
 pub returns-clause-works : goal.returns-clause-works
 returns-clause-works g c =
     subst (λ (row : Option RowValue). CanReadRow g.S.Site.never_fails_but c.args.site.now row → TellsNoRead c.put_row.result)
     c.row_of.ensures c.put_row.ensures.works
+
+pub returns-in_err-put_heading-clause-grown : goal.returns-in_err-put_heading-clause-grown
+returns-in_err-put_heading-clause-grown g c = λ told. grows_front _ _ _ (c.in_err-put_heading.ensures.bytes told)
+
+pub returns-clause-grown : goal.returns-clause-grown
+returns-clause-grown g c = λ told. grows_then _ _ _ (grows_by _ _ _ (c.in_ok-put_heading.ensures.bytes told)) (c.put_row.ensures.grown told)

@@ -4,9 +4,10 @@ use Rattle.mss_base.specs.Content.{SiteLog, content}
 use Rattle.report_text.specs.Texts.{heading_text, tracks_text}
 use Rattle.volume_table.specs.Listed.{listed}
 use Rattle.shown_volumes.specs.Shown.{shown_by}
-use Rattle.session_report.specs.Parts.{row_tracks}
+use Rattle.session_report.specs.Parts.{IsUnread, MayFail, block_of, row_tracks}
 use Rattle.table_pair.proofs.SiteLemmas.{reads_then}
-use Rattle.session_report.proofs.SiteReads.{row_on}
+use Rattle.session_report.proofs.Framing.{grows_then}
+use Rattle.session_report.proofs.SiteReads.{row_on, volume_unread}
 use Rattle.session_report.proofs.VolumeTexts.{volumes_go_on, volumes_left, tracks_put_same}
 use Rattle.session_report.proofs.volumes.put_volumes.Goals as goal
 
@@ -17,8 +18,11 @@ returns-in_err-put_volume-clause-bytes g c =
     (volumes_left (g.S.Site.tells × g.O.Sink.tells) (shown_by (listed c.args.rows.now) (content (g.S.Site.told c.args.site.now))) c.args.volumes.now c.loop-entry.entry-index c.entry-item.result c.loop-entry-test.true c.entry-item.is
     (row_tracks (content (g.S.Site.told c.args.site.now)) (listed c.args.rows.now c.entry-item.result.0))
     refl
-    (g.O.Sink.told c.args.output.now) (g.O.Sink.told c.loop-entry.output) (g.O.Sink.told c.put_volume.new.output) (λ t. c.loop-entry.invariant.put t.0 t.1) c.in_err-put_volume.field-0.0
-    (tracks_put_same (g.S.Site.tells × g.O.Sink.tells) (heading_text c.entry-item.result.0 c.entry-item.result.1) _ _ (g.O.Sink.told c.loop-entry.output) (g.O.Sink.told c.put_volume.new.output) c.in_err-put_volume.field-0.0
+    (g.O.Sink.told c.args.output.now) (g.O.Sink.told c.loop-entry.output) (g.O.Sink.told c.put_volume.new.output) (λ t. c.loop-entry.invariant.put t.0 t.1)
+    (λ n. MayFail g.S.Site.never_fails_but c.loop-entry.site (block_of (listed c.args.rows.now c.entry-item.result.0) n)) (IsUnread g.S.Site.never_fails_but c.args.site.now (listed c.args.rows.now) c.args.volumes.now)
+    (volume_unread g.S.Site.never_fails_but c.args.site.now c.loop-entry.site c.loop-entry.invariant.site.sound (listed c.args.rows.now) c.args.volumes.now c.loop-entry.entry-index c.entry-item.result c.loop-entry-test.true c.entry-item.is)
+    c.in_err-put_volume.field-0.0
+    (tracks_put_same (g.S.Site.tells × g.O.Sink.tells) _ (heading_text c.entry-item.result.0 c.entry-item.result.1) _ _ (g.O.Sink.told c.loop-entry.output) (g.O.Sink.told c.put_volume.new.output) c.in_err-put_volume.field-0.0
     (λ t. ap (λ (s : SiteLog). row_tracks (content s) (listed c.args.rows.now c.entry-item.result.0)) (c.loop-entry.invariant.site.log t.0))
     c.in_err-put_volume.ensures.bytes))
 
@@ -33,6 +37,7 @@ loop-entry-preserved g c = record {
       (g.O.Sink.told c.args.output.now) (g.O.Sink.told c.loop-entry.output) (g.O.Sink.told c.put_volume.new.output) (λ t. c.loop-entry.invariant.put t.0 t.1)
       (λ t. subst (λ (s : SiteLog). g.O.Sink.told c.put_volume.new.output ≡ g.O.Sink.told c.loop-entry.output ++ (heading_text c.entry-item.result.0 c.entry-item.result.1 ++ tracks_text (row_tracks (content s) (listed c.args.rows.now c.entry-item.result.0)) 7676))
       (c.loop-entry.invariant.site.log t.0) (c.in_ok-put_volume.ensures.bytes t)) (tells, sink_tells);
+  grown = λ sink_tells. grows_then _ _ _ (c.loop-entry.invariant.grown sink_tells) (c.put_volume.ensures.grown sink_tells);
   output_same = c.in_ok-put_volume.ensures.output.same (λ x. x) ∙ c.loop-entry.invariant.output_same;
   whole = omega (arith, c.loop-entry.invariant.whole, c.put_volume.auto.block);
 }
@@ -41,3 +46,6 @@ pub returns-in_err-put_volume-clause-works : goal.returns-in_err-put_volume-clau
 returns-in_err-put_volume-clause-works g c = λ reads.
     let p = err_from_is_err_and c.from_residual.result c.from_residual.ensures.1 in
     rw (p.1, p.2) (c.in_err-put_volume.ensures.works (row_on g.S.Site.never_fails_but c.args.site.now c.loop-entry.site c.loop-entry.invariant.site.sound (listed c.args.rows.now c.entry-item.result.0) (reads c.entry-item.result.0)))
+
+pub returns-in_err-put_volume-clause-grown : goal.returns-in_err-put_volume-clause-grown
+returns-in_err-put_volume-clause-grown g c = λ told. grows_then _ _ _ (c.loop-entry.invariant.grown told) (c.put_volume.ensures.grown told)
