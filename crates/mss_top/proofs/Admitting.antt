@@ -1,5 +1,5 @@
 -- Why a run is admitted, or isn't; how many actors it has.
-use Rattle.std.proofs.Common.{◌≡◌, ◌≤◌, ◌<◌, inl, inr, ℕ, true, List, [], ◌∷◌, length, map, Option, Some, None, Result, Ok, Err, sym, subst, arith}
+use Rattle.std.proofs.Common.{◌≡◌, ◌≤◌, ◌<◌, inl, inr, ℕ, true, List, [], ◌∷◌, length, map, Option, Some, None, Result, Ok, Err, refl, sym, subst, arith}
 use Rattle.std.specs.Prelude.{◌==◌, IfErr, IfOk}
 use Rattle.std.specs.List.{AllByRecursion, list_any}
 use Rattle.std.proofs.lemmas.Bool.{eqb-true, or_cases}
@@ -11,7 +11,7 @@ use Rattle.draws.specs.Load.{load_job}
 use Rattle.report_text.specs.declared.one_line.OneLine.{OneLine}
 use Rattle.report_text.specs.declared.one_line.OneLine.TheVariants as line
 use Rattle.session_report.specs.Parties.{Stream, IsUntouched}
-use Rattle.mss_top.specs.Admission.{AskToRun, Asks, GivesJob, IsJobless, IsUnread}
+use Rattle.mss_top.specs.Admission.{AskToRun, Asks, GivesJob, IsJobOf, IsJobless, IsUnread}
 use Rattle.mss_top.specs.declared.admission.Settings.{Settings}
 
 -- ---- actors
@@ -32,26 +32,40 @@ few_hosts job is = subst (λ (n : ℕ). n ≤ 9) (length-map job.hosts (λ (scri
 -- the words are at fault
 pub refused_words : (words : List (List ℕ)) (input : Stream) (said : OneLine) → Asks words (Err said) → IsUntouched input → IsUnread words input said
 refused_words words input line.WordsRefused is untouched = (is, untouched)
-refused_words words input line.WantOfMemory is untouched = tt
+refused_words words input line.WantOfMemory is untouched = inl untouched
 refused_words words input line.InputFault is untouched = absurd is
 refused_words words input (line.JobRefused n kind) is untouched = absurd is
 refused_words words input (line.RestartRefused why) is untouched = absurd is
 
 never_words : (load : Option ℕ) (input : Stream) → IsJobless load input line.WordsRefused → ⊥
-never_words (Some programs) input is = absurd (let e : line.WordsRefused ≡ line.WantOfMemory = is in cc)
+never_words (Some programs) input is = absurd (let e : line.WordsRefused ≡ line.WantOfMemory = is.0 in cc)
 never_words None input is = is
+
+-- the input was read for its job alone
+read_for : (words : List (List ℕ)) (input : Stream) (settings : Settings) → AskToRun words settings → (load : Option ℕ) → settings.load ≡ load → ((programs : ℕ) → load ≡ Some programs → IsUntouched input) → IsUnread words input line.WantOfMemory
+read_for words input settings asks None is untouched = inr (record { settings = settings; command = asks; unloaded = is })
+read_for words input settings asks (Some programs) is untouched = inl (untouched programs refl)
+
+vain_untouched : (load : Option ℕ) (input : Stream) (said : OneLine) → IsJobless load input said → (programs : ℕ) → load ≡ Some programs → IsUntouched input
+vain_untouched (Some n) input said is programs at = is.1
+vain_untouched None input said is programs at = absurd cc
+
+job_untouched : (load : Option ℕ) (order : ℕ) (input : Stream) (job : JobData) → IsJobOf load order input job → (programs : ℕ) → load ≡ Some programs → IsUntouched input
+job_untouched (Some n) order input job is programs at = is.1
+job_untouched None order input job is programs at = absurd cc
 
 -- the job is wanting
 pub in_vain : (words : List (List ℕ)) (input : Stream) (settings : Settings) (said : OneLine) → AskToRun words settings → IsJobless settings.load input said → IsUnread words input said
 in_vain words input settings line.WordsRefused asks is = absurd (never_words settings.load input is)
-in_vain words input settings line.WantOfMemory asks is = tt
+in_vain words input settings line.WantOfMemory asks is = read_for words input settings asks settings.load refl (vain_untouched settings.load input line.WantOfMemory is)
 in_vain words input settings said asks is = record { settings = settings; command = asks; jobless = is }
 
 -- memory is
-pub unread_memory : (words : List (List ℕ)) (input : Stream) (said : OneLine) → said ≡ line.WantOfMemory → IsUnread words input said
-unread_memory words input said is = subst (λ (l : OneLine). IsUnread words input l) (sym is) tt
+pub unread_memory : (words : List (List ℕ)) (input : Stream) (settings : Settings) (job : JobData) (said : OneLine) → AskToRun words settings → IsJobOf settings.load settings.order input job → said ≡ line.WantOfMemory → IsUnread words input said
+unread_memory words input settings job said asks held is =
+    subst (λ (l : OneLine). IsUnread words input l) (sym is) (read_for words input settings asks settings.load refl (job_untouched settings.load settings.order input job held))
 
 -- a load is drawn, or memory is wanting
 pub load_given : (programs order : ℕ) (input : Stream) (r : Result JobData OneLine) → IfOk r (λ job. job ≡ load_job order programs) → IfErr r (λ said. said ≡ line.WantOfMemory) → IsUntouched input → GivesJob (Some programs) order input r
 load_given programs order input (Ok job) drawn memory untouched = (drawn, untouched)
-load_given programs order input (Err said) drawn memory untouched = memory
+load_given programs order input (Err said) drawn memory untouched = (memory, untouched)

@@ -41,7 +41,7 @@ module _ (words : List (List ℕ)) (input : Stream) (site : Devices) (sink : Str
   same_job run is = one_job run.settings.load run.settings.order input run.job job is.job_ (asks_at run.settings is.command)
 
   jobless_complete : (load : Option ℕ) (order : ℕ) (said : OneLine) → AsksJob load order input job → IsJobless load input said → IsComplete (line_status said)
-  jobless_complete (Some programs) order said asks is = subst (λ (l : OneLine). IsComplete (line_status l)) (sym is) tt
+  jobless_complete (Some programs) order said asks is = subst (λ (l : OneLine). IsComplete (line_status l)) (sym is.0) tt
   jobless_complete None order said asks is = no_job_complete job input site sink well.fair said asks.0 asks.1 is
 
   vain_complete : (said : OneLine) → AskInVain words input said → IsComplete (line_status said)

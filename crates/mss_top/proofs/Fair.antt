@@ -35,7 +35,7 @@ pub no_rise : (was now before after : ℕ) → NoneFailed was now → was ≤ be
 no_rise was now before after none from to rose = absurd (omega (arith, none.same, none.could_rise, from, to, rose))
 
 pub line_complete : (said : OneLine) (sink : Stream) (told : Status) → (Rises sink.faults_was sink.faults_now → ⊥) → IsComplete (line_status said) → IsLinePut said sink told → IsComplete told
-line_complete said sink told none complete (line_whole is bytes) = subst IsComplete (sym is) complete
+line_complete said sink told none complete (line_whole is counted bytes) = subst IsComplete (sym is) complete
 line_complete said sink told none complete (line_broken is rose front) = absurd (none rose)
 
 -- content without a fault is refused for want of memory alone

@@ -9,3 +9,4 @@ pub mod Completed
 pub mod CompletedThreads
 pub mod Looked
 pub mod OneLook
+pub mod Broken

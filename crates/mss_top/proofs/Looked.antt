@@ -97,12 +97,12 @@ module _ (c : Content) (sink : Stream) (faultless : fault_shown c ≡ None) (sin
 module _ (words : List (List ℕ)) (site : Devices) (sink : Stream) (well : LooksWell words site sink) (told : Status) where
   line_shown : (said : OneLine) → IsUnlisted words site said → IsLinePut said sink told → IsShown (content site.was.told) sink told
   line_shown said cause (line_broken is rose front) = absurd (none_rises _ _ well.sink_none rose)
-  line_shown line.WordsRefused cause (line_whole is bytes) = absurd (cause.0 well.command)
-  line_shown line.WantOfMemory cause (line_whole is bytes) = subst (λ (s : Status). IsShown (content site.was.told) sink s) (sym is) tt
-  line_shown (line.RestartRefused why) cause (line_whole is bytes) = subst (λ (s : Status). IsShown (content site.was.told) sink s) (sym is)
+  line_shown line.WordsRefused cause (line_whole is counted bytes) = absurd (cause.0 well.command)
+  line_shown line.WantOfMemory cause (line_whole is counted bytes) = subst (λ (s : Status). IsShown (content site.was.told) sink s) (sym is) tt
+  line_shown (line.RestartRefused why) cause (line_whole is counted bytes) = subst (λ (s : Status). IsShown (content site.was.told) sink s) (sym is)
       (fault_put site why sink well.can_see well.site_none cause.1 bytes)
-  line_shown line.InputFault cause (line_whole is bytes) = absurd cause.1
-  line_shown (line.JobRefused n kind) cause (line_whole is bytes) = absurd cause.1
+  line_shown line.InputFault cause (line_whole is counted bytes) = absurd cause.1
+  line_shown (line.JobRefused n kind) cause (line_whole is counted bytes) = absurd cause.1
 
   listing_shown : IsListed words site sink told → IsShown (content site.was.told) sink told
   listing_shown is =

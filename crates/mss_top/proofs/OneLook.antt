@@ -57,11 +57,11 @@ module _ (c : Content) (sink : Stream) (none : NoneFailed sink.faults_was sink.f
 
   pub line_by_one : (said : OneLine) (told : Status) → LooksExactly c (Err said) → IsLinePut said sink told → IsShown c sink told
   line_by_one said told exact (line_broken is rose front) = absurd (none_rises _ _ none rose)
-  line_by_one line.WantOfMemory told exact (line_whole is bytes) = subst (λ (s : Status). IsShown c sink s) (sym is) tt
-  line_by_one (line.RestartRefused why) told exact (line_whole is bytes) = subst (λ (s : Status). IsShown c sink s) (sym is) (fault_line why exact bytes)
-  line_by_one line.WordsRefused told exact (line_whole is bytes) = absurd exact
-  line_by_one line.InputFault told exact (line_whole is bytes) = absurd exact
-  line_by_one (line.JobRefused n kind) told exact (line_whole is bytes) = absurd exact
+  line_by_one line.WantOfMemory told exact (line_whole is counted bytes) = subst (λ (s : Status). IsShown c sink s) (sym is) tt
+  line_by_one (line.RestartRefused why) told exact (line_whole is counted bytes) = subst (λ (s : Status). IsShown c sink s) (sym is) (fault_line why exact bytes)
+  line_by_one line.WordsRefused told exact (line_whole is counted bytes) = absurd exact
+  line_by_one line.InputFault told exact (line_whole is counted bytes) = absurd exact
+  line_by_one (line.JobRefused n kind) told exact (line_whole is counted bytes) = absurd exact
 
   -- the listing
   pub listing_by_one : (rows : List (Option RowValue)) (site : Devices) (told : Status) → site.tells → content site.was.told ≡ c → LooksExactly c (Ok rows) → Lists rows site sink told → told ≢ status.Stopped → IsShown c sink told

@@ -23,7 +23,7 @@ pub admits_text : (words : List (List ℕ)) (input : Stream) (r : Result JobData
 admits_text words input (Ok job) asks is = record { command = asks; text = is }
 admits_text words input (Err line.InputFault) asks is = (asks, is)
 admits_text words input (Err (line.JobRefused n kind)) asks is = (asks, is)
-admits_text words input (Err line.WantOfMemory) asks is = tt
+admits_text words input (Err line.WantOfMemory) asks is = inr asks
 admits_text words input (Err line.WordsRefused) asks is = absurd is
 admits_text words input (Err (line.RestartRefused why)) asks is = absurd is
 

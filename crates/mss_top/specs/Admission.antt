@@ -1,6 +1,6 @@
 -- Which run is admitted: the words, the job, and the turns that are drawn.
-use Rattle.std.specs.Prelude.{◌≡◌, ◌≢◌, ◌≤◌, ◌+◌, ℕ, List, drop, length, Option, Some, None, IfSome}
-use Rattle.std.specs.Prelude.{Result, Ok, Err}
+use Rattle.std.specs.Prelude.{◌≡◌, ◌≢◌, ◌⊎◌, ◌≤◌, ◌+◌, ℕ, List, drop, length, Option, Some, None}
+use Rattle.std.specs.Prelude.{IfSome, Result, Ok, Err}
 use Rattle.mss_base.specs.Counts.{Rises}
 use Rattle.job_text.specs.declared.kind.JobKind.{JobKind}
 use Rattle.job_text.specs.Grammar.{job_of}
@@ -92,9 +92,9 @@ abbrev pub IsJobOf : Option ℕ → ℕ → Stream → JobData → Type 0
 IsJobOf (Some programs) order input job = (job ≡ load_job order programs) × IsUntouched input
 IsJobOf None order input job = Reads input (λ text. IsJobText text job)
 
--- why there is no job; a load wants nothing but memory
+-- why there is no job; a load wants nothing but memory, and the input isn't read for it
 abbrev pub IsJobless : Option ℕ → Stream → OneLine → Type 0
-IsJobless (Some programs) input said = said ≡ line.WantOfMemory
+IsJobless (Some programs) input said = (said ≡ line.WantOfMemory) × IsUntouched input
 IsJobless None input said = IsNoJob input said
 
 abbrev pub GivesJob : Option ℕ → ℕ → Stream → Result JobData OneLine → Type 0
@@ -125,10 +125,17 @@ pub record AskInVain (words : List Text) (input : Stream) (said : OneLine) : Typ
   pub command : AskToRun words settings
   pub jobless : IsJobless settings.load input said
 
--- Why no run is admitted: the words, or the job. Of want of memory nothing is said.
+-- the words ask for a run of the job that the input has
+pub record AskForInput (words : List Text) : Type 0 where
+  pub settings : Settings
+  pub command : AskToRun words settings
+  pub unloaded : settings.load ≡ None
+
+-- Why no run is admitted: the words, or the job. Of want of memory no cause is said, but that the
+-- input is untouched, unless the words ask for its job.
 abbrev pub IsUnread : List Text → Stream → OneLine → Type 0
 IsUnread words input line.WordsRefused = AskForNoRun words × IsUntouched input
-IsUnread words input line.WantOfMemory = Unit {0}
+IsUnread words input line.WantOfMemory = IsUntouched input ⊎ AskForInput words
 IsUnread words input said = AskInVain words input said
 
 -- a run is admitted, or the line says why not

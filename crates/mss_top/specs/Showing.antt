@@ -9,6 +9,7 @@ use Rattle.command_words.specs.Options.{Text}
 use Rattle.command_words.specs.Words.{meaning}
 use Rattle.command_words.specs.declared.command.Command.TheVariants.{Show}
 use Rattle.report_text.specs.OneLines.{one_line_text}
+use Rattle.report_text.specs.Texts.{listing_title}
 use Rattle.report_text.specs.declared.one_line.OneLine.{OneLine}
 use Rattle.report_text.specs.declared.one_line.OneLine.TheVariants as line
 use Rattle.shown_volumes.specs.Faults.{first_fault}
@@ -20,10 +21,11 @@ use Rattle.mss_restart.specs.Survey.{IsExact, KeepsFault, Surveys}
 use Rattle.core_restart.specs.TakingUp.{NoneFailed}
 use Rattle.core_state.specs.CoreValue.{DevicesSeen}
 use Rattle.serial_driver.specs.declared.answer.DriveAnswer.TheVariants as ended
-use Rattle.session_report.specs.Answers.{Answer}
-use Rattle.session_report.specs.Parties.{Stream}
-use Rattle.session_report.specs.Reports.{IsReported, SiteCounts, finished, listing_matter}
-use Rattle.session_report.specs.Reports.{told_text, whole}
+use Rattle.session_report.specs.Answers.{Answer, SinkCounts}
+use Rattle.session_report.specs.Parties.{Stream, seen_with}
+use Rattle.session_report.specs.Parts.{IsUnread}
+use Rattle.session_report.specs.Reports.{BreaksOff, Frames, IsReported, Matter, SiteCounts}
+use Rattle.session_report.specs.Reports.{finished, listing_matter, told_text, whole}
 use Rattle.session_report.specs.declared.reporting.Last.TheVariants.{End}
 use Rattle.job_runs.specs.Parties.{Devices, reported, since, until}
 use Rattle.mss_top.specs.Ending.{SaysWhy}
@@ -86,13 +88,19 @@ Looks words site (Err said) = IsUnlisted words site said
 
 -- ---- the listing
 
+-- what a listing of these rows is about
+abbrev pub matter_of : List (Option RowValue) → Devices → Matter
+matter_of rows site = listing_matter (shown_by (listed rows) (content site.was.told))
+
 -- the volumes were listed that rows show over the devices
 pub record Lists (rows : List (Option RowValue)) (site : Devices) (sink : Stream) (told : Status)
     : Type 0 where
   pub answer : Answer
-  pub listing : IsReported (listing_matter (shown_by (listed rows) (content site.was.told)))
-      (finished End) (reported site) sink answer
+  pub listing : IsReported (matter_of rows site) (finished End) (reported site) sink answer
+  -- whatever the devices tell
+  pub framed : sink.tells → Frames listing_title (finished End) sink.was sink.now answer
   pub counted : SiteCounts site.was.faults site.now.faults answer
+  pub puts : SinkCounts sink.faults_was sink.faults_now answer
   pub ends : told ≡ status_of ended.Done answer
 
 -- the devices were surveyed, and the volumes of the rows that were found were listed
@@ -105,6 +113,22 @@ pub record IsListed (words : List Text) (site : Devices) (sink : Stream) (told :
   pub rows : List (Option RowValue)
   pub survey : IsSurvey (until site mid) (Ok rows)
   pub lists : Lists rows (since site mid) sink told
+
+-- a listing of these rows broke off before a track of which a read may fail
+pub record BrokeOff {S : Type 0} (never_fails_but : FailingReads S) (s : S)
+    (rows : List (Option RowValue)) (site : Devices) (sink : Stream) : Type 0 where
+  pub fault : ℕ
+  pub off : BreaksOff (IsUnread never_fails_but s (listed rows) (matter_of rows site).volumes)
+      (matter_of rows site) (seen_with (reported site) sink) fault
+
+-- a look broke off within the listing of the rows that its survey found
+pub record LookBrokeOff {S : Type 0} (never_fails_but : FailingReads S) (s : S) (site : Devices)
+    (sink : Stream) : Type 0 where
+  -- the devices behind the survey
+  pub mid : DevicesSeen
+  pub rows : List (Option RowValue)
+  pub survey : IsSurvey (until site mid) (Ok rows)
+  pub broke : BrokeOff never_fails_but s rows site sink
 
 -- a look ended: with one line, which says why nothing is listed, or with a listing
 abbrev pub EndsShown : List Text → Devices → Stream → Status → Type 0

@@ -47,9 +47,10 @@ status_of end (Err (report_fault.Read fault)) = status.Stopped
 status_of end (Err report_fault.Output) = status.OutputFault
 status_of end (Err report_fault.Memory) = status.Memory
 
--- What a status says of a line: that it was put whole, or a front of it, since the sink failed.
+-- What a status says of a line: that it was put whole, and no put failed, or a front of it, since
+-- the sink failed.
 pub data IsLinePut (said : OneLine) (sink : Stream) (told : Status) : Type 0 where
-  whole : told ≡ line_status said → (sink.tells → sink.now ≡ sink.was ++ one_line_text said)
-      → IsLinePut said sink told
+  whole : told ≡ line_status said → sink.faults_now ≡ sink.faults_was
+      → (sink.tells → sink.now ≡ sink.was ++ one_line_text said) → IsLinePut said sink told
   broken : told ≡ status.OutputFault → Rises sink.faults_was sink.faults_now
       → (sink.tells → PutsFront sink.was sink.now (one_line_text said)) → IsLinePut said sink told

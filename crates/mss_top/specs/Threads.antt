@@ -30,11 +30,12 @@ pub record IsThreadsJob (words : List Text) (input : Stream) (job : JobData) : T
   pub command : AskForThreads words
   pub text : Reads input (λ text. IsJobText text job)
 
--- Why no run in threads is admitted: the words, or the input. Of want of memory nothing is said.
+-- Why no run in threads is admitted: the words, or the input. Of want of memory no cause is said,
+-- but that the input is untouched, unless the words ask for its job.
 abbrev pub IsThreadless : List Text → Stream → OneLine → Type 0
 IsThreadless words input line.WordsRefused =
     (meaning words ≢ Some command.Threads) × IsUntouched input
-IsThreadless words input line.WantOfMemory = Unit {0}
+IsThreadless words input line.WantOfMemory = IsUntouched input ⊎ AskForThreads words
 IsThreadless words input said = AskForThreads words × IsNoJob input said
 
 abbrev pub AdmitsThreads : List Text → Stream → Result JobData OneLine → Type 0

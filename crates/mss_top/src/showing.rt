@@ -8,6 +8,7 @@ ghost use Rattle.mss_restart.specs.OneCopy.{ArePaired, LosesOneTable};
 ghost use Rattle.table_pair.specs.Reads.{CanReadTracks};
 ghost use Rattle.mss_top.specs.Showing.{AskToShow, EndsShown, FRAMES, IsShown, Lists, Looks};
 ghost use Rattle.mss_top.specs.Showing.{LooksByOneCopy, LooksExactly, LooksWell, SurveysAny};
+ghost use Rattle.mss_top.specs.Showing.{BrokeOff, LookBrokeOff};
 ghost use Rattle.mss_top.specs.Showing.{rows_in};
 ghost use Rattle.mss_top.specs.declared.status.Status.TheVariants.{Stopped};
 
@@ -78,6 +79,10 @@ fn list<S: Site, O: Sink>(alloc: Global, site: &mut S, rows: &Rows, output: &mut
         (devices S.tells S.told S.writes S.faults site.old site.new)
         (between O.tells O.told O.faults output.old output.new) result }
     ensures works { CanReadTracks S.never_fails_but site.old → result ≢ Stopped }
+    ensures unread { result ≡ Stopped
+        → BrokeOff S.never_fails_but site.old rows.now.items
+        (devices S.tells S.told S.writes S.faults site.old site.new)
+        (between O.tells O.told O.faults output.old output.new) }
     ensures site { OnlyReads S.tells S.told S.spare S.writes S.faults S.never_fails_but
         site.old site.new }
 {
@@ -95,6 +100,9 @@ fn show_lent<S: Site, O: Sink>(
     ensures ended { EndsShown (map string_bytes words.now)
         (devices S.tells S.told S.writes S.faults site.old site.new)
         (between O.tells O.told O.faults output.old output.new) result }
+    ensures unread { result ≡ Stopped → LookBrokeOff S.never_fails_but site.old
+        (devices S.tells S.told S.writes S.faults site.old site.new)
+        (between O.tells O.told O.faults output.old output.new) }
     ensures one_copy { LooksByOneCopy (map string_bytes words.now) S.tells S.told
         S.never_fails_but site.old (between O.tells O.told O.faults output.old output.new)
         → IsShown (content (S.told site.old))
@@ -123,6 +131,9 @@ pub fn show<S: Site, O: Sink>(
     ensures ended { EndsShown (map string_bytes words.now)
         (devices S.tells S.told S.writes S.faults site result.site)
         (between O.tells O.told O.faults output.old output.new) result.status }
+    ensures unread { result.status ≡ Stopped → LookBrokeOff S.never_fails_but site
+        (devices S.tells S.told S.writes S.faults site result.site)
+        (between O.tells O.told O.faults output.old output.new) }
     ensures complete { LooksWell (map string_bytes words.now)
         (devices S.tells S.told S.writes S.faults site result.site)
         (between O.tells O.told O.faults output.old output.new)

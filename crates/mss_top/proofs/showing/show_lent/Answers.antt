@@ -3,6 +3,7 @@ use Rattle.mss_base.specs.Content.{SiteLog, content}
 use Rattle.session_report.specs.Parties.{between}
 use Rattle.job_runs.specs.Parties.{devices}
 use Rattle.mss_restart.proofs.OneTable.{loses_on, reads_tracks}
+use Rattle.mss_top.proofs.Broken.{line_unstopped, look_broken}
 use Rattle.mss_top.proofs.OneLook.{line_by_one, listing_by_one}
 use Rattle.mss_top.proofs.showing.show_lent.Goals as goal
 
@@ -17,3 +18,12 @@ pub returns-in-Err-clause-one_copy : goal.returns-in-Err-clause-one_copy
 returns-in-Err-clause-one_copy g c = λ looks.
     line_by_one (content (g.S.Site.told c.args.site.now)) (between g.O.Sink.tells g.O.Sink.told g.O.Sink.faults c.args.output.now c.say.new.output) looks.sink_none c.in-Err.line c.say.result
     (c.in-Err.ensures.one_copy looks.command looks.can_see looks.loses looks.paired) c.say.ensures.put
+
+pub returns-in-Ok-clause-unread : goal.returns-in-Ok-clause-unread
+returns-in-Ok-clause-unread g c = λ stop.
+    look_broken g.S.Site.tells g.S.Site.told g.S.Site.spare g.S.Site.writes g.S.Site.faults g.S.Site.never_fails_but c.args.site.now c.look.new.site c.list.new.site c.in-Ok.rows.items
+    (between g.O.Sink.tells g.O.Sink.told g.O.Sink.faults c.args.output.now c.list.new.output) c.in-Ok.ensures.site c.in-Ok.ensures.looks.1 (c.list.ensures.unread stop)
+
+pub returns-in-Err-clause-unread : goal.returns-in-Err-clause-unread
+returns-in-Err-clause-unread g c = λ stop.
+    absurd (line_unstopped c.in-Err.line (between g.O.Sink.tells g.O.Sink.told g.O.Sink.faults c.args.output.now c.say.new.output) c.say.result c.say.ensures.put stop)
