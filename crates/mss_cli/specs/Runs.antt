@@ -1,13 +1,12 @@
 -- What the command does of its words on an input, a site and an output.
 use Rattle.std.specs.Prelude.{◌≡◌, ℕ, List, [], Option}
-use Rattle.core_state.specs.CoreValue.{DevicesSeen}
 use Rattle.core_state.specs.declared.session.Session.{Session}
 use Rattle.command_words.specs.Options.{Text}
-use Rattle.job_runs.specs.Parties.{Devices, until as until_then}
+use Rattle.job_runs.specs.Parties.{Devices}
 use Rattle.job_text.specs.Jobs.{JobData}
 use Rattle.mss_base.specs.Content.{content}
 use Rattle.mss_base.specs.Counts.{Rises}
-use Rattle.mss_files.specs.Output.{AlwaysKnown, known}
+use Rattle.mss_files.specs.Output.{Input, AlwaysKnown, known}
 use Rattle.mss_files.specs.Output as file
 use Rattle.mss_run.specs.Runs.{EndData}
 use Rattle.mss_top.specs.Serial.{Chooses, Ends, GoesWell, IsComplete, Output, until}
@@ -16,7 +15,7 @@ use Rattle.mss_top.specs.Threads.{EndsThreads, GoesWellAtOnce}
 use Rattle.mss_top.specs.declared.admission.Settings.{Settings}
 use Rattle.mss_top.specs.declared.status.Status.{Status}
 use Rattle.mss_top.specs.declared.status.Status.TheVariants.{OutputFault}
-use Rattle.session_report.specs.Parties.{Stream}
+use Rattle.session_report.specs.Parties.{Stream, between}
 use Rattle.mss_cli.specs.declared.ways.Way.{Way}
 use Rattle.mss_cli.specs.declared.ways.Way.TheVariants.{Show, Threads, Serial}
 
@@ -47,39 +46,26 @@ pub data IsFlushed (due : Status) (before now : ℕ) (waiting : List ℕ) (told 
 abbrev pub least_recent : Chooses
 least_recent candidates place = place ≡ 0
 
--- a reader, before anything is taken of it
-abbrev pub fresh_input : {R : Type 0} → (R → Option (List ℕ)) → R → Stream
-fresh_input remaining input = record {
-  tells = AlwaysKnown remaining;
-  was = known (remaining input);
-  now = known (remaining input);
-  faults_was = 0;
-  faults_now = 0;
-}
+-- an input, between two of its states
+abbrev pub input_of : {R : Type 0} → (R → Option (List ℕ)) → Input → Input → Stream
+input_of remaining old new = between (AlwaysKnown remaining) (λ (input : Input). known input.left)
+    (λ (input : Input). input.faults) old new
 
--- an output from a writer, before anything is put, to what was made of it
-abbrev pub output_of : {W : Type 0} → (W → Option (List ℕ)) → W → file.Output → Stream
-output_of contents writer output = record {
-  tells = AlwaysKnown contents;
-  was = known (contents writer);
-  now = known output.contents;
-  faults_was = 0;
-  faults_now = output.faults;
-}
+-- an output, between two of its states
+abbrev pub output_of : {W : Type 0} → (W → Option (List ℕ)) → file.Output → file.Output → Stream
+output_of contents old new = between (AlwaysKnown contents)
+    (λ (output : file.Output). known output.contents)
+    (λ (output : file.Output). output.faults) old new
 
--- The call of a way was made, and what it put was written. The input and the site are seen as they
--- were before it, the output from then to the end.
+-- The call of a way was made, and what it put was written. Input, devices and output are seen from
+-- before the call to behind the last write, with the status and the session that are answered then.
 pub record IsDone (way : Way) (words : List Text) (input : Stream) (site : Devices)
-    (sink : Stream) (waiting : List ℕ) (told : Status) : Type 0 where
-  -- input, devices and output behind the call, and its status
-  pub left : Output
-  pub devices_ : DevicesSeen
+    (sink : Stream) (waiting : List ℕ) (told : Status) (session : Option Session) : Type 0 where
+  -- the output behind the call, and the status of the call
   pub put : Output
   pub due : Status
-  pub session : Option Session
-  pub does : Does way least_recent words (until input left) (until_then site devices_)
-      (until sink put) due session
-  pub whole : IsWhole way words (until input left) (until_then site devices_) (until sink put) due
+  pub does : Does way least_recent words input site (until sink put) due session
+  pub whole : IsWhole way words input site (until sink put) due
   pub flushed : IsFlushed due put.faults sink.faults_now waiting told
   -- the last write puts nothing more
   pub kept : sink.tells → sink.now ≡ put.bytes

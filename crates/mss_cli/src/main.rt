@@ -4,7 +4,7 @@
 mod arguments;
 mod ways;
 
-ghost use Rattle.std.specs.Prelude.{◌≡◌, ◌⊎◌, List, [], map, string_bytes};
+ghost use Rattle.std.specs.Prelude.{◌≡◌, ◌⊎◌, List, [], codes, map, string_bytes};
 ghost use Rattle.std.specs.Prelude.{IfOk, OnErr};
 ghost use Rattle.job_runs.specs.Parties.{devices};
 ghost use Rattle.job_text.specs.Jobs.{JobData};
@@ -16,7 +16,7 @@ ghost use Rattle.mss_top.specs.Status.{code_of};
 ghost use Rattle.mss_run.specs.Runs.{EndData};
 ghost use Rattle.mss_top.specs.Threads.{EndsThreads, GoesWellAtOnce};
 ghost use Rattle.mss_top.specs.declared.admission.Settings.{Settings};
-ghost use Rattle.mss_cli.specs.Runs.{IsDone, IsFlushed, fresh_input, output_of};
+ghost use Rattle.mss_cli.specs.Runs.{IsDone, IsFlushed, input_of, output_of};
 ghost use Rattle.mss_cli.specs.Words.{way_of};
 ghost use Rattle.session_report.specs.Parties.{between};
 
@@ -27,6 +27,7 @@ use mss_run::OpenGate;
 use mss_top::{Ended, Status, serial, show, threads};
 use std::io::{Read, Write};
 use std::process::ExitCode;
+use std::rt::{Stdin, Stdout};
 use std::sync::Wait;
 use std::thread::Threads;
 use victim_choice::{Choose, Lru};
@@ -37,20 +38,50 @@ const SITE: &str = "mss.site";
 
 fn main(rt: HostRuntime) -> ExitCode {
     let ended = match begin(rt) {
-        Ok((words, site)) => run(&rt, &words, rt.stdin(), rt.stdout(), site),
+        Ok(begun) => {
+            let Begun {
+                words,
+                mut input,
+                mut output,
+                site,
+            } = begun;
+            let ended = run(&rt, &words, &mut input, &mut output, site);
+            Ok(ended.status)
+        }
         Err(want) => Err(want),
     };
-    ExitCode::from(exit_code(ended.map(|(status, _)| status)))
+    ExitCode::from(exit_code(ended))
 }
 
-/// The words of the command, and the site that it is for.
-fn begin(rt: HostRuntime) -> Result<(Vec<String>, FileSite<Folder<HostRuntime>>), NoMemory>
-    ensures unwritten { IfOk result (λ begun. begun.1.writes ≡ 0) }
-    ensures unfailed { IfOk result (λ begun. begun.1.faults ≡ 0) }
+/// What the command begins with: its words, and the parties of its call.
+#[derive(Drop)]
+struct Begun {
+    words: Vec<String>,
+    input: StdSource<Stdin>,
+    output: StdSink<Stdout>,
+    site: FileSite<Folder<HostRuntime>>,
+}
+
+/// The words of the command, standard input and output, and the site that it is for. Nothing was read or put yet.
+fn begin(rt: HostRuntime) -> Result<Begun, NoMemory>
+    ensures folder { IfOk result
+        (λ begun. string_bytes begun.site.files.paths.folder ≡ codes "mss.site") }
+    ensures unwritten { IfOk result (λ begun. begun.site.writes ≡ 0) }
+    ensures unfailed { IfOk result (λ begun. begun.site.faults ≡ 0) }
+    ensures unread { IfOk result (λ begun. begun.input.faults ≡ 0) }
+    ensures unput { IfOk result
+        (λ begun. (begun.output.waiting ≡ []) × (begun.output.faults ≡ 0)) }
 {
     let words = words(&rt, rt.alloc())?;
     let site = FileSite::at(rt, SITE)?;
-    Ok((words, site))
+    let output = StdSink::new(rt.alloc(), rt.stdout())?;
+    let input = StdSource::new(rt.stdin());
+    Ok(Begun {
+        words,
+        input,
+        output,
+        site,
+    })
 }
 
 /// The call that the words ask for, by their first.
@@ -116,25 +147,24 @@ fn call<
 }
 
 /// Runs the command of these words on a site: makes the call that they ask for, and writes what it put. The whole
-/// output is written, or the status says that it isn't. Where memory is wanting before it begins, nothing is put.
-fn run<
-    I: Read + Drop,
-    W: Write + Drop,
-    S: Site + Drop + Send,
-    R: Threads + Wait + Sync + AllocGlobal,
->(rt: &R, words: &[String], input: I, output: W, site: S) -> Result<(Status, StdSink<W>), NoMemory>
-    ensures written { IfOk result (λ ended.
-        (ended.0 ≡ Status.OutputFault) ⊎ (ended.1.waiting ≡ [])) }
-    ensures does { IfOk result (λ ended. IsDone (way_of (map string_bytes words.now))
-        (map string_bytes words.now) (fresh_input I.remaining input)
-        (devices S.tells S.told S.writes S.faults site site)
-        (output_of W.contents output ended.1) ended.1.waiting ended.0) }
+/// output is written, or the status says that it isn't.
+fn run<I: Read, W: Write + Drop, S: Site + Send, R: Threads + Wait + Sync + AllocGlobal>(
+    rt: &R,
+    words: &[String],
+    input: &mut StdSource<I>,
+    output: &mut StdSink<W>,
+    site: S,
+) -> Ended<S>
+    ensures written { (result.status ≡ Status.OutputFault) ⊎ (output.new.waiting ≡ []) }
+    ensures does { IsDone (way_of (map string_bytes words.now)) (map string_bytes words.now)
+        (input_of I.remaining input.old input.new)
+        (devices S.tells S.told S.writes S.faults site result.site)
+        (output_of W.contents output.old output.new)
+        output.new.waiting result.status result.session }
 {
-    let mut input = StdSource::new(input);
-    let mut output = StdSink::new(rt.alloc(), output)?;
-    let ended = call(rt, words, &mut input, &mut output, site, Lru);
-    let status = finish(&mut output, ended.status);
-    Ok((status, output))
+    let ended = call(rt, words, input, output, site, Lru);
+    let status = finish(output, ended.status);
+    Ended { status, ..ended }
 }
 
 /// Writes what waits of the output. The status is the one that is due, unless that failed.
