@@ -35,10 +35,11 @@ pub returns-clause-in_vain : goal.returns-clause-in_vain
 returns-clause-in_vain g c = λ is.
     let old : CoreData = seen g.S.Site.told g.S.Site.writes g.S.Site.faults c.args.core.now in
     let new : CoreData = seen g.S.Site.told g.S.Site.writes g.S.Site.faults c.host_event-answer.new.core in
+    let kept : old.stopped ≡ None → IsCore old = λ none. core_seen g.S.Site.told g.S.Site.writes g.S.Site.faults c.args.core.now (c.entries_of-entries.ensures.kept none) in
     let h : ℕ = c.args.host in
     let call : CallData = call_of c.args.call.now in
     let told = told_of c.host_event-answer.result in
-    vain g.S.Site.tells old h call new (λ w event. c.waits_change_requests_alone.ensures.waits old h call w new event) told c.host_event-answer.ensures.event
+    vain g.S.Site.tells old h call new (λ w event. c.waits_change_requests_alone.ensures.waits old h call w new kept event) told c.host_event-answer.ensures.event
     (sym (c.is_in_vain-in_vain.ensures ∙ (λ i. is_in_vain told (c.events_of-before.ensures i) (c.events_of-after.ensures i))) ∙ is)
 
 pub returns-clause-sound : goal.returns-clause-sound
