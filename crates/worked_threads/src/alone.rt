@@ -6,6 +6,7 @@ use mss_run::{Actor, Gate, Point};
 use std::test::Fail;
 
 const HOSTS: u64 = 2;
+
 const WORKERS: u64 = 2;
 
 const JOB: &str = "mss 1 frames 1 recorders 2\n\

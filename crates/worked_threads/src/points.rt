@@ -36,6 +36,7 @@ const JOB: &str = "mss 1 frames 1 recorders 2\n\
     done\n";
 
 const HOSTS: usize = 3;
+
 const ACTORS: usize = 5;
 
 /// Hosts 1 to 8 have the places 0 to 7, and recorders 0 to 7 those from 8 on.
@@ -123,7 +124,10 @@ fn works_of(session: &Session) -> usize {
 /// That each actor came and left once, and that there was a point behind each event.
 fn each_point_is_passed_once(gate: &CountingGate, end: &RunEnd) -> Result<(), Fail> {
     let session = end.session.as_ref().ok_or("session")?;
-    let actors = (count_of(gate.entered.as_slice()), count_of(gate.left.as_slice()));
+    let actors = (
+        count_of(gate.entered.as_slice()),
+        count_of(gate.left.as_slice()),
+    );
     if actors != (Some(ACTORS), Some(ACTORS)) {
         return Err("an actor came or left otherwise".into());
     }

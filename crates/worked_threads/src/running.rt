@@ -26,15 +26,7 @@ fn run_by<
     C: Choose + Drop + Send,
     G: Gate + Sync,
     R: Threads + Wait + Sync + AllocGlobal,
->(
-    rt: &R,
-    words: &[String],
-    input: &mut I,
-    output: &mut O,
-    site: S,
-    chooser: C,
-    gate: &G,
-) -> RunEnd
+>(rt: &R, words: &[String], input: &mut I, output: &mut O, site: S, chooser: C, gate: &G) -> RunEnd
     requires { C.can_choose chooser }
 {
     let end = threads(rt, words, input, output, site, chooser, gate);
@@ -77,7 +69,10 @@ pub fn run<G: Gate + Sync, R: Threads + Wait + Sync + AllocGlobal>(
 /// How many hosts there are, each of which came to the end of its script; none where one didn't.
 pub fn finished_hosts(end: &RunEnd) -> Option<usize> {
     let hosts = end.hosts.as_slice();
-    hosts.iter().all(|host| host.finished).then_some(hosts.len())
+    hosts
+        .iter()
+        .all(|host| host.finished)
+        .then_some(hosts.len())
 }
 
 /// That a run ended well, with so many hosts.
