@@ -1,10 +1,13 @@
 //! A whole run: words, input, job, session, report.
-ghost use Rattle.std.specs.Prelude.{map, string_bytes};
+ghost use Rattle.std.specs.Prelude.{◌≡◌, Bool, IfSome, None, map, string_bytes};
+ghost use Rattle.mss_base.specs.declared.place.UnitNo.{UnitNo};
+ghost use Rattle.core_state.specs.Sessions.{session_data};
 ghost use Rattle.job_text.specs.Jobs.{JobData};
 ghost use Rattle.mss_restart.specs.Creations.{WritesOn};
 ghost use Rattle.serial_driver.specs.Drives.{AreTurns};
 ghost use Rattle.session_report.specs.Parties.{between};
 ghost use Rattle.job_runs.specs.Parties.{devices};
+ghost use Rattle.job_runs.specs.Runs.{GoesUnstopped};
 ghost use Rattle.mss_top.specs.Serial.{Closes, Ends, EndsRun, GoesWell, IsComplete, Runs};
 ghost use Rattle.mss_top.specs.declared.admission.Settings.{Settings};
 
@@ -43,6 +46,8 @@ fn run_told<S: Site, C: Choose + Drop, O: Sink>(
     ensures runs { Runs (C.may chooser) run.now.settings.load run.now.job run.now.turns.items
         (devices S.tells S.told S.writes S.faults site result.site)
         (between O.tells O.told O.faults output.old output.new) result.outcome }
+    ensures only_reads_fail { (but : UnitNo → Bool) → S.never_fails_but site but
+        → GoesUnstopped result.outcome }
     ensures devices { WritesOn S.writes S.faults S.never_fails_but site result.site }
 {
     match run.settings.load {
@@ -64,6 +69,8 @@ fn run_admitted<S: Site, C: Choose + Drop, O: Sink>(
     ensures ended { EndsRun (C.may chooser) run.now
         (devices S.tells S.told S.writes S.faults site result.site)
         (between O.tells O.told O.faults output.old output.new) result.status result.session }
+    ensures only_reads_fail { (but : UnitNo → Bool) → S.never_fails_but site but
+        → IfSome result.session (λ s. (session_data s).stopped ≡ None) }
     ensures devices { WritesOn S.writes S.faults S.never_fails_but site result.site }
 {
     let JobEnd { site, outcome } = run_told(alloc, run, site, chooser, output);
@@ -84,7 +91,8 @@ fn run_admitted<S: Site, C: Choose + Drop, O: Sink>(
 /// read; else it is, to its end or to one byte past the longest job text, before anything is looked at. A text that
 /// is no job is refused with its first bad line, and a site that isn't taken up with its first fault. Hosts and
 /// recorders first take the turns that `--order` draws, `--turns` of them, and then go on by rounds. Nothing is
-/// written to the site before the whole job was admitted. Without a session the output is one line, which says why.
+/// written to the site before the whole job was admitted. Without a session the output is one line, which says why. Where
+/// nothing but reads can fail, no session is stopped.
 pub fn serial<I: Source, O: Sink, S: Site, C: Choose + Drop>(
     alloc: Global,
     words: &[String],
@@ -103,6 +111,8 @@ pub fn serial<I: Source, O: Sink, S: Site, C: Choose + Drop>(
         (devices S.tells S.told S.writes S.faults site result.site)
         (between O.tells O.told O.faults output.old output.new) settings job
         → IsComplete result.status }
+    ensures only_reads_fail { (but : UnitNo → Bool) → S.never_fails_but site but
+        → IfSome result.session (λ s. (session_data s).stopped ≡ None) }
     ensures devices { WritesOn S.writes S.faults S.never_fails_but site result.site }
 {
     match admit(alloc, words, input) {
