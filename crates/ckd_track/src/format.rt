@@ -28,7 +28,7 @@ fn close_gate<S: Site>(
         OnOk result (EndsAfter before block.now (block_of (S.told site.new) at.now)) }
     ensures later { S.tells →
         OnOk result (SameBytes (130 + before) 227 block.now (block_of (S.told site.new) at.now)) }
-    ensures devices { MayWrite 1 S.spare S.writes S.faults S.never_fails_but site.old site.new }
+    ensures devices { MayWrite S.Site 1 site.old site.new }
     ensures few { S.tells → length (S.told site.new).log ≤ length (S.told site.old).log + 1 }
     ensures cause { HasCause (S.faults site.old) (S.faults site.new) result }
     ensures counted { OnErr result (Rises (S.writes site.old) (S.writes site.new)) }
@@ -86,7 +86,7 @@ fn close_later<S: Site>(
         OnOk result (EndsAfter before block.now (block_of (S.told site.new) at.now)) }
     ensures next { S.tells →
         OnOk result (is_open (before + 2) (block_of (S.told site.new) at.now) ≡ false) }
-    ensures devices { MayWrite 1 S.spare S.writes S.faults S.never_fails_but site.old site.new }
+    ensures devices { MayWrite S.Site 1 site.old site.new }
     ensures few { S.tells → length (S.told site.new).log ≤ length (S.told site.old).log + 1 }
     ensures cause { HasCause (S.faults site.old) (S.faults site.new) result }
     ensures counted { OnErr result (Rises (S.writes site.old) (S.writes site.new)) }
@@ -124,7 +124,7 @@ fn put_record<S: Site>(
         OnOk result (is_open (before + 2) (block_of (S.told site.new) at.now) ≡ false) }
     ensures holds { S.tells →
         OnOk result (Holds place bytes.now (block_of (S.told site.new) at.now)) }
-    ensures devices { MayWrite 1 S.spare S.writes S.faults S.never_fails_but site.old site.new }
+    ensures devices { MayWrite S.Site 1 site.old site.new }
     ensures few { S.tells → length (S.told site.new).log ≤ length (S.told site.old).log + 1 }
     ensures cause { HasCause (S.faults site.old) (S.faults site.new) result }
     ensures counted { OnErr result (Rises (S.writes site.old) (S.writes site.new)) }
@@ -159,7 +159,7 @@ fn open_gate<S: Site>(
         (S.told site.old) (S.told site.new) }
     ensures done { S.tells → OnOk result (reading (block_of (S.told site.new) at.now)
         ≡ reading_of (formatted before (record_at 0 bytes.now) (reading block.now).records)) }
-    ensures devices { MayWrite 1 S.spare S.writes S.faults S.never_fails_but site.old site.new }
+    ensures devices { MayWrite S.Site 1 site.old site.new }
     ensures few { S.tells → length (S.told site.new).log ≤ length (S.told site.old).log + 1 }
     ensures cause { HasCause (S.faults site.old) (S.faults site.new) result }
     ensures counted { OnErr result (Rises (S.writes site.old) (S.writes site.new)) }
@@ -212,7 +212,7 @@ pub fn format_record<S: Site>(
     ensures track { OnOk result
         (IsTrack (formatted (number - 1) (record_at 0 count_key_data.now) (reading block.now).records)) }
 
-    ensures devices { MayWrite 4 S.spare S.writes S.faults S.never_fails_but site.old site.new }
+    ensures devices { MayWrite S.Site 4 site.old site.new }
     ensures few { S.tells → length (S.told site.new).log ≤ length (S.told site.old).log + 4 }
     ensures cause { HasCause (S.faults site.old) (S.faults site.new) result }
     ensures counted { OnErr result (Rises (S.writes site.old) (S.writes site.new)) }

@@ -55,7 +55,7 @@ pub fn update_record<S: Site>(
         }) }
 
     ensures untouched { bytes.now ≡ [] → site.new ≡ site.old }
-    ensures devices { MayWrite 1 S.spare S.writes S.faults S.never_fails_but site.old site.new }
+    ensures devices { MayWrite S.Site 1 site.old site.new }
     ensures few { S.tells → length (S.told site.new).log ≤ length (S.told site.old).log + 1 }
     ensures cause { HasCause (S.faults site.old) (S.faults site.new) result }
     ensures counted { OnErr result (Rises (S.writes site.old) (S.writes site.new)) }

@@ -8,6 +8,7 @@ use Rattle.std.proofs.lemmas.List.{take_all}
 use Rattle.mss_base.specs.Configs.{ConfigData, VolumeData}
 use Rattle.mss_base.specs.Content.{Content, SiteLog, Write, content, after as written_after}
 use Rattle.mss_base.proofs.Moments.{moments_are_images}
+use Rattle.mss_base.specs.declared.site.Site.{Ghosts}
 use Rattle.ckd_track.specs.Data.{Volumes}
 use Rattle.channel_commands.specs.Data.{CallData, ReplyData, equipment_check, no_space, stopped}
 use Rattle.ckd_plain.specs.Data.{State}
@@ -26,12 +27,11 @@ use Rattle.mss_restart.specs.Opening.{ShowsFront, IsOpened, missing, with_blanks
 use Rattle.mss_restart.specs.Answers.{OpensExactly}
 use Rattle.mss_restart.proofs.Creating.{AreRising, rising_first}
 use Rattle.mss_restart.proofs.UsableFacts.{AreAsked, asks_own}
-use Rattle.core_state.specs.CoreValue.{CoreValue, DevicesSeen}
+use Rattle.core_state.specs.CoreValue.{CoreValue, DevicesSeen, seen_site}
 use Rattle.core_state.specs.StopRule.{MayShow, answered, opening, state_at}
 use Rattle.core_state.specs.IsCore.{IsTold, opening_of}
 use Rattle.core_state.proofs.EntryLemmas.{opening_same}
 use Rattle.core_restart.specs.Begins.{Begins}
-use Rattle.core_restart.specs.Opening.{seen_of}
 use Rattle.core_restart.specs.TakingUp.{Answer, AreThere, IsFaultless, shown_for, IsTakenUp, BeginsWith, TakesUp, RestartsOver, Stop, left_by, IsSession, IsLater, LeavesAll, OpensFaultless, LeavesFront}
 use Rattle.core_restart.proofs.ConsoleFacts.{all_missing}
 
@@ -134,11 +134,11 @@ module _ {S C : Type 0} (config : ConfigData) (old new : DevicesSeen) where
     core_taken = record { faultless = λ none quiet. tt; begins = begins_with }
 
 -- a core that began on a site
-pub begun_taken : {S C : Type 0} (told : S → SiteLog) (writes faults : S → ℕ) (config asked : ConfigData) (chooser : C) (old : DevicesSeen) (site : S) (core : CoreValue S C) (rows : List (Option RowValue)) → core.site ≡ site → asked ≡ config
-    → Begins asked chooser (writes site) (faults site) core → IsOpened config (content old.told) (content (told site)) rows → writes site ≡ length (told site).log → TakesUp config old (seen_of told writes faults core.site) (Ok core)
-begun_taken told writes faults config asked chooser old site core rows site_is asked_is is opened at_end =
-    subst (λ s. TakesUp config old (seen_of told writes faults s) (Ok core)) (sym site_is)
-    (core_taken config old (seen_of told writes faults site) chooser core rows opened (subst (λ (x : ConfigData). Begins x chooser (writes site) (faults site) core) asked_is is) at_end)
+pub begun_taken : {S C : Type 0} (g : Ghosts S) (config asked : ConfigData) (chooser : C) (old : DevicesSeen) (site : S) (core : CoreValue S C) (rows : List (Option RowValue)) → core.site ≡ site → asked ≡ config
+    → Begins asked chooser (g.writes site) (g.faults site) core → IsOpened config (content old.told) (content (g.told site)) rows → g.writes site ≡ length (g.told site).log → TakesUp config old (seen_site g core.site) (Ok core)
+begun_taken g config asked chooser old site core rows site_is asked_is is opened at_end =
+    subst (λ s. TakesUp config old (seen_site g s) (Ok core)) (sym site_is)
+    (core_taken config old (seen_site g site) chooser core rows opened (subst (λ (x : ConfigData). Begins x chooser (g.writes site) (g.faults site) core) asked_is is) at_end)
 
 -- a restart that isn't disturbed
 pub taken_up : {S C : Type 0} (config : ConfigData) (c : Content) (volumes : Volumes) → IsFaultless config c → shown_for config c ≡ volumes → (old new : DevicesSeen) (answer : Answer S C) → RestartsOver config c old new answer → IsTakenUp config volumes new.told answer

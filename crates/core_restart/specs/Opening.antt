@@ -33,11 +33,6 @@ abbrev pub answer_of : {S C : Type 0} → Result (CoreValue S C) (S × Refused)
 answer_of (Ok core) = Ok (opened_in core)
 answer_of (Err refused) = Err refused.1
 
--- what is seen of a site
-abbrev pub seen_of : {S : Type 0} → (S → SiteLog) → (S → ℕ) → (S → ℕ) → S → DevicesSeen
-seen_of told writes faults site =
-    record { told = told site; writes = writes site; faults = faults site }
-
 -- of a site that tells: what is answered, exactly where no call failed; what a stop or a failing
 -- call leaves at each moment; that each repair and creation that was begun is whole after Ok and
 -- after want of memory; that no row but the further ones is more than repaired, and that each copy

@@ -6,9 +6,10 @@ ghost use Rattle.core_state.specs.SessionData.{begun};
 ghost use Rattle.core_state.specs.Sessions.{session_data};
 ghost use Rattle.core_restart.specs.Begins.{Begins};
 ghost use Rattle.core_restart.specs.Console.{creations_of};
-ghost use Rattle.core_restart.specs.Opening.{OpensAny, OpensTold, answer_of, seen_of, site_of};
+ghost use Rattle.core_restart.specs.Opening.{OpensAny, OpensTold, answer_of, site_of};
 ghost use Rattle.core_restart.specs.Parts.{AreParts, MayBegin};
 ghost use Rattle.core_restart.specs.TakingUp.{TakesUp};
+ghost use Rattle.core_state.specs.CoreValue.{seen_site};
 
 use crate::console::tell_creations;
 use crate::owners::own_frames;
@@ -98,14 +99,14 @@ pub fn restart<S: Site, C: Choose + Drop>(
     chooser: C,
 ) -> Result<Core<S, C>, (S, Refused)>
     requires able { C.can_choose chooser }
-    ensures told { S.tells → OpensTold config.now (seen_of S.told S.writes S.faults site)
-        (seen_of S.told S.writes S.faults (site_of result)) (answer_of result) }
-    ensures takes_up { S.tells → TakesUp config.now (seen_of S.told S.writes S.faults site)
-        (seen_of S.told S.writes S.faults (site_of result)) result }
-    ensures any { OpensAny config.now (seen_of S.told S.writes S.faults site)
-        (seen_of S.told S.writes S.faults (site_of result)) (answer_of result) }
-    ensures works { NeverFails S.never_fails_but site → TellsNoFailure (answer_of result) }
-    ensures devices { WritesOn S.writes S.faults S.never_fails_but site (site_of result) }
+    ensures told { S.tells → OpensTold config.now (seen_site S.Site site)
+        (seen_site S.Site (site_of result)) (answer_of result) }
+    ensures takes_up { S.tells → TakesUp config.now (seen_site S.Site site)
+        (seen_site S.Site (site_of result)) result }
+    ensures any { OpensAny config.now (seen_site S.Site site)
+        (seen_site S.Site (site_of result)) (answer_of result) }
+    ensures works { NeverFails S.Site site → TellsNoFailure (answer_of result) }
+    ensures devices { WritesOn S.Site site (site_of result) }
     ensures begins { IfOk result (λ core.
         Begins config.now chooser (S.writes core.site) (S.faults core.site) core) }
 {

@@ -10,8 +10,7 @@ use mss_base::{NoMemory, Site};
 /// room is as it was.
 pub fn make_room<S: Site>(session: &mut Session, site: &mut S, writes: u32) -> Result<(), NoMemory>
     ensures session { session_data session.new ≡ session_data session.old }
-    ensures site { Reserves S.tells S.told S.spare S.writes S.faults S.never_fails_but
-        site.old site.new }
+    ensures site { Reserves S.Site site.old site.new }
     ensures room { OnOk result (1 ≤ session.new.history.spare) }
     ensures room_marks { OnOk result (1 ≤ session.new.marks.spare) }
     ensures room_console { OnOk result (1 ≤ session.new.console.spare) }

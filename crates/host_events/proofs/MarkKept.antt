@@ -5,7 +5,8 @@ use Rattle.std.specs.Option.{ForSome, option_map}
 use Rattle.std.proofs.lemmas.Bool.{cond-false, eqb-true}
 use Rattle.mss_base.specs.Content.{SiteLog, content}
 use Rattle.mss_base.specs.Counts.{Rises}
-use Rattle.mss_base.specs.Sites.{FailingReads, MayWrite}
+use Rattle.mss_base.specs.Sites.{MayWrite}
+use Rattle.mss_base.specs.declared.site.Site.{Ghosts}
 use Rattle.channel_commands.specs.Data.{CallData, stopped}
 use Rattle.volume_table.specs.Listed.{listed}
 use Rattle.volume_table.specs.Row.{RowValue}
@@ -19,7 +20,7 @@ use Rattle.core_state.specs.declared.rule.HostRule.TheVariants.{Marks}
 use Rattle.core_state.specs.declared.session.Event.TheVariants.{Host}
 use Rattle.core_state.specs.declared.task.Task.{Task}
 use Rattle.core_state.specs.Agrees.{message_of}
-use Rattle.core_state.specs.CoreValue.{CoreValue, CoreData, DevicesSeen, seen}
+use Rattle.core_state.specs.CoreValue.{CoreValue, CoreData, DevicesSeen, seen, seen_site}
 use Rattle.core_state.specs.Counted.{IsEntryBehind}
 use Rattle.core_state.specs.Entered.{entered, worked}
 use Rattle.core_state.specs.HostEvents.{HostDoes, marked, halts}
@@ -38,14 +39,13 @@ use Rattle.core_state.proofs.HostFacts.{IsHost}
 use Rattle.core_state.proofs.RuleWalks.{none_some}
 use Rattle.host_events.specs.Parts.{ready_for}
 use Rattle.host_events.specs.Replies.{with_reply}
-use Rattle.host_events.specs.Runs.{devices}
 use Rattle.host_events.proofs.MarkRequests.{ready_put}
 use Rattle.host_events.proofs.RuleFacts.{OnMark, rule_marks}
 use Rattle.host_events.proofs.Standing.{mounted_host, staged_low}
 use Rattle.host_events.proofs.WholeMark.{whole_marked, whole_mark_failed}
 
-module _ (S : Type 0) {C : Type 0} (tells : Type 0) (told : S → SiteLog) (spare writes faults : S → ℕ) (never : FailingReads S) {u : CoreValue S C} (v : CoreValue S C) (view : u ≡ v) (room : ℕ)
-    (kept : IsKept tells (told u.site) (writes u.site) (faults u.site) room u) (h : ℕ) (call : CallData) (volume cylinder : ℕ) (rule : host_rule v h call ≡ Marks volume cylinder) where
+module _ (S : Type 0) {C : Type 0} (g : Ghosts S) {u : CoreValue S C} (v : CoreValue S C) (view : u ≡ v) (room : ℕ)
+    (kept : IsKept g.tells (g.told u.site) (g.writes u.site) (g.faults u.site) room u) (h : ℕ) (call : CallData) (volume cylinder : ℕ) (rule : host_rule v h call ≡ Marks volume cylinder) where
   on : OnMark u h call volume cylinder
   on = rule_marks u h call kept.whole.kept volume cylinder (subst (λ (z : CoreValue S C). host_rule z h call ≡ Marks volume cylinder) (sym view) rule)
 
@@ -71,37 +71,37 @@ module _ (S : Type 0) {C : Type 0} (tells : Type 0) (told : S → SiteLog) (spar
       λ i. record { volume = sym volume_is i; cylinder = sym cylinder_is i; state = Ready }
 
   -- so the call ends no request
-  ends_none : ends_request (seen told writes faults u) h call ≡ false
+  ends_none : ends_request (seen g u) h call ≡ false
   ends_none = by (request_of u.requests h) refl
     where
       by : (o : Option Request) → request_of u.requests h ≡ o → (is_some (request_of u.requests h) && not (is_some (request_for u h call))) ≡ false
       by None at = ap (λ (o : Option Request). is_some o && not (is_some (request_for u h call))) at
       by (Some q) at = ap (λ (o : Option Request). is_some o && not (is_some (request_for u h call))) at ∙ ap (λ (o : Option Request). not (is_some o)) (on.asks.mine q at)
 
-  going_same : going_on (seen told writes faults u) h call ≡ seen told writes faults u
+  going_same : going_on (seen g u) h call ≡ seen g u
   going_same = cond-false _ _ _ ends_none
 
-  module _ (mid : S) (reserves : Reserves tells told spare writes faults never u.site mid) where
-    pub holds_row : tells → ForSome (listed u.rows volume) (λ r. HoldsRow r volume (content (told mid)))
+  module _ (mid : S) (reserves : Reserves g u.site mid) where
+    pub holds_row : g.tells → ForSome (listed u.rows volume) (λ r. HoldsRow r volume (content (g.told mid)))
     holds_row tl r at = subst (λ (s : SiteLog). HoldsRow r volume (content s)) (sym (reserves.log tl)) (((kept.whole.told tl).going on.goes.going).copies volume r at)
 
-    module _ (x : S) (may : MayWrite 6 spare writes faults never mid x) (counts : tells → writes x ≡ length (told x).log)
-        (moments : tells → ForSome (listed u.rows volume) (λ r. Rewrites volume (effect (Changed cylinder) r) (told mid) (told x)))
+    module _ (x : S) (may : MayWrite g 6 mid x) (counts : g.tells → g.writes x ≡ length (g.told x).log)
+        (moments : g.tells → ForSome (listed u.rows volume) (λ r. Rewrites volume (effect (Changed cylinder) r) (g.told mid) (g.told x)))
         (rows : List (Option RowValue)) (rows_is : rows ≡ with_changed volume (Changed cylinder) u.rows) where
       abbrev old : DevicesSeen
-      old = devices told writes faults u.site
+      old = seen_site g u.site
 
       abbrev new : DevicesSeen
-      new = devices told writes faults x
+      new = seen_site g x
 
-      more : writes u.site ≤ writes x
-      more = subst (λ (n : ℕ). n ≤ writes x) reserves.unwritten may.written
+      more : g.writes u.site ≤ g.writes x
+      more = subst (λ (n : ℕ). n ≤ g.writes x) reserves.unwritten may.written
 
-      later : faults u.site ≤ faults x
-      later = subst (λ (n : ℕ). n ≤ faults x) reserves.same may.later
+      later : g.faults u.site ≤ g.faults x
+      later = subst (λ (n : ℕ). n ≤ g.faults x) reserves.same may.later
 
-      moments_ : tells → (r : RowValue) → listed u.rows volume ≡ Some r → Rewrites volume (effect (Changed cylinder) r) (told u.site) (told x)
-      moments_ tl r at = subst (λ (s : SiteLog). Rewrites volume (effect (Changed cylinder) r) s (told x)) (reserves.log tl) (moments tl r at)
+      moments_ : g.tells → (r : RowValue) → listed u.rows volume ≡ Some r → Rewrites volume (effect (Changed cylinder) r) (g.told u.site) (g.told x)
+      moments_ tl r at = subst (λ (s : SiteLog). Rewrites volume (effect (Changed cylinder) r) s (g.told x)) (reserves.log tl) (moments tl r at)
 
       abbrev rows_now : List (Option RowValue)
       rows_now = slice_set u.rows volume (Some (state_set cylinder 4 on.r))
@@ -111,18 +111,18 @@ module _ (S : Type 0) {C : Type 0} (tells : Type 0) (told : S → SiteLog) (spar
 
       -- ---- the change is written
 
-      module _ (done : tells → ForSome (listed u.rows volume) (λ r. HoldsRow (effect (Changed cylinder) r) volume (content (told x)))) (grown : tells → length (told mid).log < length (told x).log) (sound : faults x ≡ faults mid)
+      module _ (done : g.tells → ForSome (listed u.rows volume) (λ r. HoldsRow (effect (Changed cylinder) r) volume (content (g.told x)))) (grown : g.tells → length (g.told mid).log < length (g.told x).log) (sound : g.faults x ≡ g.faults mid)
           (requests : RequestsData) (requests_is : requests ≡ cond (is_some (request_of u.requests h)) (with_state h Ready u.requests) (u.requests ++ (h, ready_for volume cylinder) ∷ []))
           (tasks : List (Option Task)) (tasks_is : tasks ≡ touched_all volume (cylinder / 8) u.tasks)
-          (d : SessionData) (d_is : d ≡ with_last_event (Host h) (with_last_message (message_of (writes x) volume (Changed cylinder) (listed u.rows)) (data_of u))) where
-        grown_ : tells → length (told u.site).log < length (told x).log
-        grown_ tl = subst (λ (s : SiteLog). length s.log < length (told x).log) (reserves.log tl) (grown tl)
+          (d : SessionData) (d_is : d ≡ with_last_event (Host h) (with_last_message (message_of (g.writes x) volume (Changed cylinder) (listed u.rows)) (data_of u))) where
+        grown_ : g.tells → length (g.told u.site).log < length (g.told x).log
+        grown_ tl = subst (λ (s : SiteLog). length s.log < length (g.told x).log) (reserves.log tl) (grown tl)
 
-        sound_ : faults x ≡ faults u.site
+        sound_ : g.faults x ≡ g.faults u.site
         sound_ = sound ∙ reserves.same
 
         abbrev d_now : SessionData
-        d_now = with_last_event (Host h) (with_last_message (message_of (writes x) volume (Changed cylinder) (listed u.rows)) (data_of u))
+        d_now = with_last_event (Host h) (with_last_message (message_of (g.writes x) volume (Changed cylinder) (listed u.rows)) (data_of u))
 
         abbrev put : RequestsData
         put = put_request u.requests h (Some (ready_for volume cylinder))
@@ -130,78 +130,78 @@ module _ (S : Type 0) {C : Type 0} (tells : Type 0) (told : S → SiteLog) (spar
         kept_path : of_parts u x rows u.owners u.moving requests tasks u.hosts d ≡ of_parts u x rows_now u.owners u.moving put (touched_all volume (cylinder / 8) u.tasks) u.hosts d_now
         kept_path = λ i. of_parts u x ((rows_is ∙ rows_set) i) u.owners u.moving ((requests_is ∙ ready_put h (ready_for volume cylinder) u.requests same_request) i) (tasks_is i) u.hosts (d_is i)
 
-        whole_ : IsWhole tells (told x) (of_parts u x rows_now u.owners u.moving put (touched_all volume (cylinder / 8) u.tasks) u.hosts d_now)
-        whole_ = whole_noted tells (told x)
-            (worked u x rows_now (u.console ++ message_of (writes x) volume (Changed cylinder) (listed u.rows) ∷ []) u.owners u.moving put (touched_all volume (cylinder / 8) u.tasks)) (u.events ++ Host h ∷ [])
-            (whole_marked S tells (told u.site) u kept.whole on.goes.going h low_host volume cylinder on.bind on.mounted on.r on.there low_cylinder on.staged on.asks.free on.quiet on.cylinder_ (told x) x (writes x)
+        whole_ : IsWhole g.tells (g.told x) (of_parts u x rows_now u.owners u.moving put (touched_all volume (cylinder / 8) u.tasks) u.hosts d_now)
+        whole_ = whole_noted g.tells (g.told x)
+            (worked u x rows_now (u.console ++ message_of (g.writes x) volume (Changed cylinder) (listed u.rows) ∷ []) u.owners u.moving put (touched_all volume (cylinder / 8) u.tasks)) (u.events ++ Host h ∷ [])
+            (whole_marked S g.tells (g.told u.site) u kept.whole on.goes.going h low_host volume cylinder on.bind on.mounted on.r on.there low_cylinder on.staged on.asks.free on.quiet on.cylinder_ (g.told x) x (g.writes x)
             (λ tl. moments_ tl on.r on.there) (λ tl. done tl on.r on.there) counts grown_)
 
-        pub marked_kept : IsKept tells (told x) (writes x) (faults x) room (of_parts u x rows u.owners u.moving requests tasks u.hosts d)
-        marked_kept = subst (IsKept tells (told x) (writes x) (faults x) room) (sym kept_path) (record {
+        pub marked_kept : IsKept g.tells (g.told x) (g.writes x) (g.faults x) room (of_parts u x rows u.owners u.moving requests tasks u.hosts d)
+        marked_kept = subst (IsKept g.tells (g.told x) (g.writes x) (g.faults x) room) (sym kept_path) (record {
           whole = whole_;
-          counted = counted_noted (writes x) (faults x) put _ (u.events ++ Host h ∷ [])
-              (counted_message (writes x) (faults x) (writes x) (faults x) put (data_of u)
-              (counted_request (writes u.site) (faults u.site) (writes x) (faults x) u.requests (data_of u) kept.counted more later h (Some (ready_for volume cylinder)) core.requests_ (λ fault is. absurd (none_some fault is)))
-              (omega arith) (omega arith) (message_of (writes x) volume (Changed cylinder) (listed u.rows)) (omega arith));
+          counted = counted_noted (g.writes x) (g.faults x) put _ (u.events ++ Host h ∷ [])
+              (counted_message (g.writes x) (g.faults x) (g.writes x) (g.faults x) put (data_of u)
+              (counted_request (g.writes u.site) (g.faults u.site) (g.writes x) (g.faults x) u.requests (data_of u) kept.counted more later h (Some (ready_for volume cylinder)) core.requests_ (λ fault is. absurd (none_some fault is)))
+              (omega arith) (omega arith) (message_of (g.writes x) volume (Changed cylinder) (listed u.rows)) (omega arith));
           buffer = kept.buffer;
         })
 
-        pub marked_event : HostDoes tells (seen told writes faults v) h call (Marks volume cylinder) marked (seen told writes faults (of_parts u x rows u.owners u.moving requests tasks u.hosts d))
-        marked_event = subst (λ (z : CoreValue S C). HostDoes tells (seen told writes faults z) h call (Marks volume cylinder) marked (seen told writes faults (of_parts u x rows u.owners u.moving requests tasks u.hosts d))) view (
+        pub marked_event : HostDoes g.tells (seen g v) h call (Marks volume cylinder) marked (seen g (of_parts u x rows u.owners u.moving requests tasks u.hosts d))
+        marked_event = subst (λ (z : CoreValue S C). HostDoes g.tells (seen g z) h call (Marks volume cylinder) marked (seen g (of_parts u x rows u.owners u.moving requests tasks u.hosts d))) view (
           (λ r at. record {
             write = record { moments = λ tl. moments_ tl r at; later = more };
             both = λ tl. done tl r at;
             grown = grown_;
             sound = sound_;
           }),
-          ap (λ (z : CoreValue S C). seen told writes faults z)
+          ap (λ (z : CoreValue S C). seen g z)
               (λ i. of_parts u x (rows_is i) u.owners u.moving (requests_is i) (tasks_is i) u.hosts (d_is i))
               ∙ ap (λ (k : CoreData). noted (Host h) (touching (volume, page_of cylinder) (with_request h volume cylinder Ready (with_change volume (Changed cylinder) (record k { site = new }))))) (sym going_same),
         )
 
       -- ---- a write of the devices failed
 
-      module _ (rises : Rises (faults mid) (faults x)) (wrote : Rises (writes mid) (writes x)) (requests : RequestsData) (requests_is : requests ≡ u.requests) (fault : ℕ) (fault_is : fault ≡ faults x)
-          (d : SessionData) (d_is : d ≡ with_reply h call stopped (Some fault) (writes x) (with_stop (faults x) (data_of u))) where
+      module _ (rises : Rises (g.faults mid) (g.faults x)) (wrote : Rises (g.writes mid) (g.writes x)) (requests : RequestsData) (requests_is : requests ≡ u.requests) (fault : ℕ) (fault_is : fault ≡ g.faults x)
+          (d : SessionData) (d_is : d ≡ with_reply h call stopped (Some fault) (g.writes x) (with_stop (g.faults x) (data_of u))) where
         abbrev d_stopped : SessionData
-        d_stopped = with_reply h call stopped (Some (faults x)) (writes x) (with_stop (faults x) (data_of u))
+        d_stopped = with_reply h call stopped (Some (g.faults x)) (g.writes x) (with_stop (g.faults x) (data_of u))
 
-        rises_ : Rises (faults u.site) (faults x)
-        rises_ = subst (λ (n : ℕ). Rises n (faults x)) reserves.same rises
+        rises_ : Rises (g.faults u.site) (g.faults x)
+        rises_ = subst (λ (n : ℕ). Rises n (g.faults x)) reserves.same rises
 
         d_path : d ≡ d_stopped
-        d_path = d_is ∙ ap (λ (n : ℕ). with_reply h call stopped (Some n) (writes x) (with_stop (faults x) (data_of u))) fault_is
+        d_path = d_is ∙ ap (λ (n : ℕ). with_reply h call stopped (Some n) (g.writes x) (with_stop (g.faults x) (data_of u))) fault_is
 
         stop_path : of_parts u x rows u.owners u.moving requests u.tasks u.hosts d ≡ of_parts u x rows_now u.owners u.moving u.requests u.tasks u.hosts d_stopped
         stop_path = λ i. of_parts u x ((rows_is ∙ rows_set) i) u.owners u.moving (requests_is i) u.tasks u.hosts (d_path i)
 
         abbrev stop_entered : CallData → CoreValue S C
-        stop_entered k = record (entered u x (entry_of u.history h k stopped (Some (faults x))) (writes x) u.hosts u.requests u.tasks (Some (faults x))) { rows = slice_set u.rows volume (Some (state_set cylinder 4 on.r)) }
+        stop_entered k = record (entered u x (entry_of u.history h k stopped (Some (g.faults x))) (g.writes x) u.hosts u.requests u.tasks (Some (g.faults x))) { rows = slice_set u.rows volume (Some (state_set cylinder 4 on.r)) }
 
-        whole_stopped : IsWhole tells (told x) (of_parts u x rows_now u.owners u.moving u.requests u.tasks u.hosts d_stopped)
-        whole_stopped = whole_noted tells (told x) (stop_entered call) (u.events ++ Host h ∷ [])
-            (subst (λ (k : CallData). IsWhole tells (told x) (stop_entered k)) (sym on.asks.is)
-            (whole_mark_failed S tells (told u.site) u kept.whole on.goes.going h low_host volume cylinder on.bind on.mounted on.r on.there low_cylinder on.staged on.asks.free on.quiet
-            on.asks.code on.asks.argument on.asks.chained on.asks.c on.asks.admits on.write_ on.cylinder_ (told x) x on.goes.few (faults x) (writes x) (λ tl. moments_ tl on.r on.there) counts))
+        whole_stopped : IsWhole g.tells (g.told x) (of_parts u x rows_now u.owners u.moving u.requests u.tasks u.hosts d_stopped)
+        whole_stopped = whole_noted g.tells (g.told x) (stop_entered call) (u.events ++ Host h ∷ [])
+            (subst (λ (k : CallData). IsWhole g.tells (g.told x) (stop_entered k)) (sym on.asks.is)
+            (whole_mark_failed S g.tells (g.told u.site) u kept.whole on.goes.going h low_host volume cylinder on.bind on.mounted on.r on.there low_cylinder on.staged on.asks.free on.quiet
+            on.asks.code on.asks.argument on.asks.chained on.asks.c on.asks.admits on.write_ on.cylinder_ (g.told x) x on.goes.few (g.faults x) (g.writes x) (λ tl. moments_ tl on.r on.there) counts))
 
-        behind : IsEntryBehind u.history (entry_of u.history h call stopped (Some (faults x)))
+        behind : IsEntryBehind u.history (entry_of u.history h call stopped (Some (g.faults x)))
         behind = record { number = refl; fault = ((λ some_. refl), (λ keeps. refl)) }
 
-        pub unmarked_kept : IsKept tells (told x) (writes x) (faults x) room (of_parts u x rows u.owners u.moving requests u.tasks u.hosts d)
-        unmarked_kept = subst (IsKept tells (told x) (writes x) (faults x) room) (sym stop_path) (record {
+        pub unmarked_kept : IsKept g.tells (g.told x) (g.writes x) (g.faults x) room (of_parts u x rows u.owners u.moving requests u.tasks u.hosts d)
+        unmarked_kept = subst (IsKept g.tells (g.told x) (g.writes x) (g.faults x) room) (sym stop_path) (record {
           whole = whole_stopped;
-          counted = counted_noted (writes x) (faults x) u.requests _ (u.events ++ Host h ∷ [])
-              (counted_halt (writes u.site) (faults u.site) (writes x) (faults x) u.requests (data_of u) kept.counted more later on.goes.going (record { count = refl; rises = rises_ })
-              (entry_of u.history h call stopped (Some (faults x))) behind tt refl);
+          counted = counted_noted (g.writes x) (g.faults x) u.requests _ (u.events ++ Host h ∷ [])
+              (counted_halt (g.writes u.site) (g.faults u.site) (g.writes x) (g.faults x) u.requests (data_of u) kept.counted more later on.goes.going (record { count = refl; rises = rises_ })
+              (entry_of u.history h call stopped (Some (g.faults x))) behind tt refl);
           buffer = kept.buffer;
         })
 
-        pub unmarked_event : HostDoes tells (seen told writes faults v) h call (Marks volume cylinder) (halts fault) (seen told writes faults (of_parts u x rows u.owners u.moving requests u.tasks u.hosts d))
-        unmarked_event = subst (λ (z : CoreValue S C). HostDoes tells (seen told writes faults z) h call (Marks volume cylinder) (halts fault) (seen told writes faults (of_parts u x rows u.owners u.moving requests u.tasks u.hosts d))) view (
+        pub unmarked_event : HostDoes g.tells (seen g v) h call (Marks volume cylinder) (halts fault) (seen g (of_parts u x rows u.owners u.moving requests u.tasks u.hosts d))
+        unmarked_event = subst (λ (z : CoreValue S C). HostDoes g.tells (seen g z) h call (Marks volume cylinder) (halts fault) (seen g (of_parts u x rows u.owners u.moving requests u.tasks u.hosts d))) view (
           (λ r at. record {
             write = record { moments = λ tl. moments_ tl r at; later = more };
-            wrote = subst (λ (n : ℕ). Rises n (writes x)) reserves.unwritten wrote;
+            wrote = subst (λ (n : ℕ). Rises n (g.writes x)) reserves.unwritten wrote;
             cause = record { count = fault_is; rises = rises_ };
           }),
-          ap (λ (z : CoreValue S C). seen told writes faults z) (λ i. of_parts u x (rows_is i) u.owners u.moving (requests_is i) u.tasks u.hosts (d_path i)),
+          ap (λ (z : CoreValue S C). seen g z) (λ i. of_parts u x (rows_is i) u.owners u.moving (requests_is i) u.tasks u.hosts (d_path i)),
         )

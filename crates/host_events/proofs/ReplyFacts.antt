@@ -6,6 +6,7 @@ use Rattle.std.proofs.lemmas.Bool.{and_parts, false≢true}
 use Rattle.std.proofs.lemmas.Bool.Decides.{eqb_tells}
 use Rattle.mss_base.specs.Content.{Content, SiteLog}
 use Rattle.mss_base.proofs.Moments.{started}
+use Rattle.mss_base.specs.declared.site.Site.{Ghosts}
 use Rattle.channel_commands.specs.Data.{CallData, ReplyData, stopped}
 use Rattle.ckd_plain.specs.declared.host.HostState.{HostState}
 use Rattle.ckd_plain.specs.Data.{State}
@@ -38,10 +39,10 @@ use Rattle.host_events.specs.Replies.{after_answer, IsUpheld}
 use Rattle.host_events.proofs.RuleFacts.{Goes}
 
 -- what the type of a core keeps, of the value that a clause sees
-pub upheld_of : {S C : Type 0} (tells : Type 0) (told : S → SiteLog) (writes faults : S → ℕ) (room : ℕ) (inside v : CoreValue S C) → inside ≡ v
-    → IsKept tells (told inside.site) (writes inside.site) (faults inside.site) room inside → IsUpheld tells (told v.site) (writes v.site) (faults v.site) v
-upheld_of tells told writes faults room inside v is kept =
-    subst (λ (x : CoreValue _ _). IsUpheld tells (told x.site) (writes x.site) (faults x.site) x) is (record { whole = kept.whole; counted = kept.counted })
+pub upheld_of : {S C : Type 0} (g : Ghosts S) (room : ℕ) (inside v : CoreValue S C) → inside ≡ v
+    → IsKept g.tells (g.told inside.site) (g.writes inside.site) (g.faults inside.site) room inside → IsUpheld g.tells (g.told v.site) (g.writes v.site) (g.faults v.site) v
+upheld_of g room inside v is kept =
+    subst (λ (x : CoreValue _ _). IsUpheld g.tells (g.told x.site) (g.writes x.site) (g.faults x.site) x) is (record { whole = kept.whole; counted = kept.counted })
 
 -- the host that is put, by number
 pub host_put : (hosts : List HostState) (h : ℕ) (x : HostState) → IsHostOf hosts h → host_at (put_host hosts h x) ≡ (λ (other : ℕ). cond (other == h) x (host_at hosts other))

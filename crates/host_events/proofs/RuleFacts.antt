@@ -6,6 +6,7 @@ use Rattle.std.proofs.lemmas.Bool.{leb-true, leb-false, ltb-true, ltb-false, fal
 use Rattle.mss_base.specs.Content.{SiteLog}
 use Rattle.mss_base.specs.Firsts.{where_so, ◌or◌}
 use Rattle.mss_base.proofs.FirstFacts.{map_none, none_where, none_is, chain_none, chained_none}
+use Rattle.mss_base.specs.declared.site.Site.{Ghosts}
 use Rattle.channel_commands.specs.declared.command.Command.{Command}
 use Rattle.channel_commands.specs.Codes.{is_write}
 use Rattle.channel_commands.specs.Data.{CallData, mount, demount, command as ask, break, is_command}
@@ -519,13 +520,13 @@ module _ {S C : Type 0} (v : CoreValue S C) (h : ℕ) (call : CallData) (kept : 
   rule_runs_on c volume frame is = met (Runs c volume frame) is
 
 -- the rule doesn't look at the devices
-pub rule_seen : {S C : Type 0} (told : S → SiteLog) (writes faults : S → ℕ) (v : CoreValue S C) (h : ℕ) (call : CallData) → host_rule (seen told writes faults v) h call ≡ host_rule v h call
+pub rule_seen : {S C : Type 0} (g : Ghosts S) (v : CoreValue S C) (h : ℕ) (call : CallData) → host_rule (seen g v) h call ≡ host_rule v h call
 unfolding host_rule
-rule_seen told writes faults v h call = refl
+rule_seen g v h call = refl
 
 -- nor does what a core keeps while it isn't stopped
-pub core_seen : {S C : Type 0} (told : S → SiteLog) (writes faults : S → ℕ) (v : CoreValue S C) → IsCore v → IsCore (seen told writes faults v)
-core_seen told writes faults v core = record {
+pub core_seen : {S C : Type 0} (g : Ghosts S) (v : CoreValue S C) → IsCore v → IsCore (seen g v)
+core_seen g v core = record {
   places = core.places;
   are_rows = core.are_rows;
   hosts_ = core.hosts_;
@@ -545,7 +546,7 @@ core_seen told writes faults v core = record {
 }
 
 -- what the rule that was found does is the event
-pub event_by : {S C : Type 0} (tells : Type 0) (told : S → SiteLog) (writes faults : S → ℕ) (v : CoreValue S C) (h : ℕ) (call : CallData) (answer : HostTold) (core' : CoreData) (rule : HostRule)
-    → host_rule v h call ≡ rule → HostDoes tells (seen told writes faults v) h call rule answer core' → HostEvent tells (seen told writes faults v) h call answer core'
-event_by tells told writes faults v h call answer core' rule is does =
-    subst (λ (r : HostRule). HostDoes tells (seen told writes faults v) h call r answer core') (sym is ∙ sym (rule_seen told writes faults v h call)) does
+pub event_by : {S C : Type 0} (g : Ghosts S) (v : CoreValue S C) (h : ℕ) (call : CallData) (answer : HostTold) (core' : CoreData) (rule : HostRule)
+    → host_rule v h call ≡ rule → HostDoes g.tells (seen g v) h call rule answer core' → HostEvent g.tells (seen g v) h call answer core'
+event_by g v h call answer core' rule is does =
+    subst (λ (r : HostRule). HostDoes g.tells (seen g v) h call r answer core') (sym is ∙ sym (rule_seen g v h call)) does

@@ -14,10 +14,6 @@ use Rattle.track_engine.specs.declared.place.EngineFault.TheVariants.{Memory}
 use Rattle.core_state.specs.CoreValue.{DevicesSeen}
 use Rattle.core_state.specs.Devices.{StillHold, FailRead, Run, RunOn, FailOn}
 
--- what is seen of a site
-abbrev pub devices : {S : Type 0} → (S → SiteLog) → (S → ℕ) → (S → ℕ) → S → DevicesSeen
-devices told writes faults s = record { told = told s; writes = writes s; faults = faults s }
-
 -- the bytes that go with a command, and whether a further one is chained behind it
 abbrev pub argument_of : CallData → List ℕ
 argument_of (ask code argument chained) = argument

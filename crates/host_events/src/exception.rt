@@ -25,9 +25,8 @@ pub fn fail<S: Site, C: Choose>(
     fault: u64,
 ) -> HostAnswer
     requires rule { host_rule core.old host (call_of call.now) ≡ HasFailed fault }
-    ensures event { HostDoes S.tells (seen S.told S.writes S.faults core.old) host
-        (call_of call.now) (HasFailed fault) (told_of result)
-        (seen S.told S.writes S.faults core.new) }
+    ensures event { HostDoes S.tells (seen S.Site core.old) host
+        (call_of call.now) (HasFailed fault) (told_of result) (seen S.Site core.new) }
     ensures chooser { core.new.chooser ≡ core.old.chooser }
     ensures site { core.new.site ≡ core.old.site }
 {
@@ -46,9 +45,8 @@ pub fn refuse_space<S: Site, C: Choose>(
     call: &Call,
 ) -> HostAnswer
     requires rule { host_rule core.old host (call_of call.now) ≡ HasNoSpace }
-    ensures event { HostDoes S.tells (seen S.told S.writes S.faults core.old) host
-        (call_of call.now) HasNoSpace (told_of result)
-        (seen S.told S.writes S.faults core.new) }
+    ensures event { HostDoes S.tells (seen S.Site core.old) host
+        (call_of call.now) HasNoSpace (told_of result) (seen S.Site core.new) }
     ensures chooser { core.new.chooser ≡ core.old.chooser }
     ensures site { core.new.site ≡ core.old.site }
 {

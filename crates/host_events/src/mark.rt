@@ -75,12 +75,10 @@ pub fn mark<S: Site, C: Choose>(
     cylinder: Cylinder,
 ) -> HostAnswer
     requires rule { host_rule core.old host (call_of call.now) ≡ Marks volume cylinder }
-    ensures event { HostDoes S.tells (seen S.told S.writes S.faults core.old) host
-        (call_of call.now) (Marks volume cylinder) (told_of result)
-        (seen S.told S.writes S.faults core.new) }
+    ensures event { HostDoes S.tells (seen S.Site core.old) host
+        (call_of call.now) (Marks volume cylinder) (told_of result) (seen S.Site core.new) }
     ensures chooser { core.new.chooser ≡ core.old.chooser }
-    ensures devices { MayWrite CHANGE_WRITES S.spare S.writes S.faults S.never_fails_but
-        core.old.site core.new.site }
+    ensures devices { MayWrite S.Site CHANGE_WRITES core.old.site core.new.site }
     ensures room { IsUntold (told_of result) → S.spare core.old.site ≤ S.spare core.new.site }
     ensures only_reads_fail { (but : UnitNo → Bool) → S.never_fails_but core.old.site but
         → GoesOn (told_of result) }

@@ -26,8 +26,7 @@ pub fn prepare<S: Site>(
     ensures room_console { OnOk result (1 ≤ session.new.console.spare) }
     ensures room_events { OnOk result (1 ≤ session.new.events.spare) }
     ensures room_site { OnOk result (writes ≤ S.spare site.new) }
-    ensures site { Reserves S.tells S.told S.spare S.writes S.faults S.never_fails_but
-        site.old site.new }
+    ensures site { Reserves S.Site site.old site.new }
 {
     let copy = copy_of_call(alloc, call)?;
     make_room(session, site, writes)?;

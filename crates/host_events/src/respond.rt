@@ -59,8 +59,8 @@ pub fn reply_plainly<S: Site, C: Choose>(
     call: &Call,
 ) -> HostAnswer
     requires rule { host_rule core.old host (call_of call.now) ≡ Responds }
-    ensures event { HostDoes S.tells (seen S.told S.writes S.faults core.old) host
-        (call_of call.now) Responds (told_of result) (seen S.told S.writes S.faults core.new) }
+    ensures event { HostDoes S.tells (seen S.Site core.old) host
+        (call_of call.now) Responds (told_of result) (seen S.Site core.new) }
     ensures chooser { core.new.chooser ≡ core.old.chooser }
     ensures site { core.new.site ≡ core.old.site }
 {

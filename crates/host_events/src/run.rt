@@ -14,7 +14,7 @@ ghost use Rattle.ckd_plain.specs.Effects.{is_data};
 ghost use Rattle.ckd_plain.specs.Plain.{IsDone, opened};
 ghost use Rattle.track_engine.specs.Faults.{IsNoFailure, IsNoFailedWrite};
 ghost use Rattle.track_engine.specs.Tracks.{AreTracks};
-ghost use Rattle.core_state.specs.CoreValue.{seen};
+ghost use Rattle.core_state.specs.CoreValue.{seen, seen_site};
 ghost use Rattle.core_state.specs.HostRules.{host_rule};
 ghost use Rattle.core_state.specs.HostEvents.{HostDoes};
 ghost use Rattle.core_state.specs.Pins.{host_at};
@@ -22,7 +22,7 @@ ghost use Rattle.core_state.specs.Tasks.{tasks_after};
 ghost use Rattle.core_state.specs.declared.rule.HostRule.TheVariants.{Runs};
 ghost use Rattle.host_events.specs.Answers.{told_of};
 ghost use Rattle.host_events.specs.Parts.{GoesOn, IsUnfailed, IsUntold};
-ghost use Rattle.host_events.specs.Runs.{argument_of, run_by, devices, bare_write, Comes};
+ghost use Rattle.host_events.specs.Runs.{argument_of, run_by, bare_write, Comes};
 
 use crate::answer::HostAnswer;
 use crate::copies::copy_of_reply;
@@ -128,10 +128,8 @@ fn run_in<S: Site>(
     requires room { RUN_WRITES ≤ S.spare site.old }
     ensures comes { Comes S.tells
         (run_by host.old (frame_block frame host.old.cylinder 0) command.now (call_of call.now))
-        (devices S.told S.writes S.faults site.old) (devices S.told S.writes S.faults site.new)
-        host.new result }
-    ensures site_ { MayWrite RUN_WRITES S.spare S.writes S.faults S.never_fails_but
-        site.old site.new }
+        (seen_site S.Site site.old) (seen_site S.Site site.new) host.new result }
+    ensures site_ { MayWrite S.Site RUN_WRITES site.old site.new }
     ensures room { IfErr result (λ fault. IsNoFailure fault
         → S.spare site.old ≤ S.spare site.new) }
     ensures works { (but : UnitNo → Bool) → S.never_fails_but site.old but
@@ -173,12 +171,10 @@ pub fn run<S: Site, C: Choose>(
     frame: FrameNo,
 ) -> HostAnswer
     requires rule { host_rule core.old host (call_of call.now) ≡ Runs command.now volume frame }
-    ensures event { HostDoes S.tells (seen S.told S.writes S.faults core.old) host
-        (call_of call.now) (Runs command.now volume frame) (told_of result)
-        (seen S.told S.writes S.faults core.new) }
+    ensures event { HostDoes S.tells (seen S.Site core.old) host
+        (call_of call.now) (Runs command.now volume frame) (told_of result) (seen S.Site core.new) }
     ensures chooser { core.new.chooser ≡ core.old.chooser }
-    ensures devices { MayWrite RUN_WRITES S.spare S.writes S.faults S.never_fails_but
-        core.old.site core.new.site }
+    ensures devices { MayWrite S.Site RUN_WRITES core.old.site core.new.site }
     ensures room { IsUntold (told_of result) → S.spare core.old.site ≤ S.spare core.new.site }
     ensures works { (but : UnitNo → Bool) → S.never_fails_but core.old.site but
         → but (frame_block frame (host_at core.old.hosts host).cylinder 0).unit ≡ false

@@ -20,8 +20,8 @@ use victim_choice::Choose;
 pub fn hold<S: Site, C: Choose>(core: &Core<S, C>, host: HostNo, frame: FrameNo) -> HostAnswer
     requires rule { (call : CallData) × (host_rule core.now host call ≡ IsHeld frame) }
     ensures event { (call : CallData) → host_rule core.now host call ≡ IsHeld frame
-        → HostDoes S.tells (seen S.told S.writes S.faults core.now) host call
-        (IsHeld frame) (told_of result) (seen S.told S.writes S.faults core.now) }
+        → HostDoes S.tells (seen S.Site core.now) host call
+        (IsHeld frame) (told_of result) (seen S.Site core.now) }
 {
     // A host that mounts has no volume, so it has no request that would end.
     let is_idle = core.requests.of(host).is_none();
@@ -58,8 +58,8 @@ pub fn ask<S: Site, C: Choose>(
 ) -> HostAnswer
     requires rule { (call : CallData) × (host_rule core.old host call ≡ Faults volume cylinder) }
     ensures event { (call : CallData) → host_rule core.old host call ≡ Faults volume cylinder
-        → HostDoes S.tells (seen S.told S.writes S.faults core.old) host call
-        (Faults volume cylinder) (told_of result) (seen S.told S.writes S.faults core.new) }
+        → HostDoes S.tells (seen S.Site core.old) host call
+        (Faults volume cylinder) (told_of result) (seen S.Site core.new) }
     ensures chooser { core.new.chooser ≡ core.old.chooser }
     ensures site { core.new.site ≡ core.old.site }
 {

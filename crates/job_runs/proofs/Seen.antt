@@ -2,17 +2,18 @@
 use Rattle.std.proofs.Common.{ℕ, refl}
 use Rattle.mss_base.specs.Configs.{ConfigData}
 use Rattle.mss_base.specs.Content.{SiteLog}
+use Rattle.mss_base.specs.declared.site.Site.{Ghosts}
 use Rattle.ckd_track.specs.Data.{Volumes}
 use Rattle.core_state.specs.CoreValue.{CoreValue, CoreData, seen}
 use Rattle.core_state.specs.IsCore.{IsTold}
 use Rattle.core_restart.specs.Begins.{Begins}
 use Rattle.core_restart.specs.TakingUp.{BeginsWith}
 
-module _ {S C : Type 0} (told : S → SiteLog) (writes faults : S → ℕ) (v : CoreValue S C) where
+module _ {S C : Type 0} (g : Ghosts S) (v : CoreValue S C) where
   abbrev there : CoreData
-  there = seen told writes faults v
+  there = seen g v
 
-  pub told_seen : IsTold (told v.site) v → IsTold (told v.site) there
+  pub told_seen : IsTold (g.told v.site) v → IsTold (g.told v.site) there
   told_seen is = record {
     began = is.began;
     entries = is.entries;
@@ -25,7 +26,7 @@ module _ {S C : Type 0} (told : S → SiteLog) (writes faults : S → ℕ) (v : 
         record { no_stop = g.no_stop; hosts_ = g.hosts_; shows = g.shows; rows_ = g.rows_; copies = g.copies; told = g.told; served = g.served };
   }
 
-  pub begins_seen : (config : ConfigData) (chooser : C) → Begins config chooser (writes v.site) (faults v.site) v → Begins config tt (writes v.site) (faults v.site) there
+  pub begins_seen : (config : ConfigData) (chooser : C) → Begins config chooser (g.writes v.site) (g.faults v.site) v → Begins config tt (g.writes v.site) (g.faults v.site) there
   begins_seen config chooser is = record {
     config_ = is.config_;
     chooser_ = refl;
@@ -47,5 +48,5 @@ module _ {S C : Type 0} (told : S → SiteLog) (writes faults : S → ℕ) (v : 
     going = is.going;
   }
 
-  pub with_seen : (config : ConfigData) (volumes : Volumes) → BeginsWith config volumes (told v.site) v → BeginsWith config volumes (told v.site) there
+  pub with_seen : (config : ConfigData) (volumes : Volumes) → BeginsWith config volumes (g.told v.site) v → BeginsWith config volumes (g.told v.site) there
   with_seen config volumes is = record { opening_ = is.opening_; shows = is.shows; there = is.there; no_entries = is.no_entries }

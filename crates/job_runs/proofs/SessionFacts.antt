@@ -2,7 +2,8 @@
 use Rattle.std.proofs.Common.{◌≡◌, inl, inr, ℕ, List, [], ◌∷◌, length, Option, None, Ok, refl, sym, ◌∙◌, ap, subst}
 use Rattle.mss_base.specs.Configs.{ConfigData, IsConfig}
 use Rattle.mss_base.specs.Content.{SiteLog, content}
-use Rattle.mss_base.specs.Sites.{FailingReads, OnlyReads}
+use Rattle.mss_base.specs.Sites.{OnlyReads}
+use Rattle.mss_base.specs.declared.site.Site.{Ghosts}
 use Rattle.channel_program.specs.Script.{ItemData, mounting, demounting, program, Follows, at_start}
 use Rattle.victim_choice.specs.declared.choose.Candidate.{Candidate}
 use Rattle.job_text.specs.Jobs.{JobData, ScriptData}
@@ -10,7 +11,7 @@ use Rattle.volume_table.specs.Listed.{listed}
 use Rattle.volume_table.specs.Row.{RowValue}
 use Rattle.shown_volumes.specs.Shown.{rows_of, shown, shown_by}
 use Rattle.core_state.specs.Counted.{IsCounted}
-use Rattle.core_state.specs.CoreValue.{CoreValue, CoreData, DevicesSeen, seen}
+use Rattle.core_state.specs.CoreValue.{CoreValue, CoreData, DevicesSeen, seen, seen_site}
 use Rattle.core_state.specs.IsCore.{IsTold as IsToldCore}
 use Rattle.core_state.specs.SessionData.{SessionData, data_of}
 use Rattle.core_restart.specs.Begins.{Begins}
@@ -22,9 +23,9 @@ use Rattle.serial_driver.specs.Drives.{Leaves, RunsOn, Halts}
 use Rattle.serial_driver.specs.declared.answer.DriveAnswer.{DriveAnswer}
 use Rattle.serial_driver.specs.declared.answer.DriveAnswer.TheVariants as ended
 use Rattle.session_report.specs.Answers.{Answer}
-use Rattle.session_report.specs.Parties.{Stream, between}
+use Rattle.session_report.specs.Parties.{Stream, site_between}
 use Rattle.session_report.specs.Reports.{report_matter, opening_text}
-use Rattle.job_runs.specs.Parties.{Devices, devices, seen_site}
+use Rattle.job_runs.specs.Parties.{Devices, devices}
 use Rattle.job_runs.specs.Runs.{AreRowsOf, FollowScripts, FollowToEnd, Goes, GoesUnstopped, IsBegun, IsHalted, IsMarked, IsPlayed, IsPromised, IsReportOf, IsSessionOf, IsTold, Ends, TellsSession}
 use Rattle.job_runs.specs.declared.run.Outcome.{Outcome}
 use Rattle.job_runs.specs.declared.run.Outcome.TheVariants.{Untaken, Ran}
@@ -58,39 +59,39 @@ halted_by ended.Memory was is none halts = halts ∙ none
 -- ---- the session
 
 -- what a later core of a session that has begun promises
-module _ {S C : Type 0} (tells : Type 0) (told : S → SiteLog) (writes faults : S → ℕ) (core left : CoreValue S C) (config : ConfigData)
-    (later : IsLater tells (seen told writes faults core) (seen told writes faults left))
-    (told_left : tells → IsToldCore (told left.site) left)
-    (counted : IsCounted (writes left.site) (faults left.site) left.requests (data_of left)) (marked : IsMarked (data_of left))
-    (was : DevicesSeen) (begun : IsBegun tells config was (seen told writes faults core)) where
+module _ {S C : Type 0} (g : Ghosts S) (core left : CoreValue S C) (config : ConfigData)
+    (later : IsLater g.tells (seen g core) (seen g left))
+    (told_left : g.tells → IsToldCore (g.told left.site) left)
+    (counted : IsCounted (g.writes left.site) (g.faults left.site) left.requests (data_of left)) (marked : IsMarked (data_of left))
+    (was : DevicesSeen) (begun : IsBegun g.tells config was (seen g core)) where
   abbrev from : CoreData
-  from = seen told writes faults core
+  from = seen g core
 
   abbrev to : CoreData
-  to = seen told writes faults left
+  to = seen g left
 
-  module _ (plain_law : (t : tells) → BeganOver config was from → IsLater tells from to → IsToldCore to.site.told to → IsPlainSession config was.told to.site.told (data_of to))
-      (stops_law : (t : tells) → BeganOver config was from → IsLater tells from to → IsToldCore to.site.told to → StopsAnywhere config was.told to.site.told (data_of to)) where
-    pub promised_of : IsPromised config (record { tells = tells; was = was; now = seen_site told writes faults left.site }) (data_of left)
+  module _ (plain_law : (t : g.tells) → BeganOver config was from → IsLater g.tells from to → IsToldCore to.site.told to → IsPlainSession config was.told to.site.told (data_of to))
+      (stops_law : (t : g.tells) → BeganOver config was from → IsLater g.tells from to → IsToldCore to.site.told to → StopsAnywhere config was.told to.site.told (data_of to)) where
+    pub promised_of : IsPromised config (record { tells = g.tells; was = was; now = seen_site g left.site }) (data_of left)
     promised_of = record {
       began = later.beginning.first_faults ∙ begun.begins.first_faults_ ∙ begun.opened.any.kept;
       requests = left.requests;
       counted = counted;
       marked = marked;
-      plain = λ t. plain_law t (begun.over t) later (told_seen told writes faults left (told_left t));
-      stops = λ t. stops_law t (begun.over t) later (told_seen told writes faults left (told_left t));
+      plain = λ t. plain_law t (begun.over t) later (told_seen g left (told_left t));
+      stops = λ t. stops_law t (begun.over t) later (told_seen g left (told_left t));
     }
 
-module _ {S C : Type 0} (tells : Type 0) (may : List Candidate → ℕ → Type 0) (told : S → SiteLog) (writes faults : S → ℕ) (never_fails_but : FailingReads S) (job : JobData) (turns : List ℕ)
+module _ {S C : Type 0} (g : Ghosts S) (may : List Candidate → ℕ → Type 0) (job : JobData) (turns : List ℕ)
     (core left : CoreValue S C) (end : DriveAnswer)
-    (goes : Goes tells may job.hosts turns (seen told writes faults core) end (seen told writes faults left))
+    (goes : Goes g.tells may job.hosts turns (seen g core) end (seen g left))
     (follow : FollowScripts job.hosts left.history) (reach : end ≡ ended.Done → FollowToEnd job.hosts left.history)
-    (leaves : Leaves tells told writes faults never_fails_but (record { core = core; scripts = job.hosts }) (record { core = left; scripts = job.hosts }) end)
-    (was : DevicesSeen) (begun : IsBegun tells job.config was (seen told writes faults core))
-    (promised : IsPromised job.config (record { tells = tells; was = was; now = seen_site told writes faults left.site }) (data_of left)) where
-  pub played_of : IsPlayed may job turns (record { tells = tells; was = was; now = seen_site told writes faults left.site }) end (data_of left)
+    (leaves : Leaves g (record { core = core; scripts = job.hosts }) (record { core = left; scripts = job.hosts }) end)
+    (was : DevicesSeen) (begun : IsBegun g.tells job.config was (seen g core))
+    (promised : IsPromised job.config (record { tells = g.tells; was = was; now = seen_site g left.site }) (data_of left)) where
+  pub played_of : IsPlayed may job turns (record { tells = g.tells; was = was; now = seen_site g left.site }) end (data_of left)
   played_of = record {
-    driven = record { began = seen told writes faults core; begun = begun; left = seen told writes faults left; goes = goes; devices_ = refl; session = refl };
+    driven = record { began = seen g core; begun = begun; left = seen g left; goes = goes; devices_ = refl; session = refl };
     promised = promised;
     follow = follow;
     reach = reach;
@@ -99,35 +100,35 @@ module _ {S C : Type 0} (tells : Type 0) (may : List Candidate → ℕ → Type 
   }
 
 -- its rows
-pub rows_of_core : {S C : Type 0} (tells : Type 0) (told : S → SiteLog) (left : CoreValue S C) → length left.rows ≡ 32 → (tells → IsToldCore (told left.site) left) → AreRowsOf tells (told left.site) left.stopped left.rows
-rows_of_core tells told left count told_left = record { count = count; shown_ = λ t none. sym ((told_left t).going none).rows_ }
+pub rows_of_core : {S C : Type 0} (g : Ghosts S) (left : CoreValue S C) → length left.rows ≡ 32 → (g.tells → IsToldCore (g.told left.site) left) → AreRowsOf g.tells (g.told left.site) left.stopped left.rows
+rows_of_core g left count told_left = record { count = count; shown_ = λ t none. sym ((told_left t).going none).rows_ }
 
 -- ---- and its report
 
-module _ {S : Type 0} (tells : Type 0) (told : S → SiteLog) (spare writes faults : S → ℕ) (never_fails_but : FailingReads S) (job : JobData)
+module _ {S : Type 0} (g : Ghosts S) (job : JobData)
     (was : SiteLog) (mid site : S) (end : DriveAnswer) (s : SessionData) (rows : List (Option RowValue))
-    (plain : tells → IsPlainSession job.config was (told mid) s) (halts : IsHalted end s.stopped)
-    (are_rows : AreRowsOf tells (told mid) s.stopped rows)
-    (same_volumes : listed rows ≡ rows_of (content (told mid)) → shown_by (listed rows) (content (told mid)) ≡ shown (content (told mid)))
+    (plain : g.tells → IsPlainSession job.config was (g.told mid) s) (halts : IsHalted end s.stopped)
+    (are_rows : AreRowsOf g.tells (g.told mid) s.stopped rows)
+    (same_volumes : listed rows ≡ rows_of (content (g.told mid)) → shown_by (listed rows) (content (g.told mid)) ≡ shown (content (g.told mid)))
     (sink : Stream) (answer : Answer)
-    (read : OnlyReads tells told spare writes faults never_fails_but mid site)
-    (report : IsTold (report_matter s job.config.volumes (shown_by (listed rows) (content (told mid)))) end (between tells told faults mid site) sink answer) where
-  pub report_of : IsReportOf job was (devices tells told writes faults mid site) sink end answer s
+    (read : OnlyReads g mid site)
+    (report : IsTold (report_matter s job.config.volumes (shown_by (listed rows) (content (g.told mid)))) end (site_between g mid site) sink answer) where
+  pub report_of : IsReportOf job was (devices g mid site) sink end answer s
   report_of = record {
     read = record { told_ = read.log; writes_ = read.unwritten; later = read.later };
-    report = told_alike (opening_text s) job.config.volumes (between tells told faults mid site) sink answer
-        (shown_by (listed rows) (content (told mid))) (plain_volumes job.config (content was) s.history) end s.stopped halts
+    report = told_alike (opening_text s) job.config.volumes (site_between g mid site) sink answer
+        (shown_by (listed rows) (content (g.told mid))) (plain_volumes job.config (content was) s.history) end s.stopped halts
         (λ t none. same_volumes (are_rows.shown_ t none) ∙ (plain t).shows none) report;
   }
 
-module _ {S : Type 0} (tells : Type 0) (may : List Candidate → ℕ → Type 0) (told : S → SiteLog) (writes faults : S → ℕ) (job : JobData) (turns : List ℕ)
+module _ {S : Type 0} (g : Ghosts S) (may : List Candidate → ℕ → Type 0) (job : JobData) (turns : List ℕ)
     (was : DevicesSeen) (mid site : S) (end : DriveAnswer) (s : SessionData)
-    (played : IsPlayed may job turns (record { tells = tells; was = was; now = seen_site told writes faults mid }) end s) (sink : Stream) where
-  pub ends_of : (o : Outcome) → TellsSession job was.told (devices tells told writes faults mid site) sink end s o → Ends may job turns (record { tells = tells; was = was; now = seen_site told writes faults site }) sink o
+    (played : IsPlayed may job turns (record { tells = g.tells; was = was; now = seen_site g mid }) end s) (sink : Stream) where
+  pub ends_of : (o : Outcome) → TellsSession job was.told (devices g mid site) sink end s o → Ends may job turns (record { tells = g.tells; was = was; now = seen_site g site }) sink o
   ends_of (Untaken why) is = absurd is
   ends_of (Ran session last answer) is =
-      subst (λ (x : SessionData × DriveAnswer). IsSessionOf may job turns (record { tells = tells; was = was; now = seen_site told writes faults site }) sink x.1 answer x.0) (λ i. (sym is.0 i, sym is.1 i))
-      (record { mid = seen_site told writes faults mid; played = played; report = is.2 })
+      subst (λ (x : SessionData × DriveAnswer). IsSessionOf may job turns (record { tells = g.tells; was = was; now = seen_site g site }) sink x.1 answer x.0) (λ i. (sym is.0 i, sym is.1 i))
+      (record { mid = seen_site g mid; played = played; report = is.2 })
 
 -- one that wasn't stopped
 pub unstopped_of : (job : JobData) (was : SiteLog) (site : Devices) (sink : Stream) (end : DriveAnswer) (s : SessionData) (o : Outcome) → TellsSession job was site sink end s o → s.stopped ≡ None → GoesUnstopped o
@@ -136,20 +137,20 @@ unstopped_of job was site sink end s (Ran session last answer) is none = ap (λ 
 
 -- ---- what a restart made
 
-pub begun_of : {S C : Type 0} (tells : Type 0) (told : S → SiteLog) (writes faults : S → ℕ) (config : ConfigData) (chooser : C) (was : DevicesSeen) (core : CoreValue S C)
-    → IsConfig config → (tells → OpensTold config was (seen_site told writes faults core.site) (Ok (opened_in core))) → OpensAny config was (seen_site told writes faults core.site) (Ok (opened_in core))
-    → Begins config chooser (writes core.site) (faults core.site) core → (tells → BeginsWith config (shown_for config (content was.told)) (told core.site) core) → (tells → IsToldCore (told core.site) core)
-    → (tells → writes core.site ≡ length (told core.site).log) → IsBegun tells config was (seen told writes faults core)
-begun_of tells told writes faults config chooser was core whole opens any begins with_ kept counted = record {
-  begins = begins_seen told writes faults core config chooser begins;
+pub begun_of : {S C : Type 0} (g : Ghosts S) (config : ConfigData) (chooser : C) (was : DevicesSeen) (core : CoreValue S C)
+    → IsConfig config → (g.tells → OpensTold config was (seen_site g core.site) (Ok (opened_in core))) → OpensAny config was (seen_site g core.site) (Ok (opened_in core))
+    → Begins config chooser (g.writes core.site) (g.faults core.site) core → (g.tells → BeginsWith config (shown_for config (content was.told)) (g.told core.site) core) → (g.tells → IsToldCore (g.told core.site) core)
+    → (g.tells → g.writes core.site ≡ length (g.told core.site).log) → IsBegun g.tells config was (seen g core)
+begun_of g config chooser was core whole opens any begins with_ kept counted = record {
+  begins = begins_seen g core config chooser begins;
   opened = record { told = opens; any = any };
   over = λ t. record {
     whole = whole;
     opened = opens t;
     any = any;
-    begins = begins_seen told writes faults core config chooser begins;
-    with_ = with_seen told writes faults core config (shown_for config (content was.told)) (with_ t);
-    told = told_seen told writes faults core (kept t);
+    begins = begins_seen g core config chooser begins;
+    with_ = with_seen g core config (shown_for config (content was.told)) (with_ t);
+    told = told_seen g core (kept t);
     counted = counted t;
   };
 }

@@ -1,7 +1,8 @@
 -- The devices of a run, from one moment to a later one.
 use Rattle.std.specs.Prelude.{ℕ}
 use Rattle.mss_base.specs.Content.{SiteLog}
-use Rattle.core_state.specs.CoreValue.{DevicesSeen}
+use Rattle.mss_base.specs.declared.site.Site.{Ghosts}
+use Rattle.core_state.specs.CoreValue.{DevicesSeen, seen_site}
 use Rattle.session_report.specs.Parties.{Devices as ToldDevices}
 
 -- what is seen of a site at both moments, and whether clauses may speak of what it holds
@@ -10,17 +11,12 @@ pub record Devices : Type 1 where
   pub was : DevicesSeen
   pub now : DevicesSeen
 
--- what is seen of a site
-abbrev pub seen_site : {S : Type 0} → (S → SiteLog) → (S → ℕ) → (S → ℕ) → S → DevicesSeen
-seen_site told writes faults site =
-    record { told = told site; writes = writes site; faults = faults site }
-
 -- the devices of a site, between two of its states
-abbrev pub devices : {S : Type 0} → Type 0 → (S → SiteLog) → (S → ℕ) → (S → ℕ) → S → S → Devices
-devices tells told writes faults old new = record {
-  tells = tells;
-  was = seen_site told writes faults old;
-  now = seen_site told writes faults new;
+abbrev pub devices : {S : Type 0} → Ghosts S → S → S → Devices
+devices g old new = record {
+  tells = g.tells;
+  was = seen_site g old;
+  now = seen_site g new;
 }
 
 -- the same up to a moment, and from a moment on

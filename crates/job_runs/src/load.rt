@@ -5,7 +5,7 @@ ghost use Rattle.core_state.specs.Sessions.{session_data};
 ghost use Rattle.mss_restart.specs.Creations.{WritesOn};
 ghost use Rattle.serial_driver.specs.Drives.{AreTurns};
 ghost use Rattle.session_report.specs.Answers.{IsPut};
-ghost use Rattle.session_report.specs.Parties.{between};
+ghost use Rattle.session_report.specs.Parties.{sink_between};
 ghost use Rattle.session_report.specs.Reports.{ending_of};
 ghost use Rattle.session_report.specs.Summaries.{summary_text};
 ghost use Rattle.job_runs.specs.Parties.{devices};
@@ -30,7 +30,7 @@ fn put_summary<O: Sink>(
 ) -> Result<(), ReportFault>
     ensures put { let ending = ending_of session.now.stopped last in
         IsPut (Ok tt) (summary_text programs (session_data session.now) ending)
-        (between O.tells O.told O.faults output.old output.new) result }
+        (sink_between O.Sink output.old output.new) result }
 {
     summary(programs, session, last, output)?;
     Ok(())
@@ -46,7 +46,7 @@ fn tell_load<O: Sink>(
 ) -> Result<(), ReportFault>
     requires halts { IsHalted end session.now.stopped }
     ensures summed { IsSummed programs (session_data session.now) end
-        (between O.tells O.told O.faults output.old output.new) result }
+        (sink_between O.Sink output.old output.new) result }
 {
     match last_of(end) {
         Some(last) => put_summary(programs, session, last, output),
@@ -67,9 +67,9 @@ pub fn run_load<S: Site, C: Choose + Drop, O: Sink>(
     requires able { C.can_choose chooser }
     requires turns { AreTurns job.now.hosts job.now.config turns.now }
     ensures ends { LoadEnds (C.may chooser) job.now programs turns.now
-        (devices S.tells S.told S.writes S.faults site result.site)
-        (between O.tells O.told O.faults output.old output.new) result.outcome }
-    ensures devices { WritesOn S.writes S.faults S.never_fails_but site result.site }
+        (devices S.Site site result.site)
+        (sink_between O.Sink output.old output.new) result.outcome }
+    ensures devices { WritesOn S.Site site result.site }
     ensures only_reads_fail { (but : UnitNo → Bool) → S.never_fails_but site but
         → GoesUnstopped result.outcome }
 {

@@ -4,29 +4,16 @@ ghost use Rattle.mss_base.specs.Content.{SiteLog};
 ghost use Rattle.mss_base.specs.Sites.{OnlyReads};
 ghost use Rattle.mss_base.specs.declared.place.UnitNo.{UnitNo};
 ghost use Rattle.core_state.specs.Counted.{IsCounted};
-ghost use Rattle.core_state.specs.CoreValue.{DevicesSeen, seen};
+ghost use Rattle.core_state.specs.CoreValue.{DevicesSeen, seen, seen_site};
 ghost use Rattle.core_state.specs.IsCore.{IsTold};
 ghost use Rattle.core_state.specs.SessionData.{data_of};
 ghost use Rattle.mss_restart.specs.Creations.{WritesOn};
 ghost use Rattle.plain_sessions.specs.Sessions.{IsPlainSession};
-ghost use Rattle.session_report.specs.Parties.{between};
+ghost use Rattle.session_report.specs.Parties.{sink_between};
 ghost use Rattle.serial_driver.specs.Drives.{AreTurns, IsUnused, Leaves};
 ghost use Rattle.serial_driver.specs.declared.answer.DriveAnswer.TheVariants.{Done};
-ghost use Rattle.job_runs.specs.Parties.{devices, seen_site};
-ghost use Rattle.job_runs.specs.Runs.{
-  AreRowsOf,
-  Ends,
-  FollowScripts,
-  FollowToEnd,
-  Goes,
-  IsBegun,
-  GoesUnstopped,
-  IsHalted,
-  IsMarked,
-  IsPlayed,
-  Opens,
-  TellsSession,
-};
+ghost use Rattle.job_runs.specs.Parties.{devices};
+ghost use Rattle.job_runs.specs.Runs.{AreRowsOf, Ends, FollowScripts, FollowToEnd, Goes, IsBegun, GoesUnstopped, IsHalted, IsMarked, IsPlayed, Opens, TellsSession};
 ghost use Rattle.core_state.specs.Sessions.{session_data};
 
 use crate::telling::tell;
@@ -78,12 +65,10 @@ fn run_scripts<S: Site, C: Choose + Drop>(
     requires unused { IsUnused core job.now }
     requires turns { AreTurns job.now.hosts job.now.config turns.now }
     ensures goes { Goes S.tells (C.may core.chooser) job.now.hosts turns.now
-        (seen S.told S.writes S.faults core) result.1
-        (seen S.told S.writes S.faults result.0) }
+        (seen S.Site core) result.1 (seen S.Site result.0) }
     ensures follow { FollowScripts job.now.hosts result.0.history }
     ensures reach { result.1 ≡ Done → FollowToEnd job.now.hosts result.0.history }
-    ensures leaves { Leaves S.tells S.told S.writes S.faults S.never_fails_but
-        (record { core = core; scripts = job.now.hosts })
+    ensures leaves { Leaves S.Site (record { core = core; scripts = job.now.hosts })
         (record { core = result.0; scripts = job.now.hosts }) result.1 }
 {
     match Drive::new(core, job) {
@@ -112,14 +97,13 @@ fn play_on<S: Site, C: Choose + Drop>(core: Core<S, C>, job: &Job, turns: &[u32]
     requires unused { IsUnused core job.now }
     requires going { core.stopped ≡ None }
     requires turns { AreTurns job.now.hosts job.now.config turns.now }
-    ensures session { (was : DevicesSeen) → IsBegun S.tells job.now.config was
-        (seen S.told S.writes S.faults core)
+    ensures session { (was : DevicesSeen) → IsBegun S.tells job.now.config was (seen S.Site core)
         → IsPlayed (C.may core.chooser) job.now turns.now
-        (record { tells = S.tells; was = was; now = seen_site S.told S.writes S.faults result.site })
+        (record { tells = S.tells; was = was; now = seen_site S.Site result.site })
         result.end (session_data result.session) }
     ensures rows { AreRowsOf S.tells (S.told result.site) result.session.stopped
         result.rows.items }
-    ensures devices { WritesOn S.writes S.faults S.never_fails_but core.site result.site }
+    ensures devices { WritesOn S.Site core.site result.site }
     ensures only_reads_fail { (but : UnitNo → Bool) → S.never_fails_but core.site but
         → result.session.stopped ≡ None }
 {
@@ -152,17 +136,15 @@ pub fn play<S: Site, C: Choose + Drop>(
     requires able { C.can_choose chooser }
     requires turns { AreTurns job.now.hosts job.now.config turns.now }
     ensures played { IfOk result (λ p. IsPlayed (C.may chooser) job.now turns.now
-        (devices S.tells S.told S.writes S.faults site p.site) p.end (session_data p.session)) }
+        (devices S.Site site p.site) p.end (session_data p.session)) }
     ensures rows { IfOk result (λ p.
         AreRowsOf S.tells (S.told p.site) p.session.stopped p.rows.items) }
-    ensures devices { IfOk result (λ p.
-        WritesOn S.writes S.faults S.never_fails_but site p.site) }
+    ensures devices { IfOk result (λ p. WritesOn S.Site site p.site) }
     ensures only_reads_fail { IfOk result (λ p. (but : UnitNo → Bool)
         → S.never_fails_but site but → p.session.stopped ≡ None) }
     ensures untaken { IfErr result (λ back. Opens job.now.config
-        (devices S.tells S.told S.writes S.faults site back.0) (Err back.1)) }
-    ensures back { IfErr result (λ back.
-        WritesOn S.writes S.faults S.never_fails_but site back.0) }
+        (devices S.Site site back.0) (Err back.1)) }
+    ensures back { IfErr result (λ back. WritesOn S.Site site back.0) }
 {
     match restart(alloc, site, &job.config, chooser) {
         Ok(core) => {
@@ -187,12 +169,10 @@ pub fn put_report<S: Site, O: Sink>(
     requires halts { IsHalted played.end played.session.stopped }
     ensures tells { (was : SiteLog) → (S.tells → IsPlainSession job.now.config was
         (S.told played.site) (session_data played.session))
-        → TellsSession job.now was
-        (devices S.tells S.told S.writes S.faults played.site result.site)
-        (between O.tells O.told O.faults output.old output.new)
+        → TellsSession job.now was (devices S.Site played.site result.site)
+        (sink_between O.Sink output.old output.new)
         played.end (session_data played.session) result.outcome }
-    ensures site { OnlyReads S.tells S.told S.spare S.writes S.faults S.never_fails_but
-        played.site result.site }
+    ensures site { OnlyReads S.Site played.site result.site }
 {
     rows_of_a_content_show_its_volumes();
     let Played {
@@ -220,10 +200,9 @@ pub fn run_job<S: Site, C: Choose + Drop, O: Sink>(
 ) -> JobEnd<S>
     requires able { C.can_choose chooser }
     requires turns { AreTurns job.now.hosts job.now.config turns.now }
-    ensures ends { Ends (C.may chooser) job.now turns.now
-        (devices S.tells S.told S.writes S.faults site result.site)
-        (between O.tells O.told O.faults output.old output.new) result.outcome }
-    ensures devices { WritesOn S.writes S.faults S.never_fails_but site result.site }
+    ensures ends { Ends (C.may chooser) job.now turns.now (devices S.Site site result.site)
+        (sink_between O.Sink output.old output.new) result.outcome }
+    ensures devices { WritesOn S.Site site result.site }
     ensures only_reads_fail { (but : UnitNo → Bool) → S.never_fails_but site but
         → GoesUnstopped result.outcome }
 {

@@ -5,7 +5,7 @@ ghost use Rattle.mss_base.specs.Sites.{OnlyReads};
 ghost use Rattle.volume_table.specs.Listed.{listed};
 ghost use Rattle.shown_volumes.specs.Shown.{shown_by};
 ghost use Rattle.core_state.specs.Sessions.{session_data};
-ghost use Rattle.session_report.specs.Parties.{between};
+ghost use Rattle.session_report.specs.Parties.{site_between, sink_between};
 ghost use Rattle.session_report.specs.Reports.{report_matter};
 ghost use Rattle.job_runs.specs.Runs.{IsHalted, IsTold, last_of};
 
@@ -41,10 +41,8 @@ pub fn tell<S: Site, O: Sink>(
     requires halts { IsHalted end session.now.stopped }
     ensures told { let shown = shown_by (listed rows.now) (content (S.told site.old)) in
         IsTold (report_matter (session_data session.now) volumes.now shown) end
-        (between S.tells S.told S.faults site.old site.new)
-        (between O.tells O.told O.faults output.old output.new) result }
-    ensures site { OnlyReads S.tells S.told S.spare S.writes S.faults S.never_fails_but
-        site.old site.new }
+        (site_between S.Site site.old site.new) (sink_between O.Sink output.old output.new) result }
+    ensures site { OnlyReads S.Site site.old site.new }
 {
     match last_of(end) {
         Some(last) => report(alloc, site, rows, volumes, session, last, output),

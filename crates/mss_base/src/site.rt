@@ -1,8 +1,8 @@
 // The devices: blocks of 16,384 bytes.
 ghost use Rattle.std.specs.Prelude.{◌≡◌, ℕ, ◌+◌, ◌≤◌, ◌++◌, [], ◌∷◌, List, length, Bool, false, IsOk, OnOk};
+ghost use Rattle.mss_base.specs.Sound.{StaysSound};
 ghost use Rattle.mss_base.specs.Content.{SiteLog, content, AddsBytes};
 ghost use Rattle.mss_base.specs.Counts.{Rises, HasCause};
-ghost use Rattle.mss_base.specs.Sites.{StaysSound};
 ghost use Rattle.mss_base.specs.declared.place.UnitNo.{UnitNo};
 
 use crate::block::BLOCK_BYTES;

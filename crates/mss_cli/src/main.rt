@@ -18,7 +18,7 @@ ghost use Rattle.mss_top.specs.Threads.{EndsThreads, GoesWellAtOnce};
 ghost use Rattle.mss_top.specs.declared.admission.Settings.{Settings};
 ghost use Rattle.mss_cli.specs.Runs.{IsDone, IsFlushed, input_of, output_of};
 ghost use Rattle.mss_cli.specs.Words.{way_of};
-ghost use Rattle.session_report.specs.Parties.{between};
+ghost use Rattle.session_report.specs.Parties.{sink_between, source_between};
 
 use arguments::words;
 use mss_base::{NoMemory, Sink, Site, Source};
@@ -105,37 +105,30 @@ fn call<
 >(rt: &R, words: &[String], input: &mut I, output: &mut O, site: S, chooser: C) -> Ended<S>
     requires able { C.can_choose chooser }
     ensures looks { way_of (map string_bytes words.now) ≡ Way.Show
-        → EndsShown (map string_bytes words.now)
-        (devices S.tells S.told S.writes S.faults site result.site)
-        (between O.tells O.told O.faults output.old output.new) result.status }
+        → EndsShown (map string_bytes words.now) (devices S.Site site result.site)
+        (sink_between O.Sink output.old output.new) result.status }
     ensures goes_at_once { way_of (map string_bytes words.now) ≡ Way.Threads
         → (hosts : List EndData) × EndsThreads (map string_bytes words.now)
-        (between I.tells I.left I.faults input.old input.new)
-        (devices S.tells S.told S.writes S.faults site result.site)
-        (between O.tells O.told O.faults output.old output.new)
-        result.status hosts result.session }
+        (source_between I.Source input.old input.new) (devices S.Site site result.site)
+        (sink_between O.Sink output.old output.new) result.status hosts result.session }
     ensures runs { way_of (map string_bytes words.now) ≡ Way.Serial
         → Ends (map string_bytes words.now) (C.may chooser)
-        (between I.tells I.left I.faults input.old input.new)
-        (devices S.tells S.told S.writes S.faults site result.site)
-        (between O.tells O.told O.faults output.old output.new) result.status result.session }
+        (source_between I.Source input.old input.new) (devices S.Site site result.site)
+        (sink_between O.Sink output.old output.new) result.status result.session }
     ensures looks_well { way_of (map string_bytes words.now) ≡ Way.Show
-        → LooksWell (map string_bytes words.now)
-        (devices S.tells S.told S.writes S.faults site result.site)
-        (between O.tells O.told O.faults output.old output.new)
+        → LooksWell (map string_bytes words.now) (devices S.Site site result.site)
+        (sink_between O.Sink output.old output.new)
         → IsShown (content (S.told site))
-        (between O.tells O.told O.faults output.old output.new) result.status }
+        (sink_between O.Sink output.old output.new) result.status }
     ensures goes_well_at_once { way_of (map string_bytes words.now) ≡ Way.Threads
         → (job : JobData) → GoesWellAtOnce (map string_bytes words.now)
-        (between I.tells I.left I.faults input.old input.new)
-        (devices S.tells S.told S.writes S.faults site result.site)
-        (between O.tells O.told O.faults output.old output.new) job
+        (source_between I.Source input.old input.new) (devices S.Site site result.site)
+        (sink_between O.Sink output.old output.new) job
         → IsComplete result.status }
     ensures goes_well { way_of (map string_bytes words.now) ≡ Way.Serial
         → (settings : Settings) (job : JobData) → GoesWell (map string_bytes words.now)
-        (between I.tells I.left I.faults input.old input.new)
-        (devices S.tells S.told S.writes S.faults site result.site)
-        (between O.tells O.told O.faults output.old output.new) settings job
+        (source_between I.Source input.old input.new) (devices S.Site site result.site)
+        (sink_between O.Sink output.old output.new) settings job
         → IsComplete result.status }
 {
     let alloc = rt.alloc();
@@ -157,8 +150,7 @@ fn run<I: Read, W: Write + Drop, S: Site + Send, R: Threads + Wait + Sync + Allo
 ) -> Ended<S>
     ensures written { (result.status ≡ Status.OutputFault) ⊎ (output.new.waiting ≡ []) }
     ensures does { IsDone (way_of (map string_bytes words.now)) (map string_bytes words.now)
-        (input_of I.remaining input.old input.new)
-        (devices S.tells S.told S.writes S.faults site result.site)
+        (input_of I.remaining input.old input.new) (devices S.Site site result.site)
         (output_of W.contents output.old output.new)
         output.new.waiting result.status result.session }
 {

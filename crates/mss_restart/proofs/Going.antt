@@ -1,18 +1,19 @@
 -- How walks that only read go on.
 use Rattle.std.proofs.Common.{◌≡◌, ℕ, ◌+◌, ◌<◌, Option, Some, None, Result, Err, sym, ◌∙◌, subst}
-use Rattle.mss_base.specs.Sites.{FailingReads, OnlyReads}
+use Rattle.mss_base.specs.Sites.{OnlyReads}
 use Rattle.mss_base.specs.Content.{Content, SiteLog, content}
 use Rattle.shown_volumes.specs.declared.refused.Refused.{Refused}
 use Rattle.shown_volumes.specs.declared.refused.Refused.TheVariants.{RowUnread}
 use Rattle.mss_base.specs.Firsts.{first_below}
 use Rattle.mss_base.proofs.FirstFacts.{none_next, found_first}
+use Rattle.mss_base.specs.declared.site.Site.{Ghosts}
 use Rattle.mss_restart.specs.Survey.{FindsFault, Finds, CountsFaults}
 
 -- what a walk keeps of its site and its two buffers, and what it knows so far
-pub record IsGoing {S : Type 0} (tells : Type 0) (told : S → SiteLog) (spare writes faults : S → ℕ) (never_fails_but : FailingReads S) (begun now : S) (shown staged : ℕ) (Known : Content → Type 0) : Type 0 where
-  pub known : tells → Known (content (told begun))
-  pub devices : OnlyReads tells told spare writes faults never_fails_but begun now
-  pub count : faults now ≡ faults begun
+pub record IsGoing {S : Type 0} (g : Ghosts S) (begun now : S) (shown staged : ℕ) (Known : Content → Type 0) : Type 0 where
+  pub known : g.tells → Known (content (g.told begun))
+  pub devices : OnlyReads g begun now
+  pub count : g.faults now ≡ g.faults begun
   pub shown_whole : shown ≡ 16384
   pub staged_whole : staged ≡ 16384
 

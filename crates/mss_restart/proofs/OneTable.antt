@@ -1,11 +1,12 @@
 -- One unit of the table that can't be read: the other one tells each row, and the tracks are read all the same.
 use Rattle.std.proofs.Common.{◌≡◌, ◌≢◌, ◌⊎◌, inl, inr, ℕ, Bool, true, false, List, Option, Some, None, Result, Err, refl, sym, ◌∙◌, ap, subst}
 use Rattle.std.specs.Prelude.{not}
+use Rattle.mss_base.specs.Sound.{StaysSound}
 use Rattle.mss_base.specs.Content.{Content}
 use Rattle.mss_base.specs.Firsts.{where_so}
-use Rattle.mss_base.specs.Sites.{FailingReads, StaysSound}
 use Rattle.mss_base.specs.declared.place.UnitNo.{UnitNo}
 use Rattle.mss_base.specs.declared.place.UnitNo.TheVariants.{TableA, TableB, Staging, Cartridge}
+use Rattle.mss_base.specs.declared.site.Site.{Ghosts}
 use Rattle.volume_table.specs.Row.{RowValue}
 use Rattle.table_pair.specs.Pair.{RowReading, known, unknown, reading, is_table}
 use Rattle.table_pair.specs.Reads.{IsReadable, CanReadTracks, MissesNone, ReadsRow, Tells}
@@ -21,38 +22,38 @@ use Rattle.mss_restart.specs.Survey.{IsNoFailure, IsReading, NeverFails}
 use Rattle.mss_restart.proofs.OneCopy.{paired}
 
 -- which of the two that hold the table, one can be read
-one_readable : {S : Type 0} (never_fails_but : FailingReads S) (s : S) → LosesOneTable never_fails_but s → IsReadable never_fails_but s TableA ⊎ IsReadable never_fails_but s TableB
-one_readable never_fails_but s loses = by loses.lost loses.of_table loses.others
+one_readable : {S : Type 0} (g : Ghosts S) (s : S) → LosesOneTable g s → IsReadable g s TableA ⊎ IsReadable g s TableB
+one_readable g s loses = by loses.lost loses.of_table loses.others
   where
-    by : (lost : UnitNo) → is_table lost ≡ true → ((unit : UnitNo) → unit ≢ lost → IsReadable never_fails_but s unit) → IsReadable never_fails_but s TableA ⊎ IsReadable never_fails_but s TableB
+    by : (lost : UnitNo) → is_table lost ≡ true → ((unit : UnitNo) → unit ≢ lost → IsReadable g s unit) → IsReadable g s TableA ⊎ IsReadable g s TableB
     by TableA of_table others = inr (others TableB (λ e. absurd cc))
     by TableB of_table others = inl (others TableA (λ e. absurd cc))
     by (Staging n) of_table others = absurd cc
     by (Cartridge n) of_table others = absurd cc
 
 -- the frames and the cartridges can be read
-pub reads_tracks : {S : Type 0} (never_fails_but : FailingReads S) (s : S) → LosesOneTable never_fails_but s → CanReadTracks never_fails_but s
-reads_tracks never_fails_but s loses unit outside = loses.others unit (λ same. let e : false ≡ true = sym outside ∙ ap is_table same ∙ loses.of_table in absurd cc)
+pub reads_tracks : {S : Type 0} (g : Ghosts S) (s : S) → LosesOneTable g s → CanReadTracks g s
+reads_tracks g s loses unit outside = loses.others unit (λ same. let e : false ≡ true = sym outside ∙ ap is_table same ∙ loses.of_table in absurd cc)
 
 -- where no call fails, they can be read too
-pub all_read_tracks : {S : Type 0} (never_fails_but : FailingReads S) (s : S) → NeverFails never_fails_but s → CanReadTracks never_fails_but s
-all_read_tracks never_fails_but s never unit outside = ((λ _. false), never, refl)
+pub all_read_tracks : {S : Type 0} (g : Ghosts S) (s : S) → NeverFails g s → CanReadTracks g s
+all_read_tracks g s never unit outside = ((λ _. false), never, refl)
 
 -- what is lost is all that is lost later
-pub loses_on : {S : Type 0} (never_fails_but : FailingReads S) (old new : S) → StaysSound never_fails_but old new → LosesOneTable never_fails_but old → LosesOneTable never_fails_but new
-loses_on never_fails_but old new sound loses = record {
+pub loses_on : {S : Type 0} (g : Ghosts S) (old new : S) → StaysSound g.never_fails_but old new → LosesOneTable g old → LosesOneTable g new
+loses_on g old new sound loses = record {
   lost = loses.lost;
   of_table = loses.of_table;
-  others = λ unit other. readable_on never_fails_but old new sound unit (loses.others unit other);
+  others = λ unit other. readable_on g old new sound unit (loses.others unit other);
 }
 
 -- a row that each copy tells alone is known where one of them can be read
-module _ {S : Type 0} (never_fails_but : FailingReads S) (s : S) (before now volume : ℕ) (c : Content) (result : Result RowRead RowTrouble) (loses : LosesOneTable never_fails_but s) (is : IsPaired volume c) where
-  known_by_one : (reads : ReadsRow (IsReadable never_fails_but s) before now volume c result) → reading reads.a reads.b ≢ unknown
+module _ {S : Type 0} (g : Ghosts S) (s : S) (before now volume : ℕ) (c : Content) (result : Result RowRead RowTrouble) (loses : LosesOneTable g s) (is : IsPaired volume c) where
+  known_by_one : (reads : ReadsRow (IsReadable g s) before now volume c result) → reading reads.a reads.b ≢ unknown
   known_by_one reads un =
       let was : IsReading before now volume c (reading reads.a reads.b) = record { between = reads.between; a = reads.a; b = reads.b; a_read = reads.a_read; b_read = reads.b_read; told = refl } in
       elim (paired before now volume c (reading reads.a reads.b) was is) [
-        | inl failed ↦ elim (one_readable never_fails_but s loses) [
+        | inl failed ↦ elim (one_readable g s loses) [
           | inl a ↦ reads.a_there a failed.a_unread
           | inr b ↦ reads.b_there b failed.b_unread
         ]
@@ -65,8 +66,8 @@ no_unread (trouble.Damaged copy fault) r some tells = tt
 no_unread trouble.Memory r some tells = tt
 
 -- so no failed read is told of it
-pub one_suffices : {S : Type 0} (never_fails_but : FailingReads S) (s : S) (before now volume : ℕ) (c : Content) (t : RowTrouble) → LosesOneTable never_fails_but s → IsPaired volume c → ReadsRow (IsReadable never_fails_but s) before now volume c (Err t) → MissesNone (Err t)
-one_suffices never_fails_but s before now volume c t loses is reads = no_unread t (reading reads.a reads.b) (known_by_one never_fails_but s before now volume c (Err t) loses is reads) reads.told
+pub one_suffices : {S : Type 0} (g : Ghosts S) (s : S) (before now volume : ℕ) (c : Content) (t : RowTrouble) → LosesOneTable g s → IsPaired volume c → ReadsRow (IsReadable g s) before now volume c (Err t) → MissesNone (Err t)
+one_suffices g s before now volume c t loses is reads = no_unread t (reading reads.a reads.b) (known_by_one g s before now volume c (Err t) loses is reads) reads.told
 
 -- a serial that differs is no failed read
 pub serial_no_failure : (volume : ℕ) (o : Option RowValue) (asked : Option (List ℕ)) (e : Refused) → serial_fault volume o asked ≡ Some e → IsNoFailure e

@@ -8,7 +8,8 @@ use Rattle.ckd_track.specs.Data.{Volumes}
 use Rattle.table_pair.specs.Copies.{copy_at}
 use Rattle.table_pair.specs.Pair.{row_of, row_of_copies, ChangesRow, HoldsRow, IsOpenWith}
 use Rattle.table_pair.specs.Repairs.{KeepsRow, HoldsToldRow}
-use Rattle.mss_base.specs.Sites.{FailingReads, MayWrite}
+use Rattle.mss_base.specs.Sites.{MayWrite}
+use Rattle.mss_base.specs.declared.site.Site.{Ghosts}
 use Rattle.shown_volumes.specs.declared.refused.Refused.{Refused}
 use Rattle.shown_volumes.specs.declared.refused.Refused.TheVariants.{Memory}
 use Rattle.mss_restart.specs.Creations.{IsStop, WritesOn, IsRepair, AreRepaired, RepairsWhole}
@@ -76,19 +77,19 @@ one_repaired n volume begun mid now before same one =
     subst (λ (k : ℕ). AreRepaired k begun now) e (mid, before, subst (λ (v : ℕ). IsRepair v mid now) same one)
 
 -- writes as often as there is room for
-module _ {S : Type 0} (writes faults : S → ℕ) (never_fails_but : FailingReads S) where
-  pub nothing_written : (s : S) → WritesOn writes faults never_fails_but s s
+module _ {S : Type 0} (g : Ghosts S) where
+  pub nothing_written : (s : S) → WritesOn g s s
   nothing_written s = record { written = omega arith; later = omega arith; sound = λ but so. so }
 
-  pub written_on : (a b c : S) → WritesOn writes faults never_fails_but a b → WritesOn writes faults never_fails_but b c → WritesOn writes faults never_fails_but a c
+  pub written_on : (a b c : S) → WritesOn g a b → WritesOn g b c → WritesOn g a c
   written_on a b c first second = record {
     written = omega (arith, first.written, second.written);
     later = omega (arith, first.later, second.later);
     sound = λ but so. second.sound but (first.sound but so);
   }
 
-  pub may_be_written : (most : ℕ) (spare : S → ℕ) (a b : S) → MayWrite most spare writes faults never_fails_but a b → WritesOn writes faults never_fails_but a b
-  may_be_written most spare a b may = record { written = may.written; later = may.later; sound = may.sound }
+  pub may_be_written : (most : ℕ) (a b : S) → MayWrite g most a b → WritesOn g a b
+  may_be_written most a b may = record { written = may.written; later = may.later; sound = may.sound }
 
 -- a stop of a later part of a call, before which none failed
 pub stop_since : (begun before now : ℕ) (e : Refused) → before ≡ begun → IsStop before now e → IsStop begun now e

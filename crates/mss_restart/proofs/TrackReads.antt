@@ -1,8 +1,9 @@
 -- What a survey reads can be read later too, and where each frame and each cartridge can.
 use Rattle.std.proofs.Common.{◌≡◌, ◌⊎◌, inl, inr, false, ℕ, ◌<◌, ◌≤◌, ◌/◌, Some, refl}
+use Rattle.mss_base.specs.Sound.{StaysSound}
 use Rattle.mss_base.specs.Places.{frame_block}
-use Rattle.mss_base.specs.Sites.{FailingReads, StaysSound}
 use Rattle.mss_base.specs.declared.place.UnitNo.TheVariants.{TableA, TableB}
+use Rattle.mss_base.specs.declared.site.Site.{Ghosts}
 use Rattle.volume_table.specs.Row.{RowValue, frame_of, state_of}
 use Rattle.table_pair.specs.Reads.{CanReadTracks}
 use Rattle.table_pair.proofs.SiteLemmas.{readable_on}
@@ -11,21 +12,21 @@ use Rattle.shown_volumes.specs.Shown.{RowsOf, on_cartridge}
 use Rattle.shown_volumes.proofs.PlaceFacts.{in_frame, no_table, source_cartridge}
 use Rattle.mss_restart.specs.Survey.{NeverFails, CanReadTable, CanReadRow, CanReadRows}
 
-module _ {S : Type 0} (never_fails_but : FailingReads S) where
-  pub table_on : (old new : S) → StaysSound never_fails_but old new → CanReadTable never_fails_but old → CanReadTable never_fails_but new
-  table_on old new sound can = (readable_on never_fails_but old new sound TableA can.0, readable_on never_fails_but old new sound TableB can.1)
+module _ {S : Type 0} (g : Ghosts S) where
+  pub table_on : (old new : S) → StaysSound g.never_fails_but old new → CanReadTable g old → CanReadTable g new
+  table_on old new sound can = (readable_on g old new sound TableA can.0, readable_on g old new sound TableB can.1)
 
-  pub row_on : (old new : S) → StaysSound never_fails_but old new → (r : RowValue) → CanReadRow never_fails_but old r → CanReadRow never_fails_but new r
-  row_on old new sound r can cylinder head place on = readable_on never_fails_but old new sound place.unit (can cylinder head place on)
+  pub row_on : (old new : S) → StaysSound g.never_fails_but old new → (r : RowValue) → CanReadRow g old r → CanReadRow g new r
+  row_on old new sound r can cylinder head place on = readable_on g old new sound place.unit (can cylinder head place on)
 
-  pub rows_on : (old new : S) → StaysSound never_fails_but old new → (rows : RowsOf) → CanReadRows never_fails_but old rows → CanReadRows never_fails_but new rows
+  pub rows_on : (old new : S) → StaysSound g.never_fails_but old new → (rows : RowsOf) → CanReadRows g old rows → CanReadRows g new rows
   rows_on old new sound rows can volume r at = row_on old new sound r (can volume r at)
 
   -- where no call fails
-  pub all_read_table : (s : S) → NeverFails never_fails_but s → CanReadTable never_fails_but s
+  pub all_read_table : (s : S) → NeverFails g s → CanReadTable g s
   all_read_table s never = (((λ _. false), never, refl), ((λ _. false), never, refl))
 
-  pub rows_readable : (s : S) → CanReadTracks never_fails_but s → (rows : RowsOf) → CanReadRows never_fails_but s rows
+  pub rows_readable : (s : S) → CanReadTracks g s → (rows : RowsOf) → CanReadRows g s rows
   rows_readable s can rows volume r at cylinder head place on = can place.unit (no_table r cylinder head place on)
 
 -- the blocks that are read

@@ -1,11 +1,12 @@
 -- Repairs and creations, each written to its end.
 use Rattle.std.specs.Prelude.{◌≡◌, ◌≢◌, ◌≤◌, ℕ, zero, suc, List, [], ◌∷◌, ◌++◌, length, Result, Ok, Err}
 use Rattle.std.specs.List.{AllByRecursion}
+use Rattle.mss_base.specs.Sound.{StaysSound}
 use Rattle.mss_base.specs.Configs.{VolumeData}
 use Rattle.mss_base.specs.Content.{Content, SiteLog, content, Writes}
 use Rattle.mss_base.specs.declared.place.UnitNo.TheVariants.{TableA, TableB}
 use Rattle.mss_base.specs.Counts.{IsFaultSince}
-use Rattle.mss_base.specs.Sites.{FailingReads, StaysSound}
+use Rattle.mss_base.specs.declared.site.Site.{Ghosts}
 use Rattle.volume_table.specs.Row.{RowValue}
 use Rattle.table_pair.specs.Pair.{ChangesRow, NoneOrNew, HoldsRow}
 use Rattle.table_pair.specs.Repairs.{NeedsNoRepair, KeepsRow, KeepsMarks, HoldsToldRow}
@@ -17,10 +18,10 @@ use Rattle.mss_restart.specs.Opening.{IsNewRow}
 use Rattle.mss_restart.specs.declared.creations.Creation.{Creation}
 
 -- a site that was read, and written as often as it made room for
-pub record WritesOn {S : Type 0} (writes faults : S → ℕ) (never_fails_but : FailingReads S) (old new : S) : Type 0 where
-  pub written : writes old ≤ writes new
-  pub later : faults old ≤ faults new
-  pub sound : StaysSound never_fails_but old new
+pub record WritesOn {S : Type 0} (g : Ghosts S) (old new : S) : Type 0 where
+  pub written : g.writes old ≤ g.writes new
+  pub later : g.faults old ≤ g.faults new
+  pub sound : StaysSound g.never_fails_but old new
 
 -- a failed call is told with the count now, which rose, and want of memory where none failed
 abbrev pub IsStop : ℕ → ℕ → Refused → Type 0

@@ -1,9 +1,9 @@
 -- One copy of the table that can't be read, where each copy tells its row alone.
 use Rattle.std.specs.Prelude.{◌≡◌, ◌≢◌, ◌⊎◌, ◌<◌, ℕ, true, false, Result, Err}
 use Rattle.mss_base.specs.Content.{Content}
-use Rattle.mss_base.specs.Sites.{FailingReads}
 use Rattle.mss_base.specs.declared.place.UnitNo.{UnitNo}
 use Rattle.mss_base.specs.declared.place.UnitNo.TheVariants.{TableA, TableB}
+use Rattle.mss_base.specs.declared.site.Site.{Ghosts}
 use Rattle.volume_table.specs.Row.{RowValue}
 use Rattle.table_pair.specs.Copies.{copy_at}
 use Rattle.table_pair.specs.Pair.{HoldsRow, AreClosed, is_table}
@@ -35,7 +35,7 @@ StayPaired old new _ = ArePaired old → ArePaired new
 -- ---- the devices
 
 -- reads of one of the two units of the table may fail, and no others
-pub record LosesOneTable {S : Type 0} (never_fails_but : FailingReads S) (s : S) : Type 0 where
+pub record LosesOneTable {S : Type 0} (g : Ghosts S) (s : S) : Type 0 where
   pub lost : UnitNo
   pub of_table : is_table lost ≡ true
-  pub others : (unit : UnitNo) → unit ≢ lost → IsReadable never_fails_but s unit
+  pub others : (unit : UnitNo) → unit ≢ lost → IsReadable g s unit

@@ -3,7 +3,6 @@ use Rattle.std.specs.Prelude.{◌≡◌, ◌≢◌, ◌<◌, ◌≤◌, ◌+◌,
 use Rattle.mss_base.specs.Content.{Content}
 use Rattle.mss_base.specs.Counts.{IsFaultSince, IsFaultWithin}
 use Rattle.std.specs.Option.{ForSome}
-use Rattle.mss_base.specs.Sites.{FailingReads}
 use Rattle.mss_base.specs.declared.place.BlockPlace.{BlockPlace}
 use Rattle.mss_base.specs.declared.place.UnitNo.TheVariants.{TableA, TableB}
 use Rattle.volume_table.specs.Row.{RowValue}
@@ -17,6 +16,7 @@ use Rattle.shown_volumes.specs.Faults.{read_fault, row_fault, halves_fault, page
 use Rattle.shown_volumes.specs.Changing.{StandsOn}
 use Rattle.shown_volumes.specs.Shown.{RowsOf, rows_in, rows_of}
 use Rattle.mss_base.specs.Listing.{Listing}
+use Rattle.mss_base.specs.declared.site.Site.{Ghosts}
 use Rattle.shown_volumes.specs.declared.refused.Refused.{Refused}
 use Rattle.shown_volumes.specs.declared.refused.Refused.TheVariants.{RowUnread, Stopped, Memory}
 
@@ -40,23 +40,21 @@ Finds (Err r) found = FindsFault r found
 -- ---- calls that fail
 
 -- no call of the site fails
-abbrev pub NeverFails : {S : Type 0} → FailingReads S → S → Type 0
-NeverFails never_fails_but s = never_fails_but s (λ unit. false)
+abbrev pub NeverFails : {S : Type 0} → Ghosts S → S → Type 0
+NeverFails g s = g.never_fails_but s (λ unit. false)
 
 -- no read of either copy of the table fails
-abbrev pub CanReadTable : {S : Type 0} → FailingReads S → S → Type 0
-CanReadTable never_fails_but s =
-    IsReadable never_fails_but s TableA × IsReadable never_fails_but s TableB
+abbrev pub CanReadTable : {S : Type 0} → Ghosts S → S → Type 0
+CanReadTable g s = IsReadable g s TableA × IsReadable g s TableB
 
 -- no read of a block that a track of the row stands on fails
-abbrev pub CanReadRow : {S : Type 0} → FailingReads S → S → RowValue → Type 0
-CanReadRow never_fails_but s r =
+abbrev pub CanReadRow : {S : Type 0} → Ghosts S → S → RowValue → Type 0
+CanReadRow g s r =
     (cylinder head : ℕ) (place : BlockPlace) → StandsOn r cylinder head place
-    → IsReadable never_fails_but s place.unit
+    → IsReadable g s place.unit
 
-abbrev pub CanReadRows : {S : Type 0} → FailingReads S → S → RowsOf → Type 0
-CanReadRows never_fails_but s rows =
-    (volume : ℕ) → ForSome (rows volume) (CanReadRow never_fails_but s)
+abbrev pub CanReadRows : {S : Type 0} → Ghosts S → S → RowsOf → Type 0
+CanReadRows g s rows = (volume : ℕ) → ForSome (rows volume) (CanReadRow g s)
 
 -- a failed call isn't what was answered
 abbrev pub IsNoFailure : Refused → Type 0

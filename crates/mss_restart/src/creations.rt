@@ -71,12 +71,11 @@ fn create_volume<S: Site>(
         (HasNewRow volume serial (listed rows.old.items) (listed rows.new.items)) }
     ensures counted { IfOk result (λ made.
         (made.volume ≡ volume) × (made.writes ≡ S.writes site.new)) }
-    ensures memory { result ≡ Err Memory
-        → LeavesSite S.tells S.told S.spare S.writes S.faults site.old site.new }
+    ensures memory { result ≡ Err Memory → LeavesSite S.Site site.old site.new }
     ensures whole { length rows.new.items ≡ 32 }
     ensures stops { StopsAlone (S.faults site.old) (S.faults site.new) result }
-    ensures works { NeverFails S.never_fails_but site.old → TellsNoFailure result }
-    ensures devices { WritesOn S.writes S.faults S.never_fails_but site.old site.new }
+    ensures works { NeverFails S.Site site.old → TellsNoFailure result }
+    ensures devices { WritesOn S.Site site.old site.new }
 {
     let place = usize::from(volume.get());
     let first = lowest_free(rows.as_slice(), None);
@@ -126,8 +125,8 @@ pub fn create_volumes<S: Site>(
         (missing (listed rows.old.items) volumes.now) creations.new.items) }
     ensures whole { length rows.new.items ≡ 32 }
     ensures stops { StopsAlone (S.faults site.old) (S.faults site.new) result }
-    ensures works { NeverFails S.never_fails_but site.old → TellsNoFailure result }
-    ensures devices { WritesOn S.writes S.faults S.never_fails_but site.old site.new }
+    ensures works { NeverFails S.Site site.old → TellsNoFailure result }
+    ensures devices { WritesOn S.Site site.old site.new }
 {
     for entry in volumes {
         let missing = rows.as_slice()[usize::from(entry.0.get())].is_none();

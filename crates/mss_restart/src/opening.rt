@@ -67,9 +67,8 @@ fn known_rows<S: Site>(alloc: Global, site: &mut S, config: &Config) -> Result<R
         → S.faults site.old < 18446744073709551615
         → OpensExactly config.now (content (S.told site.old)) result }
     ensures kept { KeepsOpening (S.faults site.old) (S.faults site.new) result }
-    ensures works { NeverFails S.never_fails_but site.old → TellsNoFailure result }
-    ensures devices { OnlyReads S.tells S.told S.spare S.writes S.faults S.never_fails_but
-        site.old site.new }
+    ensures works { NeverFails S.Site site.old → TellsNoFailure result }
+    ensures devices { OnlyReads S.Site site.old site.new }
 {
     let read = survey_rows(alloc, site, config)?;
     match read.unread {
@@ -106,8 +105,8 @@ fn complete_rows<S: Site>(
         (missing (listed rows.old.items) config.now.volumes) creations.new.items) }
     ensures whole { length rows.new.items ≡ 32 }
     ensures stops { StopsAlone (S.faults site.old) (S.faults site.new) result }
-    ensures works { NeverFails S.never_fails_but site.old → TellsNoFailure result }
-    ensures devices { WritesOn S.writes S.faults S.never_fails_but site.old site.new }
+    ensures works { NeverFails S.Site site.old → TellsNoFailure result }
+    ensures devices { WritesOn S.Site site.old site.new }
 {
     repair_rows(alloc, site)?;
     create_volumes(alloc, site, rows, creations, config.volumes.as_slice())
@@ -134,8 +133,8 @@ fn open_lent<S: Site>(alloc: Global, site: &mut S, config: &Config) -> Result<Op
     ensures refused { IfErr result (RefusalLeaves (S.writes site.old) (S.writes site.new)
         (S.faults site.old) (S.faults site.new)) }
     ensures kept { KeepsOpening (S.faults site.old) (S.faults site.new) result }
-    ensures works { NeverFails S.never_fails_but site.old → TellsNoFailure result }
-    ensures devices { WritesOn S.writes S.faults S.never_fails_but site.old site.new }
+    ensures works { NeverFails S.Site site.old → TellsNoFailure result }
+    ensures devices { WritesOn S.Site site.old site.new }
 {
     // The numbers of its volumes rise, which a body knows of a configuration that it looks into.
     let _volumes = &config.volumes;
@@ -187,8 +186,8 @@ pub fn open_rows<S: Site>(
     ensures refused { IfErr (answer_of result) (RefusalLeaves
         (S.writes site) (S.writes (site_of result)) (S.faults site) (S.faults (site_of result))) }
     ensures kept { KeepsOpening (S.faults site) (S.faults (site_of result)) (answer_of result) }
-    ensures works { NeverFails S.never_fails_but site → TellsNoFailure (answer_of result) }
-    ensures devices { WritesOn S.writes S.faults S.never_fails_but site (site_of result) }
+    ensures works { NeverFails S.Site site → TellsNoFailure (answer_of result) }
+    ensures devices { WritesOn S.Site site (site_of result) }
 {
     let mut site = site;
     match open_lent(alloc, &mut site, config) {

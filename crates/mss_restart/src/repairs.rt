@@ -43,8 +43,8 @@ pub fn repair_rows<S: Site>(alloc: Global, site: &mut S) -> Result<(), Refused>
     ensures complete { S.tells → RepairsWhole (S.told site.old) (S.told site.new) result }
     ensures others { S.tells → RepairsOthers [] (S.told site.old) (S.told site.new) }
     ensures stops { StopsAlone (S.faults site.old) (S.faults site.new) result }
-    ensures works { NeverFails S.never_fails_but site.old → TellsNoFailure result }
-    ensures devices { WritesOn S.writes S.faults S.never_fails_but site.old site.new }
+    ensures works { NeverFails S.Site site.old → TellsNoFailure result }
+    ensures devices { WritesOn S.Site site.old site.new }
 {
     for number in 0..32 {
         if let Err(fault) = repair(alloc, site, volume_at(number)) {

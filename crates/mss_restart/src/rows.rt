@@ -103,11 +103,10 @@ fn read_volume<S: Site>(
         (content (S.told site.old)) result }
     ensures serial { IfOk result (λ read. serial_fault volume read.row asked ≡ None) }
     ensures counts { KeepsRead (S.faults site.old) (S.faults site.new) result }
-    ensures works { CanReadTable S.never_fails_but site.old → ReadsWhole result }
-    ensures one_copy { S.tells → LosesOneTable S.never_fails_but site.old
+    ensures works { CanReadTable S.Site site.old → ReadsWhole result }
+    ensures one_copy { S.tells → LosesOneTable S.Site site.old
         → IsPaired volume (content (S.told site.old)) → TellsNoFailure result }
-    ensures devices { OnlyReads S.tells S.told S.spare S.writes S.faults S.never_fails_but
-        site.old site.new }
+    ensures devices { OnlyReads S.Site site.old site.new }
 {
     match read_row(alloc, site, volume) {
         Ok(read) => match serial_fault(volume, &read.row, asked) {
@@ -130,11 +129,10 @@ pub fn read_rows<S: Site>(
         HasSerialsAsked (serial_in volumes.now) (listed read.rows.items)) }
     ensures whole { IfOk result (λ read. length read.rows.items ≡ 32) }
     ensures counts { KeepsRows (S.faults site.old) (S.faults site.new) result }
-    ensures works { CanReadTable S.never_fails_but site.old → ReadsWholeRows result }
-    ensures one_copy { S.tells → LosesOneTable S.never_fails_but site.old
+    ensures works { CanReadTable S.Site site.old → ReadsWholeRows result }
+    ensures one_copy { S.tells → LosesOneTable S.Site site.old
         → ArePaired (content (S.told site.old)) → TellsNoFailure result }
-    ensures devices { OnlyReads S.tells S.told S.spare S.writes S.faults S.never_fails_but
-        site.old site.new }
+    ensures devices { OnlyReads S.Site site.old site.new }
 {
     let mut rows = Rows::new(alloc);
     rows.reserve(32)?;

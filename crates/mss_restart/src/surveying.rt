@@ -50,10 +50,8 @@ fn check_rows<S: Site>(
     ensures usable { (asked : ℕ → Option (List ℕ)) → HasSerialsAsked asked (listed rows.now)
         → OnOk result (AreUsable frames asked (listed rows.now)) }
     ensures counts { CountsFaults (S.faults site.old) (S.faults site.new) result }
-    ensures works { CanReadRows S.never_fails_but site.old (listed rows.now)
-        → TellsNoFailure result }
-    ensures devices { OnlyReads S.tells S.told S.spare S.writes S.faults S.never_fails_but
-        site.old site.new }
+    ensures works { CanReadRows S.Site site.old (listed rows.now) → TellsNoFailure result }
+    ensures devices { OnlyReads S.Site site.old site.new }
 {
     if let Some(fault) = halves_fault(rows) {
         return Err(fault);
@@ -80,14 +78,13 @@ pub fn survey_rows<S: Site>(
         (listed read.rows.items)) }
     ensures whole { IfOk result (λ read. length read.rows.items ≡ 32) }
     ensures counts { KeepsRows (S.faults site.old) (S.faults site.new) result }
-    ensures works { NeverFails S.never_fails_but site.old → ReadsWholeRows result }
-    ensures reads { S.tells → CanReadTable S.never_fails_but site.old
-        → CanReadRows S.never_fails_but site.old (rows_of (content (S.told site.old)))
+    ensures works { NeverFails S.Site site.old → ReadsWholeRows result }
+    ensures reads { S.tells → CanReadTable S.Site site.old
+        → CanReadRows S.Site site.old (rows_of (content (S.told site.old)))
         → TellsNoFailure result }
-    ensures one_copy { S.tells → LosesOneTable S.never_fails_but site.old
+    ensures one_copy { S.tells → LosesOneTable S.Site site.old
         → ArePaired (content (S.told site.old)) → TellsNoFailure result }
-    ensures devices { OnlyReads S.tells S.told S.spare S.writes S.faults S.never_fails_but
-        site.old site.new }
+    ensures devices { OnlyReads S.Site site.old site.new }
 {
     let read = read_rows(alloc, site, config.volumes.as_slice())?;
     check_rows(alloc, site, config.frames, read.rows.as_slice())?;
@@ -113,16 +110,15 @@ pub fn survey<S: Site>(alloc: Global, site: &mut S, config: &Config) -> Result<R
         (listed rows.items)) }
     ensures whole { IfOk result (λ rows. length rows.items ≡ 32) }
     ensures kept { KeepsFault (S.faults site.old) (S.faults site.new) result }
-    ensures works { NeverFails S.never_fails_but site.old → TellsNoFailure result }
-    ensures reads { S.tells → CanReadTable S.never_fails_but site.old
-        → CanReadRows S.never_fails_but site.old (rows_of (content (S.told site.old)))
+    ensures works { NeverFails S.Site site.old → TellsNoFailure result }
+    ensures reads { S.tells → CanReadTable S.Site site.old
+        → CanReadRows S.Site site.old (rows_of (content (S.told site.old)))
         → TellsNoFailure result }
-    ensures one_copy { S.tells → LosesOneTable S.never_fails_but site.old
+    ensures one_copy { S.tells → LosesOneTable S.Site site.old
         → ArePaired (content (S.told site.old))
         → IsExact config.now.frames (serial_in config.now.volumes) (content (S.told site.old))
         (rows_given result) }
-    ensures devices { OnlyReads S.tells S.told S.spare S.writes S.faults S.never_fails_but
-        site.old site.new }
+    ensures devices { OnlyReads S.Site site.old site.new }
 {
     match survey_rows(alloc, site, config) {
         Ok(read) => Ok(read.rows),

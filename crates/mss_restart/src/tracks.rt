@@ -31,9 +31,8 @@ fn read_block<S: Site>(site: &mut S, place: &BlockPlace, into: &mut [u8]) -> Res
         OnOk result (into.new ≡ block_at (content (S.told site.old)) place.now) }
     ensures device { IfErr result (λ r. (found : Option Refused) → FindsFault r found) }
     ensures counts { CountsFaults (S.faults site.old) (S.faults site.new) result }
-    ensures works { IsReadable S.never_fails_but site.old place.now.unit → TellsNoFailure result }
-    ensures devices { OnlyReads S.tells S.told S.spare S.writes S.faults S.never_fails_but
-        site.old site.new }
+    ensures works { IsReadable S.Site site.old place.now.unit → TellsNoFailure result }
+    ensures devices { OnlyReads S.Site site.old site.new }
 {
     if site.read(place.unit, place.block, into).is_err() {
         return Err(Refused::Stopped {
@@ -58,9 +57,8 @@ fn check_shown<S: Site>(
     ensures block { S.tells →
         OnOk result (into.new ≡ block_at (content (S.told site.old)) place.now) }
     ensures counts { CountsFaults (S.faults site.old) (S.faults site.new) result }
-    ensures works { IsReadable S.never_fails_but site.old place.now.unit → TellsNoFailure result }
-    ensures devices { OnlyReads S.tells S.told S.spare S.writes S.faults S.never_fails_but
-        site.old site.new }
+    ensures works { IsReadable S.Site site.old place.now.unit → TellsNoFailure result }
+    ensures devices { OnlyReads S.Site site.old site.new }
 {
     read_block(site, place, into)?;
     if check_track(into).is_err() {
@@ -87,9 +85,8 @@ fn check_blank<S: Site>(
         (where_so (not (is_blank (reading (block_at (content (S.told site.old)) place.now))))
         (StagedDiffers volume cylinder head)) }
     ensures counts { CountsFaults (S.faults site.old) (S.faults site.new) result }
-    ensures works { IsReadable S.never_fails_but site.old place.now.unit → TellsNoFailure result }
-    ensures devices { OnlyReads S.tells S.told S.spare S.writes S.faults S.never_fails_but
-        site.old site.new }
+    ensures works { IsReadable S.Site site.old place.now.unit → TellsNoFailure result }
+    ensures devices { OnlyReads S.Site site.old site.new }
 {
     read_block(site, place, into)?;
     if !is_blank(into) {
@@ -117,9 +114,8 @@ fn check_copy<S: Site>(
         (where_so (not (is_same_list (block_at (content (S.told site.old)) place.now) shown.now))
         (StagedDiffers volume cylinder head)) }
     ensures counts { CountsFaults (S.faults site.old) (S.faults site.new) result }
-    ensures works { IsReadable S.never_fails_but site.old place.now.unit → TellsNoFailure result }
-    ensures devices { OnlyReads S.tells S.told S.spare S.writes S.faults S.never_fails_but
-        site.old site.new }
+    ensures works { IsReadable S.Site site.old place.now.unit → TellsNoFailure result }
+    ensures devices { OnlyReads S.Site site.old site.new }
 {
     read_block(site, place, into)?;
     if *into != *shown {
@@ -174,9 +170,8 @@ fn check_track_of<S: Site>(
     ensures finds { S.tells → Finds result
         (row_track_fault (content (S.told site.old)) volume cylinder head row.now) }
     ensures counts { CountsFaults (S.faults site.old) (S.faults site.new) result }
-    ensures works { CanReadRow S.never_fails_but site.old row.now → TellsNoFailure result }
-    ensures devices { OnlyReads S.tells S.told S.spare S.writes S.faults S.never_fails_but
-        site.old site.new }
+    ensures works { CanReadRow S.Site site.old row.now → TellsNoFailure result }
+    ensures devices { OnlyReads S.Site site.old site.new }
 {
     match row.state(cylinder) {
         CylinderState::Blank => Ok(()),
@@ -216,9 +211,8 @@ fn check_cylinder<S: Site>(
     ensures finds { S.tells → Finds result
         (row_cylinder_fault (content (S.told site.old)) volume row.now cylinder) }
     ensures counts { CountsFaults (S.faults site.old) (S.faults site.new) result }
-    ensures works { CanReadRow S.never_fails_but site.old row.now → TellsNoFailure result }
-    ensures devices { OnlyReads S.tells S.told S.spare S.writes S.faults S.never_fails_but
-        site.old site.new }
+    ensures works { CanReadRow S.Site site.old row.now → TellsNoFailure result }
+    ensures devices { OnlyReads S.Site site.old site.new }
 {
     if row.state(cylinder) == CylinderState::Blank {
         return Ok(());
@@ -242,9 +236,8 @@ fn check_row<S: Site>(
     ensures finds { S.tells → Finds result
         (row_tracks_fault (content (S.told site.old)) volume row.now) }
     ensures counts { CountsFaults (S.faults site.old) (S.faults site.new) result }
-    ensures works { CanReadRow S.never_fails_but site.old row.now → TellsNoFailure result }
-    ensures devices { OnlyReads S.tells S.told S.spare S.writes S.faults S.never_fails_but
-        site.old site.new }
+    ensures works { CanReadRow S.Site site.old row.now → TellsNoFailure result }
+    ensures devices { OnlyReads S.Site site.old site.new }
 {
     for number in 0..CYLINDERS {
         check_cylinder(site, row, volume, cylinder_at(number), shown, staged)?;
@@ -266,10 +259,9 @@ fn check_volume<S: Site>(
     ensures finds { S.tells → Finds result
         (tracks_fault (listed rows.now) (content (S.told site.old)) volume) }
     ensures counts { CountsFaults (S.faults site.old) (S.faults site.new) result }
-    ensures works { ForSome (listed rows.now volume) (CanReadRow S.never_fails_but site.old)
+    ensures works { ForSome (listed rows.now volume) (CanReadRow S.Site site.old)
         → TellsNoFailure result }
-    ensures devices { OnlyReads S.tells S.told S.spare S.writes S.faults S.never_fails_but
-        site.old site.new }
+    ensures devices { OnlyReads S.Site site.old site.new }
 {
     let Some(row) = &rows[volume.get() as usize] else {
         return Ok(());
@@ -292,10 +284,8 @@ pub fn check_tracks<S: Site>(
     ensures finds { S.tells → Finds result
         (first_below 32 (tracks_fault (listed rows.now) (content (S.told site.old)))) }
     ensures counts { CountsFaults (S.faults site.old) (S.faults site.new) result }
-    ensures works { CanReadRows S.never_fails_but site.old (listed rows.now)
-        → TellsNoFailure result }
-    ensures devices { OnlyReads S.tells S.told S.spare S.writes S.faults S.never_fails_but
-        site.old site.new }
+    ensures works { CanReadRows S.Site site.old (listed rows.now) → TellsNoFailure result }
+    ensures devices { OnlyReads S.Site site.old site.new }
 {
     for number in 0..32 {
         check_volume(site, rows, volume_at(number), shown, staged)?;

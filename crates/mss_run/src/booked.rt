@@ -38,7 +38,7 @@ impl<N: Setup, S: Site, C: Choose> Model for BookedCore<N, S, C> {
 
     ghost invariant = { λ b.
         IsHeld N.opening N.setup S.tells (S.never_fails_but b.core.site)
-        (seen S.told S.writes S.faults b.core) b.book };
+        (seen S.Site b.core) b.book };
 }
 
 /// The entry at a place.
@@ -87,7 +87,7 @@ impl<N: Setup, S: Site, C: Choose> BookedCore<N, S, C> {
     /// A core of the session that the name names, with its book.
     pub fn new(core: Core<S, C>, book: Book<N>) -> Self
         requires opening { OpensWith N.opening N.setup S.tells (S.never_fails_but core.site)
-            (seen S.told S.writes S.faults core) }
+            (seen S.Site core) }
         requires history { book.list ≡ core.history }
     {
         BookedCore {
@@ -99,7 +99,7 @@ impl<N: Setup, S: Site, C: Choose> BookedCore<N, S, C> {
     /// The core and the book.
     pub fn into_parts(self) -> (Core<S, C>, Book<N>)
         ensures opening { OpensWith N.opening N.setup S.tells
-            (S.never_fails_but result.0.site) (seen S.told S.writes S.faults result.0) }
+            (S.never_fails_but result.0.site) (seen S.Site result.0) }
         ensures history { result.1.list ≡ result.0.history }
     {
         let BookedCore { core, book } = self;
@@ -124,7 +124,7 @@ impl<N: Setup, S: Site, C: Choose> BookedCore<N, S, C> {
     ) -> (HostPass<N>, HostAnswer, bool)
         ensures answered { Answered (call_of call.now) pass (told_of result.1) result.0 }
         ensures in_vain { result.2 ≡ true → IsSame S.tells
-            (seen S.told S.writes S.faults self.old) (seen S.told S.writes S.faults self.new) }
+            (seen S.Site self.old) (seen S.Site self.new) }
     {
         let host = pass.host();
         let before = entries_of(&self.core);
@@ -142,7 +142,7 @@ impl<N: Setup, S: Site, C: Choose> BookedCore<N, S, C> {
     /// One event of a recorder; none of one that isn't configured. An idle one changes nothing.
     pub fn work(&mut self, recorder: RecorderNo) -> WorkAnswer
         ensures idle { result ≡ Idle → IsSame S.tells
-            (seen S.told S.writes S.faults self.old) (seen S.told S.writes S.faults self.new) }
+            (seen S.Site self.old) (seen S.Site self.new) }
     {
         if recorder.get() >= recorders_of(&self.core) {
             return WorkAnswer::Idle;

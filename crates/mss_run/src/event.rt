@@ -1,6 +1,6 @@
 // Events of a core, as what they leave of its session.
 ghost use Rattle.std.specs.Prelude.{◌≡◌, ◌≤◌, ◌<◌, length, true};
-ghost use Rattle.mss_base.specs.Sites.{StaysSound};
+ghost use Rattle.mss_base.specs.Sound.{StaysSound};
 ghost use Rattle.channel_commands.specs.Views.{call_of};
 ghost use Rattle.ckd_plain.specs.History.{IsLegal};
 ghost use Rattle.core_state.specs.Beginning.{IsLater};
@@ -75,10 +75,9 @@ pub(crate) fn host_step<S: Site, C: Choose>(
 ) -> (HostAnswer, bool)
     ensures history { Happens host (call_of call.now) (told_of result.0)
         core.old.history core.new.history }
-    ensures in_vain { result.1 ≡ true → IsSame S.tells (seen S.told S.writes S.faults core.old)
-        (seen S.told S.writes S.faults core.new) }
-    ensures later { IsLater S.tells (seen S.told S.writes S.faults core.old)
-        (seen S.told S.writes S.faults core.new) }
+    ensures in_vain { result.1 ≡ true → IsSame S.tells (seen S.Site core.old)
+        (seen S.Site core.new) }
+    ensures later { IsLater S.tells (seen S.Site core.old) (seen S.Site core.new) }
     ensures sound { StaysSound S.never_fails_but core.old.site core.new.site }
 {
     events_add_one_entry_at_most::<S>();
@@ -100,10 +99,8 @@ pub(crate) fn work_step<S: Site, C: Choose>(
 ) -> WorkAnswer
     requires { recorder < core.old.config.recorders }
     ensures history { core.new.history ≡ core.old.history }
-    ensures idle { result ≡ Idle → IsSame S.tells (seen S.told S.writes S.faults core.old)
-        (seen S.told S.writes S.faults core.new) }
-    ensures later { IsLater S.tells (seen S.told S.writes S.faults core.old)
-        (seen S.told S.writes S.faults core.new) }
+    ensures idle { result ≡ Idle → IsSame S.tells (seen S.Site core.old) (seen S.Site core.new) }
+    ensures later { IsLater S.tells (seen S.Site core.old) (seen S.Site core.new) }
     ensures sound { StaysSound S.never_fails_but core.old.site core.new.site }
 {
     work_leaves_the_history::<S, C>();

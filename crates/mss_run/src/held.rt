@@ -31,7 +31,7 @@ impl<N: Setup, S: Site, C: Choose> Held<N, S, C> {
     /// Before any actor is in.
     pub fn new(core: Core<S, C>, book: Book<N>) -> Self
         requires opening { OpensWith N.opening N.setup S.tells (S.never_fails_but core.site)
-            (seen S.told S.writes S.faults core) }
+            (seen S.Site core) }
         requires history { book.list ≡ core.history }
         ensures { result.present ≡ nobody }
     {
@@ -44,7 +44,7 @@ impl<N: Setup, S: Site, C: Choose> Held<N, S, C> {
     /// The core and the book, when the lock is gone.
     pub fn into_parts(self) -> (Core<S, C>, Book<N>)
         ensures opening { OpensWith N.opening N.setup S.tells
-            (S.never_fails_but result.0.site) (seen S.told S.writes S.faults result.0) }
+            (S.never_fails_but result.0.site) (seen S.Site result.0) }
         ensures history { result.1.list ≡ result.0.history }
     {
         let Held { session, .. } = self;
@@ -85,9 +85,8 @@ impl<N: Setup, S: Site, C: Choose> Held<N, S, C> {
         ensures present { self.new.present ≡ self.old.present }
         ensures over { self.old.present.ended ≡ true
             → (result.1 ≡ None) × (self.new.session ≡ self.old.session) }
-        ensures idle { result.2 ≡ Some Idle → IsSame S.tells
-            (seen S.told S.writes S.faults self.old.session)
-            (seen S.told S.writes S.faults self.new.session) }
+        ensures idle { result.2 ≡ Some Idle → IsSame S.tells (seen S.Site self.old.session)
+            (seen S.Site self.new.session) }
     {
         if self.present.is_over() {
             return (pass, None, None);
@@ -103,9 +102,8 @@ impl<N: Setup, S: Site, C: Choose> Held<N, S, C> {
     /// One event of the first recorder that has one and whose own worker isn't in.
     fn help(&mut self) -> WorkAnswer
         ensures present { self.new.present ≡ self.old.present }
-        ensures idle { result ≡ Idle → IsSame S.tells
-            (seen S.told S.writes S.faults self.old.session)
-            (seen S.told S.writes S.faults self.new.session) }
+        ensures idle { result ≡ Idle → IsSame S.tells (seen S.Site self.old.session)
+            (seen S.Site self.new.session) }
     {
         for number in 0..self.session.recorders() {
             let Some(recorder) = RecorderNo::of(number) else {
@@ -127,9 +125,8 @@ impl<N: Setup, S: Site, C: Choose> Held<N, S, C> {
     pub fn turn(&mut self, recorder: RecorderNo) -> Option<WorkAnswer>
         ensures turns { Turns recorder self.old.present result self.new.present }
         ensures over { self.old.present.ended ≡ true → self.new.session ≡ self.old.session }
-        ensures idle { IsRest result → IsSame S.tells
-            (seen S.told S.writes S.faults self.old.session)
-            (seen S.told S.writes S.faults self.new.session) }
+        ensures idle { IsRest result → IsSame S.tells (seen S.Site self.old.session)
+            (seen S.Site self.new.session) }
     {
         if self.present.is_over() {
             self.present.set_worker(recorder, false);

@@ -2,7 +2,7 @@
 ghost use Rattle.std.specs.Prelude.{◌≡◌, ◌≤◌, ◌+◌, ◌++◌, ◌∷◌, [], Bool, length, nat_eq};
 ghost use Rattle.std.specs.List.{IsDistinct, list_all};
 ghost use Rattle.std.specs.Thread.{IsSend, IsSync};
-ghost use Rattle.mss_base.specs.Sites.{StaysSound};
+ghost use Rattle.mss_base.specs.Sound.{StaysSound};
 ghost use Rattle.mss_base.specs.declared.place.UnitNo.{UnitNo};
 ghost use Rattle.ckd_plain.specs.History.{IsLegal};
 ghost use Rattle.job_text.specs.Jobs.{AreRunnableScripts};
@@ -278,14 +278,13 @@ fn run_named<
 >(rt: &R, alloc: Global, blank: Blank, core: Core<S, C>, job: &Job, gate: &G) -> RunEnd<S, C>
     requires word { blank ≡ N.table }
     requires opening { OpensWith N.opening N.setup S.tells (S.never_fails_but core.site)
-        (seen S.told S.writes S.faults core) }
-    requires began { N.setup.began ≡ seen S.told S.writes S.faults core }
+        (seen S.Site core) }
+    requires began { N.setup.began ≡ seen S.Site core }
     requires sound { (but : UnitNo → Bool)
         → S.never_fails_but core.site but → N.setup.never_fails_but but }
     requires hosts { N.hosts ≡ hosts_of job.now.hosts }
     requires empty { core.history ≡ [] }
-    ensures later { IsLater S.tells (seen S.told S.writes S.faults core)
-        (seen S.told S.writes S.faults result.core) }
+    ensures later { IsLater S.tells (seen S.Site core) (seen S.Site result.core) }
     ensures sound { StaysSound S.never_fails_but core.site result.core.site }
     ensures legal { S.tells → IsLegal (opening_of (S.told core.site) core) result.core.history }
     ensures hosts { AreOfThese (hosts_of job.now.hosts) result.core.history }
@@ -337,8 +336,7 @@ pub fn run_actors<S: Site + Send, C: Choose + Send, G: Gate + Sync, R: Threads +
 ) -> RunEnd<S, C>
     requires empty { core.history ≡ [] }
     requires config { core.config ≡ job.now.config }
-    ensures later { IsLater S.tells (seen S.told S.writes S.faults core)
-        (seen S.told S.writes S.faults result.core) }
+    ensures later { IsLater S.tells (seen S.Site core) (seen S.Site result.core) }
     ensures sound { StaysSound S.never_fails_but core.site result.core.site }
     ensures legal { S.tells → IsLegal (opening_of (S.told core.site) core) result.core.history }
     ensures hosts { AreOfThese (hosts_of job.now.hosts) result.core.history }

@@ -33,7 +33,7 @@ impl<N: Setup, S: Site, C: Choose> Shared<N, S, C> {
     /// Puts a core under a lock, with the book of its history. The name names the core's session.
     pub fn new(word: Word<N>, book: Book<N>, core: Core<S, C>) -> Self
         requires opening { OpensWith N.opening N.setup S.tells (S.never_fails_but core.site)
-            (seen S.told S.writes S.faults core) }
+            (seen S.Site core) }
         requires history { book.list ≡ core.history }
     {
         let recorders = recorders_of(&core);
@@ -77,7 +77,7 @@ impl<N: Setup, S: Site, C: Choose> Shared<N, S, C> {
     /// beginning of it, and has all entries of its host there. A pass that isn't handed in is given up.
     pub fn close(self, passes: PassList<N>) -> Core<S, C>
         ensures opening { OpensWith N.opening N.setup S.tells
-            (S.never_fails_but result.site) (seen S.told S.writes S.faults result) }
+            (S.never_fails_but result.site) (seen S.Site result) }
         ensures legal { IsLegalFrom N.opening result.history }
         ensures few { length result.history ≤ 4096 }
         ensures hosts { AreOfThese N.hosts result.history }

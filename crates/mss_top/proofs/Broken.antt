@@ -1,7 +1,8 @@
 -- A look that broke off before a track that couldn't be read.
 use Rattle.std.proofs.Common.{◌≡◌, ℕ, List, Option, Ok, Err, ◌++◌, refl, sym, ◌∙◌, ap, subst}
 use Rattle.mss_base.specs.Content.{SiteLog, content}
-use Rattle.mss_base.specs.Sites.{FailingReads, OnlyReads}
+use Rattle.mss_base.specs.Sites.{OnlyReads}
+use Rattle.mss_base.specs.declared.site.Site.{Ghosts}
 use Rattle.volume_table.specs.Listed.{listed}
 use Rattle.volume_table.specs.Row.{RowValue}
 use Rattle.table_pair.specs.Reads.{IsReadable}
@@ -14,11 +15,12 @@ use Rattle.session_report.specs.Parties.{Stream}
 use Rattle.session_report.specs.Reports.{OnRead, listing_matter, told_text, unread}
 use Rattle.session_report.specs.declared.fault.ReportFault.TheVariants as report_fault
 use Rattle.session_report.proofs.SiteReads.{unread_since}
-use Rattle.job_runs.specs.Parties.{Devices, devices, until, seen_site}
+use Rattle.job_runs.specs.Parties.{devices}
 use Rattle.mss_top.specs.Showing.{BrokeOff, IsSurvey, LookBrokeOff}
 use Rattle.mss_top.specs.Status.{IsLinePut, whole, broken, line_status, status_of}
 use Rattle.mss_top.specs.declared.status.Status.{Status}
 use Rattle.mss_top.specs.declared.status.Status.TheVariants as status
+use Rattle.core_state.specs.CoreValue.{seen_site}
 
 -- a listing that was stopped tells a failed read
 pub record Found (P : ℕ → Type 0) : Type 0 where
@@ -44,11 +46,11 @@ line_unstopped said sink told (whole is counted bytes) stop = said_unstopped sai
 line_unstopped said sink told (broken is rose front) stop = absurd (let e : status.OutputFault ≡ status.Stopped = sym is ∙ stop in cc)
 
 -- the devices were surveyed before, and only read
-pub look_broken : {S : Type 0} (tells : Type 0) (told : S → SiteLog) (spare writes faults : S → ℕ) (never_fails_but : FailingReads S) (old mid new : S) (rows : List (Option RowValue)) (sink : Stream)
-    → OnlyReads tells told spare writes faults never_fails_but old mid → IsSurvey (devices tells told writes faults old mid) (Ok rows)
-    → BrokeOff never_fails_but mid rows (devices tells told writes faults mid new) sink → LookBrokeOff never_fails_but old (devices tells told writes faults old new) sink
-look_broken tells told spare writes faults never_fails_but old mid new rows sink reads survey broke = record {
-  mid = seen_site told writes faults mid;
+pub look_broken : {S : Type 0} (g : Ghosts S) (old mid new : S) (rows : List (Option RowValue)) (sink : Stream)
+    → OnlyReads g old mid → IsSurvey (devices g old mid) (Ok rows)
+    → BrokeOff g mid rows (devices g mid new) sink → LookBrokeOff g old (devices g old new) sink
+look_broken g old mid new rows sink reads survey broke = record {
+  mid = seen_site g mid;
   rows = rows;
   survey = survey;
   broke = record {
@@ -58,7 +60,7 @@ look_broken tells told spare writes faults never_fails_but old mid new rows sink
       tracks = broke.off.tracks;
       there = broke.off.there;
       few = broke.off.few;
-      unread_ = unread_since never_fails_but old mid reads.sound _ broke.off.unread_;
+      unread_ = unread_since g old mid reads.sound _ broke.off.unread_;
       put = λ t. broke.off.put t ∙ ap (λ (log : SiteLog). sink.was ++ told_text (listing_matter (shown_by (listed rows) (content log))) (unread broke.off.place broke.off.tracks broke.fault)) (reads.log t.0);
     };
   };

@@ -1,8 +1,8 @@
 -- What a look at the volumes promises.
 use Rattle.std.specs.Prelude.{◌≡◌, ◌≢◌, ◌⊎◌, ◌++◌, ℕ, List, Option, Some, None, Result, Ok, Err}
-use Rattle.mss_base.specs.Content.{Content, SiteLog, content}
+use Rattle.mss_base.specs.Content.{Content, content}
 use Rattle.mss_base.specs.Listing.{Listing}
-use Rattle.mss_base.specs.Sites.{FailingReads}
+use Rattle.mss_base.specs.declared.site.Site.{Ghosts}
 use Rattle.volume_table.specs.Row.{RowValue}
 use Rattle.volume_table.specs.Listed.{listed}
 use Rattle.command_words.specs.Options.{Text}
@@ -115,20 +115,20 @@ pub record IsListed (words : List Text) (site : Devices) (sink : Stream) (told :
   pub lists : Lists rows (since site mid) sink told
 
 -- a listing of these rows broke off before a track of which a read may fail
-pub record BrokeOff {S : Type 0} (never_fails_but : FailingReads S) (s : S)
+pub record BrokeOff {S : Type 0} (g : Ghosts S) (s : S)
     (rows : List (Option RowValue)) (site : Devices) (sink : Stream) : Type 0 where
   pub fault : ℕ
-  pub off : BreaksOff (IsUnread never_fails_but s (listed rows) (matter_of rows site).volumes)
+  pub off : BreaksOff (IsUnread g s (listed rows) (matter_of rows site).volumes)
       (matter_of rows site) (seen_with (reported site) sink) fault
 
 -- a look broke off within the listing of the rows that its survey found
-pub record LookBrokeOff {S : Type 0} (never_fails_but : FailingReads S) (s : S) (site : Devices)
+pub record LookBrokeOff {S : Type 0} (g : Ghosts S) (s : S) (site : Devices)
     (sink : Stream) : Type 0 where
   -- the devices behind the survey
   pub mid : DevicesSeen
   pub rows : List (Option RowValue)
   pub survey : IsSurvey (until site mid) (Ok rows)
-  pub broke : BrokeOff never_fails_but s rows site sink
+  pub broke : BrokeOff g s rows site sink
 
 -- a look ended: with one line, which says why nothing is listed, or with a listing
 abbrev pub EndsShown : List Text → Devices → Stream → Status → Type 0
@@ -173,12 +173,12 @@ IsShown c sink _ = ⊥
 
 -- The words ask for a look, the devices tell their content, in which each copy tells its row alone,
 -- reads of one unit of the table may fail, and no other call does.
-pub record LooksByOneCopy {S : Type 0} (words : List Text) (tells : Type 0) (told : S → SiteLog)
-    (never_fails_but : FailingReads S) (site : S) (sink : Stream) : Type 0 where
+pub record LooksByOneCopy {S : Type 0} (words : List Text) (g : Ghosts S)
+    (site : S) (sink : Stream) : Type 0 where
   pub command : AskToShow words
-  pub can_see : tells
-  pub paired : ArePaired (content (told site))
-  pub loses : LosesOneTable never_fails_but site
+  pub can_see : g.tells
+  pub paired : ArePaired (content (g.told site))
+  pub loses : LosesOneTable g site
   pub sink_none : NoneFailed sink.faults_was sink.faults_now
 
 -- what a look finds in a content: the rows of one without a fault, or the first fault; or memory

@@ -3,7 +3,7 @@ ghost use Rattle.std.specs.Prelude.{◌≡◌, ◌≤◌, length, map, string_by
 ghost use Rattle.draws.specs.Load.{load_job};
 ghost use Rattle.report_text.specs.declared.one_line.OneLine.TheVariants.{WantOfMemory};
 ghost use Rattle.serial_driver.specs.Drives.{AreTurns};
-ghost use Rattle.session_report.specs.Parties.{between};
+ghost use Rattle.session_report.specs.Parties.{source_between};
 ghost use Rattle.mss_top.specs.Admission.{Admits, Asks, GivesJob, IsDrawn, IsLoad, IsTaken};
 ghost use Rattle.mss_top.specs.Admission.{TakesText, actors};
 
@@ -63,7 +63,7 @@ fn job_of_text(alloc: Global, text: &[u8]) -> Result<Job, OneLine>
 
 /// The job of the input, or the line that says why there is none.
 pub fn job_of_input<I: Source>(alloc: Global, input: &mut I) -> Result<Job, OneLine>
-    ensures { TakesText (between I.tells I.left I.faults input.old input.new) result }
+    ensures { TakesText (source_between I.Source input.old input.new) result }
 {
     match read_input(alloc, input, READ_LIMIT) {
         Ok(text) => job_of_text(alloc, text.as_slice()),
@@ -89,7 +89,7 @@ fn job_of_load(alloc: Global, order: u64, programs: u32) -> Result<Job, OneLine>
 fn job_for<I: Source>(alloc: Global, settings: Settings, input: &mut I) -> Result<Job, OneLine>
     requires load { IsLoad settings.load }
     ensures { GivesJob settings.load settings.order
-        (between I.tells I.left I.faults input.old input.new) result }
+        (source_between I.Source input.old input.new) result }
 {
     match settings.load {
         Some(programs) => job_of_load(alloc, settings.order, programs),
@@ -128,7 +128,7 @@ fn turns_for(alloc: Global, settings: Settings, job: &Job) -> Result<Vec<u32>, O
 /// The run that the words ask for, or the line that says why there is none.
 pub fn admit<I: Source>(alloc: Global, words: &[String], input: &mut I) -> Result<Admitted, OneLine>
     ensures admits { Admits (map string_bytes words.now)
-        (between I.tells I.left I.faults input.old input.new) result }
+        (source_between I.Source input.old input.new) result }
     ensures turns { IfOk result (λ run. AreTurns run.job.hosts run.job.config run.turns.items) }
 {
     let settings = settings_of(alloc, words)?;

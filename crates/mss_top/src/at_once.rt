@@ -2,7 +2,7 @@
 ghost use Rattle.std.specs.Prelude.{[], map, string_bytes};
 ghost use Rattle.job_text.specs.Jobs.{JobData};
 ghost use Rattle.mss_restart.specs.Creations.{WritesOn};
-ghost use Rattle.session_report.specs.Parties.{between};
+ghost use Rattle.session_report.specs.Parties.{sink_between, source_between};
 ghost use Rattle.job_runs.specs.Parties.{devices};
 ghost use Rattle.mss_top.specs.Serial.{IsComplete};
 ghost use Rattle.mss_top.specs.Threads.{AdmitsThreads, EndsJob, EndsThreads, GoesWellAtOnce};
@@ -33,7 +33,7 @@ pub struct EndedAtOnce<S> {
 /// The job of a run in threads, or the line that says why there is none.
 fn admit_threads<I: Source>(alloc: Global, words: &[String], input: &mut I) -> Result<Job, OneLine>
     ensures admits { AdmitsThreads (map string_bytes words.now)
-        (between I.tells I.left I.faults input.old input.new) result }
+        (source_between I.Source input.old input.new) result }
 {
     match read_command(alloc, words) {
         Ok(Command::Threads) => job_of_input(alloc, input),
@@ -51,11 +51,10 @@ fn run_job_at_once<
     R: Threads + Wait + Sync + AllocGlobal,
 >(rt: &R, job: &Job, output: &mut O, site: S, chooser: C, gate: &G) -> EndedAtOnce<S>
     requires able { C.can_choose chooser }
-    ensures ended { EndsJob job.now
-        (devices S.tells S.told S.writes S.faults site result.run.site)
-        (between O.tells O.told O.faults output.old output.new)
+    ensures ended { EndsJob job.now (devices S.Site site result.run.site)
+        (sink_between O.Sink output.old output.new)
         result.run.status result.hosts.items result.run.session }
-    ensures devices { WritesOn S.writes S.faults S.never_fails_but site result.run.site }
+    ensures devices { WritesOn S.Site site result.run.site }
 {
     let EndAtOnce { job, hosts } = run_at_once(rt, rt.alloc(), job, site, chooser, gate, output);
     let JobEnd { site, outcome } = job;
@@ -100,16 +99,14 @@ pub fn threads<
 ) -> EndedAtOnce<S>
     requires able { C.can_choose chooser }
     ensures ended { EndsThreads (map string_bytes words.now)
-        (between I.tells I.left I.faults input.old input.new)
-        (devices S.tells S.told S.writes S.faults site result.run.site)
-        (between O.tells O.told O.faults output.old output.new)
+        (source_between I.Source input.old input.new) (devices S.Site site result.run.site)
+        (sink_between O.Sink output.old output.new)
         result.run.status result.hosts.items result.run.session }
     ensures complete { (job : JobData) → GoesWellAtOnce (map string_bytes words.now)
-        (between I.tells I.left I.faults input.old input.new)
-        (devices S.tells S.told S.writes S.faults site result.run.site)
-        (between O.tells O.told O.faults output.old output.new) job
+        (source_between I.Source input.old input.new) (devices S.Site site result.run.site)
+        (sink_between O.Sink output.old output.new) job
         → IsComplete result.run.status }
-    ensures devices { WritesOn S.writes S.faults S.never_fails_but site result.run.site }
+    ensures devices { WritesOn S.Site site result.run.site }
 {
     match admit_threads(rt.alloc(), words, input) {
         Ok(job) => run_job_at_once(rt, &job, output, site, chooser, gate),

@@ -1,6 +1,6 @@
 //! How a run ends: its status, and an output of one line.
 ghost use Rattle.std.specs.Prelude.{◌≡◌, None};
-ghost use Rattle.session_report.specs.Parties.{between};
+ghost use Rattle.session_report.specs.Parties.{sink_between};
 ghost use Rattle.mss_top.specs.Ending.{line_of};
 ghost use Rattle.mss_top.specs.Status.{IsLinePut, end_status, line_status, status_of};
 
@@ -46,7 +46,7 @@ fn line_status(line: OneLine) -> Status
 
 /// Puts an output of one line, and answers with its status.
 pub fn say<O: Sink>(output: &mut O, line: OneLine) -> Status
-    ensures put { IsLinePut line (between O.tells O.told O.faults output.old output.new) result }
+    ensures put { IsLinePut line (sink_between O.Sink output.old output.new) result }
 {
     match put_line(output, &line) {
         Ok(()) => line_status(line),
@@ -56,8 +56,7 @@ pub fn say<O: Sink>(output: &mut O, line: OneLine) -> Status
 
 /// Ends a run without a session by its one line.
 pub fn refuse<O: Sink, S: Site>(output: &mut O, site: S, line: OneLine) -> Ended<S>
-    ensures put { IsLinePut line
-        (between O.tells O.told O.faults output.old output.new) result.status }
+    ensures put { IsLinePut line (sink_between O.Sink output.old output.new) result.status }
     ensures site { result.site ≡ site }
     ensures session { result.session ≡ None }
 {

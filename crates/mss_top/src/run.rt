@@ -5,7 +5,7 @@ ghost use Rattle.core_state.specs.Sessions.{session_data};
 ghost use Rattle.job_text.specs.Jobs.{JobData};
 ghost use Rattle.mss_restart.specs.Creations.{WritesOn};
 ghost use Rattle.serial_driver.specs.Drives.{AreTurns};
-ghost use Rattle.session_report.specs.Parties.{between};
+ghost use Rattle.session_report.specs.Parties.{sink_between, source_between};
 ghost use Rattle.job_runs.specs.Parties.{devices};
 ghost use Rattle.job_runs.specs.Runs.{GoesUnstopped};
 ghost use Rattle.mss_top.specs.Serial.{Closes, Ends, EndsRun, GoesWell, IsComplete, Runs};
@@ -25,7 +25,7 @@ use victim_choice::Choose;
 /// Ends the output of a session, and answers with the status: where memory ran out in it, nothing was put yet, and one
 /// line says so.
 pub fn close<O: Sink>(output: &mut O, end: DriveAnswer, told: Result<(), ReportFault>) -> Status
-    ensures { Closes end told (between O.tells O.told O.faults output.old output.new) result }
+    ensures { Closes end told (sink_between O.Sink output.old output.new) result }
 {
     match end {
         DriveAnswer::Memory => say(output, OneLine::WantOfMemory),
@@ -44,11 +44,11 @@ fn run_told<S: Site, C: Choose + Drop, O: Sink>(
     requires able { C.can_choose chooser }
     requires turns { AreTurns run.now.job.hosts run.now.job.config run.now.turns.items }
     ensures runs { Runs (C.may chooser) run.now.settings.load run.now.job run.now.turns.items
-        (devices S.tells S.told S.writes S.faults site result.site)
-        (between O.tells O.told O.faults output.old output.new) result.outcome }
+        (devices S.Site site result.site)
+        (sink_between O.Sink output.old output.new) result.outcome }
     ensures only_reads_fail { (but : UnitNo → Bool) → S.never_fails_but site but
         → GoesUnstopped result.outcome }
-    ensures devices { WritesOn S.writes S.faults S.never_fails_but site result.site }
+    ensures devices { WritesOn S.Site site result.site }
 {
     match run.settings.load {
         None => run_job(alloc, &run.job, &run.turns, site, chooser, output),
@@ -66,12 +66,11 @@ fn run_admitted<S: Site, C: Choose + Drop, O: Sink>(
 ) -> Ended<S>
     requires able { C.can_choose chooser }
     requires turns { AreTurns run.now.job.hosts run.now.job.config run.now.turns.items }
-    ensures ended { EndsRun (C.may chooser) run.now
-        (devices S.tells S.told S.writes S.faults site result.site)
-        (between O.tells O.told O.faults output.old output.new) result.status result.session }
+    ensures ended { EndsRun (C.may chooser) run.now (devices S.Site site result.site)
+        (sink_between O.Sink output.old output.new) result.status result.session }
     ensures only_reads_fail { (but : UnitNo → Bool) → S.never_fails_but site but
         → IfSome result.session (λ s. (session_data s).stopped ≡ None) }
-    ensures devices { WritesOn S.writes S.faults S.never_fails_but site result.site }
+    ensures devices { WritesOn S.Site site result.site }
 {
     let JobEnd { site, outcome } = run_told(alloc, run, site, chooser, output);
     match outcome {
@@ -103,17 +102,15 @@ pub fn serial<I: Source, O: Sink, S: Site, C: Choose + Drop>(
 ) -> Ended<S>
     requires able { C.can_choose chooser }
     ensures ended { Ends (map string_bytes words.now) (C.may chooser)
-        (between I.tells I.left I.faults input.old input.new)
-        (devices S.tells S.told S.writes S.faults site result.site)
-        (between O.tells O.told O.faults output.old output.new) result.status result.session }
+        (source_between I.Source input.old input.new) (devices S.Site site result.site)
+        (sink_between O.Sink output.old output.new) result.status result.session }
     ensures complete { (settings : Settings) (job : JobData) → GoesWell (map string_bytes words.now)
-        (between I.tells I.left I.faults input.old input.new)
-        (devices S.tells S.told S.writes S.faults site result.site)
-        (between O.tells O.told O.faults output.old output.new) settings job
+        (source_between I.Source input.old input.new) (devices S.Site site result.site)
+        (sink_between O.Sink output.old output.new) settings job
         → IsComplete result.status }
     ensures only_reads_fail { (but : UnitNo → Bool) → S.never_fails_but site but
         → IfSome result.session (λ s. (session_data s).stopped ≡ None) }
-    ensures devices { WritesOn S.writes S.faults S.never_fails_but site result.site }
+    ensures devices { WritesOn S.Site site result.site }
 {
     match admit(alloc, words, input) {
         Ok(run) => run_admitted(alloc, &run, site, chooser, output),

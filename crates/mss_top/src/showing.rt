@@ -2,7 +2,7 @@
 ghost use Rattle.std.specs.Prelude.{◌≡◌, ◌≢◌, [], None, length, map, string_bytes, IfOk};
 ghost use Rattle.mss_base.specs.Content.{content};
 ghost use Rattle.mss_base.specs.Sites.{OnlyReads};
-ghost use Rattle.session_report.specs.Parties.{between};
+ghost use Rattle.session_report.specs.Parties.{sink_between};
 ghost use Rattle.job_runs.specs.Parties.{devices};
 ghost use Rattle.mss_restart.specs.OneCopy.{ArePaired, LosesOneTable};
 ghost use Rattle.table_pair.specs.Reads.{CanReadTracks};
@@ -39,14 +39,12 @@ fn any_config(alloc: Global) -> Config
 
 /// Surveys a site whatever its volumes are: its rows, or the line of its first fault.
 fn survey_any<S: Site>(alloc: Global, site: &mut S) -> Result<Rows, OneLine>
-    ensures survey { SurveysAny (devices S.tells S.told S.writes S.faults site.old site.new)
-        (rows_in result) }
-    ensures one_copy { S.tells → LosesOneTable S.never_fails_but site.old
+    ensures survey { SurveysAny (devices S.Site site.old site.new) (rows_in result) }
+    ensures one_copy { S.tells → LosesOneTable S.Site site.old
         → ArePaired (content (S.told site.old))
         → LooksExactly (content (S.told site.old)) (rows_in result) }
     ensures whole { IfOk result (λ rows. length rows.items ≡ 32) }
-    ensures site { OnlyReads S.tells S.told S.spare S.writes S.faults S.never_fails_but
-        site.old site.new }
+    ensures site { OnlyReads S.Site site.old site.new }
 {
     match survey(alloc, site, &any_config(alloc)) {
         Ok(rows) => Ok(rows),
@@ -57,13 +55,12 @@ fn survey_any<S: Site>(alloc: Global, site: &mut S) -> Result<Rows, OneLine>
 /// The rows of a site, where the words ask for a look at it, or the line that says why there are none.
 fn look<S: Site>(alloc: Global, words: &[String], site: &mut S) -> Result<Rows, OneLine>
     ensures looks { Looks (map string_bytes words.now)
-        (devices S.tells S.told S.writes S.faults site.old site.new) (rows_in result) }
+        (devices S.Site site.old site.new) (rows_in result) }
     ensures one_copy { AskToShow (map string_bytes words.now) → S.tells
-        → LosesOneTable S.never_fails_but site.old → ArePaired (content (S.told site.old))
+        → LosesOneTable S.Site site.old → ArePaired (content (S.told site.old))
         → LooksExactly (content (S.told site.old)) (rows_in result) }
     ensures whole { IfOk result (λ rows. length rows.items ≡ 32) }
-    ensures site { OnlyReads S.tells S.told S.spare S.writes S.faults S.never_fails_but
-        site.old site.new }
+    ensures site { OnlyReads S.Site site.old site.new }
 {
     match read_command(alloc, words) {
         Ok(Command::Show) => survey_any(alloc, site),
@@ -75,16 +72,13 @@ fn look<S: Site>(alloc: Global, words: &[String], site: &mut S) -> Result<Rows, 
 /// Lists the volumes of the rows that a survey found, and answers with the status.
 fn list<S: Site, O: Sink>(alloc: Global, site: &mut S, rows: &Rows, output: &mut O) -> Status
     requires whole { length rows.now.items ≡ 32 }
-    ensures lists { Lists rows.now.items
-        (devices S.tells S.told S.writes S.faults site.old site.new)
-        (between O.tells O.told O.faults output.old output.new) result }
-    ensures works { CanReadTracks S.never_fails_but site.old → result ≢ Stopped }
+    ensures lists { Lists rows.now.items (devices S.Site site.old site.new)
+        (sink_between O.Sink output.old output.new) result }
+    ensures works { CanReadTracks S.Site site.old → result ≢ Stopped }
     ensures unread { result ≡ Stopped
-        → BrokeOff S.never_fails_but site.old rows.now.items
-        (devices S.tells S.told S.writes S.faults site.old site.new)
-        (between O.tells O.told O.faults output.old output.new) }
-    ensures site { OnlyReads S.tells S.told S.spare S.writes S.faults S.never_fails_but
-        site.old site.new }
+        → BrokeOff S.Site site.old rows.now.items (devices S.Site site.old site.new)
+        (sink_between O.Sink output.old output.new) }
+    ensures site { OnlyReads S.Site site.old site.new }
 {
     let told = listing(alloc, site, rows.as_slice(), output);
     status_of(DriveAnswer::Done, told)
@@ -97,18 +91,14 @@ fn show_lent<S: Site, O: Sink>(
     output: &mut O,
     site: &mut S,
 ) -> Status
-    ensures ended { EndsShown (map string_bytes words.now)
-        (devices S.tells S.told S.writes S.faults site.old site.new)
-        (between O.tells O.told O.faults output.old output.new) result }
-    ensures unread { result ≡ Stopped → LookBrokeOff S.never_fails_but site.old
-        (devices S.tells S.told S.writes S.faults site.old site.new)
-        (between O.tells O.told O.faults output.old output.new) }
-    ensures one_copy { LooksByOneCopy (map string_bytes words.now) S.tells S.told
-        S.never_fails_but site.old (between O.tells O.told O.faults output.old output.new)
-        → IsShown (content (S.told site.old))
-        (between O.tells O.told O.faults output.old output.new) result }
-    ensures site { OnlyReads S.tells S.told S.spare S.writes S.faults S.never_fails_but
-        site.old site.new }
+    ensures ended { EndsShown (map string_bytes words.now) (devices S.Site site.old site.new)
+        (sink_between O.Sink output.old output.new) result }
+    ensures unread { result ≡ Stopped → LookBrokeOff S.Site site.old
+        (devices S.Site site.old site.new) (sink_between O.Sink output.old output.new) }
+    ensures one_copy { LooksByOneCopy (map string_bytes words.now) S.Site site.old
+        (sink_between O.Sink output.old output.new)
+        → IsShown (content (S.told site.old)) (sink_between O.Sink output.old output.new) result }
+    ensures site { OnlyReads S.Site site.old site.new }
 {
     match look(alloc, words, site) {
         Ok(rows) => list(alloc, site, &rows, output),
@@ -128,23 +118,19 @@ pub fn show<S: Site, O: Sink>(
     output: &mut O,
     mut site: S,
 ) -> Ended<S>
-    ensures ended { EndsShown (map string_bytes words.now)
-        (devices S.tells S.told S.writes S.faults site result.site)
-        (between O.tells O.told O.faults output.old output.new) result.status }
-    ensures unread { result.status ≡ Stopped → LookBrokeOff S.never_fails_but site
-        (devices S.tells S.told S.writes S.faults site result.site)
-        (between O.tells O.told O.faults output.old output.new) }
-    ensures complete { LooksWell (map string_bytes words.now)
-        (devices S.tells S.told S.writes S.faults site result.site)
-        (between O.tells O.told O.faults output.old output.new)
+    ensures ended { EndsShown (map string_bytes words.now) (devices S.Site site result.site)
+        (sink_between O.Sink output.old output.new) result.status }
+    ensures unread { result.status ≡ Stopped → LookBrokeOff S.Site site
+        (devices S.Site site result.site) (sink_between O.Sink output.old output.new) }
+    ensures complete { LooksWell (map string_bytes words.now) (devices S.Site site result.site)
+        (sink_between O.Sink output.old output.new)
         → IsShown (content (S.told site))
-        (between O.tells O.told O.faults output.old output.new) result.status }
-    ensures one_copy { LooksByOneCopy (map string_bytes words.now) S.tells S.told
-        S.never_fails_but site (between O.tells O.told O.faults output.old output.new)
+        (sink_between O.Sink output.old output.new) result.status }
+    ensures one_copy { LooksByOneCopy (map string_bytes words.now) S.Site site
+        (sink_between O.Sink output.old output.new)
         → IsShown (content (S.told site))
-        (between O.tells O.told O.faults output.old output.new) result.status }
-    ensures site { OnlyReads S.tells S.told S.spare S.writes S.faults S.never_fails_but
-        site result.site }
+        (sink_between O.Sink output.old output.new) result.status }
+    ensures site { OnlyReads S.Site site result.site }
     ensures session { result.session ≡ None }
 {
     let status = show_lent(alloc, words, output, &mut site);

@@ -2,8 +2,7 @@
 use Rattle.std.proofs.Common.{◌≡◌, ◌≢◌, ◌<◌, ◌≤◌, ℕ, zero, suc, ◌+◌, List, [], ◌∷◌, length, drop, get_or, refl, sym, ap, subst, arith}
 use Rattle.std.specs.Prelude.{slice_index_or}
 use Rattle.std.proofs.lemmas.List.{length-map}
-use Rattle.mss_base.specs.Content.{SiteLog}
-use Rattle.mss_base.specs.Sites.{FailingReads}
+use Rattle.mss_base.specs.declared.site.Site.{Ghosts}
 use Rattle.channel_program.proofs.ItemFacts.{view_at}
 use Rattle.victim_choice.specs.declared.choose.Candidate.{Candidate}
 use Rattle.job_text.specs.Jobs.{ScriptData}
@@ -42,13 +41,13 @@ same_there [] i d e below = absurd (omega (arith, below))
 same_there (x ∷ xs) zero d e below = refl
 same_there (x ∷ xs) (suc i) d e below = same_there xs i d e (omega (arith, below))
 
-module _ {S C : Type 0} (tells : Type 0) (may : C → List Candidate → ℕ → Type 0) (told : S → SiteLog) (writes faults : S → ℕ) (never_fails_but : FailingReads S)
+module _ {S C : Type 0} (g : Ghosts S) (may : C → List Candidate → ℕ → Type 0)
     (turns : List ℕ) (i other : ℕ) (init now new : DriveValue S C) (answer : DriveAnswer)
     (below : i < length turns)
-    (so_far : EventsSoFar tells (may init.core.chooser) init.scripts (events_of init.scripts turns) (seen told writes faults init.core) (drop i (events_of init.scripts turns)) (seen told writes faults now.core))
-    (leaves : Leaves tells told writes faults never_fails_but init now Done)
-    (takes : EventTakes tells (may now.core.chooser) now.scripts (event_of now.scripts (get_or turns i other)) (seen told writes faults now.core) answer (seen told writes faults new.core))
-    (left : Leaves tells told writes faults never_fails_but now new answer) where
+    (so_far : EventsSoFar g.tells (may init.core.chooser) init.scripts (events_of init.scripts turns) (seen g init.core) (drop i (events_of init.scripts turns)) (seen g now.core))
+    (leaves : Leaves g init now Done)
+    (takes : EventTakes g.tells (may now.core.chooser) now.scripts (event_of now.scripts (get_or turns i other)) (seen g now.core) answer (seen g new.core))
+    (left : Leaves g now new answer) where
   abbrev turn : ℕ
   turn = get_or turns i other
 
@@ -58,21 +57,21 @@ module _ {S C : Type 0} (tells : Type 0) (may : C → List Candidate → ℕ →
   there : event_of init.scripts turn ≡ get_or (events_of init.scripts turns) i (event_of init.scripts turn)
   there = view_at (event_of init.scripts) turns i turn below (same_there turns i other turn below)
 
-  takes_so : EventTakes tells (may now.core.chooser) now.scripts (event_of init.scripts turn) (seen told writes faults now.core) answer (seen told writes faults new.core)
+  takes_so : EventTakes g.tells (may now.core.chooser) now.scripts (event_of init.scripts turn) (seen g now.core) answer (seen g new.core)
   takes_so =
-      subst (λ (scripts : List ScriptData). EventTakes tells (may now.core.chooser) now.scripts (event_of scripts turn) (seen told writes faults now.core) answer (seen told writes faults new.core)) leaves.scripts_ takes
+      subst (λ (scripts : List ScriptData). EventTakes g.tells (may now.core.chooser) now.scripts (event_of scripts turn) (seen g now.core) answer (seen g new.core)) leaves.scripts_ takes
 
-  pub turn_leaves : Leaves tells told writes faults never_fails_but init new answer
-  turn_leaves = event_leaves tells may told writes faults never_fails_but (events_of init.scripts turns) i (event_of init.scripts turn) init now new answer low there so_far leaves takes_so left
+  pub turn_leaves : Leaves g init new answer
+  turn_leaves = event_leaves g may (events_of init.scripts turns) i (event_of init.scripts turn) init now new answer low there so_far leaves takes_so left
 
-  pub turn_done : answer ≡ Done → Leaves tells told writes faults never_fails_but init new Done
-  turn_done = leaves_done tells may told writes faults never_fails_but (events_of init.scripts turns) i (event_of init.scripts turn) init now new answer low there so_far leaves takes_so left
+  pub turn_done : answer ≡ Done → Leaves g init new Done
+  turn_done = leaves_done g may (events_of init.scripts turns) i (event_of init.scripts turn) init now new answer low there so_far leaves takes_so left
 
-  pub turn_goes : answer ≡ Done → EventsSoFar tells (may init.core.chooser) init.scripts (events_of init.scripts turns) (seen told writes faults init.core) (drop (i + 1) (events_of init.scripts turns)) (seen told writes faults new.core)
-  turn_goes = event_goes tells may told writes faults never_fails_but (events_of init.scripts turns) i (event_of init.scripts turn) init now new answer low there so_far leaves takes_so left
+  pub turn_goes : answer ≡ Done → EventsSoFar g.tells (may init.core.chooser) init.scripts (events_of init.scripts turns) (seen g init.core) (drop (i + 1) (events_of init.scripts turns)) (seen g new.core)
+  turn_goes = event_goes g may (events_of init.scripts turns) i (event_of init.scripts turn) init now new answer low there so_far leaves takes_so left
 
-  pub turn_halts : answer ≢ Done → RunsEvents tells (may init.core.chooser) init.scripts (events_of init.scripts turns) (seen told writes faults init.core) answer (seen told writes faults new.core)
-  turn_halts = event_halts tells may told writes faults never_fails_but (events_of init.scripts turns) i (event_of init.scripts turn) init now new answer low there so_far leaves takes_so left
+  pub turn_halts : answer ≢ Done → RunsEvents g.tells (may init.core.chooser) init.scripts (events_of init.scripts turns) (seen g init.core) answer (seen g new.core)
+  turn_halts = event_halts g may (events_of init.scripts turns) i (event_of init.scripts turn) init now new answer low there so_far leaves takes_so left
 
 pub turns_over : (tells : Type 0) (may : List Candidate → ℕ → Type 0) (scripts : List ScriptData) (turns : List ℕ) (i : ℕ) (start now : CoreData) → length turns ≤ i
     → EventsSoFar tells may scripts (events_of scripts turns) start (drop i (events_of scripts turns)) now → RunsEvents tells may scripts (events_of scripts turns) start Done now
@@ -81,28 +80,28 @@ turns_over tells may scripts turns i start now past so_far =
 
 -- ---- and then rounds
 
-module _ {S C : Type 0} (tells : Type 0) (may : C → List Candidate → ℕ → Type 0) (told : S → SiteLog) (writes faults : S → ℕ) (never_fails_but : FailingReads S)
+module _ {S C : Type 0} (g : Ghosts S) (may : C → List Candidate → ℕ → Type 0)
     (turns : List ℕ) (init mid : DriveValue S C) (halfway : DriveAnswer)
-    (turned : RunsEvents tells (may init.core.chooser) init.scripts (events_of init.scripts turns) (seen told writes faults init.core) halfway (seen told writes faults mid.core)) where
-  pub run_halts : halfway ≢ Done → RunsOn tells (may init.core.chooser) init.scripts turns (seen told writes faults init.core) halfway (seen told writes faults mid.core)
+    (turned : RunsEvents g.tells (may init.core.chooser) init.scripts (events_of init.scripts turns) (seen g init.core) halfway (seen g mid.core)) where
+  pub run_halts : halfway ≢ Done → RunsOn g.tells (may init.core.chooser) init.scripts turns (seen g init.core) halfway (seen g mid.core)
   run_halts other = record {
-    mid = seen told writes faults mid.core;
+    mid = seen g mid.core;
     halfway = halfway;
     turned = turned;
     rounds = λ done. absurd (other done);
     halted = λ _. (refl, refl);
   }
 
-  module _ (leaves : Leaves tells told writes faults never_fails_but init mid halfway) (done : halfway ≡ Done) (new : DriveValue S C) (end : DriveAnswer) where
-    pub run_ends : RunsToEnd tells (may mid.core.chooser) mid.scripts (seen told writes faults mid.core) end (seen told writes faults new.core)
-        → RunsOn tells (may init.core.chooser) init.scripts turns (seen told writes faults init.core) end (seen told writes faults new.core)
+  module _ (leaves : Leaves g init mid halfway) (done : halfway ≡ Done) (new : DriveValue S C) (end : DriveAnswer) where
+    pub run_ends : RunsToEnd g.tells (may mid.core.chooser) mid.scripts (seen g mid.core) end (seen g new.core)
+        → RunsOn g.tells (may init.core.chooser) init.scripts turns (seen g init.core) end (seen g new.core)
     run_ends rounds = record {
-      mid = seen told writes faults mid.core;
+      mid = seen g mid.core;
       halfway = halfway;
       turned = turned;
-      rounds = λ _. subst (λ (p : C × List ScriptData). RunsToEnd tells (may p.0) p.1 (seen told writes faults mid.core) end (seen told writes faults new.core)) (λ k. (leaves.chooser_ k, leaves.scripts_ k)) rounds;
+      rounds = λ _. subst (λ (p : C × List ScriptData). RunsToEnd g.tells (may p.0) p.1 (seen g mid.core) end (seen g new.core)) (λ k. (leaves.chooser_ k, leaves.scripts_ k)) rounds;
       halted = λ other. absurd (other done);
     }
 
-    pub run_leaves : Leaves tells told writes faults never_fails_but mid new end → Leaves tells told writes faults never_fails_but init new end
-    run_leaves last = leaves_then tells told writes faults never_fails_but init mid new end (subst (λ (a : DriveAnswer). Leaves tells told writes faults never_fails_but init mid a) done leaves) last
+    pub run_leaves : Leaves g mid new end → Leaves g init new end
+    run_leaves last = leaves_then g init mid new end (subst (λ (a : DriveAnswer). Leaves g init mid a) done leaves) last

@@ -3,6 +3,7 @@ use Rattle.std.proofs.Common.{◌≡◌, ◌≢◌, ◌<◌, ◌≤◌, arith, �
 use Rattle.std.specs.Prelude.{nat_eq, slice_set, slice_get, is_some}
 use Rattle.mss_base.specs.Counts.{IsFaultSince}
 use Rattle.mss_base.specs.Content.{SiteLog}
+use Rattle.mss_base.specs.declared.site.Site.{Ghosts}
 use Rattle.channel_program.proofs.ItemFacts.{all_at}
 use Rattle.core_state.specs.Chains.{OneOf}
 use Rattle.host_events.proofs.RuleFacts.{core_seen}
@@ -102,32 +103,32 @@ module _ (h : ℕ) (call : CallData) (old : List EntryData) where
 
 -- ---- over an event of a host
 
-module _ {S C : Type 0} (tells : Type 0) (told_by : S → SiteLog) (writes faults : S → ℕ) (v w : CoreValue S C) (scripts : List ScriptData) (places : List Place) (kept : v.stopped ≡ None → IsCore v)
+module _ {S C : Type 0} (g : Ghosts S) (v w : CoreValue S C) (scripts : List ScriptData) (places : List Place) (kept : v.stopped ≡ None → IsCore v)
     (driven : IsDriven v scripts places) (n : ℕ) (d : ScriptData) (below : n < length scripts) where
   abbrev host : ℕ
   host = (get_or scripts n d).host
 
   abbrev old : CoreData
-  old = seen told_by writes faults v
+  old = seen g v
 
   abbrev new : CoreData
-  new = seen told_by writes faults w
+  new = seen g w
 
   is_script : IsScript (get_or scripts n d)
   is_script = all_at IsScript scripts n d driven.scripts_.each below
 
   kept_ : old.stopped ≡ None → IsCore old
-  kept_ going = core_seen told_by writes faults v (kept going)
+  kept_ going = core_seen g v (kept going)
 
-  module _ (call : CallData) (told : HostTold) (event : HostEvent tells old host call told new)
+  module _ (call : CallData) (told : HostTold) (event : HostEvent g.tells old host call told new)
       (next : calls_of scripts v.history host ≡ Some call) (q : Place)
       (stands : StandsAt (get_or scripts n d).items
       (left_behind (left_after (not_begun (get_or scripts n d).items) (exchanges_of host v.history)) (slice_get w.history (length v.history))) q) where
     grown : Grows host call v.history w.history
-    grown = grows old host call told new (enters tells old kept_ host new call told event)
+    grown = grows old host call told new (enters g.tells old kept_ host new call told event)
 
     facts : HostFacts old host call told new
-    facts = host_facts tells old kept_ host is_script.low is_script.high new call told event
+    facts = host_facts g.tells old kept_ host is_script.low is_script.high new call told event
 
     one_is : slice_get w.history (length v.history) ≡ grown.one
     one_is = ap (λ (l : List EntryData). slice_get l (length v.history)) grown.grown ∙ behind_is v.history grown.one
@@ -160,7 +161,7 @@ module _ {S C : Type 0} (tells : Type 0) (told_by : S → SiteLog) (writes fault
     -- who has more to do
     module _ (going : w.stopped ≡ None) (was : v.stopped ≡ None) where
       others : LeavesOthers old host new
-      others = leaves_others tells old host call told new is_script.low (kept was).requests_ event
+      others = leaves_others g.tells old host call told new is_script.low (kept was).requests_ event
 
       more_other : (k : ℕ) → k ≢ host → HasMore w (left_of scripts w.history k) k
       more_other k other =
@@ -199,7 +200,7 @@ module _ {S C : Type 0} (tells : Type 0) (told_by : S → SiteLog) (writes fault
       more_all k = by_host (nat_eq k host) refl
         where
           by_host : (b : Bool) → nat_eq k host ≡ b → HasMore w (left_of scripts w.history k) k
-          by_host true is = subst (λ (j : ℕ). HasMore w (left_of scripts w.history j) j) (sym (eqb-true k host is)) (more_here told facts.host_ (enters tells old kept_ host new call told event) facts.stops)
+          by_host true is = subst (λ (j : ℕ). HasMore w (left_of scripts w.history j) j) (sym (eqb-true k host is)) (more_here told facts.host_ (enters g.tells old kept_ host new call told event) facts.stops)
           by_host false is = more_other k (eqb-false k host is)
 
     -- a core that isn't stopped wasn't
@@ -233,7 +234,7 @@ module _ {S C : Type 0} (tells : Type 0) (told_by : S → SiteLog) (writes fault
 
     -- the limit is told of a full history, to a host that has a call
     pub host_full : of_host told ≡ CommandLimit → IsFull scripts w.history
-    host_full = by_told told (has_cause tells old kept_ host new call told event) (enters tells old kept_ host new call told event)
+    host_full = by_told told (has_cause g.tells old kept_ host new call told event) (enters g.tells old kept_ host new call told event)
       where
         by_told : (told' : HostTold) → CauseOf old host call told' new → EntersAsTold old host call told' new → of_host told' ≡ CommandLimit → IsFull scripts w.history
         by_told at_limit cause keeps is =
@@ -252,11 +253,11 @@ module _ {S C : Type 0} (tells : Type 0) (told_by : S → SiteLog) (writes fault
         by_told (waits why) cause enters_ is = absurd (let e : Done ≡ CommandLimit = is in cc)
         by_told no_memory cause enters_ is = absurd (let e : Memory ≡ CommandLimit = is in cc)
 
-    pub host_cause : v.stopped ≡ None → (fault : ℕ) → w.stopped ≡ Some fault → IsFaultSince (faults v.site) (faults w.site) fault
+    pub host_cause : v.stopped ≡ None → (fault : ℕ) → w.stopped ≡ Some fault → IsFaultSince (g.faults v.site) (g.faults w.site) fault
     host_cause was fault is = by_told told facts.stops
       where
-        by_told : (told' : HostTold) → StopsAs told' old new → IsFaultSince (faults v.site) (faults w.site) fault
-        by_told (halts other) stops = let e : other ≡ fault = (let f : Some other ≡ Some fault = sym stops.0 ∙ is in cc) in subst (IsFaultSince (faults v.site) (faults w.site)) e (stops.1 was)
+        by_told : (told' : HostTold) → StopsAs told' old new → IsFaultSince (g.faults v.site) (g.faults w.site) fault
+        by_told (halts other) stops = let e : other ≡ fault = (let f : Some other ≡ Some fault = sym stops.0 ∙ is in cc) in subst (IsFaultSince (g.faults v.site) (g.faults w.site)) e (stops.1 was)
         by_told (replied index reply) stops = absurd (let e : None ≡ Some fault = sym was ∙ sym stops ∙ is in cc)
         by_told marked stops = absurd (let e : None ≡ Some fault = sym was ∙ sym stops ∙ is in cc)
         by_told (waits why) stops = absurd (let e : None ≡ Some fault = sym was ∙ sym stops ∙ is in cc)

@@ -2,8 +2,7 @@
 use Rattle.std.proofs.Common.{◌≡◌, ◌≢◌, ◌<◌, ◌≤◌, ℕ, zero, suc, ◌+◌, List, [], ◌∷◌, length, drop, get_or, Option, Some, None, refl, sym, ◌∙◌, ap, subst, arith}
 use Rattle.std.specs.Prelude.{◌==◌}
 use Rattle.std.proofs.lemmas.Bool.{cond-false, ne_eqb}
-use Rattle.mss_base.specs.Content.{SiteLog}
-use Rattle.mss_base.specs.Sites.{FailingReads}
+use Rattle.mss_base.specs.declared.site.Site.{Ghosts}
 use Rattle.victim_choice.specs.declared.choose.Candidate.{Candidate}
 use Rattle.channel_program.specs.Script.{ItemData, Exchange}
 use Rattle.ckd_plain.specs.History.{EntryData}
@@ -40,10 +39,10 @@ not_this (x ∷ xs) (suc n) h s below is other =
 
 -- ---- what is left of the devices
 
-pub leaves_then : {S C : Type 0} (tells : Type 0) (told : S → SiteLog) (writes faults : S → ℕ) (never_fails_but : FailingReads S) (old mid new : DriveValue S C) (answer : DriveAnswer)
-    → Leaves tells told writes faults never_fails_but old mid Done → Leaves tells told writes faults never_fails_but mid new answer → Leaves tells told writes faults never_fails_but old new answer
-leaves_then tells told writes faults never_fails_but old mid new answer first then_ = record {
-  session = later_then tells (seen told writes faults old.core) (seen told writes faults mid.core) (seen told writes faults new.core) first.session then_.session;
+pub leaves_then : {S C : Type 0} (g : Ghosts S) (old mid new : DriveValue S C) (answer : DriveAnswer)
+    → Leaves g old mid Done → Leaves g mid new answer → Leaves g old new answer
+leaves_then g old mid new answer first then_ = record {
+  session = later_then g.tells (seen g old.core) (seen g mid.core) (seen g new.core) first.session then_.session;
   scripts_ = then_.scripts_ ∙ first.scripts_;
   chooser_ = then_.chooser_ ∙ first.chooser_;
   written = omega (arith, first.written, then_.written);
@@ -57,9 +56,9 @@ leaves_then tells told writes faults never_fails_but old mid new answer first th
   full = then_.full;
 }
 
-pub leaves_none : {S C : Type 0} (tells : Type 0) (told : S → SiteLog) (writes faults : S → ℕ) (never_fails_but : FailingReads S) (d : DriveValue S C) → Leaves tells told writes faults never_fails_but d d Done
-leaves_none tells told writes faults never_fails_but d = record {
-  session = later_none tells (seen told writes faults d.core);
+pub leaves_none : {S C : Type 0} (g : Ghosts S) (d : DriveValue S C) → Leaves g d d Done
+leaves_none g d = record {
+  session = later_none g.tells (seen g d.core);
   scripts_ = refl;
   chooser_ = refl;
   written = omega arith;
@@ -113,36 +112,36 @@ rest_is (y ∷ ys) (suc n) x below is =
     let e : suc n + 1 ≡ suc (n + 1) = omega arith in
     rest_is ys n x (omega (arith, below)) is ∙ ap (λ (k : ℕ). x ∷ drop k (y ∷ ys)) (sym e)
 
-module _ {S C : Type 0} (tells : Type 0) (may : C → List Candidate → ℕ → Type 0) (told : S → SiteLog) (writes faults : S → ℕ) (never_fails_but : FailingReads S)
+module _ {S C : Type 0} (g : Ghosts S) (may : C → List Candidate → ℕ → Type 0)
     (events : List Event) (i : ℕ) (event : Event) (init now new : DriveValue S C) (answer : DriveAnswer)
     (below : i < length events) (is : event ≡ get_or events i event)
-    (so_far : EventsSoFar tells (may init.core.chooser) init.scripts events (seen told writes faults init.core) (drop i events) (seen told writes faults now.core))
-    (leaves : Leaves tells told writes faults never_fails_but init now Done)
-    (takes : EventTakes tells (may now.core.chooser) now.scripts event (seen told writes faults now.core) answer (seen told writes faults new.core))
-    (left : Leaves tells told writes faults never_fails_but now new answer) where
-  takes_so : EventTakes tells (may init.core.chooser) init.scripts event (seen told writes faults now.core) answer (seen told writes faults new.core)
+    (so_far : EventsSoFar g.tells (may init.core.chooser) init.scripts events (seen g init.core) (drop i events) (seen g now.core))
+    (leaves : Leaves g init now Done)
+    (takes : EventTakes g.tells (may now.core.chooser) now.scripts event (seen g now.core) answer (seen g new.core))
+    (left : Leaves g now new answer) where
+  takes_so : EventTakes g.tells (may init.core.chooser) init.scripts event (seen g now.core) answer (seen g new.core)
   takes_so =
-      subst (λ (p : C × List ScriptData). EventTakes tells (may p.0) p.1 event (seen told writes faults now.core) answer (seen told writes faults new.core))
+      subst (λ (p : C × List ScriptData). EventTakes g.tells (may p.0) p.1 event (seen g now.core) answer (seen g new.core))
       (λ k. (leaves.chooser_ k, leaves.scripts_ k)) takes
 
-  from : EventsSoFar tells (may init.core.chooser) init.scripts events (seen told writes faults init.core) (event ∷ drop (i + 1) events) (seen told writes faults now.core)
+  from : EventsSoFar g.tells (may init.core.chooser) init.scripts events (seen g init.core) (event ∷ drop (i + 1) events) (seen g now.core)
   from =
-      subst (λ (l : List Event). EventsSoFar tells (may init.core.chooser) init.scripts events (seen told writes faults init.core) l (seen told writes faults now.core))
+      subst (λ (l : List Event). EventsSoFar g.tells (may init.core.chooser) init.scripts events (seen g init.core) l (seen g now.core))
       (rest_is events i event below is) so_far
 
-  pub event_leaves : Leaves tells told writes faults never_fails_but init new answer
-  event_leaves = leaves_then tells told writes faults never_fails_but init now new answer leaves left
+  pub event_leaves : Leaves g init new answer
+  event_leaves = leaves_then g init now new answer leaves left
 
-  pub leaves_done : answer ≡ Done → Leaves tells told writes faults never_fails_but init new Done
-  leaves_done done = subst (λ (a : DriveAnswer). Leaves tells told writes faults never_fails_but init new a) done event_leaves
+  pub leaves_done : answer ≡ Done → Leaves g init new Done
+  leaves_done done = subst (λ (a : DriveAnswer). Leaves g init new a) done event_leaves
 
-  pub event_goes : answer ≡ Done → EventsSoFar tells (may init.core.chooser) init.scripts events (seen told writes faults init.core) (drop (i + 1) events) (seen told writes faults new.core)
+  pub event_goes : answer ≡ Done → EventsSoFar g.tells (may init.core.chooser) init.scripts events (seen g init.core) (drop (i + 1) events) (seen g new.core)
   event_goes done =
-      events_go tells (may init.core.chooser) init.scripts events (seen told writes faults init.core) (drop (i + 1) events) (seen told writes faults now.core) (seen told writes faults new.core) event answer takes_so done from
+      events_go g.tells (may init.core.chooser) init.scripts events (seen g init.core) (drop (i + 1) events) (seen g now.core) (seen g new.core) event answer takes_so done from
 
-  pub event_halts : answer ≢ Done → RunsEvents tells (may init.core.chooser) init.scripts events (seen told writes faults init.core) answer (seen told writes faults new.core)
+  pub event_halts : answer ≢ Done → RunsEvents g.tells (may init.core.chooser) init.scripts events (seen g init.core) answer (seen g new.core)
   event_halts halted =
-      events_halt tells (may init.core.chooser) init.scripts events (seen told writes faults init.core) (drop (i + 1) events) (seen told writes faults now.core) (seen told writes faults new.core) event answer takes_so halted from
+      events_halt g.tells (may init.core.chooser) init.scripts events (seen g init.core) (drop (i + 1) events) (seen g now.core) (seen g new.core) event answer takes_so halted from
 
 nothing_left : (xs : List Event) (k : ℕ) → length xs ≤ k → drop k xs ≡ []
 nothing_left [] zero low = refl

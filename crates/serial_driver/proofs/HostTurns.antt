@@ -3,6 +3,7 @@ use Rattle.std.proofs.Common.{◌≡◌, ◌<◌, ℕ, zero, suc, Bool, List, []
 use Rattle.std.specs.Prelude.{slice_set, slice_get, is_some}
 use Rattle.mss_base.specs.Content.{SiteLog}
 use Rattle.mss_base.specs.Counts.{IsFaultSince}
+use Rattle.mss_base.specs.declared.site.Site.{Ghosts}
 use Rattle.channel_commands.specs.Data.{CallData}
 use Rattle.channel_program.specs.Script.{ItemData}
 use Rattle.ckd_plain.specs.History.{EntryData}
@@ -36,22 +37,22 @@ unstopped_same (Stopped fault) was is un halts = absurd un
 unstopped_same CommandLimit was is un halts = halts
 unstopped_same Memory was is un halts = halts
 
-pub record HostWhole {S C : Type 0} (faults : S → ℕ) (v w : CoreValue S C) (scripts : List ScriptData) (places : List Place) (answer : DriveAnswer) : Type 0 where
+pub record HostWhole {S C : Type 0} (g : Ghosts S) (v w : CoreValue S C) (scripts : List ScriptData) (places : List Place) (answer : DriveAnswer) : Type 0 where
   pub driven : IsDriven w scripts places
   pub full : answer ≡ CommandLimit → IsFull scripts w.history
   pub halts : Halts answer v.stopped w.stopped
-  pub cause : v.stopped ≡ None → (fault : ℕ) → w.stopped ≡ Some fault → IsFaultSince (faults v.site) (faults w.site) fault
+  pub cause : v.stopped ≡ None → (fault : ℕ) → w.stopped ≡ Some fault → IsFaultSince (g.faults v.site) (g.faults w.site) fault
 
-module _ {S C : Type 0} (tells : Type 0) (told_by : S → SiteLog) (writes faults : S → ℕ) (v w : CoreValue S C) (scripts : List ScriptData) (places : List Place) (kept : v.stopped ≡ None → IsCore v)
+module _ {S C : Type 0} (g : Ghosts S) (v w : CoreValue S C) (scripts : List ScriptData) (places : List Place) (kept : v.stopped ≡ None → IsCore v)
     (driven : IsDriven v scripts places) (n : ℕ) (d : ScriptData) (below : n < length scripts) where
   abbrev script : ScriptData
   script = get_or scripts n d
 
   abbrev old : CoreData
-  old = seen told_by writes faults v
+  old = seen g v
 
   abbrev new : CoreData
-  new = seen told_by writes faults w
+  new = seen g w
 
   abbrev at_script : Left
   at_script = left_after (not_begun script.items) (exchanges_of script.host v.history)
@@ -72,20 +73,20 @@ module _ {S C : Type 0} (tells : Type 0) (told_by : S → SiteLog) (writes fault
         ∙ ap (λ (s : ScriptData). is_some (calls_of scripts v.history s.host)) (same_default scripts n d unknown below)
 
     module _ (q : Place) (answer : DriveAnswer)
-        (event : (left : Left) → StandsAt script.items left (get_or list n p) → HostTakes tells script.host (next_of left.items left.at) old answer new)
+        (event : (left : Left) → StandsAt script.items left (get_or list n p) → HostTakes g.tells script.host (next_of left.items left.at) old answer new)
         (moves : (left : Left) → StandsAt script.items left (get_or list n p) → StandsAt script.items (left_behind left (slice_get w.history (length v.history))) q) where
       call_is : calls_of scripts v.history script.host ≡ next_of at_script.items at_script.at
       call_is = ap (λ (items : List ItemData). next_of (left_after (not_begun items) (exchanges_of script.host v.history)).items (left_after (not_begun items) (exchanges_of script.host v.history)).at) (script_at scripts n d driven.scripts_.differ below)
 
-      takes : HostTakes tells script.host (calls_of scripts v.history script.host) old answer new
-      takes = subst (λ (c : Option CallData). HostTakes tells script.host c old answer new) (sym call_is) (event at_script stands_there)
+      takes : HostTakes g.tells script.host (calls_of scripts v.history script.host) old answer new
+      takes = subst (λ (c : Option CallData). HostTakes g.tells script.host c old answer new) (sym call_is) (event at_script stands_there)
 
       stands : StandsAt script.items (left_behind at_script (slice_get w.history (length v.history))) q
       stands = moves at_script stands_there
 
       -- with another script where there is none
-      pub host_takes : (unknown : ScriptData) → HostTakes tells (get_or scripts n unknown).host (calls_of scripts v.history (get_or scripts n unknown).host) old answer new
-      host_takes unknown = subst (λ (s : ScriptData). HostTakes tells s.host (calls_of scripts v.history s.host) old answer new) (same_default scripts n d unknown below) takes
+      pub host_takes : (unknown : ScriptData) → HostTakes g.tells (get_or scripts n unknown).host (calls_of scripts v.history (get_or scripts n unknown).host) old answer new
+      host_takes unknown = subst (λ (s : ScriptData). HostTakes g.tells s.host (calls_of scripts v.history s.host) old answer new) (same_default scripts n d unknown below) takes
 
       still : new ≡ old → IsDriven w scripts (slice_set places n q)
       still is = record {
@@ -109,7 +110,7 @@ module _ {S C : Type 0} (tells : Type 0) (told_by : S → SiteLog) (writes fault
                 asked = λ r asks. (driven.more was h).asked r (sym (ap (λ (c : CoreData). request_of c.requests h) is) ∙ asks);
               }
 
-      by_call : (call : Option CallData) → calls_of scripts v.history script.host ≡ call → HostTakes tells script.host call old answer new → HostWhole faults v w scripts (slice_set places n q) answer
+      by_call : (call : Option CallData) → calls_of scripts v.history script.host ≡ call → HostTakes g.tells script.host call old answer new → HostWhole g v w scripts (slice_set places n q) answer
       by_call None next it = record {
         driven = still it.0;
         full = λ is. absurd (let e : Done ≡ CommandLimit = sym it.1 ∙ is in cc);
@@ -117,23 +118,23 @@ module _ {S C : Type 0} (tells : Type 0) (told_by : S → SiteLog) (writes fault
         cause = λ was fault is. absurd (let e : None ≡ Some fault = sym was ∙ sym (ap (λ (c : CoreData). c.stopped) it.0) ∙ is in cc);
       }
       by_call (Some call) next it = record {
-        driven = host_driven tells told_by writes faults v w scripts places kept driven n d below call it.0 it.1 next q stands;
-        full = λ is. host_full tells told_by writes faults v w scripts places kept driven n d below call it.0 it.1 next q stands (sym it.2 ∙ is);
-        halts = subst (λ (a : DriveAnswer). Halts a v.stopped w.stopped) (sym it.2) (host_halts tells told_by writes faults v w scripts places kept driven n d below call it.0 it.1 next q stands);
-        cause = host_cause tells told_by writes faults v w scripts places kept driven n d below call it.0 it.1 next q stands;
+        driven = host_driven g v w scripts places kept driven n d below call it.0 it.1 next q stands;
+        full = λ is. host_full g v w scripts places kept driven n d below call it.0 it.1 next q stands (sym it.2 ∙ is);
+        halts = subst (λ (a : DriveAnswer). Halts a v.stopped w.stopped) (sym it.2) (host_halts g v w scripts places kept driven n d below call it.0 it.1 next q stands);
+        cause = host_cause g v w scripts places kept driven n d below call it.0 it.1 next q stands;
       }
 
-      pub host_whole : HostWhole faults v w scripts (slice_set places n q) answer
+      pub host_whole : HostWhole g v w scripts (slice_set places n q) answer
       host_whole = by_call (calls_of scripts v.history script.host) refl takes
 
-      session_by : (call : Option CallData) → HostTakes tells script.host call old answer new → IsLater tells old new
-      session_by None it = subst (λ (c : CoreData). IsLater tells old c) (sym it.0) (later_none tells old)
+      session_by : (call : Option CallData) → HostTakes g.tells script.host call old answer new → IsLater g.tells old new
+      session_by None it = subst (λ (c : CoreData). IsLater g.tells old c) (sym it.0) (later_none g.tells old)
       session_by (Some call) it = record {
-        beginning = keeps_beginning tells old script.host new call it.0 it.1;
+        beginning = keeps_beginning g.tells old script.host new call it.0 it.1;
         grown = λ t.
-            let added = leaves_cartridges tells old (λ going. core_seen told_by writes faults v (kept going)) script.host new t call it.0 it.1 in
+            let added = leaves_cartridges g.tells old (λ going. core_seen g v (kept going)) script.host new t call it.0 it.1 in
             (added.items, added.grown);
       }
 
-      pub host_session : IsLater tells old new
+      pub host_session : IsLater g.tells old new
       host_session = session_by (calls_of scripts v.history script.host) takes

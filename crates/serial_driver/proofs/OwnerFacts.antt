@@ -3,6 +3,7 @@ use Rattle.std.proofs.Common.{◌≡◌, ◌⊎◌, inl, inr, ◌<◌, ℕ, zero
 use Rattle.std.specs.Prelude.{◌==◌, ◌||◌, is_some}
 use Rattle.std.proofs.lemmas.Bool.{false≢true, cond-true, cond-false, eqb-true}
 use Rattle.mss_base.specs.Content.{SiteLog}
+use Rattle.mss_base.specs.declared.site.Site.{Ghosts}
 use Rattle.channel_commands.specs.Data.{CallData}
 use Rattle.channel_program.specs.Script.{ItemData, program}
 use Rattle.ckd_plain.specs.History.{EntryData}
@@ -72,8 +73,8 @@ by_chain volume true true o is = inl refl
 by_chain volume true false None is = absurd (false≢true is)
 by_chain volume true false (Some r) is = inr (r, refl)
 
-module _ {S C : Type 0} (told_by : S → SiteLog) (writes faults : S → ℕ) (v : CoreValue S C) (scripts : List ScriptData) (places : List Place) (driven : IsDriven v scripts places) where
-  pub owners_call : v.stopped ≡ None → OwnersCall (seen told_by writes faults v) (calls_of scripts v.history)
+module _ {S C : Type 0} (g : Ghosts S) (v : CoreValue S C) (scripts : List ScriptData) (places : List Place) (driven : IsDriven v scripts places) where
+  pub owners_call : v.stopped ≡ None → OwnersCall (seen g v) (calls_of scripts v.history)
   unfolding Stands
   owners_call going h volume owned =
       let more = driven.more going h in

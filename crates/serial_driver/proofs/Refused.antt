@@ -1,6 +1,7 @@
 -- A host's call for which memory is wanting.
 use Rattle.std.proofs.Common.{◌≡◌, ◌<◌, ◌≤◌, ℕ, length, Some, None, refl, sym, ◌∙◌, subst, arith}
 use Rattle.mss_base.specs.Content.{SiteLog}
+use Rattle.mss_base.specs.declared.site.Site.{Ghosts}
 use Rattle.channel_commands.specs.Data.{CallData}
 use Rattle.core_state.specs.declared.rule.HostRule.{HostRule}
 use Rattle.core_state.specs.declared.rule.HostRule.TheVariants.{IsStopped, IsFull, IsBusy, IsMoving, IsHeld, Responds, HasFailed, HasNoSpace, Faults, Marks, Runs}
@@ -18,17 +19,17 @@ use Rattle.serial_driver.specs.Drives.{HostTakes}
 pub kept_by : {S C : Type 0} (tells : Type 0) (site : SiteLog) (writes faults room : ℕ) (u v : CoreValue S C) → u ≡ v → IsKept tells site writes faults room u → v.stopped ≡ None → IsCore v
 kept_by tells site writes faults room u v view kept going = subst (λ c. IsCore c) view (kept.whole.kept (subst (λ c. c.stopped ≡ None) (sym view) going))
 
-module _ {S C : Type 0} (tells : Type 0) (told : S → SiteLog) (writes faults : S → ℕ) (v : CoreValue S C) where
-  same : IsSame tells (seen told writes faults v) (seen told writes faults v)
+module _ {S C : Type 0} (g : Ghosts S) (v : CoreValue S C) where
+  same : IsSame g.tells (seen g v) (seen g v)
   same = (record { told = λ _. refl; unwritten = refl; sound = refl }, refl)
 
-  pub refused_stopped : (fault : ℕ) → v.stopped ≡ Some fault → (h : ℕ) (call : CallData) → HostTakes tells h (Some call) (seen told writes faults v) (Stopped fault) (seen told writes faults v)
+  pub refused_stopped : (fault : ℕ) → v.stopped ≡ Some fault → (h : ℕ) (call : CallData) → HostTakes g.tells h (Some call) (seen g v) (Stopped fault) (seen g v)
   refused_stopped fault is h call =
-      (halts fault, subst (λ (r : HostRule). HostDoes tells (seen told writes faults v) h call r (halts fault) (seen told writes faults v)) (sym (host_stopped (seen told writes faults v) fault h call is)) (refl, same), refl)
+      (halts fault, subst (λ (r : HostRule). HostDoes g.tells (seen g v) h call r (halts fault) (seen g v)) (sym (host_stopped (seen g v) fault h call is)) (refl, same), refl)
 
-  pub refused_full : v.stopped ≡ None → 4096 ≤ length v.history → (h : ℕ) (call : CallData) → HostTakes tells h (Some call) (seen told writes faults v) CommandLimit (seen told writes faults v)
+  pub refused_full : v.stopped ≡ None → 4096 ≤ length v.history → (h : ℕ) (call : CallData) → HostTakes g.tells h (Some call) (seen g v) CommandLimit (seen g v)
   refused_full none long h call =
-      (at_limit, subst (λ (r : HostRule). HostDoes tells (seen told writes faults v) h call r at_limit (seen told writes faults v)) (sym (full_rule_met (seen told writes faults v) h call (none, long))) (refl, same), refl)
+      (at_limit, subst (λ (r : HostRule). HostDoes g.tells (seen g v) h call r at_limit (seen g v)) (sym (full_rule_met (seen g v) h call (none, long))) (refl, same), refl)
 
   module _ (kept : v.stopped ≡ None → IsCore v) (none : v.stopped ≡ None) (few : length v.history < 4096) (h : ℕ) (call : CallData) where
     late : (rule : HostRule) → host_rule v h call ≡ rule → IsLate rule
@@ -44,7 +45,7 @@ module _ {S C : Type 0} (tells : Type 0) (told : S → SiteLog) (writes faults :
     late (Marks volume cylinder) is = tt
     late (Runs c volume frame) is = tt
 
-    lacks : (rule : HostRule) → IsLate rule → HostDoes tells (seen told writes faults v) h call rule no_memory (seen told writes faults v)
+    lacks : (rule : HostRule) → IsLate rule → HostDoes g.tells (seen g v) h call rule no_memory (seen g v)
     lacks (IsStopped fault) l = absurd l
     lacks IsFull l = absurd l
     lacks (IsBusy owner) l = same
@@ -57,6 +58,6 @@ module _ {S C : Type 0} (tells : Type 0) (told : S → SiteLog) (writes faults :
     lacks (Marks volume cylinder) l = same
     lacks (Runs c volume frame) l = same
 
-    pub refused_memory : HostTakes tells h (Some call) (seen told writes faults v) Memory (seen told writes faults v)
+    pub refused_memory : HostTakes g.tells h (Some call) (seen g v) Memory (seen g v)
     refused_memory =
-        (no_memory, subst (λ (r : HostRule). HostDoes tells (seen told writes faults v) h call r no_memory (seen told writes faults v)) (sym (rule_seen told writes faults v h call)) (lacks (host_rule v h call) (late (host_rule v h call) refl)), refl)
+        (no_memory, subst (λ (r : HostRule). HostDoes g.tells (seen g v) h call r no_memory (seen g v)) (sym (rule_seen g v h call)) (lacks (host_rule v h call) (late (host_rule v h call) refl)), refl)

@@ -2,8 +2,7 @@
 use Rattle.std.proofs.Common.{◌≡◌, ◌≢◌, ◌⊎◌, inl, inr, ℕ, zero, suc, ◌+◌, ◌<◌, ◌≤◌, Bool, true, false, List, [], ◌∷◌, ◌++◌, length, drop, get_or, Option, Some, None, refl, sym, ◌∙◌, ap, subst, arith}
 use Rattle.std.specs.Prelude.{◌||◌, is_some}
 use Rattle.std.proofs.lemmas.Bool.{false≢true, cases_lt}
-use Rattle.mss_base.specs.Content.{SiteLog}
-use Rattle.mss_base.specs.Sites.{FailingReads}
+use Rattle.mss_base.specs.declared.site.Site.{Ghosts}
 use Rattle.channel_commands.specs.Data.{CallData}
 use Rattle.channel_program.proofs.ItemFacts.{all_at}
 use Rattle.ckd_plain.specs.History.{EntryData}
@@ -302,101 +301,101 @@ module _ (tells : Type 0) (may : List Candidate → ℕ → Type 0) where
 
 -- ---- one host more
 
-module _ {S C : Type 0} (tells : Type 0) (may : C → List Candidate → ℕ → Type 0) (told_by : S → SiteLog) (writes faults : S → ℕ) (never_fails_but : FailingReads S) (number : ℕ) (init now new : DriveValue S C)
-    (below : number < length init.scripts) (leaves : Leaves tells told_by writes faults never_fails_but init now Done) (answer : DriveAnswer)
-    (takes : (unknown : ScriptData) → HostTakes tells (get_or now.scripts number unknown).host (calls_of now.scripts now.core.history (get_or now.scripts number unknown).host) (seen told_by writes faults now.core) answer
-    (seen told_by writes faults new.core)) (left : Leaves tells told_by writes faults never_fails_but now new answer) where
-  takes_so : HostTakes tells (nth_host init.scripts number) (calls_of init.scripts now.core.history (nth_host init.scripts number)) (seen told_by writes faults now.core) answer (seen told_by writes faults new.core)
+module _ {S C : Type 0} (g : Ghosts S) (may : C → List Candidate → ℕ → Type 0) (number : ℕ) (init now new : DriveValue S C)
+    (below : number < length init.scripts) (leaves : Leaves g init now Done) (answer : DriveAnswer)
+    (takes : (unknown : ScriptData) → HostTakes g.tells (get_or now.scripts number unknown).host (calls_of now.scripts now.core.history (get_or now.scripts number unknown).host) (seen g now.core) answer
+    (seen g new.core)) (left : Leaves g now new answer) where
+  takes_so : HostTakes g.tells (nth_host init.scripts number) (calls_of init.scripts now.core.history (nth_host init.scripts number)) (seen g now.core) answer (seen g new.core)
   takes_so =
-      subst (λ (scripts : List ScriptData). HostTakes tells (nth_host scripts number) (calls_of scripts now.core.history (nth_host scripts number)) (seen told_by writes faults now.core) answer (seen told_by writes faults new.core))
+      subst (λ (scripts : List ScriptData). HostTakes g.tells (nth_host scripts number) (calls_of scripts now.core.history (nth_host scripts number)) (seen g now.core) answer (seen g new.core))
       leaves.scripts_ (takes nobody)
 
-  pub host_leaves : Leaves tells told_by writes faults never_fails_but init new answer
-  host_leaves = leaves_then tells told_by writes faults never_fails_but init now new answer leaves left
+  pub host_leaves : Leaves g init new answer
+  host_leaves = leaves_then g init now new answer leaves left
 
-  pub host_done : answer ≡ Done → Leaves tells told_by writes faults never_fails_but init new Done
-  host_done done = subst (λ (a : DriveAnswer). Leaves tells told_by writes faults never_fails_but init new a) done host_leaves
+  pub host_done : answer ≡ Done → Leaves g init new Done
+  host_done done = subst (λ (a : DriveAnswer). Leaves g init new a) done host_leaves
 
-  module _ (so_far : HostsSoFar tells (may init.core.chooser) init.scripts (seen told_by writes faults init.core) number (seen told_by writes faults now.core)) where
-    pub host_on : answer ≡ Done → HostsSoFar tells (may init.core.chooser) init.scripts (seen told_by writes faults init.core) (number + 1) (seen told_by writes faults new.core)
-    host_on done = hosts_go tells (may init.core.chooser) init.scripts (seen told_by writes faults init.core) number below (seen told_by writes faults now.core) (seen told_by writes faults new.core) so_far answer takes_so done
+  module _ (so_far : HostsSoFar g.tells (may init.core.chooser) init.scripts (seen g init.core) number (seen g now.core)) where
+    pub host_on : answer ≡ Done → HostsSoFar g.tells (may init.core.chooser) init.scripts (seen g init.core) (number + 1) (seen g new.core)
+    host_on done = hosts_go g.tells (may init.core.chooser) init.scripts (seen g init.core) number below (seen g now.core) (seen g new.core) so_far answer takes_so done
 
-    pub host_halts : answer ≢ Done → HostsTurn tells (may init.core.chooser) init.scripts (seen told_by writes faults init.core) answer (seen told_by writes faults new.core)
-    host_halts halted = hosts_halt tells (may init.core.chooser) init.scripts (seen told_by writes faults init.core) number below (seen told_by writes faults now.core) (seen told_by writes faults new.core) so_far answer takes_so halted
+    pub host_halts : answer ≢ Done → HostsTurn g.tells (may init.core.chooser) init.scripts (seen g init.core) answer (seen g new.core)
+    host_halts halted = hosts_halt g.tells (may init.core.chooser) init.scripts (seen g init.core) number below (seen g now.core) (seen g new.core) so_far answer takes_so halted
 
   pub host_goes_on : AreScripts init.scripts → (now.core.stopped ≡ None → IsCore now.core)
-      → ((core : CoreData) (h : ℕ) (call : CallData) (told : HostTold) (left : CoreData) → IsCore core → 1 ≤ h → h ≤ 8 → HostEvent tells core h call told left → is_kept_waiting core h call ≡ false
+      → ((core : CoreData) (h : ℕ) (call : CallData) (told : HostTold) (left : CoreData) → IsCore core → 1 ≤ h → h ≤ 8 → HostEvent g.tells core h call told left → is_kept_waiting core h call ≡ false
       → is_end (called h call told) ≡ false → run_left left < run_left core)
-      → ((core : CoreData) (h : ℕ) (call : CallData) (told : HostTold) (left : CoreData) → IsCore core → HostEvent tells core h call told left → is_kept_waiting core h call ≡ true → IsKeptOff told × IsSame tells core left)
-      → answer ≡ Done → (init.core.stopped ≡ None → GoesOn tells init.scripts (seen told_by writes faults init.core) number (seen told_by writes faults now.core)) → init.core.stopped ≡ None
-      → GoesOn tells init.scripts (seen told_by writes faults init.core) (number + 1) (seen told_by writes faults new.core)
+      → ((core : CoreData) (h : ℕ) (call : CallData) (told : HostTold) (left : CoreData) → IsCore core → HostEvent g.tells core h call told left → is_kept_waiting core h call ≡ true → IsKeptOff told × IsSame g.tells core left)
+      → answer ≡ Done → (init.core.stopped ≡ None → GoesOn g.tells init.scripts (seen g init.core) number (seen g now.core)) → init.core.stopped ≡ None
+      → GoesOn g.tells init.scripts (seen g init.core) (number + 1) (seen g new.core)
   host_goes_on scripts_ kept falls rests done so_far going =
-      let core = core_seen told_by writes faults now.core (kept (leaves.halts ∙ going)) in
+      let core = core_seen g now.core (kept (leaves.halts ∙ going)) in
       let script = all_at IsScript init.scripts number nobody scripts_.each below in
-      goes_on tells init.scripts (seen told_by writes faults init.core) number (seen told_by writes faults now.core) (seen told_by writes faults new.core) (so_far going)
-      (λ call told event free on. falls (seen told_by writes faults now.core) (nth_host init.scripts number) call told (seen told_by writes faults new.core) core script.low script.high event free on)
-      (λ call told event waits_. rests (seen told_by writes faults now.core) (nth_host init.scripts number) call told (seen told_by writes faults new.core) core event waits_) answer done takes_so
+      goes_on g.tells init.scripts (seen g init.core) number (seen g now.core) (seen g new.core) (so_far going)
+      (λ call told event free on. falls (seen g now.core) (nth_host init.scripts number) call told (seen g new.core) core script.low script.high event free on)
+      (λ call told event waits_. rests (seen g now.core) (nth_host init.scripts number) call told (seen g new.core) core event waits_) answer done takes_so
 
 -- ---- one round more
 
-module _ {S C : Type 0} (tells : Type 0) (may : C → List Candidate → ℕ → Type 0) (told_by : S → SiteLog) (writes faults : S → ℕ) (never_fails_but : FailingReads S) (init now : DriveValue S C)
-    (so_far : RoundsSoFar tells (may init.core.chooser) init.scripts (seen told_by writes faults init.core) (seen told_by writes faults now.core)) (leaves : Leaves tells told_by writes faults never_fails_but init now Done) where
+module _ {S C : Type 0} (g : Ghosts S) (may : C → List Candidate → ℕ → Type 0) (init now : DriveValue S C)
+    (so_far : RoundsSoFar g.tells (may init.core.chooser) init.scripts (seen g init.core) (seen g now.core)) (leaves : Leaves g init now Done) where
   -- whether some host calls
   abbrev calls_in : DriveValue S C → Bool
-  calls_in d = has_call tells (may d.core.chooser) (calls_of d.scripts) (hosts_of d.scripts) (seen told_by writes faults d.core)
+  calls_in d = has_call g.tells (may d.core.chooser) (calls_of d.scripts) (hosts_of d.scripts) (seen g d.core)
 
-  calls_so : (b : Bool) → calls_in now ≡ b → has_call tells (may init.core.chooser) (calls_of init.scripts) (hosts_of init.scripts) (seen told_by writes faults now.core) ≡ b
+  calls_so : (b : Bool) → calls_in now ≡ b → has_call g.tells (may init.core.chooser) (calls_of init.scripts) (hosts_of init.scripts) (seen g now.core) ≡ b
   calls_so b is =
-      subst (λ (p : C × List ScriptData). has_call tells (may p.0) (calls_of p.1) (hosts_of p.1) (seen told_by writes faults now.core) ≡ b)
+      subst (λ (p : C × List ScriptData). has_call g.tells (may p.0) (calls_of p.1) (hosts_of p.1) (seen g now.core) ≡ b)
       (λ k. (leaves.chooser_ k, leaves.scripts_ k)) is
 
-  pub round_none : calls_in now ≡ false → RunsToEnd tells (may init.core.chooser) init.scripts (seen told_by writes faults init.core) Done (seen told_by writes faults now.core)
-  round_none none = rounds_end tells (may init.core.chooser) init.scripts (seen told_by writes faults init.core) (seen told_by writes faults now.core) so_far (calls_so false none)
+  pub round_none : calls_in now ≡ false → RunsToEnd g.tells (may init.core.chooser) init.scripts (seen g init.core) Done (seen g now.core)
+  round_none none = rounds_end g.tells (may init.core.chooser) init.scripts (seen g init.core) (seen g now.core) so_far (calls_so false none)
 
-  module _ (some : calls_in now ≡ true) (mid : DriveValue S C) (told : DriveAnswer) (settles : SettlesIt tells (may now.core.chooser) (seen told_by writes faults now.core) told (seen told_by writes faults mid.core))
-      (left : Leaves tells told_by writes faults never_fails_but now mid told) where
-    settles_so : SettlesIt tells (may init.core.chooser) (seen told_by writes faults now.core) told (seen told_by writes faults mid.core)
-    settles_so = subst (λ (c : C). SettlesIt tells (may c) (seen told_by writes faults now.core) told (seen told_by writes faults mid.core)) leaves.chooser_ settles
+  module _ (some : calls_in now ≡ true) (mid : DriveValue S C) (told : DriveAnswer) (settles : SettlesIt g.tells (may now.core.chooser) (seen g now.core) told (seen g mid.core))
+      (left : Leaves g now mid told) where
+    settles_so : SettlesIt g.tells (may init.core.chooser) (seen g now.core) told (seen g mid.core)
+    settles_so = subst (λ (c : C). SettlesIt g.tells (may c) (seen g now.core) told (seen g mid.core)) leaves.chooser_ settles
 
-    pub round_left : Leaves tells told_by writes faults never_fails_but init mid told
-    round_left = leaves_then tells told_by writes faults never_fails_but init now mid told leaves left
+    pub round_left : Leaves g init mid told
+    round_left = leaves_then g init now mid told leaves left
 
-    pub round_halts : told ≢ Done → RunsToEnd tells (may init.core.chooser) init.scripts (seen told_by writes faults init.core) told (seen told_by writes faults mid.core)
+    pub round_halts : told ≢ Done → RunsToEnd g.tells (may init.core.chooser) init.scripts (seen g init.core) told (seen g mid.core)
     round_halts halted =
-        rounds_halt tells (may init.core.chooser) init.scripts (seen told_by writes faults init.core) (seen told_by writes faults now.core) (seen told_by writes faults mid.core) so_far (calls_so true some) told settles_so halted
+        rounds_halt g.tells (may init.core.chooser) init.scripts (seen g init.core) (seen g now.core) (seen g mid.core) so_far (calls_so true some) told settles_so halted
 
     module _ (done : told ≡ Done) (new : DriveValue S C) (answer : DriveAnswer)
-        (hosts : HostsTurn tells (may mid.core.chooser) mid.scripts (seen told_by writes faults mid.core) answer (seen told_by writes faults new.core)) (then_ : Leaves tells told_by writes faults never_fails_but mid new answer) where
-      to_mid : Leaves tells told_by writes faults never_fails_but init mid Done
-      to_mid = subst (λ (a : DriveAnswer). Leaves tells told_by writes faults never_fails_but init mid a) done round_left
+        (hosts : HostsTurn g.tells (may mid.core.chooser) mid.scripts (seen g mid.core) answer (seen g new.core)) (then_ : Leaves g mid new answer) where
+      to_mid : Leaves g init mid Done
+      to_mid = subst (λ (a : DriveAnswer). Leaves g init mid a) done round_left
 
-      hosts_so : HostsTurn tells (may init.core.chooser) init.scripts (seen told_by writes faults mid.core) answer (seen told_by writes faults new.core)
+      hosts_so : HostsTurn g.tells (may init.core.chooser) init.scripts (seen g mid.core) answer (seen g new.core)
       hosts_so =
-          subst (λ (p : C × List ScriptData). HostsTurn tells (may p.0) p.1 (seen told_by writes faults mid.core) answer (seen told_by writes faults new.core))
+          subst (λ (p : C × List ScriptData). HostsTurn g.tells (may p.0) p.1 (seen g mid.core) answer (seen g new.core))
           (λ k. (to_mid.chooser_ k, to_mid.scripts_ k)) hosts
 
-      pub round_leaves : Leaves tells told_by writes faults never_fails_but init new answer
-      round_leaves = leaves_then tells told_by writes faults never_fails_but init mid new answer to_mid then_
+      pub round_leaves : Leaves g init new answer
+      round_leaves = leaves_then g init mid new answer to_mid then_
 
-      pub round_done : answer ≡ Done → Leaves tells told_by writes faults never_fails_but init new Done
-      round_done goes = subst (λ (a : DriveAnswer). Leaves tells told_by writes faults never_fails_but init new a) goes round_leaves
+      pub round_done : answer ≡ Done → Leaves g init new Done
+      round_done goes = subst (λ (a : DriveAnswer). Leaves g init new a) goes round_leaves
 
-      pub round_stops : answer ≢ Done → RunsToEnd tells (may init.core.chooser) init.scripts (seen told_by writes faults init.core) answer (seen told_by writes faults new.core)
+      pub round_stops : answer ≢ Done → RunsToEnd g.tells (may init.core.chooser) init.scripts (seen g init.core) answer (seen g new.core)
       round_stops halted =
-          rounds_stop tells (may init.core.chooser) init.scripts (seen told_by writes faults init.core) (seen told_by writes faults now.core) (seen told_by writes faults mid.core) so_far (calls_so true some) told settles_so done
-          (seen told_by writes faults new.core) answer hosts_so halted
+          rounds_stop g.tells (may init.core.chooser) init.scripts (seen g init.core) (seen g now.core) (seen g mid.core) so_far (calls_so true some) told settles_so done
+          (seen g new.core) answer hosts_so halted
 
-      pub round_goes : answer ≡ Done → RoundsSoFar tells (may init.core.chooser) init.scripts (seen told_by writes faults init.core) (seen told_by writes faults new.core)
+      pub round_goes : answer ≡ Done → RoundsSoFar g.tells (may init.core.chooser) init.scripts (seen g init.core) (seen g new.core)
       round_goes goes =
-          rounds_go tells (may init.core.chooser) init.scripts (seen told_by writes faults init.core) (seen told_by writes faults now.core) (seen told_by writes faults mid.core) so_far (calls_so true some) told settles_so done
-          (seen told_by writes faults new.core) answer hosts_so goes (then_.session.beginning.config ∙ left.session.beginning.config)
+          rounds_go g.tells (may init.core.chooser) init.scripts (seen g init.core) (seen g now.core) (seen g mid.core) so_far (calls_so true some) told settles_so done
+          (seen g new.core) answer hosts_so goes (then_.session.beginning.config ∙ left.session.beginning.config)
 
-      pub round_falls : run_left (seen told_by writes faults mid.core) ≤ run_left (seen told_by writes faults now.core)
-          → RunFalls tells (may mid.core.chooser) mid.scripts (seen told_by writes faults mid.core) (seen told_by writes faults new.core)
-          → run_left (seen told_by writes faults new.core) < run_left (seen told_by writes faults now.core)
+      pub round_falls : run_left (seen g mid.core) ≤ run_left (seen g now.core)
+          → RunFalls g.tells (may mid.core.chooser) mid.scripts (seen g mid.core) (seen g new.core)
+          → run_left (seen g new.core) < run_left (seen g now.core)
       round_falls run falls =
-          let same = has_call_same tells (may now.core.chooser) (calls_of now.scripts) (hosts_of now.scripts) (seen told_by writes faults now.core) (seen told_by writes faults mid.core) settles.history_ in
+          let same = has_call_same g.tells (may now.core.chooser) (calls_of now.scripts) (hosts_of now.scripts) (seen g now.core) (seen g mid.core) settles.history_ in
           let calls : calls_in mid ≡ true =
-          subst (λ (p : C × List ScriptData). has_call tells (may p.0) (calls_of p.1) (hosts_of p.1) (seen told_by writes faults mid.core) ≡ true) (λ k. (sym left.chooser_ k, sym left.scripts_ k)) (same ∙ some) in
+          subst (λ (p : C × List ScriptData). has_call g.tells (may p.0) (calls_of p.1) (hosts_of p.1) (seen g mid.core) ≡ true) (λ k. (sym left.chooser_ k, sym left.scripts_ k)) (same ∙ some) in
           let less = falls (settles.settled done) (settles.going done) calls in
           omega (arith, less, run)

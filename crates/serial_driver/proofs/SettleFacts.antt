@@ -1,8 +1,7 @@
 -- Turns of the recorders, one after the other.
 use Rattle.std.proofs.Common.{◌≡◌, ◌≢◌, ◌≤◌, ℕ, zero, suc, ◌<◌, Bool, true, false, List, [], ◌++◌, None, refl, sym, ◌∙◌, ap, subst, arith}
 use Rattle.std.proofs.lemmas.Bool.{false≢true}
-use Rattle.mss_base.specs.Content.{SiteLog}
-use Rattle.mss_base.specs.Sites.{FailingReads}
+use Rattle.mss_base.specs.declared.site.Site.{Ghosts}
 use Rattle.victim_choice.specs.declared.choose.Candidate.{Candidate}
 use Rattle.core_state.specs.Chains.{Step, OneOf, Onward, WorkTurn, Settles, Ended, IsSettled}
 use Rattle.core_state.specs.CoreValue.{CoreData, seen}
@@ -102,39 +101,39 @@ module _ (tells : Type 0) (may : List Candidate → ℕ → Type 0) where
 
 -- ---- one turn more
 
-module _ {S C : Type 0} (tells : Type 0) (may : C → List Candidate → ℕ → Type 0) (told_by : S → SiteLog) (writes faults : S → ℕ) (never_fails_but : FailingReads S) (init now new : DriveValue S C)
-    (so_far : SettlesSoFar tells (may init.core.chooser) (seen told_by writes faults init.core) (seen told_by writes faults now.core))
-    (leaves : Leaves tells told_by writes faults never_fails_but init now Done) (turn : Turn)
-    (turns : TurnsTo tells (may now.core.chooser) (seen told_by writes faults now.core) turn (seen told_by writes faults new.core))
-    (left : Leaves tells told_by writes faults never_fails_but now new turn.answer) where
-  turns_so : TurnsTo tells (may init.core.chooser) (seen told_by writes faults now.core) turn (seen told_by writes faults new.core)
-  turns_so = subst (λ (c : C). TurnsTo tells (may c) (seen told_by writes faults now.core) turn (seen told_by writes faults new.core)) leaves.chooser_ turns
+module _ {S C : Type 0} (g : Ghosts S) (may : C → List Candidate → ℕ → Type 0) (init now new : DriveValue S C)
+    (so_far : SettlesSoFar g.tells (may init.core.chooser) (seen g init.core) (seen g now.core))
+    (leaves : Leaves g init now Done) (turn : Turn)
+    (turns : TurnsTo g.tells (may now.core.chooser) (seen g now.core) turn (seen g new.core))
+    (left : Leaves g now new turn.answer) where
+  turns_so : TurnsTo g.tells (may init.core.chooser) (seen g now.core) turn (seen g new.core)
+  turns_so = subst (λ (c : C). TurnsTo g.tells (may c) (seen g now.core) turn (seen g new.core)) leaves.chooser_ turns
 
-  pub turn_leaves : Leaves tells told_by writes faults never_fails_but init new turn.answer
-  turn_leaves = leaves_then tells told_by writes faults never_fails_but init now new turn.answer leaves left
+  pub turn_leaves : Leaves g init new turn.answer
+  turn_leaves = leaves_then g init now new turn.answer leaves left
 
-  pub turn_done : turn.answer ≡ Done → Leaves tells told_by writes faults never_fails_but init new Done
-  turn_done done = subst (λ (a : DriveAnswer). Leaves tells told_by writes faults never_fails_but init new a) done turn_leaves
+  pub turn_done : turn.answer ≡ Done → Leaves g init new Done
+  turn_done done = subst (λ (a : DriveAnswer). Leaves g init new a) done turn_leaves
 
-  pub turn_on : turn.answer ≡ Done → turn.idle ≡ false → SettlesSoFar tells (may init.core.chooser) (seen told_by writes faults init.core) (seen told_by writes faults new.core)
+  pub turn_on : turn.answer ≡ Done → turn.idle ≡ false → SettlesSoFar g.tells (may init.core.chooser) (seen g init.core) (seen g new.core)
   turn_on done busy =
-      settle_goes tells (may init.core.chooser) (seen told_by writes faults init.core) (seen told_by writes faults now.core) (seen told_by writes faults new.core) so_far turn turns_so done busy left.session.beginning.config
+      settle_goes g.tells (may init.core.chooser) (seen g init.core) (seen g now.core) (seen g new.core) so_far turn turns_so done busy left.session.beginning.config
 
-  pub turn_ends : turn.answer ≢ Done → SettlesIt tells (may init.core.chooser) (seen told_by writes faults init.core) turn.answer (seen told_by writes faults new.core)
+  pub turn_ends : turn.answer ≢ Done → SettlesIt g.tells (may init.core.chooser) (seen g init.core) turn.answer (seen g new.core)
   turn_ends halted =
-      settle_halts tells (may init.core.chooser) (seen told_by writes faults init.core) (seen told_by writes faults now.core) (seen told_by writes faults new.core) so_far turn turns_so halted
+      settle_halts g.tells (may init.core.chooser) (seen g init.core) (seen g now.core) (seen g new.core) so_far turn turns_so halted
 
-  pub turn_run : turn.answer ≡ Done → run_left (seen told_by writes faults new.core) ≤ run_left (seen told_by writes faults init.core)
+  pub turn_run : turn.answer ≡ Done → run_left (seen g new.core) ≤ run_left (seen g init.core)
   turn_run done = let less = (turns.leaves done).run in omega (arith, less, so_far.run)
 
   -- all were idle
   pub turn_rests : (new.core.stopped ≡ None → IsCore new.core) → ((core : CoreData) → IsCore core → AreIdle core → IsSettled core) → turn.answer ≡ Done → turn.idle ≡ true
-      → SettlesIt tells (may init.core.chooser) (seen told_by writes faults init.core) Done (seen told_by writes faults new.core)
+      → SettlesIt g.tells (may init.core.chooser) (seen g init.core) Done (seen g new.core)
   turn_rests kept law done idle =
       let idle_ = (turns.leaves done).idle_ idle in
-      let kept_ : new.core.stopped ≡ None → IsCore (seen told_by writes faults new.core) = λ going. core_seen told_by writes faults new.core (kept going) in
+      let kept_ : new.core.stopped ≡ None → IsCore (seen g new.core) = λ going. core_seen g new.core (kept going) in
       let some = idle_.some in
       let low : 0 < new.core.config.recorders = omega (arith, some) in
-      let going : new.core.stopped ≡ None = rule_idle (seen told_by writes faults new.core) 0 low kept_ (idle_.each 0 low) in
-      settle_rests tells (may init.core.chooser) (seen told_by writes faults init.core) (seen told_by writes faults now.core) (seen told_by writes faults new.core) so_far turn turns_so done idle
-      (law (seen told_by writes faults new.core) (kept_ going) idle_) going
+      let going : new.core.stopped ≡ None = rule_idle (seen g new.core) 0 low kept_ (idle_.each 0 low) in
+      settle_rests g.tells (may init.core.chooser) (seen g init.core) (seen g now.core) (seen g new.core) so_far turn turns_so done idle
+      (law (seen g new.core) (kept_ going) idle_) going

@@ -3,8 +3,7 @@ use Rattle.std.proofs.Common.{◌≡◌, ◌≢◌, ◌⊎◌, inl, inr, ◌<◌
 use Rattle.std.specs.Prelude.{◌-◌}
 use Rattle.std.specs.List.{range_with_len}
 use Rattle.std.proofs.lemmas.Bool.{false≢true, cases_lt}
-use Rattle.mss_base.specs.Content.{SiteLog}
-use Rattle.mss_base.specs.Sites.{FailingReads}
+use Rattle.mss_base.specs.declared.site.Site.{Ghosts}
 use Rattle.victim_choice.specs.declared.choose.Candidate.{Candidate}
 use Rattle.core_state.specs.declared.rule.WorkAnswer.{WorkAnswer}
 use Rattle.core_state.specs.declared.rule.WorkAnswer.TheVariants.{Did, Idle, Stopped, Memory}
@@ -51,25 +50,25 @@ module _ (tells : Type 0) (core : CoreData) (n : ℕ) (left : CoreData) where
   event_less (Stopped fault) says goes less = absurd cc
   event_less Memory says goes less = absurd cc
 
-module _ {S C : Type 0} (tells : Type 0) (may : List Candidate → ℕ → Type 0) (told_by : S → SiteLog) (writes faults : S → ℕ) (v w : CoreValue S C) (kept : v.stopped ≡ None → IsCore v) (n : ℕ)
+module _ {S C : Type 0} (g : Ghosts S) (may : List Candidate → ℕ → Type 0) (v w : CoreValue S C) (kept : v.stopped ≡ None → IsCore v) (n : ℕ)
     (below : n < v.config.recorders) where
   abbrev old : CoreData
-  old = seen told_by writes faults v
+  old = seen g v
 
   abbrev new : CoreData
-  new = seen told_by writes faults w
+  new = seen g w
 
-  module _ (falls : (what : WorkKind) → IsCore old → WorkEvent tells may old n (Did what) new → settle_left new < settle_left old)
-      (runs : (what : WorkKind) → IsCore old → WorkEvent tells may old n (Did what) new → LeavesRun old new) where
-    says : (told : WorkAnswer) → WorkEvent tells may old n told new → AnswerSays tells old n told new
-    says told event = answer_says tells may old n told new event (record { there = below; kept = λ going. core_seen told_by writes faults v (kept going) })
+  module _ (falls : (what : WorkKind) → IsCore old → WorkEvent g.tells may old n (Did what) new → settle_left new < settle_left old)
+      (runs : (what : WorkKind) → IsCore old → WorkEvent g.tells may old n (Did what) new → LeavesRun old new) where
+    says : (told : WorkAnswer) → WorkEvent g.tells may old n told new → AnswerSays g.tells old n told new
+    says told event = answer_says g.tells may old n told new event (record { there = below; kept = λ going. core_seen g v (kept going) })
 
-    pub work_less : (told : WorkAnswer) → WorkEvent tells may old n told new → of_work told ≡ answer.Done → LeavesLessBy old n told new
+    pub work_less : (told : WorkAnswer) → WorkEvent g.tells may old n told new → of_work told ≡ answer.Done → LeavesLessBy old n told new
     work_less (Did what) event done =
         let it = says (Did what) event in
-        let core = core_seen told_by writes faults v (kept it.0) in
-        event_less tells old n new (Did what) it done (inr (falls what core event, (runs what core event).less))
-    work_less Idle event done = event_less tells old n new Idle (says Idle event) done (inl refl)
+        let core = core_seen g v (kept it.0) in
+        event_less g.tells old n new (Did what) it done (inr (falls what core event, (runs what core event).less))
+    work_less Idle event done = event_less g.tells old n new Idle (says Idle event) done (inl refl)
     work_less (Stopped fault) event done = absurd cc
     work_less Memory event done = absurd cc
 
@@ -175,29 +174,29 @@ module _ (tells : Type 0) (may : List Candidate → ℕ → Type 0) (start : Cor
 
 -- ---- one recorder more
 
-module _ {S C : Type 0} (tells : Type 0) (may : C → List Candidate → ℕ → Type 0) (told_by : S → SiteLog) (writes faults : S → ℕ) (never_fails_but : FailingReads S) (number : ℕ) (idle : Bool)
+module _ {S C : Type 0} (g : Ghosts S) (may : C → List Candidate → ℕ → Type 0) (number : ℕ) (idle : Bool)
     (init now new : DriveValue S C) (below : number < init.core.config.recorders)
-    (so_far : TurnSoFar tells (may init.core.chooser) (seen told_by writes faults init.core) number idle (seen told_by writes faults now.core))
-    (leaves : Leaves tells told_by writes faults never_fails_but init now answer.Done) (told : WorkAnswer)
-    (event : WorkEvent tells (may now.core.chooser) (seen told_by writes faults now.core) number told (seen told_by writes faults new.core))
-    (left : Leaves tells told_by writes faults never_fails_but now new (of_work told)) where
-  event_so : WorkEvent tells (may init.core.chooser) (seen told_by writes faults now.core) number told (seen told_by writes faults new.core)
-  event_so = subst (λ (c : C). WorkEvent tells (may c) (seen told_by writes faults now.core) number told (seen told_by writes faults new.core)) leaves.chooser_ event
+    (so_far : TurnSoFar g.tells (may init.core.chooser) (seen g init.core) number idle (seen g now.core))
+    (leaves : Leaves g init now answer.Done) (told : WorkAnswer)
+    (event : WorkEvent g.tells (may now.core.chooser) (seen g now.core) number told (seen g new.core))
+    (left : Leaves g now new (of_work told)) where
+  event_so : WorkEvent g.tells (may init.core.chooser) (seen g now.core) number told (seen g new.core)
+  event_so = subst (λ (c : C). WorkEvent g.tells (may c) (seen g now.core) number told (seen g new.core)) leaves.chooser_ event
 
   low : number < now.core.config.recorders
   low = subst (λ c. number < c.recorders) (sym leaves.session.beginning.config) below
 
-  pub one_leaves : (told_so : DriveAnswer) → told_so ≡ of_work told → Leaves tells told_by writes faults never_fails_but init new told_so
+  pub one_leaves : (told_so : DriveAnswer) → told_so ≡ of_work told → Leaves g init new told_so
   one_leaves told_so is =
-      subst (λ (a : DriveAnswer). Leaves tells told_by writes faults never_fails_but init new a) (sym is)
-      (leaves_then tells told_by writes faults never_fails_but init now new (of_work told) leaves left)
+      subst (λ (a : DriveAnswer). Leaves g init new a) (sym is)
+      (leaves_then g init now new (of_work told) leaves left)
 
-  pub one_goes : of_work told ≡ answer.Done → new.core.history ≡ now.core.history → LeavesLessBy (seen told_by writes faults now.core) number told (seen told_by writes faults new.core)
-      → TurnSoFar tells (may init.core.chooser) (seen told_by writes faults init.core) (number + 1) (idle && is_idle (worked number told)) (seen told_by writes faults new.core)
+  pub one_goes : of_work told ≡ answer.Done → new.core.history ≡ now.core.history → LeavesLessBy (seen g now.core) number told (seen g new.core)
+      → TurnSoFar g.tells (may init.core.chooser) (seen g init.core) (number + 1) (idle && is_idle (worked number told)) (seen g new.core)
   one_goes done history_ less =
-      turn_goes tells (may init.core.chooser) (seen told_by writes faults init.core) number idle (seen told_by writes faults now.core) (seen told_by writes faults new.core) so_far low told event_so done left.session.beginning.config history_ less
+      turn_goes g.tells (may init.core.chooser) (seen g init.core) number idle (seen g now.core) (seen g new.core) so_far low told event_so done left.session.beginning.config history_ less
 
   pub one_halts : of_work told ≢ answer.Done → new.core.history ≡ now.core.history → (turn : Turn) → turn.answer ≡ of_work told
-      → TurnsTo tells (may init.core.chooser) (seen told_by writes faults init.core) turn (seen told_by writes faults new.core)
+      → TurnsTo g.tells (may init.core.chooser) (seen g init.core) turn (seen g new.core)
   one_halts halted history_ turn is =
-      turn_halts tells (may init.core.chooser) (seen told_by writes faults init.core) number idle (seen told_by writes faults now.core) (seen told_by writes faults new.core) so_far low told event_so halted history_ turn is
+      turn_halts g.tells (may init.core.chooser) (seen g init.core) number idle (seen g now.core) (seen g new.core) so_far low told event_so halted history_ turn is

@@ -4,6 +4,7 @@ use Rattle.std.specs.Prelude.{nat_eq, option_map}
 use Rattle.std.proofs.lemmas.Bool.{eqb-true, eqb-false}
 use Rattle.mss_base.specs.Content.{SiteLog}
 use Rattle.mss_base.specs.Counts.{IsFaultSince}
+use Rattle.mss_base.specs.declared.site.Site.{Ghosts}
 use Rattle.ckd_plain.specs.declared.host.HostState.{HostState}
 use Rattle.ckd_plain.specs.History.{EntryData}
 use Rattle.job_text.specs.Jobs.{ScriptData}
@@ -62,47 +63,47 @@ still_asked tells core rule left once (inr it) k has = restated core.requests it
 
 -- ---- over an event of a recorder
 
-module _ {S C : Type 0} (tells : Type 0) (may : List Candidate → ℕ → Type 0) (told_by : S → SiteLog) (writes faults : S → ℕ) (v w : CoreValue S C) (kept : v.stopped ≡ None → IsCore v)
-    (n : ℕ) (below : n < v.config.recorders) (told : WorkAnswer) (event : WorkEvent tells may (seen told_by writes faults v) n told (seen told_by writes faults w)) where
+module _ {S C : Type 0} (g : Ghosts S) (may : List Candidate → ℕ → Type 0) (v w : CoreValue S C) (kept : v.stopped ≡ None → IsCore v)
+    (n : ℕ) (below : n < v.config.recorders) (told : WorkAnswer) (event : WorkEvent g.tells may (seen g v) n told (seen g w)) where
   abbrev old : CoreData
-  old = seen told_by writes faults v
+  old = seen g v
 
   abbrev new : CoreData
-  new = seen told_by writes faults w
+  new = seen g w
 
-  comes : Outcome tells old n (work_rule old n) told new
-  comes = outcome tells may old n new (work_rule old n) told event
+  comes : Outcome g.tells old n (work_rule old n) told new
+  comes = outcome g.tells may old n new (work_rule old n) told event
 
-  says : AnswerSays tells old n told new
-  says = answer_says tells may old n told new event (record { there = below; kept = λ going. core_seen told_by writes faults v (kept going) })
+  says : AnswerSays g.tells old n told new
+  says = answer_says g.tells may old n told new event (record { there = below; kept = λ going. core_seen g v (kept going) })
 
-  pub work_session : IsLater tells old new
-  work_session = is_later tells may old n told new event (record { there = below; kept = λ going. core_seen told_by writes faults v (kept going) })
+  pub work_session : IsLater g.tells old new
+  work_session = is_later g.tells may old n told new event (record { there = below; kept = λ going. core_seen g v (kept going) })
 
   pub work_halts : Halts (of_work told) v.stopped w.stopped
   work_halts = by_told told says
     where
-      by_told : (a : WorkAnswer) → AnswerSays tells old n a new → Halts (of_work a) v.stopped w.stopped
+      by_told : (a : WorkAnswer) → AnswerSays g.tells old n a new → Halts (of_work a) v.stopped w.stopped
       by_told (Did what) it = it.1 ∙ sym it.0
       by_told Idle it = ap (λ (c : CoreData). c.stopped) it.1.1
       by_told (Stopped fault) (inl it) = ap (λ (c : CoreData). c.stopped) it.1.1 ∙ it.0
       by_told (Stopped fault) (inr it) = it.stands
       by_told Memory it = ap (λ (c : CoreData). c.stopped) it.1.1
 
-  pub work_cause : v.stopped ≡ None → (fault : ℕ) → w.stopped ≡ Some fault → IsFaultSince (faults v.site) (faults w.site) fault
+  pub work_cause : v.stopped ≡ None → (fault : ℕ) → w.stopped ≡ Some fault → IsFaultSince (g.faults v.site) (g.faults w.site) fault
   work_cause was fault is = by_told told says
     where
-      by_told : (a : WorkAnswer) → AnswerSays tells old n a new → IsFaultSince (faults v.site) (faults w.site) fault
+      by_told : (a : WorkAnswer) → AnswerSays g.tells old n a new → IsFaultSince (g.faults v.site) (g.faults w.site) fault
       by_told (Did what) it = absurd (let e : None ≡ Some fault = sym it.1 ∙ is in cc)
       by_told Idle it = absurd (let e : None ≡ Some fault = sym was ∙ sym (ap (λ (c : CoreData). c.stopped) it.1.1) ∙ is in cc)
       by_told (Stopped other) (inl it) = absurd (let e : None ≡ Some other = sym was ∙ it.0 in cc)
-      by_told (Stopped other) (inr it) = let e : other ≡ fault = (let f : Some other ≡ Some fault = sym it.stands ∙ is in cc) in subst (IsFaultSince (faults v.site) (faults w.site)) e it.cause
+      by_told (Stopped other) (inr it) = let e : other ≡ fault = (let f : Some other ≡ Some fault = sym it.stands ∙ is in cc) in subst (IsFaultSince (g.faults v.site) (g.faults w.site)) e it.cause
       by_told Memory it = absurd (let e : None ≡ Some fault = sym was ∙ sym (ap (λ (c : CoreData). c.stopped) it.1.1) ∙ is in cc)
 
   was_going : w.stopped ≡ None → v.stopped ≡ None
   was_going going = by_told told says
     where
-      by_told : (a : WorkAnswer) → AnswerSays tells old n a new → v.stopped ≡ None
+      by_told : (a : WorkAnswer) → AnswerSays g.tells old n a new → v.stopped ≡ None
       by_told (Did what) it = it.0
       by_told Idle it = sym (ap (λ (c : CoreData). c.stopped) it.1.1) ∙ going
       by_told (Stopped other) (inl it) = sym (ap (λ (c : CoreData). c.stopped) it.1.1) ∙ going
@@ -119,6 +120,6 @@ module _ {S C : Type 0} (tells : Type 0) (may : List Candidate → ℕ → Type 
         subst (λ (l : List EntryData). HasMore w (left_of scripts l h) h) (sym comes.hosts.history)
         (record {
           chained = λ open_. (driven.more was h).chained (sym (ap (λ (l : List HostState). (host_at l h).chain_open) comes.hosts.hosts) ∙ open_);
-          asked = λ r is. let has = still_asked tells old (work_rule old n) new (kept was).requests_ comes.requests h (r, is) in (driven.more was h).asked has.0 has.1;
+          asked = λ r is. let has = still_asked g.tells old (work_rule old n) new (kept was).requests_ comes.requests h (r, is) in (driven.more was h).asked has.0 has.1;
         });
   }

@@ -2,11 +2,11 @@
 use Rattle.std.specs.Prelude.{◌≡◌, ◌≢◌, ◌≤◌, ◌<◌, ◌+◌, ◌==◌, ℕ, zero, suc, slice_index_or}
 use Rattle.std.specs.Prelude.{Bool, true, false, List, [], ◌∷◌, length, map, Option, Some, None}
 use Rattle.std.specs.List.{IsDistinct, AllByRecursion, range_with_len}
+use Rattle.mss_base.specs.Sound.{StaysSound}
 use Rattle.mss_base.specs.Configs.{ConfigData}
-use Rattle.mss_base.specs.Content.{SiteLog}
 use Rattle.mss_base.specs.Counts.{IsFaultSince}
-use Rattle.mss_base.specs.Sites.{FailingReads, StaysSound}
 use Rattle.mss_base.specs.declared.place.UnitNo.{UnitNo}
+use Rattle.mss_base.specs.declared.site.Site.{Ghosts}
 use Rattle.channel_commands.specs.Data.{CallData}
 use Rattle.channel_program.specs.Items.{AreRunnable}
 use Rattle.channel_program.specs.Script.{ItemData, program, FollowsToEnd}
@@ -144,19 +144,18 @@ pub record IsFull (scripts : List ScriptData) (history : List EntryData) : Type 
 
 -- The job and the chooser stay, and no count falls. A fault stopped the core only by a write that
 -- failed since, and none did where reads alone may fail. The limit is told of a full history alone.
-pub record Leaves {S C : Type 0} (tells : Type 0) (told : S → SiteLog) (writes faults : S → ℕ)
-    (never_fails_but : FailingReads S) (old new : DriveValue S C) (answer : DriveAnswer)
+pub record Leaves {S C : Type 0} (g : Ghosts S) (old new : DriveValue S C) (answer : DriveAnswer)
     : Type 0 where
-  pub session : IsLater tells (seen told writes faults old.core) (seen told writes faults new.core)
+  pub session : IsLater g.tells (seen g old.core) (seen g new.core)
   pub scripts_ : new.scripts ≡ old.scripts
   pub chooser_ : new.core.chooser ≡ old.core.chooser
-  pub written : writes old.core.site ≤ writes new.core.site
-  pub later : faults old.core.site ≤ faults new.core.site
-  pub sound : StaysSound never_fails_but old.core.site new.core.site
+  pub written : g.writes old.core.site ≤ g.writes new.core.site
+  pub later : g.faults old.core.site ≤ g.faults new.core.site
+  pub sound : StaysSound g.never_fails_but old.core.site new.core.site
   pub halts : Halts answer old.core.stopped new.core.stopped
   pub cause : old.core.stopped ≡ None → (fault : ℕ) → new.core.stopped ≡ Some fault
-      → IsFaultSince (faults old.core.site) (faults new.core.site) fault
-  pub only_reads_fail : (but : UnitNo → Bool) → never_fails_but old.core.site but
+      → IsFaultSince (g.faults old.core.site) (g.faults new.core.site) fault
+  pub only_reads_fail : (but : UnitNo → Bool) → g.never_fails_but old.core.site but
       → old.core.stopped ≡ None → new.core.stopped ≡ None
   pub full : answer ≡ CommandLimit → IsFull new.scripts new.core.history
 

@@ -20,10 +20,9 @@ impl<'a, S: Site, C: Choose> Drive<'a, S, C> {
     fn act(&mut self, actor: u32) -> DriveAnswer
         requires there { actor < length self.old.scripts + self.old.core.config.recorders }
         ensures takes { EventTakes S.tells (C.may self.old.core.chooser) self.old.scripts
-            (event_of self.old.scripts actor) (seen S.told S.writes S.faults self.old.core) result
-            (seen S.told S.writes S.faults self.new.core) }
-        ensures leaves { Leaves S.tells S.told S.writes S.faults S.never_fails_but self.old self.new
-            result }
+            (event_of self.old.scripts actor) (seen S.Site self.old.core) result
+            (seen S.Site self.new.core) }
+        ensures leaves { Leaves S.Site self.old self.new result }
     {
         let hosts = self.host_count();
         let number = actor as usize;
@@ -41,11 +40,9 @@ impl<'a, S: Site, C: Choose> Drive<'a, S, C> {
     pub fn run_turns(&mut self, turns: &[u32]) -> DriveAnswer
         requires turns { AreTurns self.old.scripts self.old.core.config turns.now }
         ensures runs { RunsEvents S.tells (C.may self.old.core.chooser) self.old.scripts
-            (events_of self.old.scripts turns.now)
-            (seen S.told S.writes S.faults self.old.core) result
-            (seen S.told S.writes S.faults self.new.core) }
-        ensures leaves { Leaves S.tells S.told S.writes S.faults S.never_fails_but self.old self.new
-            result }
+            (events_of self.old.scripts turns.now) (seen S.Site self.old.core) result
+            (seen S.Site self.new.core) }
+        ensures leaves { Leaves S.Site self.old self.new result }
     {
         for turn in turns {
             match self.act(*turn) {
@@ -61,12 +58,10 @@ impl<'a, S: Site, C: Choose> Drive<'a, S, C> {
     pub fn run(&mut self, turns: &[u32]) -> DriveAnswer
         requires turns { AreTurns self.old.scripts self.old.core.config turns.now }
         ensures runs { RunsOn S.tells (C.may self.old.core.chooser) self.old.scripts turns.now
-            (seen S.told S.writes S.faults self.old.core) result
-            (seen S.told S.writes S.faults self.new.core) }
+            (seen S.Site self.old.core) result (seen S.Site self.new.core) }
         ensures ended { result ≡ Done → (h : ℕ) → FollowsToEnd (script_of self.new.scripts h)
             (exchanges_of h self.new.core.history) }
-        ensures leaves { Leaves S.tells S.told S.writes S.faults S.never_fails_but self.old self.new
-            result }
+        ensures leaves { Leaves S.Site self.old self.new result }
     {
         match self.run_turns(turns) {
             DriveAnswer::Done => self.run_to_end(),

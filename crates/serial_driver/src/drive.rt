@@ -151,10 +151,8 @@ impl<'a, S: Site, C: Choose> Drive<'a, S, C> {
         ensures takes { (unknown : ScriptData) →
             let h = (slice_index_or self.old.scripts number unknown).host in
             HostTakes S.tells h (calls_of self.old.scripts self.old.core.history h)
-            (seen S.told S.writes S.faults self.old.core) result
-            (seen S.told S.writes S.faults self.new.core) }
-        ensures leaves { Leaves S.tells S.told S.writes S.faults S.never_fails_but self.old self.new
-            result }
+            (seen S.Site self.old.core) result (seen S.Site self.new.core) }
+        ensures leaves { Leaves S.Site self.old self.new result }
     {
         look(&self.core);
         let script = &self.scripts[number];
@@ -188,8 +186,7 @@ impl<'a, S: Site, C: Choose> Drive<'a, S, C> {
     /// has none has come to the end of its script.
     pub(crate) fn look_at_hosts(&self)
         ensures scripts { AreScripts self.now.scripts }
-        ensures owners { self.now.core.stopped ≡ None → OwnersCall
-            (seen S.told S.writes S.faults self.now.core)
+        ensures owners { self.now.core.stopped ≡ None → OwnersCall (seen S.Site self.now.core)
             (calls_of self.now.scripts self.now.core.history) }
         ensures ended { (h : ℕ) → calls_of self.now.scripts self.now.core.history h ≡ None
             → FollowsToEnd (script_of self.now.scripts h) (exchanges_of h self.now.core.history) }
@@ -201,10 +198,8 @@ impl<'a, S: Site, C: Choose> Drive<'a, S, C> {
     pub(crate) fn work(&mut self, recorder: RecorderNo) -> WorkAnswer
         requires { recorder < self.old.core.config.recorders }
         ensures event { WorkEvent S.tells (C.may self.old.core.chooser)
-            (seen S.told S.writes S.faults self.old.core) recorder result
-            (seen S.told S.writes S.faults self.new.core) }
-        ensures leaves { Leaves S.tells S.told S.writes S.faults S.never_fails_but self.old self.new
-            (of_work result) }
+            (seen S.Site self.old.core) recorder result (seen S.Site self.new.core) }
+        ensures leaves { Leaves S.Site self.old self.new (of_work result) }
     {
         look(&self.core);
         work_event(&mut self.core, recorder)
@@ -214,10 +209,8 @@ impl<'a, S: Site, C: Choose> Drive<'a, S, C> {
     fn named(&mut self, host: HostNo) -> DriveAnswer
         ensures takes { HostTakes S.tells host
             (calls_of self.old.scripts self.old.core.history host)
-            (seen S.told S.writes S.faults self.old.core) result
-            (seen S.told S.writes S.faults self.new.core) }
-        ensures leaves { Leaves S.tells S.told S.writes S.faults S.never_fails_but self.old self.new
-            result }
+            (seen S.Site self.old.core) result (seen S.Site self.new.core) }
+        ensures leaves { Leaves S.Site self.old self.new result }
     {
         match script_number(self.scripts, host) {
             Some(number) => self.host(number),
@@ -229,10 +222,8 @@ impl<'a, S: Site, C: Choose> Drive<'a, S, C> {
     fn event(&mut self, event: Event) -> DriveAnswer
         requires configured { IsConfigured self.old.core.config event }
         ensures takes { EventTakes S.tells (C.may self.old.core.chooser) self.old.scripts event
-            (seen S.told S.writes S.faults self.old.core) result
-            (seen S.told S.writes S.faults self.new.core) }
-        ensures leaves { Leaves S.tells S.told S.writes S.faults S.never_fails_but self.old self.new
-            result }
+            (seen S.Site self.old.core) result (seen S.Site self.new.core) }
+        ensures leaves { Leaves S.Site self.old self.new result }
     {
         match event {
             Event::Host(host) => self.named(host),
@@ -245,10 +236,8 @@ impl<'a, S: Site, C: Choose> Drive<'a, S, C> {
     pub fn run_events(&mut self, events: &[Event]) -> DriveAnswer
         requires configured { AllByRecursion (IsConfigured self.old.core.config) events.now }
         ensures runs { RunsEvents S.tells (C.may self.old.core.chooser) self.old.scripts events.now
-            (seen S.told S.writes S.faults self.old.core) result
-            (seen S.told S.writes S.faults self.new.core) }
-        ensures leaves { Leaves S.tells S.told S.writes S.faults S.never_fails_but self.old self.new
-            result }
+            (seen S.Site self.old.core) result (seen S.Site self.new.core) }
+        ensures leaves { Leaves S.Site self.old self.new result }
     {
         for event in events {
             match self.event(*event) {

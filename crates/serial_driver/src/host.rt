@@ -63,15 +63,13 @@ fn make_call<S: Site, C: Choose>(
     place: &mut Place,
 ) -> DriveAnswer
     requires runnable { AreRunnable (map item_of items.now) }
-    ensures event { HostTakes S.tells host (Some (call_of call.now))
-        (seen S.told S.writes S.faults core.old) result
-        (seen S.told S.writes S.faults core.new) }
+    ensures event { HostTakes S.tells host (Some (call_of call.now)) (seen S.Site core.old) result
+        (seen S.Site core.new) }
     ensures place { (left : Left) → StandsAt (map item_of items.now) left place.old
         → StandsAt (map item_of items.now)
         (left_behind left (slice_get core.new.history (length core.old.history))) place.new }
     ensures chooser { core.new.chooser ≡ core.old.chooser }
-    ensures devices { MayWrite CHANGE_WRITES S.spare S.writes S.faults S.never_fails_but
-        core.old.site core.new.site }
+    ensures devices { MayWrite S.Site CHANGE_WRITES core.old.site core.new.site }
     ensures only_reads_fail { (but : UnitNo → Bool) → S.never_fails_but core.old.site but
         → core.old.stopped ≡ None → IsUnstopped result }
 {
@@ -91,8 +89,7 @@ pub fn look<S: Site, C: Choose>(core: &Core<S, C>)
 /// What the call of a host is answered for which memory is wanting.
 fn refused<S: Site, C: Choose>(core: &Core<S, C>) -> DriveAnswer
     ensures event { (h : ℕ) (call : CallData) → HostTakes S.tells h (Some call)
-        (seen S.told S.writes S.faults core.now) result
-        (seen S.told S.writes S.faults core.now) }
+        (seen S.Site core.now) result (seen S.Site core.now) }
     ensures only_reads_fail { core.now.stopped ≡ None → IsUnstopped result }
 {
     match core.stopped() {
@@ -105,8 +102,7 @@ fn refused<S: Site, C: Choose>(core: &Core<S, C>) -> DriveAnswer
 fn lacking<S: Site, C: Choose>(core: &Core<S, C>) -> DriveAnswer
     requires going { core.now.stopped ≡ None }
     ensures event { (h : ℕ) (call : CallData) → HostTakes S.tells h (Some call)
-        (seen S.told S.writes S.faults core.now) result
-        (seen S.told S.writes S.faults core.now) }
+        (seen S.Site core.now) result (seen S.Site core.now) }
     ensures unstopped { IsUnstopped result }
 {
     look(core);
@@ -130,14 +126,12 @@ pub fn call_host<S: Site, C: Choose>(
     requires stands { IsPlace script.now.items place.old }
     ensures event { (left : Left) → StandsAt script.now.items left place.old
         → HostTakes S.tells script.now.host (next_of left.items left.at)
-        (seen S.told S.writes S.faults core.old) result
-        (seen S.told S.writes S.faults core.new) }
+        (seen S.Site core.old) result (seen S.Site core.new) }
     ensures place { (left : Left) → StandsAt script.now.items left place.old
         → StandsAt script.now.items
         (left_behind left (slice_get core.new.history (length core.old.history))) place.new }
     ensures chooser { core.new.chooser ≡ core.old.chooser }
-    ensures devices { MayWrite CHANGE_WRITES S.spare S.writes S.faults S.never_fails_but
-        core.old.site core.new.site }
+    ensures devices { MayWrite S.Site CHANGE_WRITES core.old.site core.new.site }
     ensures only_reads_fail { (but : UnitNo → Bool) → S.never_fails_but core.old.site but
         → core.old.stopped ≡ None → IsUnstopped result }
 {

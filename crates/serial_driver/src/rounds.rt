@@ -20,8 +20,7 @@ impl<'a, S: Site, C: Choose> Drive<'a, S, C> {
     /// Whether some host has a call.
     fn some_host_calls(&self) -> bool
         ensures { result ≡ has_call S.tells (C.may self.now.core.chooser)
-            (calls_of self.now.scripts) (hosts_of self.now.scripts)
-            (seen S.told S.writes S.faults self.now.core) }
+            (calls_of self.now.scripts) (hosts_of self.now.scripts) (seen S.Site self.now.core) }
     {
         let count = self.host_count();
         for number in 0..count {
@@ -36,13 +35,10 @@ impl<'a, S: Site, C: Choose> Drive<'a, S, C> {
     /// to do before, less of the run is left.
     fn hosts_turn(&mut self) -> DriveAnswer
         ensures turns { HostsTurn S.tells (C.may self.old.core.chooser) self.old.scripts
-            (seen S.told S.writes S.faults self.old.core) result
-            (seen S.told S.writes S.faults self.new.core) }
+            (seen S.Site self.old.core) result (seen S.Site self.new.core) }
         ensures falls { result ≡ Done → RunFalls S.tells (C.may self.old.core.chooser)
-            self.old.scripts (seen S.told S.writes S.faults self.old.core)
-            (seen S.told S.writes S.faults self.new.core) }
-        ensures leaves { Leaves S.tells S.told S.writes S.faults S.never_fails_but self.old self.new
-            result }
+            self.old.scripts (seen S.Site self.old.core) (seen S.Site self.new.core) }
+        ensures leaves { Leaves S.Site self.old self.new result }
     {
         self.look_at_hosts();
         calls_leave_less::<S>();
@@ -66,12 +62,10 @@ impl<'a, S: Site, C: Choose> Drive<'a, S, C> {
     /// followed its script to the end.
     pub fn run_to_end(&mut self) -> DriveAnswer
         ensures runs { RunsToEnd S.tells (C.may self.old.core.chooser) self.old.scripts
-            (seen S.told S.writes S.faults self.old.core) result
-            (seen S.told S.writes S.faults self.new.core) }
+            (seen S.Site self.old.core) result (seen S.Site self.new.core) }
         ensures ended { result ≡ Done → (h : ℕ) → FollowsToEnd (script_of self.new.scripts h)
             (exchanges_of h self.new.core.history) }
-        ensures leaves { Leaves S.tells S.told S.writes S.faults S.never_fails_but self.old self.new
-            result }
+        ensures leaves { Leaves S.Site self.old self.new result }
     {
         loop {
             if !self.some_host_calls() {

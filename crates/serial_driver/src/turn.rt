@@ -53,14 +53,11 @@ impl<'a, S: Site, C: Choose> Drive<'a, S, C> {
         requires low { number < self.old.core.config.recorders }
         requires few { number < 8 }
         ensures event { WorkEvent S.tells (C.may self.old.core.chooser)
-            (seen S.told S.writes S.faults self.old.core) number result
-            (seen S.told S.writes S.faults self.new.core) }
+            (seen S.Site self.old.core) number result (seen S.Site self.new.core) }
         ensures less { of_work result ≡ Done → LeavesLessBy
-            (seen S.told S.writes S.faults self.old.core) number result
-            (seen S.told S.writes S.faults self.new.core) }
+            (seen S.Site self.old.core) number result (seen S.Site self.new.core) }
         ensures history { self.new.core.history ≡ self.old.core.history }
-        ensures leaves { Leaves S.tells S.told S.writes S.faults S.never_fails_but self.old self.new
-            (of_work result) }
+        ensures leaves { Leaves S.Site self.old self.new (of_work result) }
     {
         let Some(recorder) = RecorderNo::of(number) else {
             unreachable!()
@@ -74,10 +71,8 @@ impl<'a, S: Site, C: Choose> Drive<'a, S, C> {
     /// One event of each recorder, in order, until one ends them.
     fn turn(&mut self) -> Turn
         ensures turns { TurnsTo S.tells (C.may self.old.core.chooser)
-            (seen S.told S.writes S.faults self.old.core) result
-            (seen S.told S.writes S.faults self.new.core) }
-        ensures leaves { Leaves S.tells S.told S.writes S.faults S.never_fails_but self.old self.new
-            result.answer }
+            (seen S.Site self.old.core) result (seen S.Site self.new.core) }
+        ensures leaves { Leaves S.Site self.old self.new result.answer }
     {
         let mut idle = true;
         let recorders = recorder_count(self.core());
@@ -100,12 +95,10 @@ impl<'a, S: Site, C: Choose> Drive<'a, S, C> {
     /// of a run doesn't grow.
     pub fn settle(&mut self) -> DriveAnswer
         ensures settles { SettlesIt S.tells (C.may self.old.core.chooser)
-            (seen S.told S.writes S.faults self.old.core) result
-            (seen S.told S.writes S.faults self.new.core) }
-        ensures run { result ≡ Done → run_left (seen S.told S.writes S.faults self.new.core)
-            ≤ run_left (seen S.told S.writes S.faults self.old.core) }
-        ensures leaves { Leaves S.tells S.told S.writes S.faults S.never_fails_but self.old self.new
-            result }
+            (seen S.Site self.old.core) result (seen S.Site self.new.core) }
+        ensures run { result ≡ Done → run_left (seen S.Site self.new.core)
+            ≤ run_left (seen S.Site self.old.core) }
+        ensures leaves { Leaves S.Site self.old self.new result }
     {
         loop {
             let turn = self.turn();

@@ -4,10 +4,11 @@ use Rattle.std.proofs.lemmas.Bool.{eqb-true, or_cases}
 use Rattle.std.proofs.lemmas.List.{append-nil, take-append-drop, take_more, flat_map_more}
 use Rattle.std.proofs.lemmas.List.Concat.{flat_map-append}
 use Rattle.std.proofs.lemmas.Option.{slice_get_read}
-use Rattle.mss_base.specs.Content.{Content, SiteLog, content}
+use Rattle.mss_base.specs.Content.{Content, content}
 use Rattle.mss_base.specs.Puts.{PutsFront}
-use Rattle.mss_base.specs.Sites.{FailingReads, OnlyReads}
+use Rattle.mss_base.specs.Sites.{OnlyReads}
 use Rattle.mss_base.proofs.Putting.{part_stops}
+use Rattle.mss_base.specs.declared.site.Site.{Ghosts}
 use Rattle.ckd_track.specs.Data.{Volumes}
 use Rattle.volume_table.specs.Row.{RowValue, state_of}
 use Rattle.shown_volumes.specs.Shown.{track_at}
@@ -21,11 +22,11 @@ use Rattle.session_report.specs.declared.fault.VolumesFault.{VolumesFault}
 use Rattle.session_report.specs.declared.fault.VolumesFault.TheVariants as volumes_fault
 
 -- what such a walk keeps of its site and its sink, of which no call failed, and of its buffer, and what it has put so far
-pub record IsPutting {S : Type 0} (tells sink_tells : Type 0) (site_told : S → SiteLog) (spare writes faults : S → ℕ) (never_fails_but : FailingReads S) (begun now : S)
+pub record IsPutting {S : Type 0} (g : Ghosts S) (sink_tells : Type 0) (begun now : S)
     (old new : List ℕ) (sink_begun sink_now long : ℕ) (so_far : Content → List ℕ) : Type 0 where
-  pub site : OnlyReads tells site_told spare writes faults never_fails_but begun now
-  pub same : faults now ≡ faults begun
-  pub put : tells → sink_tells → new ≡ old ++ so_far (content (site_told begun))
+  pub site : OnlyReads g begun now
+  pub same : g.faults now ≡ g.faults begun
+  pub put : g.tells → sink_tells → new ≡ old ++ so_far (content (g.told begun))
   pub grown : sink_tells → Grows old new
   pub output_same : sink_now ≡ sink_begun
   pub whole : long ≡ 16384

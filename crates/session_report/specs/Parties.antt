@@ -1,6 +1,9 @@
 -- The parties of a run, each from one moment to a later one.
 use Rattle.std.specs.Prelude.{◌≡◌, ℕ, List}
 use Rattle.mss_base.specs.Content.{SiteLog}
+use Rattle.mss_base.specs.declared.site.Site as site
+use Rattle.mss_base.specs.declared.stream.Sink as sink
+use Rattle.mss_base.specs.declared.stream.Source as source
 
 -- what a party tells at both moments, where clauses may speak of that, and its counts of faults
 pub record Party (T : Type 0) : Type 1 where
@@ -32,6 +35,16 @@ between tells told faults old new = record {
   faults_was = faults old;
   faults_now = faults new;
 }
+
+-- a source, a sink and a site, between two of their states
+abbrev pub source_between : {I : Type 0} → source.Ghosts I → I → I → Stream
+source_between g = between g.tells g.left g.faults
+
+abbrev pub sink_between : {O : Type 0} → sink.Ghosts O → O → O → Stream
+sink_between g = between g.tells g.told g.faults
+
+abbrev pub site_between : {S : Type 0} → site.Ghosts S → S → S → Devices
+site_between g = between g.tells g.told g.faults
 
 -- the sink, of which clauses speak where the site tells as well
 abbrev pub seen_with : Devices → Stream → Stream

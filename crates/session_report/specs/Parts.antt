@@ -5,9 +5,9 @@ use Rattle.std.specs.Option.{option_and_then}
 use Rattle.mss_base.specs.Content.{Content}
 use Rattle.mss_base.specs.Counts.{Rises, IsFaultSince}
 use Rattle.mss_base.specs.Puts.{PutsFront}
-use Rattle.mss_base.specs.Sites.{FailingReads}
 use Rattle.mss_base.specs.declared.numbers.TheConstants.{HEADS}
 use Rattle.mss_base.specs.declared.place.BlockPlace.{BlockPlace}
+use Rattle.mss_base.specs.declared.site.Site.{Ghosts}
 use Rattle.ckd_track.specs.Data.{RecordData, Volumes}
 use Rattle.volume_table.specs.Row.{RowValue}
 use Rattle.table_pair.specs.Reads.{IsReadable}
@@ -27,25 +27,24 @@ abbrev pub row_tracks : Content → Option RowValue → TracksOfVolume
 row_tracks c row cylinder head = track_at c (option_and_then (λ r. source r cylinder head) row)
 
 -- no read of a block that a row shows fails; without a row none is shown
-abbrev pub CanReadRow : {S : Type 0} → FailingReads S → S → Option RowValue → Type 0
-CanReadRow never_fails_but s row = (cylinder head : ℕ) (place : BlockPlace)
+abbrev pub CanReadRow : {S : Type 0} → Ghosts S → S → Option RowValue → Type 0
+CanReadRow g s row = (cylinder head : ℕ) (place : BlockPlace)
     → option_and_then (λ r. source r cylinder head) row ≡ Some place
-    → IsReadable never_fails_but s place.unit
+    → IsReadable g s place.unit
 
 -- no read of a block that one of these rows shows fails
-abbrev pub CanReadShown : {S : Type 0} → FailingReads S → S → RowsOf → Type 0
-CanReadShown never_fails_but s rows = (volume : ℕ) → CanReadRow never_fails_but s (rows volume)
+abbrev pub CanReadShown : {S : Type 0} → Ghosts S → S → RowsOf → Type 0
+CanReadShown g s rows = (volume : ℕ) → CanReadRow g s (rows volume)
 
 -- the block in which a row shows the track of this number, by cylinder and head
 abbrev pub block_of : Option RowValue → ℕ → Option BlockPlace
 block_of row n = option_and_then (λ r. source r (n / HEADS) (n % HEADS)) row
 
 -- there is such a block, and a read of its unit may fail
-pub record MayFail {S : Type 0} (never_fails_but : FailingReads S) (s : S)
-    (block : Option BlockPlace) : Type 0 where
+pub record MayFail {S : Type 0} (g : Ghosts S) (s : S) (block : Option BlockPlace) : Type 0 where
   pub place : BlockPlace
   pub there : block ≡ Some place
-  pub fails : IsReadable never_fails_but s place.unit → ⊥
+  pub fails : IsReadable g s place.unit → ⊥
 
 -- the row of the volume at this place of those that are listed
 abbrev pub row_at : RowsOf → List Heading → ℕ → Option RowValue
@@ -53,9 +52,8 @@ row_at rows volumes place = option_and_then (λ (v : Heading). rows v.0) (slice_
 
 -- a track of a listed volume that can't be read: its row shows it in a block, of whose unit a read
 -- may fail
-abbrev pub IsUnread : {S : Type 0} → FailingReads S → S → RowsOf → List Heading → ℕ → ℕ → Type 0
-IsUnread never_fails_but s rows volumes place n =
-    MayFail never_fails_but s (block_of (row_at rows volumes place) n)
+abbrev pub IsUnread : {S : Type 0} → Ghosts S → S → RowsOf → List Heading → ℕ → ℕ → Type 0
+IsUnread g s rows volumes place n = MayFail g s (block_of (row_at rows volumes place) n)
 
 -- what is answered when volumes were put
 abbrev pub Told : Type 0

@@ -8,7 +8,7 @@ ghost use Rattle.shown_volumes.specs.Shown.{shown_by};
 ghost use Rattle.report_text.specs.Texts.{listing_title};
 ghost use Rattle.session_report.specs.Parts.{CanReadShown, IsUnread};
 ghost use Rattle.session_report.specs.Answers.{SinkCounts};
-ghost use Rattle.session_report.specs.Parties.{between, seen_with};
+ghost use Rattle.session_report.specs.Parties.{seen_with, site_between, sink_between};
 ghost use Rattle.session_report.specs.Reports.{AnswersNoRead, IsReported, SiteCounts};
 ghost use Rattle.session_report.specs.Reports.{BreaksOff, Frames, OnRead};
 ghost use Rattle.session_report.specs.Reports.{finished, listing_matter};
@@ -68,22 +68,18 @@ pub fn listing<S: Site, O: Sink>(
 ) -> Result<(), ReportFault>
     requires rows { length rows.now ≡ 32 }
     ensures report { let shown = shown_by (listed rows.now) (content (S.told site.old)) in
-        IsReported (listing_matter shown) (finished End)
-        (between S.tells S.told S.faults site.old site.new)
-        (between O.tells O.told O.faults output.old output.new) result }
+        IsReported (listing_matter shown) (finished End) (site_between S.Site site.old site.new)
+        (sink_between O.Sink output.old output.new) result }
     ensures unread { let shown = shown_by (listed rows.now) (content (S.told site.old)) in
         OnRead result (BreaksOff
-        (IsUnread S.never_fails_but site.old (listed rows.now) (volumes_below 32 shown.serial))
-        (listing_matter shown)
-        (seen_with (between S.tells S.told S.faults site.old site.new)
-        (between O.tells O.told O.faults output.old output.new))) }
+        (IsUnread S.Site site.old (listed rows.now) (volumes_below 32 shown.serial))
+        (listing_matter shown) (seen_with (site_between S.Site site.old site.new)
+        (sink_between O.Sink output.old output.new))) }
     ensures framed { O.tells → Frames listing_title (finished End)
         (O.told output.old) (O.told output.new) result }
     ensures counted { SiteCounts (S.faults site.old) (S.faults site.new) result }
-    ensures works { CanReadShown S.never_fails_but site.old (listed rows.now)
-        → AnswersNoRead result }
-    ensures site { OnlyReads S.tells S.told S.spare S.writes S.faults S.never_fails_but
-        site.old site.new }
+    ensures works { CanReadShown S.Site site.old (listed rows.now) → AnswersNoRead result }
+    ensures site { OnlyReads S.Site site.old site.new }
     ensures output { SinkCounts (O.faults output.old) (O.faults output.new) result }
 {
     put_title(output)?;

@@ -9,7 +9,7 @@ ghost use Rattle.shown_volumes.specs.Shown.{shown_by};
 ghost use Rattle.core_state.specs.Sessions.{session_data};
 ghost use Rattle.report_text.specs.Causes.{HasOutputCause};
 ghost use Rattle.session_report.specs.Answers.{SinkCounts};
-ghost use Rattle.session_report.specs.Parties.{between, seen_with};
+ghost use Rattle.session_report.specs.Parties.{seen_with, site_between, sink_between};
 ghost use Rattle.session_report.specs.Parts.{PutsVolumes, CountsReads, CountsPuts};
 ghost use Rattle.session_report.specs.Parts.{CanReadShown, IsUnread, TellsNoRead};
 ghost use Rattle.session_report.specs.Reports.{AnswersNoRead, IsReported, SiteCounts};
@@ -75,18 +75,15 @@ fn put_to_end<S: Site, O: Sink>(
     requires rows { length rows.now ≡ 32 }
     requires block { length block.old ≡ BLOCK_BYTES }
     ensures bytes { let shown = shown_by (listed rows.now) (content (S.told site.old)) in
-        PutsVolumes (S.tells × O.tells)
-        (IsUnread S.never_fails_but site.old (listed rows.now) volumes.now)
+        PutsVolumes (S.tells × O.tells) (IsUnread S.Site site.old (listed rows.now) volumes.now)
         shown volumes.now (volumes_text shown volumes.now ++ last_text last)
         (O.told output.old) (O.told output.new) result }
     ensures grown { O.tells → Grows (O.told output.old) (O.told output.new) }
     ensures ended { O.tells → OnOk result
         (EndsWith (O.told output.old) (O.told output.new) (last_text last)) }
     ensures counted { CountsReads (S.faults site.old) (S.faults site.new) result }
-    ensures works { CanReadShown S.never_fails_but site.old (listed rows.now)
-        → TellsNoRead result }
-    ensures site { OnlyReads S.tells S.told S.spare S.writes S.faults S.never_fails_but
-        site.old site.new }
+    ensures works { CanReadShown S.Site site.old (listed rows.now) → TellsNoRead result }
+    ensures site { OnlyReads S.Site site.old site.new }
     ensures output { CountsPuts (O.faults output.old) (O.faults output.new) result }
 {
     put_volumes(site, output, rows, volumes, block, line)?;
@@ -116,20 +113,15 @@ pub fn put_ending<S: Site, O: Sink>(
     requires rows { length rows.now ≡ 32 }
     ensures report { let shown = shown_by (listed rows.now) (content (S.told site.old)) in
         IsReported (untitled volumes.now shown) (finished last)
-        (between S.tells S.told S.faults site.old site.new)
-        (between O.tells O.told O.faults output.old output.new) result }
+        (site_between S.Site site.old site.new) (sink_between O.Sink output.old output.new) result }
     ensures unread { let shown = shown_by (listed rows.now) (content (S.told site.old)) in
-        OnRead result (BreaksOff
-        (IsUnread S.never_fails_but site.old (listed rows.now) volumes.now)
-        (untitled volumes.now shown)
-        (seen_with (between S.tells S.told S.faults site.old site.new)
-        (between O.tells O.told O.faults output.old output.new))) }
+        OnRead result (BreaksOff (IsUnread S.Site site.old (listed rows.now) volumes.now)
+        (untitled volumes.now shown) (seen_with (site_between S.Site site.old site.new)
+        (sink_between O.Sink output.old output.new))) }
     ensures closed { O.tells → Closes last (O.told output.old) (O.told output.new) result }
     ensures counted { SiteCounts (S.faults site.old) (S.faults site.new) result }
-    ensures works { CanReadShown S.never_fails_but site.old (listed rows.now)
-        → AnswersNoRead result }
-    ensures site { OnlyReads S.tells S.told S.spare S.writes S.faults S.never_fails_but
-        site.old site.new }
+    ensures works { CanReadShown S.Site site.old (listed rows.now) → AnswersNoRead result }
+    ensures site { OnlyReads S.Site site.old site.new }
     ensures output { SinkCounts (O.faults output.old) (O.faults output.new) result }
 {
     let mut block = block_room(alloc)?;
@@ -162,22 +154,18 @@ pub fn report<S: Site, O: Sink>(
     requires rows { length rows.now ≡ 32 }
     ensures report { let shown = shown_by (listed rows.now) (content (S.told site.old)) in
         IsReported (report_matter (session_data session.now) volumes.now shown)
-        (ending_of session.now.stopped last)
-        (between S.tells S.told S.faults site.old site.new)
-        (between O.tells O.told O.faults output.old output.new) result }
+        (ending_of session.now.stopped last) (site_between S.Site site.old site.new)
+        (sink_between O.Sink output.old output.new) result }
     ensures unread { let shown = shown_by (listed rows.now) (content (S.told site.old)) in
-        OnRead result (BreaksOff
-        (IsUnread S.never_fails_but site.old (listed rows.now) volumes.now)
+        OnRead result (BreaksOff (IsUnread S.Site site.old (listed rows.now) volumes.now)
         (report_matter (session_data session.now) volumes.now shown)
-        (seen_with (between S.tells S.told S.faults site.old site.new)
-        (between O.tells O.told O.faults output.old output.new))) }
+        (seen_with (site_between S.Site site.old site.new)
+        (sink_between O.Sink output.old output.new))) }
     ensures framed { O.tells → Frames (opening_text (session_data session.now))
         (ending_of session.now.stopped last) (O.told output.old) (O.told output.new) result }
     ensures counted { SiteCounts (S.faults site.old) (S.faults site.new) result }
-    ensures works { CanReadShown S.never_fails_but site.old (listed rows.now)
-        → AnswersNoRead result }
-    ensures site { OnlyReads S.tells S.told S.spare S.writes S.faults S.never_fails_but
-        site.old site.new }
+    ensures works { CanReadShown S.Site site.old (listed rows.now) → AnswersNoRead result }
+    ensures site { OnlyReads S.Site site.old site.new }
     ensures output { SinkCounts (O.faults output.old) (O.faults output.new) result }
 {
     let mut line = Bytes::new(alloc);

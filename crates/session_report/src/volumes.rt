@@ -32,15 +32,13 @@ fn put_shown<S: Site, O: Sink>(
 ) -> Result<(), VolumesFault>
     requires { length block.old ≡ BLOCK_BYTES }
     ensures bytes { let tracks = row_tracks (content (S.told site.old)) (Some row.now) in
-        PutsTrack (S.tells × O.tells)
-        (MayFail S.never_fails_but site.old (source row.now cylinder head))
+        PutsTrack (S.tells × O.tells) (MayFail S.Site site.old (source row.now cylinder head))
         (track_text cylinder head (tracks cylinder head))
         (O.told output.old) (O.told output.new) result }
     ensures grown { O.tells → Grows (O.told output.old) (O.told output.new) }
     ensures counted { CountsReads (S.faults site.old) (S.faults site.new) result }
-    ensures works { CanReadRow S.never_fails_but site.old (Some row.now) → TellsNoRead result }
-    ensures site { OnlyReads S.tells S.told S.spare S.writes S.faults S.never_fails_but
-        site.old site.new }
+    ensures works { CanReadRow S.Site site.old (Some row.now) → TellsNoRead result }
+    ensures site { OnlyReads S.Site site.old site.new }
     ensures output { CountsPuts (O.faults output.old) (O.faults output.new) result }
 {
     let Some(place) = shown_place(row, cylinder, head) else {
@@ -65,14 +63,13 @@ fn put_tracks<S: Site, O: Sink>(
 ) -> Result<(), VolumesFault>
     requires { length block.old ≡ BLOCK_BYTES }
     ensures bytes { PutsTracks (S.tells × O.tells)
-        (λ n. MayFail S.never_fails_but site.old (block_of (Some row.now) n)) []
+        (λ n. MayFail S.Site site.old (block_of (Some row.now) n)) []
         (row_tracks (content (S.told site.old)) (Some row.now))
         (O.told output.old) (O.told output.new) result }
     ensures grown { O.tells → Grows (O.told output.old) (O.told output.new) }
     ensures counted { CountsReads (S.faults site.old) (S.faults site.new) result }
-    ensures works { CanReadRow S.never_fails_but site.old (Some row.now) → TellsNoRead result }
-    ensures site { OnlyReads S.tells S.told S.spare S.writes S.faults S.never_fails_but
-        site.old site.new }
+    ensures works { CanReadRow S.Site site.old (Some row.now) → TellsNoRead result }
+    ensures site { OnlyReads S.Site site.old site.new }
     ensures output { CountsPuts (O.faults output.old) (O.faults output.new) result }
 {
     for cylinder in 0..CYLINDERS {
@@ -102,14 +99,13 @@ fn put_row<S: Site, O: Sink>(
 ) -> Result<(), VolumesFault>
     requires { length block.old ≡ BLOCK_BYTES }
     ensures bytes { PutsTracks (S.tells × O.tells)
-        (λ n. MayFail S.never_fails_but site.old (block_of row.now n)) []
+        (λ n. MayFail S.Site site.old (block_of row.now n)) []
         (row_tracks (content (S.told site.old)) row.now)
         (O.told output.old) (O.told output.new) result }
     ensures grown { O.tells → Grows (O.told output.old) (O.told output.new) }
     ensures counted { CountsReads (S.faults site.old) (S.faults site.new) result }
-    ensures works { CanReadRow S.never_fails_but site.old row.now → TellsNoRead result }
-    ensures site { OnlyReads S.tells S.told S.spare S.writes S.faults S.never_fails_but
-        site.old site.new }
+    ensures works { CanReadRow S.Site site.old row.now → TellsNoRead result }
+    ensures site { OnlyReads S.Site site.old site.new }
     ensures output { CountsPuts (O.faults output.old) (O.faults output.new) result }
 {
     let Some(row) = row else {
@@ -131,16 +127,14 @@ fn put_volume<S: Site, O: Sink>(
     requires rows { length rows.now ≡ 32 }
     requires block { length block.old ≡ BLOCK_BYTES }
     ensures bytes { PutsTracks (S.tells × O.tells)
-        (λ n. MayFail S.never_fails_but site.old (block_of (listed rows.now volume) n))
+        (λ n. MayFail S.Site site.old (block_of (listed rows.now volume) n))
         (heading_text volume serial.now)
         (row_tracks (content (S.told site.old)) (listed rows.now volume))
         (O.told output.old) (O.told output.new) result }
     ensures grown { O.tells → Grows (O.told output.old) (O.told output.new) }
     ensures counted { CountsReads (S.faults site.old) (S.faults site.new) result }
-    ensures works { CanReadRow S.never_fails_but site.old (listed rows.now volume)
-        → TellsNoRead result }
-    ensures site { OnlyReads S.tells S.told S.spare S.writes S.faults S.never_fails_but
-        site.old site.new }
+    ensures works { CanReadRow S.Site site.old (listed rows.now volume) → TellsNoRead result }
+    ensures site { OnlyReads S.Site site.old site.new }
     ensures output { CountsPuts (O.faults output.old) (O.faults output.new) result }
 {
     put_heading(output, line, volume, serial)?;
@@ -161,15 +155,13 @@ pub fn put_volumes<S: Site, O: Sink>(
     requires rows { length rows.now ≡ 32 }
     requires block { length block.old ≡ BLOCK_BYTES }
     ensures bytes { let shown = shown_by (listed rows.now) (content (S.told site.old)) in
-        PutsVolumes (S.tells × O.tells)
-        (IsUnread S.never_fails_but site.old (listed rows.now) volumes.now)
+        PutsVolumes (S.tells × O.tells) (IsUnread S.Site site.old (listed rows.now) volumes.now)
         shown volumes.now (volumes_text shown volumes.now)
         (O.told output.old) (O.told output.new) result }
     ensures grown { O.tells → Grows (O.told output.old) (O.told output.new) }
     ensures counted { CountsReads (S.faults site.old) (S.faults site.new) result }
-    ensures works { CanReadShown S.never_fails_but site.old (listed rows.now) → TellsNoRead result }
-    ensures site { OnlyReads S.tells S.told S.spare S.writes S.faults S.never_fails_but
-        site.old site.new }
+    ensures works { CanReadShown S.Site site.old (listed rows.now) → TellsNoRead result }
+    ensures site { OnlyReads S.Site site.old site.new }
     ensures output { CountsPuts (O.faults output.old) (O.faults output.new) result }
 {
     for entry in volumes {

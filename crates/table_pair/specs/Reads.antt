@@ -2,9 +2,9 @@
 use Rattle.std.specs.Prelude.{◌≡◌, ◌≢◌, ◌⊎◌, ◌≤◌, ℕ, Bool, true, false, List, Option, Some, None, is_some, Result, Ok, Err}
 use Rattle.mss_base.specs.Content.{Content}
 use Rattle.mss_base.specs.Counts.{Rises, IsFaultSince}
-use Rattle.mss_base.specs.Sites.{FailingReads}
 use Rattle.mss_base.specs.declared.place.UnitNo.{UnitNo}
 use Rattle.mss_base.specs.declared.place.UnitNo.TheVariants.{TableA, TableB}
+use Rattle.mss_base.specs.declared.site.Site.{Ghosts}
 use Rattle.table_pair.specs.declared.copy.TableCopy.TheVariants as copy
 use Rattle.table_pair.specs.declared.copy.CopyState.{CopyState}
 use Rattle.table_pair.specs.declared.copy.CopyState.TheVariants as state
@@ -25,13 +25,12 @@ is_opened (opened row) = true
 is_opened _ = false
 
 -- no read of this unit fails
-abbrev pub IsReadable : {S : Type 0} → FailingReads S → S → UnitNo → Type 0
-IsReadable never_fails_but s unit = (but : UnitNo → Bool) × never_fails_but s but × (but unit ≡ false)
+abbrev pub IsReadable : {S : Type 0} → Ghosts S → S → UnitNo → Type 0
+IsReadable g s unit = (but : UnitNo → Bool) × g.never_fails_but s but × (but unit ≡ false)
 
 -- no read of a frame or a cartridge fails
-abbrev pub CanReadTracks : {S : Type 0} → FailingReads S → S → Type 0
-CanReadTracks never_fails_but s =
-    (unit : UnitNo) → is_table unit ≡ false → IsReadable never_fails_but s unit
+abbrev pub CanReadTracks : {S : Type 0} → Ghosts S → S → Type 0
+CanReadTracks g s = (unit : UnitNo) → is_table unit ≡ false → IsReadable g s unit
 
 -- a copy was read, and the count of faults stayed, or its read failed, and the count rose
 abbrev pub IsReadOf : ℕ → ℕ → List ℕ → CopyRead → Type 0

@@ -9,6 +9,7 @@ use Rattle.table_pair.specs.Copies.{CopyView, copy_at}
 use Rattle.table_pair.specs.Pair.{row_of, row_of_copies, known, IsOpenWith, HoldsRow}
 use Rattle.mss_base.specs.Counts.{IsFaultSince}
 use Rattle.mss_base.specs.Content.{SiteLog}
+use Rattle.mss_base.specs.declared.site.Site.{Ghosts}
 use Rattle.table_pair.specs.declared.copy.RepairFault.{RepairFault}
 use Rattle.table_pair.specs.declared.copy.RepairFault.TheVariants.{Failed, Memory}
 
@@ -56,8 +57,8 @@ FailsNever (Err (Failed fault)) = ⊥
 FailsNever _ = Unit {0}
 
 -- a site that was neither read nor written. It may have got room.
-pub record LeavesSite {S : Type 0} (tells : Type 0) (told : S → SiteLog) (spare writes faults : S → ℕ) (old new : S) : Type 0 where
-  pub log : tells → told new ≡ told old
-  pub room : spare old ≤ spare new
-  pub unwritten : writes new ≡ writes old
-  pub unfailed : faults new ≡ faults old
+pub record LeavesSite {S : Type 0} (g : Ghosts S) (old new : S) : Type 0 where
+  pub log : g.tells → g.told new ≡ g.told old
+  pub room : g.spare old ≤ g.spare new
+  pub unwritten : g.writes new ≡ g.writes old
+  pub unfailed : g.faults new ≡ g.faults old

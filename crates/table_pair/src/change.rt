@@ -33,8 +33,7 @@ pub fn change_row<S: Site>(site: &mut S, volume: VolumeNo, row: &VolumeRow) -> R
     ensures grown { S.tells →
         OnOk result (length (S.told site.old).log < length (S.told site.new).log) }
 
-    ensures devices { MayWrite CHANGE_WRITES S.spare S.writes S.faults S.never_fails_but
-        site.old site.new }
+    ensures devices { MayWrite S.Site CHANGE_WRITES site.old site.new }
     ensures cause { HasCause (S.faults site.old) (S.faults site.new) result }
     ensures counted { OnErr result (Rises (S.writes site.old) (S.writes site.new)) }
     ensures works { (but : UnitNo → Bool) → S.never_fails_but site.old but → IsOk result }

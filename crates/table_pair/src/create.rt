@@ -33,8 +33,7 @@ pub fn create_row<S: Site>(site: &mut S, volume: VolumeNo, row: &VolumeRow) -> R
     ensures marks { S.tells → OnOk result
         (AreMarked volume (content (S.told site.old)) (content (S.told site.new))) }
 
-    ensures devices { MayWrite CHANGE_WRITES S.spare S.writes S.faults S.never_fails_but
-        site.old site.new }
+    ensures devices { MayWrite S.Site CHANGE_WRITES site.old site.new }
     ensures cause { HasCause (S.faults site.old) (S.faults site.new) result }
     ensures works { (but : UnitNo → Bool) → S.never_fails_but site.old but
         → but TableA ≡ false → but TableB ≡ false → IsOk result }

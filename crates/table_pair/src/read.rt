@@ -42,10 +42,8 @@ fn read_copy<S: Site>(
     ensures copy { S.tells → IfOk result (λ c. IsReadOf (S.faults site.old) (S.faults site.new)
         (content (S.told site.old) at.now.unit at.now.block) (seen c)) }
     ensures kept { CopyKeeps (S.faults site.old) (S.faults site.new) result }
-    ensures works { IsReadable S.never_fails_but site.old at.now.unit
-        → IfOk result (λ c. seen c ≢ unread) }
-    ensures devices { OnlyReads S.tells S.told S.spare S.writes S.faults S.never_fails_but
-        site.old site.new }
+    ensures works { IsReadable S.Site site.old at.now.unit → IfOk result (λ c. seen c ≢ unread) }
+    ensures devices { OnlyReads S.Site site.old site.new }
 {
     match site.read(at.unit, at.block, block) {
         Ok(()) => copy_state(alloc, block),
@@ -120,14 +118,13 @@ pub fn read_row<S: Site>(
     site: &mut S,
     volume: VolumeNo,
 ) -> Result<RowRead, RowTrouble>
-    ensures row { S.tells → ReadsRow (IsReadable S.never_fails_but site.old)
+    ensures row { S.tells → ReadsRow (IsReadable S.Site site.old)
         (S.faults site.old) (S.faults site.new) volume (content (S.told site.old)) result }
     ensures kept { KeepsCount (S.faults site.old) (S.faults site.new) result }
-    ensures works { IsReadable S.never_fails_but site.old TableA
-        → IsReadable S.never_fails_but site.old TableB
+    ensures works { IsReadable S.Site site.old TableA
+        → IsReadable S.Site site.old TableB
         → ReadsBoth (S.faults site.old) (S.faults site.new) result }
-    ensures devices { OnlyReads S.tells S.told S.spare S.writes S.faults S.never_fails_but
-        site.old site.new }
+    ensures devices { OnlyReads S.Site site.old site.new }
 {
     let mut block = vec![in alloc; 0u8; BLOCK_BYTES]?;
     let a = read_copy(alloc, site, &place_of(TableCopy::A, volume), &mut block)?;

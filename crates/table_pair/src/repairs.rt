@@ -81,7 +81,7 @@ fn follow<S: Site>(site: &mut S, volume: VolumeNo, a: &[u8], b: &[u8]) -> Result
     ensures settled { S.tells → OnOk result (NeedsNoRepair volume (content (S.told site.new))) }
     ensures untouched { S.tells → NeedsNoRepair volume (content (S.told site.old))
         → S.told site.new ≡ S.told site.old }
-    ensures devices { MayWrite 3 S.spare S.writes S.faults S.never_fails_but site.old site.new }
+    ensures devices { MayWrite S.Site 3 site.old site.new }
     ensures cause { HasCause (S.faults site.old) (S.faults site.new) result }
     ensures works { (but : UnitNo → Bool) → S.never_fails_but site.old but → IsOk result }
 {
@@ -110,10 +110,9 @@ fn follow<S: Site>(site: &mut S, volume: VolumeNo, a: &[u8], b: &[u8]) -> Result
 fn read_block<S: Site>(site: &mut S, at: &BlockPlace, block: &mut [u8]) -> Result<(), RepairFault>
     requires { length block.old ≡ BLOCK_BYTES }
     ensures block { S.tells → OnOk result (block.new ≡ content (S.told site.old) at.now.unit at.now.block) }
-    ensures devices { OnlyReads S.tells S.told S.spare S.writes S.faults S.never_fails_but
-        site.old site.new }
+    ensures devices { OnlyReads S.Site site.old site.new }
     ensures kept { KeepsRepairFault (S.faults site.old) (S.faults site.new) result }
-    ensures works { IsReadable S.never_fails_but site.old at.now.unit → IsOk result }
+    ensures works { IsReadable S.Site site.old at.now.unit → IsOk result }
 {
     match site.read(at.unit, at.block, block) {
         Ok(()) => Ok(()),
@@ -139,12 +138,11 @@ pub fn repair<S: Site>(alloc: Global, site: &mut S, volume: VolumeNo) -> Result<
     ensures settled { S.tells → OnOk result (NeedsNoRepair volume (content (S.told site.new))) }
     ensures untouched { S.tells → NeedsNoRepair volume (content (S.told site.old))
         → S.told site.new ≡ S.told site.old }
-    ensures memory { result ≡ Err Memory
-        → LeavesSite S.tells S.told S.spare S.writes S.faults site.old site.new }
-    ensures devices { MayWrite 3 S.spare S.writes S.faults S.never_fails_but site.old site.new }
+    ensures memory { result ≡ Err Memory → LeavesSite S.Site site.old site.new }
+    ensures devices { MayWrite S.Site 3 site.old site.new }
     ensures kept { KeepsRepairFault (S.faults site.old) (S.faults site.new) result }
-    ensures works { IsReadable S.never_fails_but site.old TableA
-        → IsReadable S.never_fails_but site.old TableB → FailsNever result }
+    ensures works { IsReadable S.Site site.old TableA
+        → IsReadable S.Site site.old TableB → FailsNever result }
 {
     site.reserve(3)?;
     let mut a = vec![in alloc; 0u8; BLOCK_BYTES]?;

@@ -31,7 +31,7 @@ fn close_copy<S: Site>(site: &mut S, at: &BlockPlace, is_open: bool) -> Result<(
         OnOk result (copy_on (S.told site.new) at.now ≡ shut (copy_on (S.told site.old) at.now)) }
     ensures gate { S.tells → IsTrue is_open
         → OnOk result (byte_on (S.told site.new) at.now GATE ≡ CLOSED) }
-    ensures devices { MayWrite 1 S.spare S.writes S.faults S.never_fails_but site.old site.new }
+    ensures devices { MayWrite S.Site 1 site.old site.new }
     ensures cause { HasCause (S.faults site.old) (S.faults site.new) result }
     ensures counted { OnErr result (Rises (S.writes site.old) (S.writes site.new)) }
     ensures works { (but : UnitNo → Bool) → S.never_fails_but site.old but → IsOk result }
@@ -55,7 +55,7 @@ pub fn fill_copy<S: Site>(site: &mut S, at: &BlockPlace, body: &[u8]) -> Result<
         (byte_on (S.told site.new) at.now MADE ≡ byte_on (S.told site.old) at.now MADE) }
     ensures grown { S.tells →
         OnOk result (length (S.told site.old).log < length (S.told site.new).log) }
-    ensures devices { MayWrite 2 S.spare S.writes S.faults S.never_fails_but site.old site.new }
+    ensures devices { MayWrite S.Site 2 site.old site.new }
     ensures cause { HasCause (S.faults site.old) (S.faults site.new) result }
     ensures counted { OnErr result (Rises (S.writes site.old) (S.writes site.new)) }
     ensures works { (but : UnitNo → Bool) → S.never_fails_but site.old but → IsOk result }
@@ -81,7 +81,7 @@ pub fn rewrite_copy<S: Site>(
         (copy_on (S.told site.new) at.now ≡ filled body.now (copy_on (S.told site.old) at.now)) }
     ensures grown { S.tells →
         OnOk result (length (S.told site.old).log < length (S.told site.new).log) }
-    ensures devices { MayWrite 3 S.spare S.writes S.faults S.never_fails_but site.old site.new }
+    ensures devices { MayWrite S.Site 3 site.old site.new }
     ensures cause { HasCause (S.faults site.old) (S.faults site.new) result }
     ensures counted { OnErr result (Rises (S.writes site.old) (S.writes site.new)) }
     ensures works { (but : UnitNo → Bool) → S.never_fails_but site.old but → IsOk result }
@@ -101,7 +101,7 @@ pub fn mark_copy<S: Site>(site: &mut S, at: &BlockPlace) -> Result<(), Failed>
         OnOk result (copy_on (S.told site.new) at.now ≡ marked (copy_on (S.told site.old) at.now)) }
     ensures mark { S.tells → byte_on (S.told site.old) at.now MADE ≡ 0
         → OnOk result (byte_on (S.told site.new) at.now MADE ≡ MADE_MARK) }
-    ensures devices { MayWrite 1 S.spare S.writes S.faults S.never_fails_but site.old site.new }
+    ensures devices { MayWrite S.Site 1 site.old site.new }
     ensures cause { HasCause (S.faults site.old) (S.faults site.new) result }
     ensures works { (but : UnitNo → Bool) → S.never_fails_but site.old but
         → but at.now.unit ≡ false → IsOk result }

@@ -2,8 +2,8 @@
 use Rattle.std.proofs.Common.{◌≡◌, inl, inr, ◌≤◌, ℕ, zero, suc, Bool, true, false, cond, List, [], ◌∷◌, ◌==◌, ◌&&◌, length, map, Option, Some, None, if◌then◌else◌, eq-eqb, refl, sym, ◌∙◌, ap, subst, arith, Contains}
 use Rattle.std.proofs.lemmas.Bool.{cases_Bool, cond-false, eqb-true, false≢true}
 use Rattle.std.proofs.lemmas.List.Elements.{All-head, All-tail}
-use Rattle.mss_base.specs.Content.{SiteLog}
-use Rattle.mss_base.specs.Sites.{FailingReads, StaysSound}
+use Rattle.mss_base.specs.Sound.{StaysSound}
+use Rattle.mss_base.specs.declared.site.Site.{Ghosts}
 use Rattle.channel_program.specs.Script.{Exchange, Follows}
 use Rattle.ckd_plain.specs.History.{EntryData}
 use Rattle.job_text.specs.Jobs.{JobData, ScriptData}
@@ -12,7 +12,7 @@ use Rattle.seen_book.specs.Books.{AreOfThese, IsOfOne}
 use Rattle.seen_book.specs.Entries.{entries_of}
 use Rattle.core_state.specs.Beginning.{IsLater}
 use Rattle.core_state.specs.Counted.{AreMarks, IsCounted}
-use Rattle.core_state.specs.CoreValue.{CoreValue, DevicesSeen, seen}
+use Rattle.core_state.specs.CoreValue.{CoreValue, DevicesSeen, seen, seen_site}
 use Rattle.core_state.specs.SessionData.{SessionData, data_of}
 use Rattle.mss_run.specs.Runs.{EndData, AskByScript, Leaves, are_finished, hosts_of, run_answer}
 use Rattle.mss_run.specs.declared.ends.RunAnswer.TheVariants as answer
@@ -20,7 +20,7 @@ use Rattle.mss_run.specs.Owns.{asked_of, exchange}
 use Rattle.serial_driver.specs.Scripts.{exchanges_of, script_of}
 use Rattle.serial_driver.specs.declared.answer.DriveAnswer.{DriveAnswer}
 use Rattle.session_report.specs.Parties.{Stream}
-use Rattle.job_runs.specs.Parties.{Devices, devices, seen_site}
+use Rattle.job_runs.specs.Parties.{Devices, devices}
 use Rattle.job_runs.specs.Runs.{FollowScripts, IsBegun, IsHalted, IsPromised, TellsSession}
 use Rattle.job_runs.specs.declared.run.Outcome.{Outcome}
 use Rattle.job_runs.specs.declared.run.Outcome.TheVariants.{Untaken, Ran}
@@ -87,33 +87,33 @@ marks_rise since [] writes are = are
 marks_rise since (mark ∷ marks) writes are = let rest = marks_rise mark marks writes are.1 in omega (arith, are.0, rest)
 
 -- no count fell since it began
-module _ {S C : Type 0} (tells : Type 0) (told : S → SiteLog) (writes faults : S → ℕ) (never_fails_but : FailingReads S) (core left : CoreValue S C)
-    (began_writes : core.first_write ≡ writes core.site) (began_faults : core.first_faults ≡ faults core.site)
-    (later : IsLater tells (seen told writes faults core) (seen told writes faults left))
-    (counted : IsCounted (writes left.site) (faults left.site) left.requests (data_of left))
-    (sound : StaysSound never_fails_but core.site left.site) where
-  pub written_at_once : WritesOn writes faults never_fails_but core.site left.site
+module _ {S C : Type 0} (g : Ghosts S) (core left : CoreValue S C)
+    (began_writes : core.first_write ≡ g.writes core.site) (began_faults : core.first_faults ≡ g.faults core.site)
+    (later : IsLater g.tells (seen g core) (seen g left))
+    (counted : IsCounted (g.writes left.site) (g.faults left.site) left.requests (data_of left))
+    (sound : StaysSound g.never_fails_but core.site left.site) where
+  pub written_at_once : WritesOn g core.site left.site
   written_at_once =
-      let first : left.first_write ≡ writes core.site = later.beginning.first_write ∙ began_writes in
-      let then_ : left.first_faults ≡ faults core.site = later.beginning.first_faults ∙ began_faults in
-      let marked : left.first_write ≤ writes left.site = marks_rise left.first_write left.marks (writes left.site) counted.marks_ in
+      let first : left.first_write ≡ g.writes core.site = later.beginning.first_write ∙ began_writes in
+      let then_ : left.first_faults ≡ g.faults core.site = later.beginning.first_faults ∙ began_faults in
+      let marked : left.first_write ≤ g.writes left.site = marks_rise left.first_write left.marks (g.writes left.site) counted.marks_ in
       record {
-        written = subst (λ (n : ℕ). n ≤ writes left.site) first marked;
-        later = subst (λ (n : ℕ). n ≤ faults left.site) then_ counted.began;
+        written = subst (λ (n : ℕ). n ≤ g.writes left.site) first marked;
+        later = subst (λ (n : ℕ). n ≤ g.faults left.site) then_ counted.began;
         sound = sound;
       }
 
 -- ---- the session
 
-module _ {S C : Type 0} (tells : Type 0) (told : S → SiteLog) (writes faults : S → ℕ) (job : JobData) (core left : CoreValue S C) (end : DriveAnswer) (hosts : List EndData)
-    (later : IsLater tells (seen told writes faults core) (seen told writes faults left))
+module _ {S C : Type 0} (g : Ghosts S) (job : JobData) (core left : CoreValue S C) (end : DriveAnswer) (hosts : List EndData)
+    (later : IsLater g.tells (seen g core) (seen g left))
     (of_hosts : AreOfThese (hosts_of job.hosts) left.history) (ends : Leaves left.history job.hosts hosts) (ask : AskByScript left.history job.hosts)
     (ended_ : end ≡ ended_as (run_answer left.stopped (length left.history) (length job.hosts) hosts))
-    (was : DevicesSeen) (begun : IsBegun tells job.config was (seen told writes faults core))
-    (promised : IsPromised job.config (record { tells = tells; was = was; now = seen_site told writes faults left.site }) (data_of left)) where
-  pub played_at_once : IsPlayedAtOnce job (record { tells = tells; was = was; now = seen_site told writes faults left.site }) end hosts (data_of left)
+    (was : DevicesSeen) (begun : IsBegun g.tells job.config was (seen g core))
+    (promised : IsPromised job.config (record { tells = g.tells; was = was; now = seen_site g left.site }) (data_of left)) where
+  pub played_at_once : IsPlayedAtOnce job (record { tells = g.tells; was = was; now = seen_site g left.site }) end hosts (data_of left)
   played_at_once = record {
-    led = record { began = seen told writes faults core; begun = begun; left = seen told writes faults left; later = later; devices_ = refl; session = refl };
+    led = record { began = seen g core; begun = begun; left = seen g left; later = later; devices_ = refl; session = refl };
     promised = promised;
     of_hosts = of_hosts;
     follow = follow_scripts job.hosts left.history ask of_hosts;
@@ -123,11 +123,11 @@ module _ {S C : Type 0} (tells : Type 0) (told : S → SiteLog) (writes faults :
 
 -- ---- and its report
 
-module _ {S : Type 0} (tells : Type 0) (told : S → SiteLog) (writes faults : S → ℕ) (job : JobData)
+module _ {S : Type 0} (g : Ghosts S) (job : JobData)
     (was : DevicesSeen) (mid site : S) (end : DriveAnswer) (hosts : List EndData) (s : SessionData)
-    (played : IsPlayedAtOnce job (record { tells = tells; was = was; now = seen_site told writes faults mid }) end hosts s) (sink : Stream) where
-  pub ends_at_once : (o : Outcome) → TellsSession job was.told (devices tells told writes faults mid site) sink end s o → Ends job (record { tells = tells; was = was; now = seen_site told writes faults site }) sink o hosts
+    (played : IsPlayedAtOnce job (record { tells = g.tells; was = was; now = seen_site g mid }) end hosts s) (sink : Stream) where
+  pub ends_at_once : (o : Outcome) → TellsSession job was.told (devices g mid site) sink end s o → Ends job (record { tells = g.tells; was = was; now = seen_site g site }) sink o hosts
   ends_at_once (Untaken why) is = absurd is
   ends_at_once (Ran session last told_) is =
-      subst (λ (x : SessionData × DriveAnswer). IsSessionAtOnce job (record { tells = tells; was = was; now = seen_site told writes faults site }) sink x.1 told_ hosts x.0) (λ i. (sym is.0 i, sym is.1 i))
-      (record { mid = seen_site told writes faults mid; played = played; report = is.2 })
+      subst (λ (x : SessionData × DriveAnswer). IsSessionAtOnce job (record { tells = g.tells; was = was; now = seen_site g site }) sink x.1 told_ hosts x.0) (λ i. (sym is.0 i, sym is.1 i))
+      (record { mid = seen_site g mid; played = played; report = is.2 })

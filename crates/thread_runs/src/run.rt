@@ -1,10 +1,10 @@
 // A job, run in threads on a site.
 ghost use Rattle.std.specs.Prelude.{◌≡◌, [], Err, IfErr, IfOk};
-ghost use Rattle.core_state.specs.CoreValue.{DevicesSeen, seen};
+ghost use Rattle.core_state.specs.CoreValue.{DevicesSeen, seen, seen_site};
 ghost use Rattle.core_state.specs.Sessions.{session_data};
 ghost use Rattle.mss_restart.specs.Creations.{WritesOn};
-ghost use Rattle.session_report.specs.Parties.{between};
-ghost use Rattle.job_runs.specs.Parties.{devices, seen_site};
+ghost use Rattle.session_report.specs.Parties.{sink_between};
+ghost use Rattle.job_runs.specs.Parties.{devices};
 ghost use Rattle.job_runs.specs.Runs.{AreRowsOf, IsBegun, Opens};
 ghost use Rattle.thread_runs.specs.Runs.{Ends, IsPlayedAtOnce, ended_as};
 
@@ -58,13 +58,11 @@ fn begin<S: Site, C: Choose + Drop>(
 ) -> Result<Core<S, C>, (S, Refused)>
     requires able { C.can_choose chooser }
     ensures begun { IfOk result (λ core. IsBegun S.tells job.now.config
-        (seen_site S.told S.writes S.faults site) (seen S.told S.writes S.faults core)) }
-    ensures devices { IfOk result (λ core.
-        WritesOn S.writes S.faults S.never_fails_but site core.site) }
+        (seen_site S.Site site) (seen S.Site core)) }
+    ensures devices { IfOk result (λ core. WritesOn S.Site site core.site) }
     ensures untaken { IfErr result (λ back. Opens job.now.config
-        (devices S.tells S.told S.writes S.faults site back.0) (Err back.1)) }
-    ensures back { IfErr result (λ back.
-        WritesOn S.writes S.faults S.never_fails_but site back.0) }
+        (devices S.Site site back.0) (Err back.1)) }
+    ensures back { IfErr result (λ back. WritesOn S.Site site back.0) }
 {
     match restart(alloc, site, &job.config, chooser) {
         Ok(core) => {
@@ -87,17 +85,16 @@ fn play_on<S: Site + Send, C: Choose + Drop + Send, G: Gate + Sync, R: Threads +
     requires config { core.config ≡ job.now.config }
     requires writes { core.first_write ≡ S.writes core.site }
     requires faults { core.first_faults ≡ S.faults core.site }
-    ensures session { (was : DevicesSeen) → IsBegun S.tells job.now.config was
-        (seen S.told S.writes S.faults core)
+    ensures session { (was : DevicesSeen) → IsBegun S.tells job.now.config was (seen S.Site core)
         → IsPlayedAtOnce job.now (record {
           tells = S.tells;
           was = was;
-          now = seen_site S.told S.writes S.faults result.played.site;
+          now = seen_site S.Site result.played.site;
         })
         result.played.end result.hosts.items (session_data result.played.session) }
     ensures rows { AreRowsOf S.tells (S.told result.played.site) result.played.session.stopped
         result.played.rows.items }
-    ensures devices { WritesOn S.writes S.faults S.never_fails_but core.site result.played.site }
+    ensures devices { WritesOn S.Site core.site result.played.site }
 {
     sessions_are_plain::<S>();
     let RunEnd {
@@ -137,17 +134,14 @@ pub fn play_at_once<
     gate: &G,
 ) -> Result<PlayedAtOnce<S>, (S, Refused)>
     requires able { C.can_choose chooser }
-    ensures played { IfOk result (λ p. IsPlayedAtOnce job.now
-        (devices S.tells S.told S.writes S.faults site p.played.site)
+    ensures played { IfOk result (λ p. IsPlayedAtOnce job.now (devices S.Site site p.played.site)
         p.played.end p.hosts.items (session_data p.played.session)) }
     ensures rows { IfOk result (λ p.
         AreRowsOf S.tells (S.told p.played.site) p.played.session.stopped p.played.rows.items) }
-    ensures devices { IfOk result (λ p.
-        WritesOn S.writes S.faults S.never_fails_but site p.played.site) }
+    ensures devices { IfOk result (λ p. WritesOn S.Site site p.played.site) }
     ensures untaken { IfErr result (λ back. Opens job.now.config
-        (devices S.tells S.told S.writes S.faults site back.0) (Err back.1)) }
-    ensures back { IfErr result (λ back.
-        WritesOn S.writes S.faults S.never_fails_but site back.0) }
+        (devices S.Site site back.0) (Err back.1)) }
+    ensures back { IfErr result (λ back. WritesOn S.Site site back.0) }
 {
     match begin(alloc, job, site, chooser) {
         Ok(core) => Ok(play_on(rt, alloc, core, job, gate)),
@@ -164,11 +158,9 @@ pub fn run_at_once<
     R: Threads + Wait + Sync,
 >(rt: &R, alloc: Global, job: &Job, site: S, chooser: C, gate: &G, output: &mut O) -> EndAtOnce<S>
     requires able { C.can_choose chooser }
-    ensures ends { Ends job.now
-        (devices S.tells S.told S.writes S.faults site result.job.site)
-        (between O.tells O.told O.faults output.old output.new)
-        result.job.outcome result.hosts.items }
-    ensures devices { WritesOn S.writes S.faults S.never_fails_but site result.job.site }
+    ensures ends { Ends job.now (devices S.Site site result.job.site)
+        (sink_between O.Sink output.old output.new) result.job.outcome result.hosts.items }
+    ensures devices { WritesOn S.Site site result.job.site }
 {
     match play_at_once(rt, alloc, job, site, chooser, gate) {
         Ok(done) => EndAtOnce {

@@ -1,8 +1,9 @@
 -- What a command is answered.
 use Rattle.std.specs.Prelude.{◌≡◌, ◌≤◌, ℕ, ◌+◌, Bool, false, List, length, Some, Result, IfOk, IfErr, OnOk, OnErr}
 use Rattle.mss_base.specs.Content.{Content, SiteLog, content}
-use Rattle.mss_base.specs.Sites.{FailingReads, OnlyReads, MayWrite}
+use Rattle.mss_base.specs.Sites.{OnlyReads, MayWrite}
 use Rattle.mss_base.specs.declared.place.UnitNo.{UnitNo}
+use Rattle.mss_base.specs.declared.site.Site.{Ghosts}
 use Rattle.channel_commands.specs.Codes.{is_write}
 use Rattle.channel_commands.specs.Views.{reply_of}
 use Rattle.channel_commands.specs.declared.call.Reply.{Reply}
@@ -44,12 +45,12 @@ pub record LeavesHost (chained : Bool) (old new : HostState) (result : Result Re
 -- What a command leaves of its devices, whatever the site tells. An update makes one write at most, a write of count, key and
 -- data four; a command that is no write, or ends with unit check, reads at most.
 -- The count of faults rises where a call failed, and the fault says which; where no call may fail, none did.
-pub record LeavesDevices {S : Type 0} (tells : Type 0) (told : S → SiteLog) (spare writes faults : S → ℕ) (never_fails_but : FailingReads S) (c : Command) (unit : UnitNo) (old new : S) (result : Result Reply EngineFault) : Type 0 where
-  pub devices : MayWrite 4 spare writes faults never_fails_but old new
-  pub few : tells → length (told new).log ≤ length (told old).log + most_writes c
-  pub looks : is_write c ≡ false → OnlyReads tells told spare writes faults never_fails_but old new
-  pub unwritten : IfOk result (λ reply. HasUnitCheck (reply_of reply) → OnlyReads tells told spare writes faults never_fails_but old new)
-  pub same : OnOk result (faults new ≡ faults old)
-  pub cause : IfErr result (FailsBy tells told spare writes faults never_fails_but (is_write c) old new)
-  pub works : (but : UnitNo → Bool) → never_fails_but old but → but unit ≡ false → IfErr result IsNoFailure
-  pub only_reads_fail : (but : UnitNo → Bool) → never_fails_but old but → IfErr result IsNoFailedWrite
+pub record LeavesDevices {S : Type 0} (g : Ghosts S) (c : Command) (unit : UnitNo) (old new : S) (result : Result Reply EngineFault) : Type 0 where
+  pub devices : MayWrite g 4 old new
+  pub few : g.tells → length (g.told new).log ≤ length (g.told old).log + most_writes c
+  pub looks : is_write c ≡ false → OnlyReads g old new
+  pub unwritten : IfOk result (λ reply. HasUnitCheck (reply_of reply) → OnlyReads g old new)
+  pub same : OnOk result (g.faults new ≡ g.faults old)
+  pub cause : IfErr result (FailsBy g (is_write c) old new)
+  pub works : (but : UnitNo → Bool) → g.never_fails_but old but → but unit ≡ false → IfErr result IsNoFailure
+  pub only_reads_fail : (but : UnitNo → Bool) → g.never_fails_but old but → IfErr result IsNoFailedWrite

@@ -2,7 +2,8 @@
 use Rattle.std.specs.Prelude.{◌≡◌, ℕ, Bool, IsTrue, Result, OnOk, IfErr}
 use Rattle.mss_base.specs.Content.{SiteLog}
 use Rattle.mss_base.specs.Counts.{Rises, IsFaultSince}
-use Rattle.mss_base.specs.Sites.{FailingReads, OnlyReads}
+use Rattle.mss_base.specs.Sites.{OnlyReads}
+use Rattle.mss_base.specs.declared.site.Site.{Ghosts}
 use Rattle.channel_commands.specs.Data.{ReplyData, done}
 use Rattle.ckd_plain.specs.Plain.{UNIT_CHECK}
 use Rattle.track_engine.specs.declared.place.EngineFault.{EngineFault}
@@ -51,31 +52,31 @@ pub record HasReadCause {X : Type 0} (before now : ℕ) (result : Result X NotDo
 -- ---- writes
 
 -- a site that was read at most, of which no call failed
-pub record Untroubled {S : Type 0} (tells : Type 0) (told : S → SiteLog) (spare writes faults : S → ℕ) (never_fails_but : FailingReads S) (old new : S) : Type 0 where
-  pub reads : OnlyReads tells told spare writes faults never_fails_but old new
-  pub same : faults new ≡ faults old
+pub record Untroubled {S : Type 0} (g : Ghosts S) (old new : S) : Type 0 where
+  pub reads : OnlyReads g old new
+  pub same : g.faults new ≡ g.faults old
 
 -- a site that was read at most, and whose last read failed
-pub record HasReadFault {S : Type 0} (tells : Type 0) (told : S → SiteLog) (spare writes faults : S → ℕ) (never_fails_but : FailingReads S) (old new : S) (fault : ℕ) : Type 0 where
-  pub reads : OnlyReads tells told spare writes faults never_fails_but old new
-  pub cause : IsFaultSince (faults old) (faults new) fault
+pub record HasReadFault {S : Type 0} (g : Ghosts S) (old new : S) (fault : ℕ) : Type 0 where
+  pub reads : OnlyReads g old new
+  pub cause : IsFaultSince (g.faults old) (g.faults new) fault
 
 -- a write was made and failed, and the command is one
-pub record HasWriteFault {S : Type 0} (by_write : Bool) (writes faults : S → ℕ) (old new : S) (fault : ℕ) : Type 0 where
+pub record HasWriteFault {S : Type 0} (g : Ghosts S) (by_write : Bool) (old new : S) (fault : ℕ) : Type 0 where
   pub asked : IsTrue by_write
-  pub wrote : Rises (writes old) (writes new)
-  pub cause : IsFaultSince (faults old) (faults new) fault
+  pub wrote : Rises (g.writes old) (g.writes new)
+  pub cause : IsFaultSince (g.faults old) (g.faults new) fault
 
 -- why a command gave no reply, and the site then: only a failed write may have written
-abbrev pub FailsBy : {S : Type 0} → Type 0 → (S → SiteLog) → (S → ℕ) → (S → ℕ) → (S → ℕ) → FailingReads S → Bool → S → S → EngineFault → Type 0
-FailsBy tells told spare writes faults never_fails_but by_write old new (ReadFailed fault) = HasReadFault tells told spare writes faults never_fails_but old new fault
-FailsBy tells told spare writes faults never_fails_but by_write old new (WriteFailed fault) = HasWriteFault by_write writes faults old new fault
-FailsBy tells told spare writes faults never_fails_but by_write old new Memory = Untroubled tells told spare writes faults never_fails_but old new
+abbrev pub FailsBy : {S : Type 0} → Ghosts S → Bool → S → S → EngineFault → Type 0
+FailsBy g by_write old new (ReadFailed fault) = HasReadFault g old new fault
+FailsBy g by_write old new (WriteFailed fault) = HasWriteFault g by_write old new fault
+FailsBy g by_write old new Memory = Untroubled g old new
 
 -- why a command isn't done, and the site then
-abbrev pub IsUndone : {S : Type 0} → Type 0 → (S → SiteLog) → (S → ℕ) → (S → ℕ) → (S → ℕ) → FailingReads S → Bool → S → S → NotDone → Type 0
-IsUndone tells told spare writes faults never_fails_but by_write old new (Refused refusal) = Untroubled tells told spare writes faults never_fails_but old new
-IsUndone tells told spare writes faults never_fails_but by_write old new (Fault fault) = FailsBy tells told spare writes faults never_fails_but by_write old new fault
+abbrev pub IsUndone : {S : Type 0} → Ghosts S → Bool → S → S → NotDone → Type 0
+IsUndone g by_write old new (Refused refusal) = Untroubled g old new
+IsUndone g by_write old new (Fault fault) = FailsBy g by_write old new fault
 
 -- the reply has unit check
 abbrev pub HasUnitCheck : ReplyData → Type 0

@@ -42,8 +42,7 @@ pub fn bring_block<S: Site>(
     requires { place.now.first_block + HEADS ≤ 2 ^ 32 }
     ensures block { S.tells
         → OnOk result (IsBlockOn (S.told site.old) place.now head (S.brought site.new)) }
-    ensures reads { OnlyReads S.tells S.told S.spare S.writes S.faults S.never_fails_but
-        site.old site.new }
+    ensures reads { OnlyReads S.Site site.old site.new }
     ensures cause { HasCause (S.faults site.old) (S.faults site.new) result }
     ensures fault { IfErr result (IsFailedRead (S.faults site.new)) }
     ensures works { (but : UnitNo → Bool) → S.never_fails_but site.old but
@@ -68,8 +67,7 @@ pub fn copy_block<S: Site>(
     requires buffer { length buffer.old ≡ BLOCK_BYTES }
     requires place { place.now.first_block + HEADS ≤ 2 ^ 32 }
     ensures block { S.tells → OnOk result (IsBlockOn (S.told site.old) place.now head buffer.new) }
-    ensures reads { OnlyReads S.tells S.told S.spare S.writes S.faults S.never_fails_but
-        site.old site.new }
+    ensures reads { OnlyReads S.Site site.old site.new }
     ensures cause { HasCause (S.faults site.old) (S.faults site.new) result }
     ensures fault { IfErr result (IsFailedRead (S.faults site.new)) }
     ensures works { (but : UnitNo → Bool) → S.never_fails_but site.old but
@@ -140,8 +138,7 @@ fn pass<S: Site>(
         → IfOk result (λ passed.
         IsBlockOn (S.told site.old) place.now passed.head (S.brought site.new)) }
     ensures volume { KeepsVolume (λ passed. passed) host.now.mounted result }
-    ensures reads { OnlyReads S.tells S.told S.spare S.writes S.faults S.never_fails_but
-        site.old site.new }
+    ensures reads { OnlyReads S.Site site.old site.new }
     ensures cause { HasReadCause (S.faults site.old) (S.faults site.new) result }
     ensures works { (but : UnitNo → Bool) → S.never_fails_but site.old but
         → but place.now.unit ≡ false → IfErr result HasNotFailed }
@@ -167,8 +164,7 @@ pub fn next_record<S: Site>(
         (next_record (tracks_on (S.told site.old) place.now) from.now first multi) }
     ensures there { IfOk result (StandsIn (S.brought site.new)) }
     ensures volume { KeepsVolume (λ at. at.host) from.now.mounted result }
-    ensures reads { OnlyReads S.tells S.told S.spare S.writes S.faults S.never_fails_but
-        site.old site.new }
+    ensures reads { OnlyReads S.Site site.old site.new }
     ensures cause { HasReadCause (S.faults site.old) (S.faults site.new) result }
     ensures works { (but : UnitNo → Bool) → S.never_fails_but site.old but
         → but place.now.unit ≡ false → IfErr result HasNotFailed }
@@ -220,8 +216,7 @@ pub fn this_or_next<S: Site>(
         (this_or_next at_hand (tracks_on (S.told site.old) place.now) host.now multi) }
     ensures there { IfOk result (StandsIn (S.brought site.new)) }
     ensures volume { KeepsVolume (λ at. at.host) host.now.mounted result }
-    ensures reads { OnlyReads S.tells S.told S.spare S.writes S.faults S.never_fails_but
-        site.old site.new }
+    ensures reads { OnlyReads S.Site site.old site.new }
     ensures cause { HasReadCause (S.faults site.old) (S.faults site.new) result }
     ensures works { (but : UnitNo → Bool) → S.never_fails_but site.old but
         → but place.now.unit ≡ false → IfErr result HasNotFailed }

@@ -48,8 +48,7 @@ fn look<S: Site>(
         (effect (tracks_on (S.told site.old) place.now) host.now left command argument.now) }
     ensures volume { KeepsVolume (λ done. done.host) host.now.mounted result }
     ensures ends { IfOk result (λ done. is_ending done.status ≡ true) }
-    ensures reads { OnlyReads S.tells S.told S.spare S.writes S.faults S.never_fails_but
-        site.old site.new }
+    ensures reads { OnlyReads S.Site site.old site.new }
     ensures cause { HasReadCause (S.faults site.old) (S.faults site.new) result }
     ensures works { (but : UnitNo → Bool) → S.never_fails_but site.old but
         → but place.now.unit ≡ false → IfErr result HasNotFailed }
@@ -91,18 +90,15 @@ fn carry_out<S: Site>(
         (S.told site.old) (S.told site.new) result }
     ensures volume { KeepsVolume (λ done. done.host) host.now.mounted result }
     ensures ends { IfOk result (λ done. is_ending done.status ≡ true) }
-    ensures devices { MayWrite 4 S.spare S.writes S.faults S.never_fails_but site.old site.new }
+    ensures devices { MayWrite S.Site 4 site.old site.new }
     ensures few { S.tells → length (S.told site.new).log
         ≤ length (S.told site.old).log + most_writes command }
-    ensures looks { is_write command ≡ false
-        → OnlyReads S.tells S.told S.spare S.writes S.faults S.never_fails_but site.old site.new }
+    ensures looks { is_write command ≡ false → OnlyReads S.Site site.old site.new }
     ensures untouched { S.tells → IsOfNothing command (prior_number left)
         (tracks_on (S.told site.old) place.now host.now.head)
-        → OnlyReads S.tells S.told S.spare S.writes S.faults S.never_fails_but site.old site.new }
+        → OnlyReads S.Site site.old site.new }
     ensures same { OnOk result (S.faults site.new ≡ S.faults site.old) }
-    ensures undone { IfErr result
-        (IsUndone S.tells S.told S.spare S.writes S.faults S.never_fails_but
-        (is_write command) site.old site.new) }
+    ensures undone { IfErr result (IsUndone S.Site (is_write command) site.old site.new) }
     ensures works { (but : UnitNo → Bool) → S.never_fails_but site.old but
         → but place.now.unit ≡ false → IfErr result HasNotFailed }
     ensures only_reads_fail { (but : UnitNo → Bool) → S.never_fails_but site.old but
@@ -155,19 +151,17 @@ fn run<S: Site>(
         → reading (content (S.told site.new) place.now.unit (place.now.first_block + host.old.head))
         ≡ reading_of track) }
     ensures still_tracks { S.tells → AreTracksOn (S.told site.new) place.now }
-    ensures looks { is_write command.now ≡ false
-        → OnlyReads S.tells S.told S.spare S.writes S.faults S.never_fails_but site.old site.new }
+    ensures looks { is_write command.now ≡ false → OnlyReads S.Site site.old site.new }
     ensures unwritten { IfOk result (λ reply. HasUnitCheck (reply_of reply)
-        → OnlyReads S.tells S.told S.spare S.writes S.faults S.never_fails_but site.old site.new) }
+        → OnlyReads S.Site site.old site.new) }
     ensures untouched { S.tells → IsOfNothing command.now (prior_number (opened host.old).prior)
         (tracks_on (S.told site.old) place.now host.old.head)
-        → OnlyReads S.tells S.told S.spare S.writes S.faults S.never_fails_but site.old site.new }
-    ensures devices { MayWrite 4 S.spare S.writes S.faults S.never_fails_but site.old site.new }
+        → OnlyReads S.Site site.old site.new }
+    ensures devices { MayWrite S.Site 4 site.old site.new }
     ensures few { S.tells → length (S.told site.new).log
         ≤ length (S.told site.old).log + most_writes command.now }
     ensures same { OnOk result (S.faults site.new ≡ S.faults site.old) }
-    ensures cause { IfErr result (FailsBy S.tells S.told S.spare S.writes S.faults S.never_fails_but
-        (is_write command.now) site.old site.new) }
+    ensures cause { IfErr result (FailsBy S.Site (is_write command.now) site.old site.new) }
     ensures works { (but : UnitNo → Bool) → S.never_fails_but site.old but
         → but place.now.unit ≡ false → IfErr result IsNoFailure }
     ensures only_reads_fail { (but : UnitNo → Bool) → S.never_fails_but site.old but
@@ -207,11 +201,10 @@ pub fn run_command<S: Site>(
     ensures runs { S.tells → Runs command.now argument.now chained place.now host.old
         (S.told site.old) (S.told site.new) result host.new }
     ensures host_ { LeavesHost chained host.old host.new result }
-    ensures site_ { LeavesDevices S.tells S.told S.spare S.writes S.faults S.never_fails_but
-        command.now place.now.unit site.old site.new result }
+    ensures site_ { LeavesDevices S.Site command.now place.now.unit site.old site.new result }
     ensures untouched { S.tells → IsOfNothing command.now (prior_number (opened host.old).prior)
         (tracks_on (S.told site.old) place.now host.old.head)
-        → OnlyReads S.tells S.told S.spare S.writes S.faults S.never_fails_but site.old site.new }
+        → OnlyReads S.Site site.old site.new }
 {
     run(alloc, site, place, buffer, command, argument, chained, host)
 }

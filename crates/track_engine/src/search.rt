@@ -57,8 +57,7 @@ pub fn search_id<S: Site>(
         argument.now) }
     ensures volume { KeepsVolume (λ done. done.host) host.now.mounted result }
     ensures ends { IfOk result (λ done. is_ending done.status ≡ true) }
-    ensures reads { OnlyReads S.tells S.told S.spare S.writes S.faults S.never_fails_but
-        site.old site.new }
+    ensures reads { OnlyReads S.Site site.old site.new }
     ensures cause { HasReadCause (S.faults site.old) (S.faults site.new) result }
     ensures works { (but : UnitNo → Bool) → S.never_fails_but site.old but
         → but place.now.unit ≡ false → IfErr result HasNotFailed }
@@ -84,8 +83,7 @@ pub fn search_key<S: Site>(
         argument.now) }
     ensures volume { KeepsVolume (λ done. done.host) host.now.mounted result }
     ensures ends { IfOk result (λ done. is_ending done.status ≡ true) }
-    ensures reads { OnlyReads S.tells S.told S.spare S.writes S.faults S.never_fails_but
-        site.old site.new }
+    ensures reads { OnlyReads S.Site site.old site.new }
     ensures cause { HasReadCause (S.faults site.old) (S.faults site.new) result }
     ensures works { (but : UnitNo → Bool) → S.never_fails_but site.old but
         → but place.now.unit ≡ false → IfErr result HasNotFailed }

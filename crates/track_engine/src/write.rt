@@ -73,8 +73,7 @@ fn kept_record<S: Site>(
     ensures block { S.tells → OnOk result
         (IsBlockOn (S.told site.old) place.now host.now.head buffer.new) }
     ensures volume { KeepsVolume (λ at. at.host) host.now.mounted result }
-    ensures reads { OnlyReads S.tells S.told S.spare S.writes S.faults S.never_fails_but
-        site.old site.new }
+    ensures reads { OnlyReads S.Site site.old site.new }
     ensures cause { HasReadCause (S.faults site.old) (S.faults site.new) result }
     ensures works { (but : UnitNo → Bool) → S.never_fails_but site.old but
         → but place.now.unit ≡ false → IfErr result HasNotFailed }
@@ -116,12 +115,10 @@ fn format_behind<S: Site>(
         (S.told site.old) (S.told site.new) result }
     ensures volume { KeepsVolume (λ done. done.host) at.now.host.mounted result }
     ensures ends { IfOk result (λ done. is_ending done.status ≡ true) }
-    ensures devices { MayWrite 4 S.spare S.writes S.faults S.never_fails_but site.old site.new }
+    ensures devices { MayWrite S.Site 4 site.old site.new }
     ensures few { S.tells → length (S.told site.new).log ≤ length (S.told site.old).log + 4 }
     ensures same { OnOk result (S.faults site.new ≡ S.faults site.old) }
-    ensures undone { IfErr result
-        (IsUndone S.tells S.told S.spare S.writes S.faults S.never_fails_but
-        true site.old site.new) }
+    ensures undone { IfErr result (IsUndone S.Site true site.old site.new) }
     ensures works { (but : UnitNo → Bool) → S.never_fails_but site.old but
         → IfErr result HasNotFailed }
 {
@@ -158,12 +155,10 @@ pub fn write_count_key_data<S: Site>(
         (S.told site.old) (S.told site.new) result }
     ensures volume { KeepsVolume (λ done. done.host) host.now.mounted result }
     ensures ends { IfOk result (λ done. is_ending done.status ≡ true) }
-    ensures devices { MayWrite 4 S.spare S.writes S.faults S.never_fails_but site.old site.new }
+    ensures devices { MayWrite S.Site 4 site.old site.new }
     ensures few { S.tells → length (S.told site.new).log ≤ length (S.told site.old).log + 4 }
     ensures same { OnOk result (S.faults site.new ≡ S.faults site.old) }
-    ensures undone { IfErr result
-        (IsUndone S.tells S.told S.spare S.writes S.faults S.never_fails_but
-        true site.old site.new) }
+    ensures undone { IfErr result (IsUndone S.Site true site.old site.new) }
     ensures works { (but : UnitNo → Bool) → S.never_fails_but site.old but
         → but place.now.unit ≡ false → IfErr result HasNotFailed }
     ensures only_reads_fail { (but : UnitNo → Bool) → S.never_fails_but site.old but
@@ -218,12 +213,10 @@ fn update_at<S: Site>(
     ensures volume { KeepsVolume (λ done. done.host) at.now.host.mounted result }
     ensures ends { IfOk result (λ done. is_ending done.status ≡ true) }
     ensures untouched { bytes.now ≡ [] → site.new ≡ site.old }
-    ensures devices { MayWrite 1 S.spare S.writes S.faults S.never_fails_but site.old site.new }
+    ensures devices { MayWrite S.Site 1 site.old site.new }
     ensures few { S.tells → length (S.told site.new).log ≤ length (S.told site.old).log + 1 }
     ensures same { OnOk result (S.faults site.new ≡ S.faults site.old) }
-    ensures undone { IfErr result
-        (IsUndone S.tells S.told S.spare S.writes S.faults S.never_fails_but
-        true site.old site.new) }
+    ensures undone { IfErr result (IsUndone S.Site true site.old site.new) }
     ensures works { (but : UnitNo → Bool) → S.never_fails_but site.old but
         → IfErr result HasNotFailed }
 {
@@ -263,13 +256,11 @@ pub fn write_data<S: Site>(
     ensures ends { IfOk result (λ done. is_ending done.status ≡ true) }
     ensures untouched { S.tells → updated_length key_too (record_behind (prior_number left - 1)
         (tracks_on (S.told site.old) place.now host.now.head)) ≡ 0
-        → OnlyReads S.tells S.told S.spare S.writes S.faults S.never_fails_but site.old site.new }
-    ensures devices { MayWrite 1 S.spare S.writes S.faults S.never_fails_but site.old site.new }
+        → OnlyReads S.Site site.old site.new }
+    ensures devices { MayWrite S.Site 1 site.old site.new }
     ensures few { S.tells → length (S.told site.new).log ≤ length (S.told site.old).log + 1 }
     ensures same { OnOk result (S.faults site.new ≡ S.faults site.old) }
-    ensures undone { IfErr result
-        (IsUndone S.tells S.told S.spare S.writes S.faults S.never_fails_but
-        true site.old site.new) }
+    ensures undone { IfErr result (IsUndone S.Site true site.old site.new) }
     ensures works { (but : UnitNo → Bool) → S.never_fails_but site.old but
         → but place.now.unit ≡ false → IfErr result HasNotFailed }
     ensures only_reads_fail { (but : UnitNo → Bool) → S.never_fails_but site.old but

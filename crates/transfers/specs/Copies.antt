@@ -4,12 +4,13 @@ use Rattle.std.specs.Option.{ForSome}
 use Rattle.mss_base.specs.Content.{Content, SiteLog, Write, Adds, Writes, ChangesBlock, content}
 use Rattle.mss_base.specs.Counts.{HasCause, Rises}
 use Rattle.mss_base.specs.Places.{cartridge_block, frame_block}
-use Rattle.mss_base.specs.Sites.{FailingReads, OnlyReads, MayWrite}
+use Rattle.mss_base.specs.Sites.{OnlyReads, MayWrite}
 use Rattle.mss_base.specs.Zeros.{zeros}
 use Rattle.mss_base.specs.declared.block.TheConstants.{BLOCK_BYTES}
 use Rattle.mss_base.specs.declared.place.BlockPlace.{BlockPlace}
 use Rattle.mss_base.specs.declared.place.UnitNo.{UnitNo}
 use Rattle.mss_base.specs.declared.place.UnitNo.TheVariants.{Cartridge}
+use Rattle.mss_base.specs.declared.site.Site.{Ghosts}
 use Rattle.shown_volumes.specs.Shown.{block_at}
 use Rattle.transfers.specs.declared.transfer.Transfer.{Transfer}
 use Rattle.transfers.specs.declared.transfer.TransferKind.{TransferKind}
@@ -115,24 +116,22 @@ abbrev pub IsReadable : (UnitNo → Bool) → Transfer → Type 0
 IsReadable but t = ForSome (source_place t t.next) (λ place. but place.unit ≡ false)
 
 -- a read was made, and failed, and nothing was written. Blank tracks aren't read.
-pub record IsUnread {S : Type 0} (tells : Type 0) (told : S → SiteLog) (spare writes faults : S → ℕ)
-    (never_fails_but : FailingReads S) (t : Transfer) (old new : S) : Type 0 where
+pub record IsUnread {S : Type 0} (g : Ghosts S) (t : Transfer) (old new : S) : Type 0 where
   pub asked : IsSome (source_place t t.next)
-  pub reads : OnlyReads tells told spare writes faults never_fails_but old new
+  pub reads : OnlyReads g old new
 
 -- What the copy of a transfer's next track does to its devices, whatever they tell. It writes once
 -- at most. It fails where its read failed or its write did, and the count of faults rose then.
 -- Where the write can't fail, a failure is the read's; where the read can't either, it is done.
-pub record CopiesTrack {S T E : Type 0} (tells : Type 0) (told : S → SiteLog)
-    (spare writes faults : S → ℕ) (never_fails_but : FailingReads S) (t : Transfer) (old new : S)
+pub record CopiesTrack {S T E : Type 0} (g : Ghosts S) (t : Transfer) (old new : S)
     (result : Result T E) : Type 0 where
-  pub blocks : tells → CopiesBlock t (told old) (told new) result
-  pub devices : MayWrite 1 spare writes faults never_fails_but old new
-  pub wrote : OnOk result (Rises (writes old) (writes new))
+  pub blocks : g.tells → CopiesBlock t (g.told old) (g.told new) result
+  pub devices : MayWrite g 1 old new
+  pub wrote : OnOk result (Rises (g.writes old) (g.writes new))
   pub undone : OnErr result
-      (IsUnread tells told spare writes faults never_fails_but t old new
-      ⊎ Rises (writes old) (writes new))
-  pub cause : HasCause (faults old) (faults new) result
-  pub only_reads_fail : (but : UnitNo → Bool) → never_fails_but old but
-      → OnErr result (IsUnread tells told spare writes faults never_fails_but t old new)
-  pub works : (but : UnitNo → Bool) → never_fails_but old but → IsReadable but t → IsOk result
+      (IsUnread g t old new
+      ⊎ Rises (g.writes old) (g.writes new))
+  pub cause : HasCause (g.faults old) (g.faults new) result
+  pub only_reads_fail : (but : UnitNo → Bool) → g.never_fails_but old but
+      → OnErr result (IsUnread g t old new)
+  pub works : (but : UnitNo → Bool) → g.never_fails_but old but → IsReadable but t → IsOk result

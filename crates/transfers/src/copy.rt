@@ -20,8 +20,7 @@ fn read_source<S: Site>(
     requires { length buffer.old ≡ BLOCK_BYTES }
     ensures bytes { S.tells →
         OnOk result (buffer.new ≡ source transfer.now head (content (S.told site.old))) }
-    ensures reads { OnlyReads S.tells S.told S.spare S.writes S.faults S.never_fails_but
-        site.old site.new }
+    ensures reads { OnlyReads S.Site site.old site.new }
     ensures asked { OnErr result (IsSome (source_place transfer.now head)) }
     ensures cause { HasCause (S.faults site.old) (S.faults site.new) result }
     ensures works { (but : UnitNo → Bool) → S.never_fails_but site.old but
@@ -44,7 +43,7 @@ fn write_block<S: Site>(site: &mut S, to: &BlockPlace, block: &[u8]) -> Result<(
     ensures written { S.tells →
         OnOk result (Adds (copy_of to.now block.now) (S.told site.old) (S.told site.new)) }
     ensures logged { S.tells → AddsAtMost to.now (S.told site.old) (S.told site.new) }
-    ensures devices { MayWrite 1 S.spare S.writes S.faults S.never_fails_but site.old site.new }
+    ensures devices { MayWrite S.Site 1 site.old site.new }
     ensures wrote { Rises (S.writes site.old) (S.writes site.new) }
     ensures cause { HasCause (S.faults site.old) (S.faults site.new) result }
     ensures works { (but : UnitNo → Bool) → S.never_fails_but site.old but → IsOk result }
@@ -65,8 +64,7 @@ pub fn copy_track<S: Site>(
     requires more { transfer.old.next < HEADS }
     requires buffer { length buffer.old ≡ BLOCK_BYTES }
     requires room { 1 ≤ S.spare site.old }
-    ensures copies { CopiesTrack S.tells S.told S.spare S.writes S.faults S.never_fails_but
-        transfer.old site.old site.new result }
+    ensures copies { CopiesTrack S.Site transfer.old site.old site.new result }
     ensures done { OnOk result (transfer.new ≡ moved_on transfer.old) }
     ensures failed { OnErr result (transfer.new ≡ transfer.old) }
 {

@@ -2,6 +2,7 @@
 use Rattle.std.proofs.Common.{◌≡◌, inr, ℕ, [], ◌∷◌, ◌++◌, List, Option, Some, None, false, refl, sym, ap, subst}
 use Rattle.std.specs.Prelude.{slice_set}
 use Rattle.mss_base.specs.Content.{SiteLog}
+use Rattle.mss_base.specs.declared.site.Site.{Ghosts}
 use Rattle.fault_queue.specs.declared.queue.RequestState.TheVariants.{Failed}
 use Rattle.fault_queue.specs.Requests.{with_state}
 use Rattle.transfers.specs.declared.transfer.Transfer.{Transfer}
@@ -18,17 +19,17 @@ use Rattle.core_state.specs.Pins.{task_at}
 use Rattle.core_state.specs.WorkEvents.{WithTask, TaskDoes, WorkDoes}
 
 -- a copy that failed
-pub uncopied_does : {S C : Type 0} (tells : Type 0) (may : List Candidate → ℕ → Type 0) (told : S → SiteLog) (writes faults : S → ℕ) (v w : CoreValue S C) (n : ℕ) (old : Task) (t : Transfer) (answer : WorkAnswer)
-    → answer ≡ Did kind.Copy → task_at v.tasks n ≡ Some old → LeaveBlock tells t (seen told writes faults v).site (seen told writes faults w).site
+pub uncopied_does : {S C : Type 0} (g : Ghosts S) (may : List Candidate → ℕ → Type 0) (v w : CoreValue S C) (n : ℕ) (old : Task) (t : Transfer) (answer : WorkAnswer)
+    → answer ≡ Did kind.Copy → task_at v.tasks n ≡ Some old → LeaveBlock g.tells t (seen g v).site (seen g w).site
     → w ≡ record v {
       site = w.site;
       moving = slice_set v.moving old.frame false;
-      requests = with_state old.host (Failed (faults w.site)) v.requests;
+      requests = with_state old.host (Failed (g.faults w.site)) v.requests;
       tasks = slice_set v.tasks n None;
       events = v.events ++ Work n ∷ [];
     }
-    → WorkDoes tells may (seen told writes faults v) n (Copies t) answer (seen told writes faults w)
-uncopied_does {S} {C} tells may told writes faults v w n old t answer is at leaves path =
-    subst (λ (a : WorkAnswer). WorkDoes tells may (seen told writes faults v) n (Copies t) a (seen told writes faults w)) (sym is)
-    (subst (λ (o : Option Task). WithTask o (λ task. TaskDoes tells (seen told writes faults v) n (Copies t) task (Did kind.Copy) (seen told writes faults w))) (sym at)
-    (refl, inr (leaves, ap (λ (z : CoreValue S C). seen told writes faults z) path)))
+    → WorkDoes g.tells may (seen g v) n (Copies t) answer (seen g w)
+uncopied_does {S} {C} g may v w n old t answer is at leaves path =
+    subst (λ (a : WorkAnswer). WorkDoes g.tells may (seen g v) n (Copies t) a (seen g w)) (sym is)
+    (subst (λ (o : Option Task). WithTask o (λ task. TaskDoes g.tells (seen g v) n (Copies t) task (Did kind.Copy) (seen g w))) (sym at)
+    (refl, inr (leaves, ap (λ (z : CoreValue S C). seen g z) path)))

@@ -2,6 +2,7 @@
 use Rattle.std.proofs.Common.{◌≡◌, ℕ, ◌<◌, List, length, Option, None, subst, arith}
 use Rattle.mss_base.specs.Content.{SiteLog}
 use Rattle.mss_base.specs.declared.block.TheConstants.{BLOCK_BYTES}
+use Rattle.mss_base.specs.declared.site.Site.{Ghosts}
 use Rattle.std.specs.List.{range_with_len}
 use Rattle.std.proofs.lemmas.List.Sorted.{length_permutation}
 use Rattle.std.proofs.lemmas.List.FromFn.{length-range_with_len}
@@ -27,9 +28,9 @@ kept_noted tells site writes faults room v events whole counted buffer = record 
 }
 
 -- a core that is the same is kept as well
-pub kept_at : {S C : Type 0} (tells : Type 0) (told : S → SiteLog) (writes faults : S → ℕ) (room : ℕ) (v w : CoreValue S C) → v ≡ w
-    → IsKept tells (told v.site) (writes v.site) (faults v.site) room v → IsKept tells (told w.site) (writes w.site) (faults w.site) room w
-kept_at {S} {C} tells told writes faults room v w same kept = subst (λ (z : CoreValue S C). IsKept tells (told z.site) (writes z.site) (faults z.site) room z) same kept
+pub kept_at : {S C : Type 0} (g : Ghosts S) (room : ℕ) (v w : CoreValue S C) → v ≡ w
+    → IsKept g.tells (g.told v.site) (g.writes v.site) (g.faults v.site) room v → IsKept g.tells (g.told w.site) (g.writes w.site) (g.faults w.site) room w
+kept_at {S} {C} g room v w same kept = subst (λ (z : CoreValue S C). IsKept g.tells (g.told z.site) (g.writes z.site) (g.faults z.site) room z) same kept
 
 -- what stands beside the tables changes
 pub kept_beside : {S C : Type 0} (tells : Type 0) (site : SiteLog) (writes faults room : ℕ) (v : CoreValue S C) (recency : List ℕ) (recorders : List (Option ℕ)) (store : List Place) (rail : RailData) (events : List Event)

@@ -11,6 +11,7 @@ use Rattle.volume_table.specs.Listed.{listed}
 use Rattle.volume_table.specs.Row.{RowValue, IsRow, frame_of, state_of}
 use Rattle.volume_table.proofs.RowLemmas.{row-with_frame}
 use Rattle.mss_base.specs.Content.{SiteLog}
+use Rattle.mss_base.specs.declared.site.Site.{Ghosts}
 use Rattle.fault_queue.specs.declared.queue.Request.{Request}
 use Rattle.fault_queue.specs.declared.queue.RequestState.{RequestState}
 use Rattle.fault_queue.specs.declared.queue.RequestState.TheVariants as request
@@ -450,11 +451,11 @@ module _ {S C : Type 0} (v : CoreValue S C) (recorder : ℕ) (fits : recorder < 
 -- ---- from the rule to the event
 
 -- the rule doesn't look at the devices
-pub rule_seen : {S C : Type 0} (told : S → SiteLog) (writes faults : S → ℕ) (v : CoreValue S C) (n : ℕ) → work_rule (seen told writes faults v) n ≡ work_rule v n
+pub rule_seen : {S C : Type 0} (g : Ghosts S) (v : CoreValue S C) (n : ℕ) → work_rule (seen g v) n ≡ work_rule v n
 unfolding work_rule
-rule_seen told writes faults v n = refl
+rule_seen g v n = refl
 
-pub work_event_by : {S C : Type 0} (tells : Type 0) (may : List Candidate → ℕ → Type 0) (told : S → SiteLog) (writes faults : S → ℕ) (v : CoreValue S C) (n : ℕ) (answer : WorkAnswer) (core' : CoreData) (rule : WorkRule)
-    → work_rule v n ≡ rule → WorkDoes tells may (seen told writes faults v) n rule answer core' → WorkEvent tells may (seen told writes faults v) n answer core'
-work_event_by tells may told writes faults v n answer core' rule is does =
-    subst (λ (r : WorkRule). WorkDoes tells may (seen told writes faults v) n r answer core') (sym is ∙ sym (rule_seen told writes faults v n)) does
+pub work_event_by : {S C : Type 0} (g : Ghosts S) (may : List Candidate → ℕ → Type 0) (v : CoreValue S C) (n : ℕ) (answer : WorkAnswer) (core' : CoreData) (rule : WorkRule)
+    → work_rule v n ≡ rule → WorkDoes g.tells may (seen g v) n rule answer core' → WorkEvent g.tells may (seen g v) n answer core'
+work_event_by g may v n answer core' rule is does =
+    subst (λ (r : WorkRule). WorkDoes g.tells may (seen g v) n r answer core') (sym is ∙ sym (rule_seen g v n)) does

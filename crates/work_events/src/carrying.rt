@@ -58,8 +58,7 @@ pub fn give_back<S: Site, C: Choose>(
     requires rule { work_rule core.old recorder ≡ GivesBack cartridge }
     requires fits { recorder < core.old.config.recorders }
     ensures event { WorkDoes S.tells (C.may core.old.chooser)
-        (seen S.told S.writes S.faults core.old) recorder (GivesBack cartridge) result
-        (seen S.told S.writes S.faults core.new) }
+        (seen S.Site core.old) recorder (GivesBack cartridge) result (seen S.Site core.new) }
     ensures chooser { core.new.chooser ≡ core.old.chooser }
     ensures site { core.new.site ≡ core.old.site }
 {
@@ -88,8 +87,7 @@ pub fn fetch<S: Site, C: Choose>(
     requires rule { work_rule core.old recorder ≡ Fetches cartridge }
     requires fits { recorder < core.old.config.recorders }
     ensures event { WorkDoes S.tells (C.may core.old.chooser)
-        (seen S.told S.writes S.faults core.old) recorder (Fetches cartridge) result
-        (seen S.told S.writes S.faults core.new) }
+        (seen S.Site core.old) recorder (Fetches cartridge) result (seen S.Site core.new) }
     ensures chooser { core.new.chooser ≡ core.old.chooser }
     ensures site { core.new.site ≡ core.old.site }
 {

@@ -26,17 +26,14 @@ pub fn copy<S: Site, C: Choose>(
     requires rule { work_rule core.old recorder ≡ Copies transfer }
     requires fits { recorder < core.old.config.recorders }
     ensures event { WorkDoes S.tells (C.may core.old.chooser)
-        (seen S.told S.writes S.faults core.old) recorder (Copies transfer) result
-        (seen S.told S.writes S.faults core.new) }
+        (seen S.Site core.old) recorder (Copies transfer) result (seen S.Site core.new) }
     ensures chooser { core.new.chooser ≡ core.old.chooser }
-    ensures devices { MayWrite 1 S.spare S.writes S.faults S.never_fails_but
-        core.old.site core.new.site }
+    ensures devices { MayWrite S.Site 1 core.old.site core.new.site }
     ensures works { (but : UnitNo → Bool) → S.never_fails_but core.old.site but
         → IsReadable but transfer → core.new.requests ≡ core.old.requests }
     ensures unread { (but : UnitNo → Bool) → S.never_fails_but core.old.site but
-        → (core.new.requests ≡ core.old.requests) ⊎ FailRead S.tells
-        (seen S.told S.writes S.faults core.old).site
-        (seen S.told S.writes S.faults core.new).site }
+        → (core.new.requests ≡ core.old.requests) ⊎ FailRead S.tells (seen S.Site core.old).site
+        (seen S.Site core.new).site }
 {
     let (task, _request) = served(core, recorder);
     if make_room(&mut core.session, &mut core.site, 1).is_err() {

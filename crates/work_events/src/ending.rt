@@ -27,11 +27,9 @@ fn end_destage<S: Site, C: Choose>(
     requires fits { recorder < core.old.config.recorders }
     requires kind { transfer.kind ≡ Destage }
     ensures event { WorkDoes S.tells (C.may core.old.chooser)
-        (seen S.told S.writes S.faults core.old) recorder (Ends transfer) result
-        (seen S.told S.writes S.faults core.new) }
+        (seen S.Site core.old) recorder (Ends transfer) result (seen S.Site core.new) }
     ensures chooser { core.new.chooser ≡ core.old.chooser }
-    ensures devices { MayWrite CHANGE_WRITES S.spare S.writes S.faults S.never_fails_but
-        core.old.site core.new.site }
+    ensures devices { MayWrite S.Site CHANGE_WRITES core.old.site core.new.site }
     ensures works { (but : UnitNo → Bool) → S.never_fails_but core.old.site but
         → core.new.stopped ≡ core.old.stopped }
 {
@@ -72,11 +70,9 @@ fn end_stage<S: Site, C: Choose>(
     requires fits { recorder < core.old.config.recorders }
     requires kind { transfer.kind ≢ Destage }
     ensures event { WorkDoes S.tells (C.may core.old.chooser)
-        (seen S.told S.writes S.faults core.old) recorder (Ends transfer) result
-        (seen S.told S.writes S.faults core.new) }
+        (seen S.Site core.old) recorder (Ends transfer) result (seen S.Site core.new) }
     ensures chooser { core.new.chooser ≡ core.old.chooser }
-    ensures devices { MayWrite CHANGE_WRITES S.spare S.writes S.faults S.never_fails_but
-        core.old.site core.new.site }
+    ensures devices { MayWrite S.Site CHANGE_WRITES core.old.site core.new.site }
     ensures works { (but : UnitNo → Bool) → S.never_fails_but core.old.site but
         → core.new.stopped ≡ core.old.stopped }
 {
@@ -121,11 +117,9 @@ pub fn end<S: Site, C: Choose>(
     requires rule { work_rule core.old recorder ≡ Ends transfer }
     requires fits { recorder < core.old.config.recorders }
     ensures event { WorkDoes S.tells (C.may core.old.chooser)
-        (seen S.told S.writes S.faults core.old) recorder (Ends transfer) result
-        (seen S.told S.writes S.faults core.new) }
+        (seen S.Site core.old) recorder (Ends transfer) result (seen S.Site core.new) }
     ensures chooser { core.new.chooser ≡ core.old.chooser }
-    ensures devices { MayWrite CHANGE_WRITES S.spare S.writes S.faults S.never_fails_but
-        core.old.site core.new.site }
+    ensures devices { MayWrite S.Site CHANGE_WRITES core.old.site core.new.site }
     ensures works { (but : UnitNo → Bool) → S.never_fails_but core.old.site but
         → core.new.stopped ≡ core.old.stopped }
 {

@@ -32,11 +32,9 @@ use victim_choice::Choose;
 pub fn work_event<S: Site, C: Choose>(core: &mut Core<S, C>, recorder: RecorderNo) -> WorkAnswer
     requires recorder { recorder < core.old.config.recorders }
     ensures event { WorkEvent S.tells (C.may core.old.chooser)
-        (seen S.told S.writes S.faults core.old) recorder result
-        (seen S.told S.writes S.faults core.new) }
+        (seen S.Site core.old) recorder result (seen S.Site core.new) }
     ensures chooser { core.new.chooser ≡ core.old.chooser }
-    ensures devices { MayWrite CHANGE_WRITES S.spare S.writes S.faults S.never_fails_but
-        core.old.site core.new.site }
+    ensures devices { MayWrite S.Site CHANGE_WRITES core.old.site core.new.site }
     ensures only_reads_fail { (but : UnitNo → Bool) → S.never_fails_but core.old.site but
         → core.new.stopped ≡ core.old.stopped }
     ensures works { (but : UnitNo → Bool) (t : Transfer) → S.never_fails_but core.old.site but
@@ -44,9 +42,8 @@ pub fn work_event<S: Site, C: Choose>(core: &mut Core<S, C>, recorder: RecorderN
         → core.new.requests ≡ core.old.requests }
     ensures unread { (but : UnitNo → Bool) (t : Transfer) → S.never_fails_but core.old.site but
         → work_rule core.old recorder ≡ Copies t
-        → (core.new.requests ≡ core.old.requests) ⊎ FailRead S.tells
-        (seen S.told S.writes S.faults core.old).site
-        (seen S.told S.writes S.faults core.new).site }
+        → (core.new.requests ≡ core.old.requests) ⊎ FailRead S.tells (seen S.Site core.old).site
+        (seen S.Site core.new).site }
 {
     match work_rule(core, recorder) {
         WorkRule::IsStopped { fault } => WorkAnswer::Stopped { fault },

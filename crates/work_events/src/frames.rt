@@ -45,11 +45,9 @@ pub fn free<S: Site, C: Choose>(
     requires rule { work_rule core.old recorder ≡ Frees volume page }
     requires fits { recorder < core.old.config.recorders }
     ensures event { WorkDoes S.tells (C.may core.old.chooser)
-        (seen S.told S.writes S.faults core.old) recorder (Frees volume page) result
-        (seen S.told S.writes S.faults core.new) }
+        (seen S.Site core.old) recorder (Frees volume page) result (seen S.Site core.new) }
     ensures chooser { core.new.chooser ≡ core.old.chooser }
-    ensures devices { MayWrite CHANGE_WRITES S.spare S.writes S.faults S.never_fails_but
-        core.old.site core.new.site }
+    ensures devices { MayWrite S.Site CHANGE_WRITES core.old.site core.new.site }
     ensures works { (but : UnitNo → Bool) → S.never_fails_but core.old.site but
         → core.new.stopped ≡ core.old.stopped }
 {
@@ -90,11 +88,9 @@ pub fn assign<S: Site, C: Choose>(
     requires rule { work_rule core.old recorder ≡ Assigns volume page }
     requires fits { recorder < core.old.config.recorders }
     ensures event { WorkDoes S.tells (C.may core.old.chooser)
-        (seen S.told S.writes S.faults core.old) recorder (Assigns volume page) result
-        (seen S.told S.writes S.faults core.new) }
+        (seen S.Site core.old) recorder (Assigns volume page) result (seen S.Site core.new) }
     ensures chooser { core.new.chooser ≡ core.old.chooser }
-    ensures devices { MayWrite CHANGE_WRITES S.spare S.writes S.faults S.never_fails_but
-        core.old.site core.new.site }
+    ensures devices { MayWrite S.Site CHANGE_WRITES core.old.site core.new.site }
     ensures works { (but : UnitNo → Bool) → S.never_fails_but core.old.site but
         → core.new.stopped ≡ core.old.stopped }
 {

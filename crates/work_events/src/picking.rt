@@ -56,8 +56,7 @@ pub fn pick<S: Site, C: Choose>(
     requires rule { work_rule core.old recorder ≡ Picks host frame }
     requires fits { recorder < core.old.config.recorders }
     ensures event { WorkDoes S.tells (C.may core.old.chooser)
-        (seen S.told S.writes S.faults core.old) recorder (Picks host frame) result
-        (seen S.told S.writes S.faults core.new) }
+        (seen S.Site core.old) recorder (Picks host frame) result (seen S.Site core.new) }
     ensures chooser { core.new.chooser ≡ core.old.chooser }
     ensures site { core.new.site ≡ core.old.site }
 {
@@ -91,8 +90,7 @@ pub fn pick_victim<S: Site, C: Choose>(
     requires rule { work_rule core.old recorder ≡ PicksVictim host }
     requires fits { recorder < core.old.config.recorders }
     ensures event { WorkDoes S.tells (C.may core.old.chooser)
-        (seen S.told S.writes S.faults core.old) recorder (PicksVictim host) result
-        (seen S.told S.writes S.faults core.new) }
+        (seen S.Site core.old) recorder (PicksVictim host) result (seen S.Site core.new) }
     ensures chooser { core.new.chooser ≡ core.old.chooser }
     ensures site { core.new.site ≡ core.old.site }
 {
@@ -126,8 +124,7 @@ pub fn abandon<S: Site, C: Choose>(core: &mut Core<S, C>, recorder: RecorderNo) 
     requires rule { work_rule core.old recorder ≡ Abandons }
     requires fits { recorder < core.old.config.recorders }
     ensures event { WorkDoes S.tells (C.may core.old.chooser)
-        (seen S.told S.writes S.faults core.old) recorder Abandons result
-        (seen S.told S.writes S.faults core.new) }
+        (seen S.Site core.old) recorder Abandons result (seen S.Site core.new) }
     ensures chooser { core.new.chooser ≡ core.old.chooser }
     ensures site { core.new.site ≡ core.old.site }
 {

@@ -89,7 +89,7 @@ fn run_named<N: Setup, S: Site + Drop, C: Choose + Drop, R: Wait>(
 ) -> Result<(Option<usize>, usize), Fail>
     requires word { blank ≡ N.table }
     requires opening { OpensWith N.opening N.setup S.tells (S.never_fails_but core.site)
-        (seen S.told S.writes S.faults core) }
+        (seen S.Site core) }
     requires hosts { Contains N.hosts hosts.0 × Contains N.hosts hosts.1 }
     requires differ { (hosts.0 ≡ 1) × (hosts.1 ≡ 2) }
     requires empty { core.history ≡ [] }

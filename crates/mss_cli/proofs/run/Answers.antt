@@ -12,7 +12,7 @@ returns-clause-does g c =
     let call = c.call-ended in
     let words : List (List ℕ) = map string_bytes c.args.words.now in
     let input : Stream = input_of g.I.Read.remaining c.args.input.now call.new.input in
-    let site : Devices = devices g.S.Site.tells g.S.Site.told g.S.Site.writes g.S.Site.faults c.args.site call.result.site in
+    let site : Devices = devices g.S.Site c.args.site call.result.site in
     let sink : Stream = output_of g.W.Write.contents c.args.output.now call.new.output in
     record {
       put = record { bytes = known call.new.output.contents; faults = call.new.output.faults };

@@ -4,20 +4,20 @@ use Rattle.mss_restart.specs.declared.creations.Creation.{Creation}
 use Rattle.core_restart.specs.Parts.{MayBegin}
 use Rattle.core_restart.proofs.Beginning.{may_begin}
 use Rattle.shown_volumes.specs.declared.refused.Refused.TheVariants.{Memory}
-use Rattle.core_state.specs.CoreValue.{DevicesSeen}
+use Rattle.core_state.specs.CoreValue.{DevicesSeen, seen_site}
 use Rattle.core_restart.specs.Console.{creations_of}
-use Rattle.core_restart.specs.Opening.{OpensTold, opened_in, seen_of}
+use Rattle.core_restart.specs.Opening.{OpensTold, opened_in}
 use Rattle.core_restart.proofs.Answering.{none_told, then_none_told, told_as}
 use Rattle.core_restart.proofs.TakenUp.{refusal_taken, begun_taken}
 use Rattle.core_restart.proofs.restarting.restart.Goals as goal
 
 pub returns-in_default-clause-told : goal.returns-in_default-clause-told
-returns-in_default-clause-told g c = λ tells. none_told c.args.config.now (seen_of g.S.Site.told g.S.Site.writes g.S.Site.faults c.args.site)
+returns-in_default-clause-told g c = λ tells. none_told c.args.config.now (seen_site g.S.Site c.args.site)
 
 pub returns-in_default-copies_of-clause-told : goal.returns-in_default-copies_of-clause-told
 returns-in_default-copies_of-clause-told g c = λ tells.
-    let old = seen_of g.S.Site.told g.S.Site.writes g.S.Site.faults c.args.site in
-    let new = seen_of g.S.Site.told g.S.Site.writes g.S.Site.faults c.in-Ok-open_rows.site in
+    let old = seen_site g.S.Site c.args.site in
+    let new = seen_site g.S.Site c.in-Ok-open_rows.site in
     let are = c.in-Ok-open_rows.ensures in
     then_none_told c.args.config.now old new c.in-Ok-open_rows.opened
     (record { opens = are.opens tells; exact = are.exact tells; moments = are.moments tells; complete = are.complete tells; others = are.others tells; paired = are.paired tells; untouched = are.untouched tells })
@@ -25,8 +25,8 @@ returns-in_default-copies_of-clause-told g c = λ tells.
 pub begin-requires-clause-opened : goal.begin-requires-clause-opened
 begin-requires-clause-opened g c =
     let tells = g.S.Site.tells in
-    let old = seen_of g.S.Site.told g.S.Site.writes g.S.Site.faults c.args.site in
-    let new = seen_of g.S.Site.told g.S.Site.writes g.S.Site.faults c.in-Ok-open_rows.site in
+    let old = seen_site g.S.Site c.args.site in
+    let new = seen_site g.S.Site c.in-Ok-open_rows.site in
     let are = c.in-Ok-open_rows.ensures in
     let copies = c.in-Ok-copies_of.ensures in
     let rows = c.in-Ok-copies_of.rows.items in
@@ -42,29 +42,29 @@ returns-in-Err-clause-told g c = λ tells.
 
 pub returns-in_default-clause-takes_up : goal.returns-in_default-clause-takes_up
 returns-in_default-clause-takes_up g c = λ tells.
-    let old = seen_of g.S.Site.told g.S.Site.writes g.S.Site.faults c.args.site in
+    let old = seen_site g.S.Site c.args.site in
     refusal_taken c.args.config.now old old (c.args.site, Memory) (λ same low. tt)
 
 pub returns-in_default-copies_of-clause-takes_up : goal.returns-in_default-copies_of-clause-takes_up
 returns-in_default-copies_of-clause-takes_up g c = λ tells.
-    let old = seen_of g.S.Site.told g.S.Site.writes g.S.Site.faults c.args.site in
-    let new = seen_of g.S.Site.told g.S.Site.writes g.S.Site.faults c.in-Ok-open_rows.site in
+    let old = seen_site g.S.Site c.args.site in
+    let new = seen_site g.S.Site c.in-Ok-open_rows.site in
     refusal_taken c.args.config.now old new (c.in-Ok-open_rows.site, Memory) (λ same low. tt)
 
 pub returns-in-Err-clause-takes_up : goal.returns-in-Err-clause-takes_up
 returns-in-Err-clause-takes_up g c = λ tells.
-    let old = seen_of g.S.Site.told g.S.Site.writes g.S.Site.faults c.args.site in
-    let new = seen_of g.S.Site.told g.S.Site.writes g.S.Site.faults c.in-Err.refusal.0 in
+    let old = seen_site g.S.Site c.args.site in
+    let new = seen_site g.S.Site c.in-Err.refusal.0 in
     refusal_taken c.args.config.now old new c.in-Err.refusal (c.in-Err.ensures.exact tells)
 
 pub returns-in-Ok-copies_of-clause-takes_up : goal.returns-in-Ok-copies_of-clause-takes_up
 returns-in-Ok-copies_of-clause-takes_up g c = λ tells.
-    begun_taken g.S.Site.told g.S.Site.writes g.S.Site.faults c.args.config.now c.in-Ok.parts.config c.args.chooser (seen_of g.S.Site.told g.S.Site.writes g.S.Site.faults c.args.site) c.in-Ok-open_rows.site c.begin.result
+    begun_taken g.S.Site c.args.config.now c.in-Ok.parts.config c.args.chooser (seen_site g.S.Site c.args.site) c.in-Ok-open_rows.site c.begin.result
     c.in-Ok-open_rows.opened.rows.items c.begin.ensures.site c.in-Ok.ensures.config_ c.begin.ensures.begins (c.in-Ok-open_rows.ensures.opens tells) (g.met.S.Site.counted c.in-Ok-open_rows.site tells)
 
 pub returns-in-Ok-copies_of-clause-told : goal.returns-in-Ok-copies_of-clause-told
 returns-in-Ok-copies_of-clause-told g c = λ tells.
-    let seen : g.row.S.Denot → DevicesSeen = seen_of g.S.Site.told g.S.Site.writes g.S.Site.faults in
+    let seen : g.row.S.Denot → DevicesSeen = seen_site g.S.Site in
     let are = c.in-Ok-open_rows.ensures in
     let core = c.begin.result in
     let rows_are : core.rows ≡ c.in-Ok-open_rows.opened.rows.items = c.begin.ensures.rows ∙ c.in-Ok-copies_of.ensures.same ∙ c.as_slice.ensures in

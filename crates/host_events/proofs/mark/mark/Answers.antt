@@ -21,24 +21,24 @@ use Rattle.host_events.proofs.mark.mark.Goals as goal
 pub invariant_of-core : goal.invariant_of-core
 invariant_of-core g c =
     let S = g.S.Site in
-    prepared_kept g.row.S.Denot S.tells S.told S.spare S.writes S.faults S.never_fails_but c.args.core.now c.core.view_is (vec_len c.core.inside.buffer) c.core.invariant c.prepare.new.site c.prepare.ensures.site
+    prepared_kept g.row.S.Denot S c.args.core.now c.core.view_is (vec_len c.core.inside.buffer) c.core.invariant c.prepare.new.site c.prepare.ensures.site
     c.core.inside.requests refl (session_data c.prepare.new.session) c.prepare.ensures.session
 
 pub invariant_of-core-in_default-ask : goal.invariant_of-core-in_default-ask
 invariant_of-core-in_default-ask g c =
     let S = g.S.Site in
-    prepared_kept g.row.S.Denot S.tells S.told S.spare S.writes S.faults S.never_fails_but c.args.core.now c.core.view_is (vec_len c.core.inside.buffer) c.core.invariant c.prepare.new.site c.prepare.ensures.site
+    prepared_kept g.row.S.Denot S c.args.core.now c.core.view_is (vec_len c.core.inside.buffer) c.core.invariant c.prepare.new.site c.prepare.ensures.site
     c.ask.new.requests c.in_default-ask.ensures.err (session_data c.prepare.new.session) c.prepare.ensures.session
 
 pub write_change-requires-clause-there : goal.write_change-requires-clause-there
 write_change-requires-clause-there g c =
     let S = g.S.Site in
-    changes_row g.row.S.Denot S.tells S.told S.spare S.writes S.faults S.never_fails_but c.args.core.now c.core.view_is (vec_len c.core.inside.buffer) c.core.invariant c.args.host (call_of c.args.call.now) c.args.volume c.args.cylinder c.requires.rule
+    changes_row g.row.S.Denot S c.args.core.now c.core.view_is (vec_len c.core.inside.buffer) c.core.invariant c.args.host (call_of c.args.call.now) c.args.volume c.args.cylinder c.requires.rule
 
 pub write_change-requires-clause-held : goal.write_change-requires-clause-held
 write_change-requires-clause-held g c =
     let S = g.S.Site in
-    holds_row g.row.S.Denot S.tells S.told S.spare S.writes S.faults S.never_fails_but c.args.core.now c.core.view_is (vec_len c.core.inside.buffer) c.core.invariant c.args.host (call_of c.args.call.now) c.args.volume c.args.cylinder c.requires.rule
+    holds_row g.row.S.Denot S c.args.core.now c.core.view_is (vec_len c.core.inside.buffer) c.core.invariant c.args.host (call_of c.args.call.now) c.args.volume c.args.cylinder c.requires.rule
     c.prepare.new.site c.prepare.ensures.site
 
 pub make_ready-requires : goal.make_ready-requires
@@ -49,7 +49,7 @@ make_ready-requires g c =
 pub invariant_of-core-in-Ok-write_change : goal.invariant_of-core-in-Ok-write_change
 invariant_of-core-in-Ok-write_change g c =
     let S = g.S.Site in
-    marked_kept g.row.S.Denot S.tells S.told S.spare S.writes S.faults S.never_fails_but c.args.core.now c.core.view_is (vec_len c.core.inside.buffer) c.core.invariant c.args.host (call_of c.args.call.now) c.args.volume c.args.cylinder c.requires.rule
+    marked_kept g.row.S.Denot S c.args.core.now c.core.view_is (vec_len c.core.inside.buffer) c.core.invariant c.args.host (call_of c.args.call.now) c.args.volume c.args.cylinder c.requires.rule
     c.prepare.new.site c.prepare.ensures.site c.write_change.new.site c.write_change.ensures.devices (λ tl. g.met.S.Site.counted c.write_change.new.site tl)
     c.write_change.ensures.moments c.write_change.new.rows.items c.write_change.ensures.rows
     c.in-Ok-write_change.ensures.done c.in-Ok-write_change.ensures.grown c.in-Ok-write_change.ensures.cause.same
@@ -60,7 +60,7 @@ invariant_of-core-in-Ok-write_change g c =
 pub returns-in-Ok-write_change-clause-event : goal.returns-in-Ok-write_change-clause-event
 returns-in-Ok-write_change-clause-event g c =
     let S = g.S.Site in
-    marked_event g.row.S.Denot S.tells S.told S.spare S.writes S.faults S.never_fails_but c.args.core.now c.core.view_is (vec_len c.core.inside.buffer) c.core.invariant c.args.host (call_of c.args.call.now) c.args.volume c.args.cylinder c.requires.rule
+    marked_event g.row.S.Denot S c.args.core.now c.core.view_is (vec_len c.core.inside.buffer) c.core.invariant c.args.host (call_of c.args.call.now) c.args.volume c.args.cylinder c.requires.rule
     c.prepare.new.site c.prepare.ensures.site c.write_change.new.site c.write_change.ensures.devices (λ tl. g.met.S.Site.counted c.write_change.new.site tl)
     c.write_change.ensures.moments c.write_change.new.rows.items c.write_change.ensures.rows
     c.in-Ok-write_change.ensures.done c.in-Ok-write_change.ensures.grown c.in-Ok-write_change.ensures.cause.same
@@ -71,7 +71,7 @@ returns-in-Ok-write_change-clause-event g c =
 pub invariant_of-core-in-Err : goal.invariant_of-core-in-Err
 invariant_of-core-in-Err g c =
     let S = g.S.Site in
-    unmarked_kept g.row.S.Denot S.tells S.told S.spare S.writes S.faults S.never_fails_but c.args.core.now c.core.view_is (vec_len c.core.inside.buffer) c.core.invariant c.args.host (call_of c.args.call.now) c.args.volume c.args.cylinder c.requires.rule
+    unmarked_kept g.row.S.Denot S c.args.core.now c.core.view_is (vec_len c.core.inside.buffer) c.core.invariant c.args.host (call_of c.args.call.now) c.args.volume c.args.cylinder c.requires.rule
     c.prepare.new.site c.prepare.ensures.site c.write_change.new.site c.write_change.ensures.devices (λ tl. g.met.S.Site.counted c.write_change.new.site tl)
     c.write_change.ensures.moments c.write_change.new.rows.items c.write_change.ensures.rows
     c.in-Err.ensures.cause.failed c.in-Err.ensures.counted c.give_up.new.requests (gone_is c.args.host (ready_for c.args.volume c.args.cylinder) c.core.inside.requests c.is_some-had.result (c.is_some-had.ensures ∙ ap is_some c.of.ensures) c.ask.new.requests c.in-Ok-ask.ensures.ok c.give_up.new.requests c.give_up.ensures) c.faults-fault.result c.faults-fault.ensures
@@ -80,7 +80,7 @@ invariant_of-core-in-Err g c =
 pub returns-in-Err-clause-event : goal.returns-in-Err-clause-event
 returns-in-Err-clause-event g c =
     let S = g.S.Site in
-    unmarked_event g.row.S.Denot S.tells S.told S.spare S.writes S.faults S.never_fails_but c.args.core.now c.core.view_is (vec_len c.core.inside.buffer) c.core.invariant c.args.host (call_of c.args.call.now) c.args.volume c.args.cylinder c.requires.rule
+    unmarked_event g.row.S.Denot S c.args.core.now c.core.view_is (vec_len c.core.inside.buffer) c.core.invariant c.args.host (call_of c.args.call.now) c.args.volume c.args.cylinder c.requires.rule
     c.prepare.new.site c.prepare.ensures.site c.write_change.new.site c.write_change.ensures.devices (λ tl. g.met.S.Site.counted c.write_change.new.site tl)
     c.write_change.ensures.moments c.write_change.new.rows.items c.write_change.ensures.rows
     c.in-Err.ensures.cause.failed c.in-Err.ensures.counted c.give_up.new.requests (gone_is c.args.host (ready_for c.args.volume c.args.cylinder) c.core.inside.requests c.is_some-had.result (c.is_some-had.ensures ∙ ap is_some c.of.ensures) c.ask.new.requests c.in-Ok-ask.ensures.ok c.give_up.new.requests c.give_up.ensures) c.faults-fault.result c.faults-fault.ensures

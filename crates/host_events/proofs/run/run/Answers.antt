@@ -14,52 +14,53 @@ use Rattle.core_state.specs.SessionData.{SessionData, with_stop}
 use Rattle.core_state.specs.Sessions.{session_data}
 use Rattle.core_state.specs.Tasks.{tasks_after}
 use Rattle.host_events.specs.Replies.{with_reply}
-use Rattle.host_events.specs.Runs.{run_by, devices, Comes}
+use Rattle.host_events.specs.Runs.{run_by, Comes}
 use Rattle.host_events.proofs.Prepared.{prepared_kept}
 use Rattle.host_events.proofs.RunKept.{has_row, in_frame, is_staged, is_asked, is_data_, touches, passes_, tracks_, still_kept, run_kept, run_event, check_kept, stop_kept, stop_event}
 use Rattle.host_events.proofs.run.run.Goals as goal
+use Rattle.core_state.specs.CoreValue.{seen_site}
 
 pub invariant_of-core : goal.invariant_of-core
 invariant_of-core g c =
     let S = g.S.Site in
-    prepared_kept g.row.S.Denot S.tells S.told S.spare S.writes S.faults S.never_fails_but c.args.core.now c.core.view_is (vec_len c.core.inside.buffer) c.core.invariant c.prepare.new.site c.prepare.ensures.site
+    prepared_kept g.row.S.Denot S c.args.core.now c.core.view_is (vec_len c.core.inside.buffer) c.core.invariant c.prepare.new.site c.prepare.ensures.site
     c.core.inside.requests refl (session_data c.prepare.new.session) c.prepare.ensures.session
 
 pub run_in-requires-clause-asks : goal.run_in-requires-clause-asks
 run_in-requires-clause-asks g c =
     let S = g.S.Site in
-    is_asked g.row.S.Denot S.tells S.told S.spare S.writes S.faults S.never_fails_but c.args.core.now c.core.view_is (vec_len c.core.inside.buffer) c.core.invariant c.args.host (call_of c.args.call.now) c.args.command.now
+    is_asked g.row.S.Denot S c.args.core.now c.core.view_is (vec_len c.core.inside.buffer) c.core.invariant c.args.host (call_of c.args.call.now) c.args.command.now
     c.args.volume c.args.frame c.requires.rule c.standing-old.result (c.standing-old.ensures.state ∙ ap (λ l. host_at l c.args.host) c.as_slice.ensures) c.standing-old.ensures.cylinder c.standing-old.ensures.head
 
 pub run_in-requires-clause-passes : goal.run_in-requires-clause-passes
 run_in-requires-clause-passes g c =
     let S = g.S.Site in
-    passes_ g.row.S.Denot S.tells S.told S.spare S.writes S.faults S.never_fails_but c.args.core.now c.core.view_is (vec_len c.core.inside.buffer) c.core.invariant c.args.host (call_of c.args.call.now) c.args.command.now
+    passes_ g.row.S.Denot S c.args.core.now c.core.view_is (vec_len c.core.inside.buffer) c.core.invariant c.args.host (call_of c.args.call.now) c.args.command.now
     c.args.volume c.args.frame c.requires.rule c.standing-old.result (c.standing-old.ensures.state ∙ ap (λ l. host_at l c.args.host) c.as_slice.ensures) c.standing-old.ensures.cylinder c.standing-old.ensures.head
 
 pub run_in-requires-clause-data : goal.run_in-requires-clause-data
 run_in-requires-clause-data g c =
     let S = g.S.Site in
-    is_data_ g.row.S.Denot S.tells S.told S.spare S.writes S.faults S.never_fails_but c.args.core.now c.core.view_is (vec_len c.core.inside.buffer) c.core.invariant c.args.host (call_of c.args.call.now) c.args.command.now
+    is_data_ g.row.S.Denot S c.args.core.now c.core.view_is (vec_len c.core.inside.buffer) c.core.invariant c.args.host (call_of c.args.call.now) c.args.command.now
     c.args.volume c.args.frame c.requires.rule c.standing-old.result (c.standing-old.ensures.state ∙ ap (λ l. host_at l c.args.host) c.as_slice.ensures) c.standing-old.ensures.cylinder c.standing-old.ensures.head
 
 pub run_in-requires-clause-tracks : goal.run_in-requires-clause-tracks
 run_in-requires-clause-tracks g c =
     let S = g.S.Site in
-    tracks_ g.row.S.Denot S.tells S.told S.spare S.writes S.faults S.never_fails_but c.args.core.now c.core.view_is (vec_len c.core.inside.buffer) c.core.invariant c.args.host (call_of c.args.call.now) c.args.command.now
+    tracks_ g.row.S.Denot S c.args.core.now c.core.view_is (vec_len c.core.inside.buffer) c.core.invariant c.args.host (call_of c.args.call.now) c.args.command.now
     c.args.volume c.args.frame c.requires.rule c.standing-old.result (c.standing-old.ensures.state ∙ ap (λ l. host_at l c.args.host) c.as_slice.ensures) c.standing-old.ensures.cylinder c.standing-old.ensures.head
     c.prepare.new.site c.prepare.ensures.site
 
 pub touch-requires : goal.touch-requires
 touch-requires g c =
     let S = g.S.Site in
-    touches g.row.S.Denot S.tells S.told S.spare S.writes S.faults S.never_fails_but c.args.core.now c.core.view_is (vec_len c.core.inside.buffer) c.core.invariant c.args.host (call_of c.args.call.now) c.args.command.now
+    touches g.row.S.Denot S c.args.core.now c.core.view_is (vec_len c.core.inside.buffer) c.core.invariant c.args.host (call_of c.args.call.now) c.args.command.now
     c.args.volume c.args.frame c.requires.rule c.standing-old.result (c.standing-old.ensures.state ∙ ap (λ l. host_at l c.args.host) c.as_slice.ensures) c.standing-old.ensures.cylinder c.standing-old.ensures.head
 
 pub invariant_of-core-in-Ok-run_in : goal.invariant_of-core-in-Ok-run_in
 invariant_of-core-in-Ok-run_in g c =
     let S = g.S.Site in
-    run_kept g.row.S.Denot S.tells S.told S.spare S.writes S.faults S.never_fails_but c.args.core.now c.core.view_is (vec_len c.core.inside.buffer) c.core.invariant c.args.host (call_of c.args.call.now) c.args.command.now
+    run_kept g.row.S.Denot S c.args.core.now c.core.view_is (vec_len c.core.inside.buffer) c.core.invariant c.args.host (call_of c.args.call.now) c.args.command.now
     c.args.volume c.args.frame c.requires.rule c.standing-old.result (c.standing-old.ensures.state ∙ ap (λ l. host_at l c.args.host) c.as_slice.ensures) c.standing-old.ensures.cylinder c.standing-old.ensures.head
     c.prepare.new.site c.prepare.ensures.site c.run_in.new.site c.run_in.ensures.site_ (λ tl. g.met.S.Site.counted c.run_in.new.site tl)
     (reply_of c.in-Ok-run_in.reply) c.run_in.new.host c.in-Ok-run_in.ensures.comes.0
@@ -71,10 +72,10 @@ pub invariant_of-core-in-Err-ReadFailed : goal.invariant_of-core-in-Err-ReadFail
 invariant_of-core-in-Err-ReadFailed g c =
     let S = g.S.Site in
     let comes : Comes S.tells (run_by c.standing-old.result (frame_block c.args.frame c.standing-old.result.cylinder 0) c.args.command.now (call_of c.args.call.now))
-    (devices S.told S.writes S.faults c.prepare.new.site) (devices S.told S.writes S.faults c.run_in.new.site) c.run_in.new.host (Err (ReadFailed c.in-Err-ReadFailed.fault)) =
+    (seen_site S c.prepare.new.site) (seen_site S c.run_in.new.site) c.run_in.new.host (Err (ReadFailed c.in-Err-ReadFailed.fault)) =
     subst (λ (e : EngineFault). Comes S.tells (run_by c.standing-old.result (frame_block c.args.frame c.standing-old.result.cylinder 0) c.args.command.now (call_of c.args.call.now))
-    (devices S.told S.writes S.faults c.prepare.new.site) (devices S.told S.writes S.faults c.run_in.new.site) c.run_in.new.host (Err e)) c.in-Err-ReadFailed.field-0-is c.in-Err-ReadFailed.ensures.comes in
-    check_kept g.row.S.Denot S.tells S.told S.spare S.writes S.faults S.never_fails_but c.args.core.now c.core.view_is (vec_len c.core.inside.buffer) c.core.invariant c.args.host (call_of c.args.call.now) c.args.command.now
+    (seen_site S c.prepare.new.site) (seen_site S c.run_in.new.site) c.run_in.new.host (Err e)) c.in-Err-ReadFailed.field-0-is c.in-Err-ReadFailed.ensures.comes in
+    check_kept g.row.S.Denot S c.args.core.now c.core.view_is (vec_len c.core.inside.buffer) c.core.invariant c.args.host (call_of c.args.call.now) c.args.command.now
     c.args.volume c.args.frame c.requires.rule c.standing-old.result (c.standing-old.ensures.state ∙ ap (λ l. host_at l c.args.host) c.as_slice.ensures) c.standing-old.ensures.cylinder c.standing-old.ensures.head
     c.prepare.new.site c.prepare.ensures.site c.run_in.new.site c.run_in.ensures.site_ (λ tl. g.met.S.Site.counted c.run_in.new.site tl)
     comes.0 c.end.new.self c.end.ensures c.set-in-Err-ReadFailed.new.self.items (c.set-in-Err-ReadFailed.ensures.items ∙ (λ i. slice_set c.core.inside.hosts.items ((c.from-at.ensures ∙ c.get.ensures.value) i - 1) (c.checked.ensures i)))
@@ -84,10 +85,10 @@ pub invariant_of-core-in-Err-WriteFailed : goal.invariant_of-core-in-Err-WriteFa
 invariant_of-core-in-Err-WriteFailed g c =
     let S = g.S.Site in
     let comes : Comes S.tells (run_by c.standing-old.result (frame_block c.args.frame c.standing-old.result.cylinder 0) c.args.command.now (call_of c.args.call.now))
-    (devices S.told S.writes S.faults c.prepare.new.site) (devices S.told S.writes S.faults c.run_in.new.site) c.run_in.new.host (Err (WriteFailed c.in-Err-WriteFailed.fault)) =
+    (seen_site S c.prepare.new.site) (seen_site S c.run_in.new.site) c.run_in.new.host (Err (WriteFailed c.in-Err-WriteFailed.fault)) =
     subst (λ (e : EngineFault). Comes S.tells (run_by c.standing-old.result (frame_block c.args.frame c.standing-old.result.cylinder 0) c.args.command.now (call_of c.args.call.now))
-    (devices S.told S.writes S.faults c.prepare.new.site) (devices S.told S.writes S.faults c.run_in.new.site) c.run_in.new.host (Err e)) c.in-Err-WriteFailed.field-0-is c.in-Err-WriteFailed.ensures.comes in
-    stop_kept g.row.S.Denot S.tells S.told S.spare S.writes S.faults S.never_fails_but c.args.core.now c.core.view_is (vec_len c.core.inside.buffer) c.core.invariant c.args.host (call_of c.args.call.now) c.args.command.now
+    (seen_site S c.prepare.new.site) (seen_site S c.run_in.new.site) c.run_in.new.host (Err e)) c.in-Err-WriteFailed.field-0-is c.in-Err-WriteFailed.ensures.comes in
+    stop_kept g.row.S.Denot S c.args.core.now c.core.view_is (vec_len c.core.inside.buffer) c.core.invariant c.args.host (call_of c.args.call.now) c.args.command.now
     c.args.volume c.args.frame c.requires.rule c.standing-old.result (c.standing-old.ensures.state ∙ ap (λ l. host_at l c.args.host) c.as_slice.ensures) c.standing-old.ensures.cylinder c.standing-old.ensures.head
     c.prepare.new.site c.prepare.ensures.site c.run_in.new.site c.run_in.ensures.site_ (λ tl. g.met.S.Site.counted c.run_in.new.site tl)
     c.in-Err-WriteFailed.fault comes (with_stop _ (session_data c.enter-in-Err-WriteFailed.new.session)) (λ i. with_stop (c.in-Err-WriteFailed.fault-is i) ((c.enter-in-Err-WriteFailed.ensures ∙ (λ i. with_reply c.args.host (c.in-Ok.ensures.copy i) stopped (Some (c.in-Err-WriteFailed.fault-is i)) (c.writes-mark-in-Err-WriteFailed.ensures i) (c.prepare.ensures.session i))) i))
@@ -95,17 +96,17 @@ invariant_of-core-in-Err-WriteFailed g c =
 pub invariant_of-core-in-Err-Memory : goal.invariant_of-core-in-Err-Memory
 invariant_of-core-in-Err-Memory g c =
     let S = g.S.Site in
-    still_kept g.row.S.Denot S.tells S.told S.spare S.writes S.faults S.never_fails_but c.args.core.now c.core.view_is (vec_len c.core.inside.buffer) c.core.invariant c.args.host (call_of c.args.call.now) c.args.command.now
+    still_kept g.row.S.Denot S c.args.core.now c.core.view_is (vec_len c.core.inside.buffer) c.core.invariant c.args.host (call_of c.args.call.now) c.args.command.now
     c.args.volume c.args.frame c.requires.rule c.standing-old.result (c.standing-old.ensures.state ∙ ap (λ l. host_at l c.args.host) c.as_slice.ensures) c.standing-old.ensures.cylinder c.standing-old.ensures.head
     c.prepare.new.site c.prepare.ensures.site c.run_in.new.site c.run_in.ensures.site_ (λ tl. g.met.S.Site.counted c.run_in.new.site tl)
     (subst (λ (e : EngineFault). Comes S.tells (run_by c.standing-old.result (frame_block c.args.frame c.standing-old.result.cylinder 0) c.args.command.now (call_of c.args.call.now))
-    (devices S.told S.writes S.faults c.prepare.new.site) (devices S.told S.writes S.faults c.run_in.new.site) c.run_in.new.host (Err e)) c.in-Err-Memory.field-0-is c.in-Err-Memory.ensures.comes)
+    (seen_site S c.prepare.new.site) (seen_site S c.run_in.new.site) c.run_in.new.host (Err e)) c.in-Err-Memory.field-0-is c.in-Err-Memory.ensures.comes)
     (session_data c.prepare.new.session) c.prepare.ensures.session
 
 pub returns-in-Ok-run_in-clause-event : goal.returns-in-Ok-run_in-clause-event
 returns-in-Ok-run_in-clause-event g c =
     let S = g.S.Site in
-    run_event g.row.S.Denot S.tells S.told S.spare S.writes S.faults S.never_fails_but c.args.core.now c.core.view_is (vec_len c.core.inside.buffer) c.core.invariant c.args.host (call_of c.args.call.now) c.args.command.now
+    run_event g.row.S.Denot S c.args.core.now c.core.view_is (vec_len c.core.inside.buffer) c.core.invariant c.args.host (call_of c.args.call.now) c.args.command.now
     c.args.volume c.args.frame c.requires.rule c.standing-old.result (c.standing-old.ensures.state ∙ ap (λ l. host_at l c.args.host) c.as_slice.ensures) c.standing-old.ensures.cylinder c.standing-old.ensures.head
     c.prepare.new.site c.prepare.ensures.site c.run_in.new.site c.run_in.ensures.site_ (λ tl. g.met.S.Site.counted c.run_in.new.site tl)
     (reply_of c.in-Ok-run_in.reply) c.run_in.new.host c.in-Ok-run_in.ensures.comes.0
@@ -118,10 +119,10 @@ pub returns-in-Err-WriteFailed-clause-event : goal.returns-in-Err-WriteFailed-cl
 returns-in-Err-WriteFailed-clause-event g c =
     let S = g.S.Site in
     let comes : Comes S.tells (run_by c.standing-old.result (frame_block c.args.frame c.standing-old.result.cylinder 0) c.args.command.now (call_of c.args.call.now))
-    (devices S.told S.writes S.faults c.prepare.new.site) (devices S.told S.writes S.faults c.run_in.new.site) c.run_in.new.host (Err (WriteFailed c.in-Err-WriteFailed.fault)) =
+    (seen_site S c.prepare.new.site) (seen_site S c.run_in.new.site) c.run_in.new.host (Err (WriteFailed c.in-Err-WriteFailed.fault)) =
     subst (λ (e : EngineFault). Comes S.tells (run_by c.standing-old.result (frame_block c.args.frame c.standing-old.result.cylinder 0) c.args.command.now (call_of c.args.call.now))
-    (devices S.told S.writes S.faults c.prepare.new.site) (devices S.told S.writes S.faults c.run_in.new.site) c.run_in.new.host (Err e)) c.in-Err-WriteFailed.field-0-is c.in-Err-WriteFailed.ensures.comes in
-    stop_event g.row.S.Denot S.tells S.told S.spare S.writes S.faults S.never_fails_but c.args.core.now c.core.view_is (vec_len c.core.inside.buffer) c.core.invariant c.args.host (call_of c.args.call.now) c.args.command.now
+    (seen_site S c.prepare.new.site) (seen_site S c.run_in.new.site) c.run_in.new.host (Err e)) c.in-Err-WriteFailed.field-0-is c.in-Err-WriteFailed.ensures.comes in
+    stop_event g.row.S.Denot S c.args.core.now c.core.view_is (vec_len c.core.inside.buffer) c.core.invariant c.args.host (call_of c.args.call.now) c.args.command.now
     c.args.volume c.args.frame c.requires.rule c.standing-old.result (c.standing-old.ensures.state ∙ ap (λ l. host_at l c.args.host) c.as_slice.ensures) c.standing-old.ensures.cylinder c.standing-old.ensures.head
     c.prepare.new.site c.prepare.ensures.site c.run_in.new.site c.run_in.ensures.site_ (λ tl. g.met.S.Site.counted c.run_in.new.site tl)
     c.in-Err-WriteFailed.fault comes (with_stop _ (session_data c.enter-in-Err-WriteFailed.new.session)) (λ i. with_stop (c.in-Err-WriteFailed.fault-is i) ((c.enter-in-Err-WriteFailed.ensures ∙ (λ i. with_reply c.args.host (c.in-Ok.ensures.copy i) stopped (Some (c.in-Err-WriteFailed.fault-is i)) (c.writes-mark-in-Err-WriteFailed.ensures i) (c.prepare.ensures.session i))) i))
@@ -130,29 +131,29 @@ returns-in-Err-WriteFailed-clause-event g c =
 pub invariant_of-core-in-Err-Memory-2 : goal.invariant_of-core-in-Err-Memory-2
 invariant_of-core-in-Err-Memory-2 g c =
     let S = g.S.Site in
-    still_kept g.row.S.Denot S.tells S.told S.spare S.writes S.faults S.never_fails_but c.args.core.now c.core.view_is (vec_len c.core.inside.buffer) c.core.invariant c.args.host (call_of c.args.call.now) c.args.command.now
+    still_kept g.row.S.Denot S c.args.core.now c.core.view_is (vec_len c.core.inside.buffer) c.core.invariant c.args.host (call_of c.args.call.now) c.args.command.now
     c.args.volume c.args.frame c.requires.rule c.standing-old.result (c.standing-old.ensures.state ∙ ap (λ l. host_at l c.args.host) c.as_slice.ensures) c.standing-old.ensures.cylinder c.standing-old.ensures.head
     c.prepare.new.site c.prepare.ensures.site c.run_in.new.site c.run_in.ensures.site_ (λ tl. g.met.S.Site.counted c.run_in.new.site tl)
     (subst (λ (e : EngineFault). Comes S.tells (run_by c.standing-old.result (frame_block c.args.frame c.standing-old.result.cylinder 0) c.args.command.now (call_of c.args.call.now))
-    (devices S.told S.writes S.faults c.prepare.new.site) (devices S.told S.writes S.faults c.run_in.new.site) c.run_in.new.host (Err e)) c.in-Err-Memory.field-0-is c.in-Err-Memory.ensures.comes)
+    (seen_site S c.prepare.new.site) (seen_site S c.run_in.new.site) c.run_in.new.host (Err e)) c.in-Err-Memory.field-0-is c.in-Err-Memory.ensures.comes)
     (session_data c.prepare.new.session) c.prepare.ensures.session
 
 pub row_of-row-requires-clause-there : goal.row_of-row-requires-clause-there
 row_of-row-requires-clause-there g c =
     let S = g.S.Site in
-    subst (λ (rows : List (Option RowValue)). IsSome (listed rows c.args.volume)) (sym c.deref.ensures.value) (has_row g.row.S.Denot S.tells S.told S.spare S.writes S.faults S.never_fails_but c.args.core.now c.core.view_is (vec_len c.core.inside.buffer) c.core.invariant c.args.host (call_of c.args.call.now) c.args.command.now
+    subst (λ (rows : List (Option RowValue)). IsSome (listed rows c.args.volume)) (sym c.deref.ensures.value) (has_row g.row.S.Denot S c.args.core.now c.core.view_is (vec_len c.core.inside.buffer) c.core.invariant c.args.host (call_of c.args.call.now) c.args.command.now
     c.args.volume c.args.frame c.requires.rule c.standing-old.result (c.standing-old.ensures.state ∙ ap (λ l. host_at l c.args.host) c.as_slice.ensures) c.standing-old.ensures.cylinder c.standing-old.ensures.head)
 
 pub run_in-requires-clause-frame : goal.run_in-requires-clause-frame
 run_in-requires-clause-frame g c =
     let S = g.S.Site in
-    in_frame g.row.S.Denot S.tells S.told S.spare S.writes S.faults S.never_fails_but c.args.core.now c.core.view_is (vec_len c.core.inside.buffer) c.core.invariant c.args.host (call_of c.args.call.now) c.args.command.now
+    in_frame g.row.S.Denot S c.args.core.now c.core.view_is (vec_len c.core.inside.buffer) c.core.invariant c.args.host (call_of c.args.call.now) c.args.command.now
     c.args.volume c.args.frame c.requires.rule c.standing-old.result (c.standing-old.ensures.state ∙ ap (λ l. host_at l c.args.host) c.as_slice.ensures) c.standing-old.ensures.cylinder c.standing-old.ensures.head
     c.row_of-row.result.now (let e : listed c.core.inside.rows.items c.args.volume ≡ Some c.row_of-row.result.now = search rules in e)
 
 pub run_in-requires-clause-staged : goal.run_in-requires-clause-staged
 run_in-requires-clause-staged g c =
     let S = g.S.Site in
-    is_staged g.row.S.Denot S.tells S.told S.spare S.writes S.faults S.never_fails_but c.args.core.now c.core.view_is (vec_len c.core.inside.buffer) c.core.invariant c.args.host (call_of c.args.call.now) c.args.command.now
+    is_staged g.row.S.Denot S c.args.core.now c.core.view_is (vec_len c.core.inside.buffer) c.core.invariant c.args.host (call_of c.args.call.now) c.args.command.now
     c.args.volume c.args.frame c.requires.rule c.standing-old.result (c.standing-old.ensures.state ∙ ap (λ l. host_at l c.args.host) c.as_slice.ensures) c.standing-old.ensures.cylinder c.standing-old.ensures.head
     c.row_of-row.result.now (let e : listed c.core.inside.rows.items c.args.volume ≡ Some c.row_of-row.result.now = search rules in e)

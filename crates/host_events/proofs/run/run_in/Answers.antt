@@ -29,7 +29,7 @@ run_command-requires-clause-passes g c =
 pub returns-clause-comes : goal.returns-clause-comes
 returns-clause-comes g c =
     let S = g.S.Site in (
-      run_on S.tells S.told S.spare S.writes S.faults S.never_fails_but c.args.command.now (call_of c.args.call.now)
+      run_on S c.args.command.now (call_of c.args.call.now)
           c.as_slice-bytes.result.now (c.as_slice-bytes.ensures ∙ sym (ap (λ (k : Call). argument_of (call_of k)) c.in-Command.is)) c.in-Command.asked.chained (sym (ap (λ (k : Call). is_chained (call_of k)) c.in-Command.is))
           c.place_in-place.result (frame_block c.args.frame c.args.host.now.cylinder 0)
           c.place_in-place.ensures.unit c.place_in-place.ensures.block c.args.host.now c.run_command.new.host c.args.site.now c.run_command.new.site c.in_ok-reply.reply
@@ -40,7 +40,7 @@ returns-clause-comes g c =
 pub returns-in_default-copy_of_reply-clause-comes : goal.returns-in_default-copy_of_reply-clause-comes
 returns-in_default-copy_of_reply-clause-comes g c =
     let S = g.S.Site in
-    look_still S.tells S.told S.spare S.writes S.faults S.never_fails_but c.args.command.now (call_of c.args.call.now)
+    look_still S c.args.command.now (call_of c.args.call.now)
     c.as_slice-bytes.result.now (c.as_slice-bytes.ensures ∙ sym (ap (λ (k : Call). argument_of (call_of k)) c.in-Command.is)) c.in-Command.asked.chained (sym (ap (λ (k : Call). is_chained (call_of k)) c.in-Command.is))
     c.place_in-place.result (frame_block c.args.frame c.args.host.now.cylinder 0)
     c.place_in-place.ensures.unit c.place_in-place.ensures.block c.args.host.now c.run_command.new.host c.args.site.now c.run_command.new.site c.in_ok-reply.reply
@@ -49,7 +49,7 @@ returns-in_default-copy_of_reply-clause-comes g c =
 pub returns-in_default-copy_of_reply-clause-room : goal.returns-in_default-copy_of_reply-clause-room
 returns-in_default-copy_of_reply-clause-room g c =
     let S = g.S.Site in
-    let reads = look_reads S.tells S.told S.spare S.writes S.faults S.never_fails_but c.args.command.now (call_of c.args.call.now)
+    let reads = look_reads S c.args.command.now (call_of c.args.call.now)
     c.as_slice-bytes.result.now (c.as_slice-bytes.ensures ∙ sym (ap (λ (k : Call). argument_of (call_of k)) c.in-Command.is)) c.in-Command.asked.chained (sym (ap (λ (k : Call). is_chained (call_of k)) c.in-Command.is))
     c.place_in-place.result (frame_block c.args.frame c.args.host.now.cylinder 0)
     c.place_in-place.ensures.unit c.place_in-place.ensures.block c.args.host.now c.run_command.new.host c.args.site.now c.run_command.new.site c.in_ok-reply.reply

@@ -4,7 +4,7 @@ use Rattle.volume_table.specs.Listed.{listed}
 use Rattle.volume_table.specs.Row.{RowValue}
 use Rattle.shown_volumes.specs.Shown.{shown_by}
 use Rattle.core_state.specs.Sessions.{session_data}
-use Rattle.session_report.specs.Parties.{Stream, between}
+use Rattle.session_report.specs.Parties.{Stream, site_between, sink_between}
 use Rattle.session_report.specs.Reports.{Heading, report_matter}
 use Rattle.job_runs.specs.Runs.{IsTold}
 use Rattle.job_runs.proofs.SessionFacts.{report_of}
@@ -18,19 +18,18 @@ returns-clause-tells g c =
     let p = c.args.played in
     let tells = g.S.Site.tells in
     let told = g.S.Site.told in
-    let faults = g.S.Site.faults in
     let site = c.tell-told.new.site in
-    let sink : Stream = between g.O.Sink.tells g.O.Sink.told g.O.Sink.faults c.args.output.now c.tell-told.new.output in
+    let sink : Stream = sink_between g.O.Sink c.args.output.now c.tell-told.new.output in
     let headings : c.as_slice-volumes.result.now ≡ c.args.job.now.config.volumes =
     search rules in
     let rows : c.deref.result.now ≡ p.rows.items = c.deref.ensures.value in
-    let report : IsTold (report_matter (session_data p.session) c.args.job.now.config.volumes (shown_by (listed p.rows.items) (content (told p.site)))) p.end (between tells told faults p.site site) sink c.tell-told.result =
-    subst (λ (x : List Heading × List (Option RowValue)). IsTold (report_matter (session_data p.session) x.0 (shown_by (listed x.1) (content (told p.site)))) p.end (between tells told faults p.site site) sink c.tell-told.result)
+    let report : IsTold (report_matter (session_data p.session) c.args.job.now.config.volumes (shown_by (listed p.rows.items) (content (told p.site)))) p.end (site_between g.S.Site p.site site) sink c.tell-told.result =
+    subst (λ (x : List Heading × List (Option RowValue)). IsTold (report_matter (session_data p.session) x.0 (shown_by (listed x.1) (content (told p.site)))) p.end (site_between g.S.Site p.site site) sink c.tell-told.result)
     (λ i. (headings i, rows i)) c.tell-told.ensures.told in
     λ was plain. (
       refl,
       refl,
-      report_of tells told g.S.Site.spare g.S.Site.writes faults g.S.Site.never_fails_but c.args.job.now was p.site site p.end (session_data p.session) p.rows.items
+      report_of g.S.Site c.args.job.now was p.site site p.end (session_data p.session) p.rows.items
           plain c.requires.halts c.requires.rows
           (c.rows_of_a_content_show_its_volumes.ensures p.rows.items (content (told p.site))) sink c.tell-told.result c.tell-told.ensures.site report,
     )

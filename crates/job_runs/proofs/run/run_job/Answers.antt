@@ -1,10 +1,11 @@
 use Rattle.std.proofs.Common.{arith}
 use Rattle.core_state.specs.Sessions.{session_data}
-use Rattle.session_report.specs.Parties.{Stream, between}
+use Rattle.session_report.specs.Parties.{Stream, sink_between}
 use Rattle.mss_restart.proofs.Repaired.{written_on}
-use Rattle.job_runs.specs.Parties.{Devices, devices, seen_site}
+use Rattle.job_runs.specs.Parties.{Devices, devices}
 use Rattle.job_runs.proofs.SessionFacts.{ends_of, unstopped_of}
 use Rattle.job_runs.proofs.run.run_job.Goals as goal
+use Rattle.core_state.specs.CoreValue.{seen_site}
 
 pub put_report-requires-clause-halts : goal.put_report-requires-clause-halts
 put_report-requires-clause-halts g c = c.in-Ok.ensures.played.halts
@@ -12,19 +13,16 @@ put_report-requires-clause-halts g c = c.in-Ok.ensures.played.halts
 pub returns-in-Ok : goal.returns-in-Ok
 returns-in-Ok g c =
     let p = c.in-Ok.played in
-    let tells = g.S.Site.tells in
     let told = g.S.Site.told in
-    let writes = g.S.Site.writes in
-    let faults = g.S.Site.faults in
     let put = c.put_report in
-    let sink : Stream = between g.O.Sink.tells g.O.Sink.told g.O.Sink.faults c.args.output.now put.new.output in
+    let sink : Stream = sink_between g.O.Sink c.args.output.now put.new.output in
     let read = put.ensures.site in
-    let site : Devices = devices tells told g.S.Site.writes g.S.Site.faults p.site put.result.site in
+    let site : Devices = devices g.S.Site p.site put.result.site in
     let tells_it = put.ensures.tells (told c.args.site) c.in-Ok.ensures.played.promised.plain in
     record {
       only_reads_fail = λ but none. unstopped_of c.args.job.now (told c.args.site) site sink p.end (session_data p.session) put.result.outcome tells_it (c.in-Ok.ensures.only_reads_fail but none);
-      devices = written_on writes faults g.S.Site.never_fails_but c.args.site p.site put.result.site c.in-Ok.ensures.devices
+      devices = written_on g.S.Site c.args.site p.site put.result.site c.in-Ok.ensures.devices
           (record { written = omega (arith, read.unwritten); later = read.later; sound = read.sound });
-      ends = ends_of tells (g.C.Choose.may c.args.chooser) told writes faults c.args.job.now c.args.turns.now (seen_site told writes faults c.args.site) p.site put.result.site p.end (session_data p.session)
+      ends = ends_of g.S.Site (g.C.Choose.may c.args.chooser) c.args.job.now c.args.turns.now (seen_site g.S.Site c.args.site) p.site put.result.site p.end (session_data p.session)
           c.in-Ok.ensures.played sink put.result.outcome tells_it;
     }

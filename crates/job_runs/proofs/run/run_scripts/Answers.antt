@@ -26,7 +26,7 @@ pub returns-in-Ok-clause-leaves : goal.returns-in-Ok-clause-leaves
 returns-in-Ok-clause-leaves g c =
     let began : DriveValue g.row.S.Denot g.row.C.Denot = record { core = c.args.core; scripts = c.args.job.now.hosts } in
     let ran = c.run-end in
-    let left : Leaves g.S.Site.tells g.S.Site.told g.S.Site.writes g.S.Site.faults g.S.Site.never_fails_but began ran.new.self ran.result =
-    subst (λ (d : DriveValue g.row.S.Denot g.row.C.Denot). Leaves g.S.Site.tells g.S.Site.told g.S.Site.writes g.S.Site.faults g.S.Site.never_fails_but d ran.new.self ran.result) c.in-Ok.ensures.ok ran.ensures.leaves in
-    subst (λ (x : CoreValue g.row.S.Denot g.row.C.Denot × List ScriptData). Leaves g.S.Site.tells g.S.Site.told g.S.Site.writes g.S.Site.faults g.S.Site.never_fails_but began (record { core = x.0; scripts = x.1 }) ran.result)
+    let left : Leaves g.S.Site began ran.new.self ran.result =
+    subst (λ (d : DriveValue g.row.S.Denot g.row.C.Denot). Leaves g.S.Site d ran.new.self ran.result) c.in-Ok.ensures.ok ran.ensures.leaves in
+    subst (λ (x : CoreValue g.row.S.Denot g.row.C.Denot × List ScriptData). Leaves g.S.Site began (record { core = x.0; scripts = x.1 }) ran.result)
     (λ i. (sym c.into_core.ensures i, left.scripts_ i)) left

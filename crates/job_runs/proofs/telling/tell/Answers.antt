@@ -3,7 +3,7 @@ use Rattle.core_state.specs.Sessions.{session_data}
 use Rattle.mss_base.specs.Content.{content}
 use Rattle.volume_table.specs.Listed.{listed}
 use Rattle.shown_volumes.specs.Shown.{shown_by}
-use Rattle.session_report.specs.Parties.{between}
+use Rattle.session_report.specs.Parties.{site_between, sink_between}
 use Rattle.session_report.specs.Reports.{Ending, IsReported, report_matter}
 use Rattle.session_report.specs.declared.fault.ReportFault.TheVariants.{Memory}
 use Rattle.job_runs.proofs.Ended.{told_nothing, told_to_end}
@@ -11,13 +11,13 @@ use Rattle.job_runs.proofs.telling.tell.Goals as goal
 
 pub returns-in-Some-clause-told : goal.returns-in-Some-clause-told
 returns-in-Some-clause-told g c =
-    let sink = between g.O.Sink.tells g.O.Sink.told g.O.Sink.faults c.args.output.now c.report.new.output in
+    let sink = sink_between g.O.Sink c.args.output.now c.report.new.output in
     told_to_end (λ (ending : Ending). IsReported (report_matter (session_data c.args.session.now) c.args.volumes.now (shown_by (listed c.args.rows.now) (content (g.S.Site.told c.args.site.now)))) ending
-    (between g.S.Site.tells g.S.Site.told g.S.Site.faults c.args.site.now c.report.new.site) sink c.report.result) sink c.report.result
+    (site_between g.S.Site c.args.site.now c.report.new.site) sink c.report.result) sink c.report.result
     c.args.end c.args.session.now.stopped c.in-Some.last c.requires.halts (sym c.in-Some.ensures) c.report.ensures.report
 
 pub returns-in-None-clause-told : goal.returns-in-None-clause-told
 returns-in-None-clause-told g c =
-    let sink = between g.O.Sink.tells g.O.Sink.told g.O.Sink.faults c.args.output.now c.args.output.now in
+    let sink = sink_between g.O.Sink c.args.output.now c.args.output.now in
     told_nothing (λ (ending : Ending). IsReported (report_matter (session_data c.args.session.now) c.args.volumes.now (shown_by (listed c.args.rows.now) (content (g.S.Site.told c.args.site.now)))) ending
-    (between g.S.Site.tells g.S.Site.told g.S.Site.faults c.args.site.now c.args.site.now) sink (Err Memory)) sink (Err Memory) c.args.end (sym c.in-None.ensures) refl (record { told_ = refl; faults_ = refl })
+    (site_between g.S.Site c.args.site.now c.args.site.now) sink (Err Memory)) sink (Err Memory) c.args.end (sym c.in-None.ensures) refl (record { told_ = refl; faults_ = refl })

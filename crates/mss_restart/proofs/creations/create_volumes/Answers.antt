@@ -23,7 +23,7 @@ loop-entry-init g c = record {
   whole = c.requires.whole;
   room = omega (arith, c.requires.room);
   count = refl;
-  devices = nothing_written g.S.Site.writes g.S.Site.faults g.S.Site.never_fails_but c.args.site.now;
+  devices = nothing_written g.S.Site c.args.site.now;
 }
 
 pub returns-in_err-create_volume-clause-moments : goal.returns-in_err-create_volume-clause-moments
@@ -75,7 +75,7 @@ loop-entry-preserved g c =
         whole = w.create_volume.ensures.whole;
         room = omega (arith, known.room, w.push.ensures.spare);
         count = w.in_ok-create_volume.ensures.stops ∙ known.count;
-        devices = written_on g.S.Site.writes g.S.Site.faults g.S.Site.never_fails_but c.args.site.now c.loop-entry.site w.create_volume.new.site known.devices w.create_volume.ensures.devices;
+        devices = written_on g.S.Site c.args.site.now c.loop-entry.site w.create_volume.new.site known.devices w.create_volume.ensures.devices;
       })
       | else-missing w ↦ rw (w.site-is, w.rows-is, w.creations-is) (record {
         creating = λ tells.
@@ -123,7 +123,7 @@ returns-in_err-create_volume-clause-complete g c = λ tells.
 
 pub returns-in_err-create_volume-clause-devices : goal.returns-in_err-create_volume-clause-devices
 returns-in_err-create_volume-clause-devices g c =
-    written_on g.S.Site.writes g.S.Site.faults g.S.Site.never_fails_but c.args.site.now c.loop-entry.site c.create_volume.new.site c.loop-entry.invariant.devices c.create_volume.ensures.devices
+    written_on g.S.Site c.args.site.now c.loop-entry.site c.create_volume.new.site c.loop-entry.invariant.devices c.create_volume.ensures.devices
 
 pub returns-clause-complete : goal.returns-clause-complete
 returns-clause-complete g c = λ tells.

@@ -14,5 +14,5 @@ invariant-loop-entry g l = record {
   whole : length l.rows.items ≡ 32;
   room : length l.volumes ≤ l.creations.spare + l.entry-index;
   count : g.S.Site.faults l.site ≡ g.S.Site.faults l.initial.site;
-  devices : WritesOn g.S.Site.writes g.S.Site.faults g.S.Site.never_fails_but l.initial.site l.site;
+  devices : WritesOn g.S.Site l.initial.site l.site;
 }

@@ -96,7 +96,7 @@ returns-clause-works g c = λ never. c.create_volumes.ensures.works (c.repair_ro
 
 pub returns-clause-devices : goal.returns-clause-devices
 returns-clause-devices g c =
-    written_on g.S.Site.writes g.S.Site.faults g.S.Site.never_fails_but c.args.site.now c.repair_rows.new.site c.create_volumes.new.site c.repair_rows.ensures.devices c.create_volumes.ensures.devices
+    written_on g.S.Site c.args.site.now c.repair_rows.new.site c.create_volumes.new.site c.repair_rows.ensures.devices c.create_volumes.ensures.devices
 
 pub returns-in_err-repair_rows-clause-others : goal.returns-in_err-repair_rows-clause-others
 returns-in_err-repair_rows-clause-others g c = λ tells.

@@ -5,7 +5,7 @@ use Rattle.mss_restart.proofs.Repaired.{nothing_repaired, repaired_too, held_too
 use Rattle.mss_restart.proofs.repairs.repair_rows.Goals as goal
 
 pub loop-number-init : goal.loop-number-init
-loop-number-init g c = record { repaired = λ tells. nothing_repaired (g.S.Site.told c.args.site.now); held = λ tells v lt. absurd (omega arith); complete = λ tells. none_repaired (g.S.Site.told c.args.site.now); others = λ tells. nothing_else [] (g.S.Site.told c.args.site.now) (g.S.Site.told c.args.site.now) refl; count = refl; devices = nothing_written g.S.Site.writes g.S.Site.faults g.S.Site.never_fails_but c.args.site.now }
+loop-number-init g c = record { repaired = λ tells. nothing_repaired (g.S.Site.told c.args.site.now); held = λ tells v lt. absurd (omega arith); complete = λ tells. none_repaired (g.S.Site.told c.args.site.now); others = λ tells. nothing_else [] (g.S.Site.told c.args.site.now) (g.S.Site.told c.args.site.now) refl; count = refl; devices = nothing_written g.S.Site c.args.site.now }
 
 pub returns-in-Err-clause-moments : goal.returns-in-Err-clause-moments
 returns-in-Err-clause-moments g c = λ tells.
@@ -31,8 +31,8 @@ returns-in-Err-clause-works g c = λ never.
 
 pub returns-in-Err-clause-devices : goal.returns-in-Err-clause-devices
 returns-in-Err-clause-devices g c =
-    written_on g.S.Site.writes g.S.Site.faults g.S.Site.never_fails_but c.args.site.now c.loop-number.site c.repair.new.site c.loop-number.invariant.devices
-    (may_be_written g.S.Site.writes g.S.Site.faults g.S.Site.never_fails_but 3 g.S.Site.spare c.loop-number.site c.repair.new.site c.repair.ensures.devices)
+    written_on g.S.Site c.args.site.now c.loop-number.site c.repair.new.site c.loop-number.invariant.devices
+    (may_be_written g.S.Site 3 c.loop-number.site c.repair.new.site c.repair.ensures.devices)
 
 pub loop-number-preserved : goal.loop-number-preserved
 loop-number-preserved g c = record {
@@ -48,8 +48,8 @@ loop-number-preserved g c = record {
       others_then [] (g.S.Site.told c.args.site.now) (g.S.Site.told c.loop-number.site) (g.S.Site.told c.repair.new.site) (c.loop-number.invariant.others tells)
       (repair_others c.volume_at.result (g.S.Site.told c.loop-number.site) (g.S.Site.told c.repair.new.site) (c.repair.ensures.moments tells) (c.repair.ensures.marks tells) (c.repair.ensures.untouched tells));
   count = c.in_default.ensures.kept ∙ c.loop-number.invariant.count;
-  devices = written_on g.S.Site.writes g.S.Site.faults g.S.Site.never_fails_but c.args.site.now c.loop-number.site c.repair.new.site c.loop-number.invariant.devices
-      (may_be_written g.S.Site.writes g.S.Site.faults g.S.Site.never_fails_but 3 g.S.Site.spare c.loop-number.site c.repair.new.site c.repair.ensures.devices);
+  devices = written_on g.S.Site c.args.site.now c.loop-number.site c.repair.new.site c.loop-number.invariant.devices
+      (may_be_written g.S.Site 3 c.loop-number.site c.repair.new.site c.repair.ensures.devices);
 }
 
 pub returns-clause-held : goal.returns-clause-held

@@ -12,5 +12,5 @@ invariant-loop-number g l = record {
   complete : g.S.Site.tells → AreRepaired l.number (g.S.Site.told l.initial.site) (g.S.Site.told l.site);
   others : g.S.Site.tells → RepairsOthers [] (g.S.Site.told l.initial.site) (g.S.Site.told l.site);
   count : g.S.Site.faults l.site ≡ g.S.Site.faults l.initial.site;
-  devices : WritesOn g.S.Site.writes g.S.Site.faults g.S.Site.never_fails_but l.initial.site l.site;
+  devices : WritesOn g.S.Site l.initial.site l.site;
 }

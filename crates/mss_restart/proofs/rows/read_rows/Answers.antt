@@ -26,7 +26,7 @@ loop-number-init g c = let o = c.in_ok-reserve.ensures.ok in let n = c.new-rows.
   room = search rules;
   counts = refl;
   works = λ never. refl;
-  devices = reads_none g.S.Site.tells g.S.Site.told g.S.Site.spare g.S.Site.writes g.S.Site.faults g.S.Site.never_fails_but c.args.site.now;
+  devices = reads_none g.S.Site c.args.site.now;
 }
 
 pub returns-in_err-read-clause-read : goal.returns-in_err-read-clause-read
@@ -78,8 +78,8 @@ loop-number-preserved g c =
       long = ap length c.push.ensures.items ∙ one_longer c.loop-number.rows.items read.row ∙ ap (λ (m : ℕ). m + 1) known.long;
       room = omega (arith, known.room, c.push.ensures.spare);
       counts = subst (λ (u : Option ℕ). KeepsFirst begun now u) (sym c.or-unread.ensures) (first_kept begun mid now c.loop-number.unread read.unread known.counts known.devices.later c.in_ok-read.ensures.devices.later c.in_ok-read.ensures.counts);
-      works = λ never. c.or-unread.ensures ∙ (λ i. option_or (known.works never i) (c.in_ok-read.ensures.works (table_on g.S.Site.never_fails_but c.args.site.now c.loop-number.site known.devices.sound never) i));
-      devices = reads_then g.S.Site.tells g.S.Site.told g.S.Site.spare g.S.Site.writes g.S.Site.faults g.S.Site.never_fails_but c.args.site.now c.loop-number.site c.read_volume.new.site known.devices c.in_ok-read.ensures.devices;
+      works = λ never. c.or-unread.ensures ∙ (λ i. option_or (known.works never i) (c.in_ok-read.ensures.works (table_on g.S.Site c.args.site.now c.loop-number.site known.devices.sound never) i));
+      devices = reads_then g.S.Site c.args.site.now c.loop-number.site c.read_volume.new.site known.devices c.in_ok-read.ensures.devices;
     }
 
 pub returns-clause-read : goal.returns-clause-read
@@ -95,4 +95,4 @@ returns-in_err-read-clause-one_copy g c = λ tells loses paired.
     let k = content (g.S.Site.told c.args.site.now) in
     let here : IsPaired c.volume_at-volume.result (content (g.S.Site.told c.loop-number.site)) =
     subst (λ (q : ℕ × Content). IsPaired q.0 q.1) (λ i. (sym c.volume_at-volume.ensures i, content (sym (known.devices.log tells) i))) (paired c.loop-number.number (omega (arith, c.loop-number-test.true))) in
-    rw (p.1, p.2) (c.in_err-read.ensures.one_copy tells (loses_on g.S.Site.never_fails_but c.args.site.now c.loop-number.site known.devices.sound loses) here)
+    rw (p.1, p.2) (c.in_err-read.ensures.one_copy tells (loses_on g.S.Site c.args.site.now c.loop-number.site known.devices.sound loses) here)

@@ -16,6 +16,6 @@ invariant-loop-number g l = record {
   long : length l.rows.items ≡ l.number;
   room : 32 ≤ l.rows.spare + l.number;
   counts : KeepsFirst (g.S.Site.faults l.initial.site) (g.S.Site.faults l.site) l.unread;
-  works : CanReadTable g.S.Site.never_fails_but l.initial.site → l.unread ≡ None;
-  devices : OnlyReads g.S.Site.tells g.S.Site.told g.S.Site.spare g.S.Site.writes g.S.Site.faults g.S.Site.never_fails_but l.initial.site l.site;
+  works : CanReadTable g.S.Site l.initial.site → l.unread ≡ None;
+  devices : OnlyReads g.S.Site l.initial.site l.site;
 }

@@ -32,4 +32,4 @@ returns-in-Some-clause-one_copy g c = λ tells loses paired. serial_no_failure c
 pub returns-in-Err-clause-one_copy : goal.returns-in-Err-clause-one_copy
 returns-in-Err-clause-one_copy g c = λ tells loses paired.
     c.refused_row.ensures.works
-    (one_suffices g.S.Site.never_fails_but c.args.site.now (g.S.Site.faults c.args.site.now) (g.S.Site.faults c.read_row.new.site) c.args.volume (content (g.S.Site.told c.args.site.now)) c.in-Err.trouble loses paired (c.in-Err.ensures.row tells))
+    (one_suffices g.S.Site c.args.site.now (g.S.Site.faults c.args.site.now) (g.S.Site.faults c.read_row.new.site) c.args.volume (content (g.S.Site.told c.args.site.now)) c.in-Err.trouble loses paired (c.in-Err.ensures.row tells))

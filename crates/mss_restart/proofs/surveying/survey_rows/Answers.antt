@@ -72,21 +72,21 @@ returns-clause-read g c = λ tells.
 pub returns-in_err-check_rows-clause-works : goal.returns-in_err-check_rows-clause-works
 returns-in_err-check_rows-clause-works g c = λ never.
     let p = err_from_is_err_and c.from_residual-in_err-check_rows.result c.from_residual-in_err-check_rows.ensures.1 in
-    rw (p.1, p.2) (c.in_err-check_rows.ensures.works (rows_readable g.S.Site.never_fails_but c.read_rows.new.site (all_read_tracks g.S.Site.never_fails_but c.read_rows.new.site (c.in_ok-read.ensures.devices.sound _ never)) (listed c.as_slice-2.result.now)))
+    rw (p.1, p.2) (c.in_err-check_rows.ensures.works (rows_readable g.S.Site c.read_rows.new.site (all_read_tracks g.S.Site c.read_rows.new.site (c.in_ok-read.ensures.devices.sound _ never)) (listed c.as_slice-2.result.now)))
 
 pub returns-in_err-check_rows-clause-one_copy : goal.returns-in_err-check_rows-clause-one_copy
 returns-in_err-check_rows-clause-one_copy g c = λ tells loses paired.
     let p = err_from_is_err_and c.from_residual-in_err-check_rows.result c.from_residual-in_err-check_rows.ensures.1 in
     rw (p.1, p.2)
-    (c.in_err-check_rows.ensures.works (rows_readable g.S.Site.never_fails_but c.read_rows.new.site (reads_tracks g.S.Site.never_fails_but c.read_rows.new.site (loses_on g.S.Site.never_fails_but c.args.site.now c.read_rows.new.site c.in_ok-read.ensures.devices.sound loses)) (listed c.as_slice-2.result.now)))
+    (c.in_err-check_rows.ensures.works (rows_readable g.S.Site c.read_rows.new.site (reads_tracks g.S.Site c.read_rows.new.site (loses_on g.S.Site c.args.site.now c.read_rows.new.site c.in_ok-read.ensures.devices.sound loses)) (listed c.as_slice-2.result.now)))
 
 pub returns-in_err-read-clause-works : goal.returns-in_err-read-clause-works
 returns-in_err-read-clause-works g c = λ never.
     let p = err_from_is_err_and c.from_residual.result c.from_residual.ensures.1 in
-    rw (p.1, p.2) (c.in_err-read.ensures.works (all_read_table g.S.Site.never_fails_but c.args.site.now never))
+    rw (p.1, p.2) (c.in_err-read.ensures.works (all_read_table g.S.Site c.args.site.now never))
 
 pub returns-clause-works : goal.returns-clause-works
-returns-clause-works g c = λ never. c.in_ok-read.ensures.works (all_read_table g.S.Site.never_fails_but c.args.site.now never)
+returns-clause-works g c = λ never. c.in_ok-read.ensures.works (all_read_table g.S.Site c.args.site.now never)
 
 pub returns-in_err-read-clause-reads : goal.returns-in_err-read-clause-reads
 returns-in_err-read-clause-reads g c = λ tells table shown.
@@ -103,5 +103,5 @@ returns-in_err-check_rows-clause-reads g c = λ tells table shown.
     let none : c.in_ok-read.read.unread ≡ None = c.in_ok-read.ensures.works table in
     let read = subst (λ (u : Option ℕ). AreRead before mid (serial_in c.as_slice.result.now) k rows u) none (c.in_ok-read.ensures.read tells) in
     let are : listed c.as_slice-2.result.now ≡ rows_of k = ap listed c.as_slice-2.ensures ∙ rows_listed rows k c.in_ok-read.ensures.whole (rows_told before mid (serial_in c.as_slice.result.now) k rows read) in
-    let later = rows_on g.S.Site.never_fails_but c.args.site.now c.read_rows.new.site c.in_ok-read.ensures.devices.sound (rows_of k) shown in
-    rw (p.1, p.2) (c.in_err-check_rows.ensures.works (subst (λ (x : RowsOf). CanReadRows g.S.Site.never_fails_but c.read_rows.new.site x) (sym are) later))
+    let later = rows_on g.S.Site c.args.site.now c.read_rows.new.site c.in_ok-read.ensures.devices.sound (rows_of k) shown in
+    rw (p.1, p.2) (c.in_err-check_rows.ensures.works (subst (λ (x : RowsOf). CanReadRows g.S.Site c.read_rows.new.site x) (sym are) later))

@@ -11,7 +11,7 @@ use Rattle.mss_restart.proofs.tracks.check_cylinder.Goals as goal
 pub loop-number-init : goal.loop-number-init
 loop-number-init g c = record {
   known = λ tells. none_yet ((λ (k : Content). λ (h : ℕ). row_track_fault k c.args.volume c.args.cylinder h c.args.row.now) (content (g.S.Site.told c.args.site.now)));
-  devices = reads_none g.S.Site.tells g.S.Site.told g.S.Site.spare g.S.Site.writes g.S.Site.faults g.S.Site.never_fails_but c.args.site.now;
+  devices = reads_none g.S.Site c.args.site.now;
   count = refl;
   shown_whole = c.requires.shown;
   staged_whole = c.requires.staged;
@@ -30,7 +30,7 @@ loop-number-preserved g c =
     record {
       known = λ tells. goes_on (λ (k : Content). λ (h : ℕ). row_track_fault k c.args.volume c.args.cylinder h c.args.row.now) (g.S.Site.told c.args.site.now) (g.S.Site.told c.loop-number.site) c.loop-number.number c.head_at.result (known.devices.log tells) c.head_at.ensures (known.known tells)
           (c.in_ok-check_track_of.ensures.finds tells);
-      devices = reads_then g.S.Site.tells g.S.Site.told g.S.Site.spare g.S.Site.writes g.S.Site.faults g.S.Site.never_fails_but c.args.site.now c.loop-number.site c.check_track_of.new.site known.devices c.check_track_of.ensures.devices;
+      devices = reads_then g.S.Site c.args.site.now c.loop-number.site c.check_track_of.new.site known.devices c.check_track_of.ensures.devices;
       count = c.in_ok-check_track_of.ensures.counts ∙ known.count;
       shown_whole = omega (arith, known.shown_whole, c.check_track_of.auto.shown);
       staged_whole = omega (arith, known.staged_whole, c.check_track_of.auto.staged);
@@ -39,4 +39,4 @@ loop-number-preserved g c =
 pub returns-in_err-check_track_of-clause-works : goal.returns-in_err-check_track_of-clause-works
 returns-in_err-check_track_of-clause-works g c = λ reads.
     let p = err_from_is_err_and c.from_residual.result c.from_residual.ensures.1 in
-    rw (p.1, p.2) (c.in_err-check_track_of.ensures.works (row_on g.S.Site.never_fails_but c.args.site.now c.loop-number.site c.loop-number.invariant.devices.sound c.args.row.now reads))
+    rw (p.1, p.2) (c.in_err-check_track_of.ensures.works (row_on g.S.Site c.args.site.now c.loop-number.site c.loop-number.invariant.devices.sound c.args.row.now reads))

@@ -6,5 +6,5 @@ use Rattle.mss_restart.proofs.tracks.check_cylinder.Given as goal
 
 abbrev pub invariant-loop-number : goal.invariant-loop-number
 invariant-loop-number g l =
-    IsGoing g.S.Site.tells g.S.Site.told g.S.Site.spare g.S.Site.writes g.S.Site.faults g.S.Site.never_fails_but l.initial.site l.site
+    IsGoing g.S.Site l.initial.site l.site
     (length l.shown) (length l.staged) (λ c. first_below l.number (λ head. row_track_fault c l.volume l.cylinder head l.row) ≡ None)

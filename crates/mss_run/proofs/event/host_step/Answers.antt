@@ -11,9 +11,9 @@ use Rattle.mss_run.proofs.event.host_step.Goals as goal
 
 pub returns-clause-history : goal.returns-clause-history
 returns-clause-history g c =
-    let old : CoreData = seen g.S.Site.told g.S.Site.writes g.S.Site.faults c.args.core.now in
-    let new : CoreData = seen g.S.Site.told g.S.Site.writes g.S.Site.faults c.host_event-answer.new.core in
-    let kept : old.stopped ≡ None → IsCore old = λ none. core_seen g.S.Site.told g.S.Site.writes g.S.Site.faults c.args.core.now (c.entries_of-entries.ensures.kept none) in
+    let old : CoreData = seen g.S.Site c.args.core.now in
+    let new : CoreData = seen g.S.Site c.host_event-answer.new.core in
+    let kept : old.stopped ≡ None → IsCore old = λ none. core_seen g.S.Site c.args.core.now (c.entries_of-entries.ensures.kept none) in
     let h : ℕ = c.args.host in
     let call : CallData = call_of c.args.call.now in
     let told = told_of c.host_event-answer.result in
@@ -23,9 +23,9 @@ returns-clause-history g c =
 
 pub returns-clause-later : goal.returns-clause-later
 returns-clause-later g c =
-    let old : CoreData = seen g.S.Site.told g.S.Site.writes g.S.Site.faults c.args.core.now in
-    let new : CoreData = seen g.S.Site.told g.S.Site.writes g.S.Site.faults c.host_event-answer.new.core in
-    let kept : old.stopped ≡ None → IsCore old = λ none. core_seen g.S.Site.told g.S.Site.writes g.S.Site.faults c.args.core.now (c.entries_of-entries.ensures.kept none) in
+    let old : CoreData = seen g.S.Site c.args.core.now in
+    let new : CoreData = seen g.S.Site c.host_event-answer.new.core in
+    let kept : old.stopped ≡ None → IsCore old = λ none. core_seen g.S.Site c.args.core.now (c.entries_of-entries.ensures.kept none) in
     let h : ℕ = c.args.host in
     let call : CallData = call_of c.args.call.now in
     let told = told_of c.host_event-answer.result in
@@ -33,9 +33,9 @@ returns-clause-later g c =
 
 pub returns-clause-in_vain : goal.returns-clause-in_vain
 returns-clause-in_vain g c = λ is.
-    let old : CoreData = seen g.S.Site.told g.S.Site.writes g.S.Site.faults c.args.core.now in
-    let new : CoreData = seen g.S.Site.told g.S.Site.writes g.S.Site.faults c.host_event-answer.new.core in
-    let kept : old.stopped ≡ None → IsCore old = λ none. core_seen g.S.Site.told g.S.Site.writes g.S.Site.faults c.args.core.now (c.entries_of-entries.ensures.kept none) in
+    let old : CoreData = seen g.S.Site c.args.core.now in
+    let new : CoreData = seen g.S.Site c.host_event-answer.new.core in
+    let kept : old.stopped ≡ None → IsCore old = λ none. core_seen g.S.Site c.args.core.now (c.entries_of-entries.ensures.kept none) in
     let h : ℕ = c.args.host in
     let call : CallData = call_of c.args.call.now in
     let told = told_of c.host_event-answer.result in

@@ -14,7 +14,7 @@ make_passes-book-requires-clause-runnable g c =
 
 pub returns-clause-later : goal.returns-clause-later
 returns-clause-later g c =
-    let new : CoreData = seen g.S.Site.told g.S.Site.writes g.S.Site.faults c.close-core.result in
+    let new : CoreData = seen g.S.Site c.close-core.result in
     subst (λ (began : CoreData). IsLater g.S.Site.tells began new) c.requires.began c.close-core.ensures.opening.later
 
 pub returns-clause-sound : goal.returns-clause-sound
@@ -22,7 +22,7 @@ returns-clause-sound g c = λ but none. c.close-core.ensures.opening.sound but (
 
 pub returns-clause-legal : goal.returns-clause-legal
 returns-clause-legal g c =
-    let old : CoreData = seen g.S.Site.told g.S.Site.writes g.S.Site.faults c.args.core in
+    let old : CoreData = seen g.S.Site c.args.core in
     legal_since g.N.Opening.opening g.N.Setup.setup g.S.Site.tells (g.S.Site.never_fails_but c.args.core.site) old c.requires.opening c.close-core.result.history c.close-core.ensures.legal
 
 pub returns-clause-ends : goal.returns-clause-ends

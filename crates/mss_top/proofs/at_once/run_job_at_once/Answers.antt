@@ -1,15 +1,15 @@
 use Rattle.std.proofs.Common.{subst}
 use Rattle.job_runs.specs.Parties.{Devices, devices}
 use Rattle.job_runs.specs.declared.run.Outcome.{Outcome}
-use Rattle.session_report.specs.Parties.{Stream, between}
+use Rattle.session_report.specs.Parties.{Stream, sink_between}
 use Rattle.thread_runs.specs.Runs.{Ends}
 use Rattle.mss_top.proofs.at_once.run_job_at_once.Goals as goal
 
 pub returns-in-Ran-clause-ended : goal.returns-in-Ran-clause-ended
 returns-in-Ran-clause-ended g c =
     let ran = c.run_at_once-job in
-    let site : Devices = devices g.S.Site.tells g.S.Site.told g.S.Site.writes g.S.Site.faults c.args.site ran.result.job.site in
-    let sink : Stream = between g.O.Sink.tells g.O.Sink.told g.O.Sink.faults c.args.output.now ran.new.output in
+    let site : Devices = devices g.S.Site c.args.site ran.result.job.site in
+    let sink : Stream = sink_between g.O.Sink c.args.output.now ran.new.output in
     record {
       end = c.in-Ran.end;
       answer = c.in-Ran.told;

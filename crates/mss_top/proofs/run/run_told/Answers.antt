@@ -1,14 +1,14 @@
 use Rattle.job_runs.specs.Parties.{devices}
-use Rattle.session_report.specs.Parties.{between}
+use Rattle.session_report.specs.Parties.{sink_between}
 use Rattle.mss_top.proofs.Running.{runs_job, runs_load}
 use Rattle.mss_top.proofs.run.run_told.Goals as goal
 
 pub returns-in-None-clause-runs : goal.returns-in-None-clause-runs
 returns-in-None-clause-runs g c = runs_job (g.C.Choose.may c.args.chooser) c.args.run.now.settings.load c.args.run.now.job _ c.args.run.now.turns.items
-    (devices g.S.Site.tells g.S.Site.told g.S.Site.writes g.S.Site.faults c.args.site c.run_job.result.site)
-    (between g.O.Sink.tells g.O.Sink.told g.O.Sink.faults c.args.output.now c.run_job.new.output) c.run_job.result.outcome c.deref.ensures.value c.in-None.is c.run_job.ensures.ends
+    (devices g.S.Site c.args.site c.run_job.result.site)
+    (sink_between g.O.Sink c.args.output.now c.run_job.new.output) c.run_job.result.outcome c.deref.ensures.value c.in-None.is c.run_job.ensures.ends
 
 pub returns-in-Some-clause-runs : goal.returns-in-Some-clause-runs
 returns-in-Some-clause-runs g c = runs_load (g.C.Choose.may c.args.chooser) c.args.run.now.settings.load c.args.run.now.job c.in-Some.programs _ c.args.run.now.turns.items
-    (devices g.S.Site.tells g.S.Site.told g.S.Site.writes g.S.Site.faults c.args.site c.run_load.result.site)
-    (between g.O.Sink.tells g.O.Sink.told g.O.Sink.faults c.args.output.now c.run_load.new.output) c.run_load.result.outcome c.deref-in-Some.ensures.value c.in-Some.is c.run_load.ensures.ends
+    (devices g.S.Site c.args.site c.run_load.result.site)
+    (sink_between g.O.Sink c.args.output.now c.run_load.new.output) c.run_load.result.outcome c.deref-in-Some.ensures.value c.in-Some.is c.run_load.ensures.ends

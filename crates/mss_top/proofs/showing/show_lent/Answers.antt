@@ -1,6 +1,6 @@
 use Rattle.std.proofs.Common.{ap}
 use Rattle.mss_base.specs.Content.{SiteLog, content}
-use Rattle.session_report.specs.Parties.{between}
+use Rattle.session_report.specs.Parties.{sink_between}
 use Rattle.job_runs.specs.Parties.{devices}
 use Rattle.mss_restart.proofs.OneTable.{loses_on, reads_tracks}
 use Rattle.mss_top.proofs.Broken.{line_unstopped, look_broken}
@@ -9,21 +9,21 @@ use Rattle.mss_top.proofs.showing.show_lent.Goals as goal
 
 pub returns-in-Ok-clause-one_copy : goal.returns-in-Ok-clause-one_copy
 returns-in-Ok-clause-one_copy g c = λ looks.
-    listing_by_one (content (g.S.Site.told c.args.site.now)) (between g.O.Sink.tells g.O.Sink.told g.O.Sink.faults c.args.output.now c.list.new.output) looks.sink_none c.in-Ok.rows.items
-    (devices g.S.Site.tells g.S.Site.told g.S.Site.writes g.S.Site.faults c.look.new.site c.list.new.site) c.list.result looks.can_see (ap (λ (log : SiteLog). content log) (c.in-Ok.ensures.site.log looks.can_see))
+    listing_by_one (content (g.S.Site.told c.args.site.now)) (sink_between g.O.Sink c.args.output.now c.list.new.output) looks.sink_none c.in-Ok.rows.items
+    (devices g.S.Site c.look.new.site c.list.new.site) c.list.result looks.can_see (ap (λ (log : SiteLog). content log) (c.in-Ok.ensures.site.log looks.can_see))
     (c.in-Ok.ensures.one_copy looks.command looks.can_see looks.loses looks.paired) c.list.ensures.lists
-    (c.list.ensures.works (reads_tracks g.S.Site.never_fails_but c.look.new.site (loses_on g.S.Site.never_fails_but c.args.site.now c.look.new.site c.in-Ok.ensures.site.sound looks.loses)))
+    (c.list.ensures.works (reads_tracks g.S.Site c.look.new.site (loses_on g.S.Site c.args.site.now c.look.new.site c.in-Ok.ensures.site.sound looks.loses)))
 
 pub returns-in-Err-clause-one_copy : goal.returns-in-Err-clause-one_copy
 returns-in-Err-clause-one_copy g c = λ looks.
-    line_by_one (content (g.S.Site.told c.args.site.now)) (between g.O.Sink.tells g.O.Sink.told g.O.Sink.faults c.args.output.now c.say.new.output) looks.sink_none c.in-Err.line c.say.result
+    line_by_one (content (g.S.Site.told c.args.site.now)) (sink_between g.O.Sink c.args.output.now c.say.new.output) looks.sink_none c.in-Err.line c.say.result
     (c.in-Err.ensures.one_copy looks.command looks.can_see looks.loses looks.paired) c.say.ensures.put
 
 pub returns-in-Ok-clause-unread : goal.returns-in-Ok-clause-unread
 returns-in-Ok-clause-unread g c = λ stop.
-    look_broken g.S.Site.tells g.S.Site.told g.S.Site.spare g.S.Site.writes g.S.Site.faults g.S.Site.never_fails_but c.args.site.now c.look.new.site c.list.new.site c.in-Ok.rows.items
-    (between g.O.Sink.tells g.O.Sink.told g.O.Sink.faults c.args.output.now c.list.new.output) c.in-Ok.ensures.site c.in-Ok.ensures.looks.1 (c.list.ensures.unread stop)
+    look_broken g.S.Site c.args.site.now c.look.new.site c.list.new.site c.in-Ok.rows.items
+    (sink_between g.O.Sink c.args.output.now c.list.new.output) c.in-Ok.ensures.site c.in-Ok.ensures.looks.1 (c.list.ensures.unread stop)
 
 pub returns-in-Err-clause-unread : goal.returns-in-Err-clause-unread
 returns-in-Err-clause-unread g c = λ stop.
-    absurd (line_unstopped c.in-Err.line (between g.O.Sink.tells g.O.Sink.told g.O.Sink.faults c.args.output.now c.say.new.output) c.say.result c.say.ensures.put stop)
+    absurd (line_unstopped c.in-Err.line (sink_between g.O.Sink c.args.output.now c.say.new.output) c.say.result c.say.ensures.put stop)

@@ -10,12 +10,12 @@ use Rattle.mss_top.proofs.showing.survey_any.Goals as goal
 
 pub returns-in-Ok-clause-survey : goal.returns-in-Ok-clause-survey
 returns-in-Ok-clause-survey g c =
-    let site : Devices = devices g.S.Site.tells g.S.Site.told g.S.Site.writes g.S.Site.faults c.args.site.now c.survey-2.new.site in
+    let site : Devices = devices g.S.Site c.args.site.now c.survey-2.new.site in
     survey_of site (Ok c.in-Ok.rows.items) _ _ c.any_config.ensures.frames c.any_config.ensures.volumes c.in-Ok.ensures.found c.in-Ok.ensures.exact c.in-Ok.ensures.kept
 
 pub returns-clause-survey : goal.returns-clause-survey
 returns-clause-survey g c =
-    let site : Devices = devices g.S.Site.tells g.S.Site.told g.S.Site.writes g.S.Site.faults c.args.site.now c.survey-2.new.site in
+    let site : Devices = devices g.S.Site c.args.site.now c.survey-2.new.site in
     subst (λ (said : OneLine). IsSurveyLine site said) (sym c.refusal_line.ensures) (survey_line site c.in-Err.refused
     (survey_of site (Err c.in-Err.refused) _ _ c.any_config.ensures.frames c.any_config.ensures.volumes c.in-Err.ensures.found c.in-Err.ensures.exact c.in-Err.ensures.kept))
 

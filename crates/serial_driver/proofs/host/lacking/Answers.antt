@@ -5,9 +5,9 @@ use Rattle.serial_driver.proofs.host.lacking.Goals as goal
 pub returns-then-as_slice-ge-ENTRY_LIMIT-clause-event : goal.returns-then-as_slice-ge-ENTRY_LIMIT-clause-event
 returns-then-as_slice-ge-ENTRY_LIMIT-clause-event g c = λ h call.
     let same = ap length (c.as_slice.ensures ∙ c.history.ensures) in
-    refused_full g.S.Site.tells g.S.Site.told g.S.Site.writes g.S.Site.faults c.args.core.now c.requires.going (omega (arith, same, c.if-as_slice-ge-ENTRY_LIMIT.true)) h call
+    refused_full g.S.Site c.args.core.now c.requires.going (omega (arith, same, c.if-as_slice-ge-ENTRY_LIMIT.true)) h call
 
 pub returns-clause-event : goal.returns-clause-event
 returns-clause-event g c = λ h call.
     let same = ap length (c.as_slice.ensures ∙ c.history.ensures) in
-    refused_memory g.S.Site.tells g.S.Site.told g.S.Site.writes g.S.Site.faults c.args.core.now c.look.ensures.kept c.requires.going (omega (arith, same, c.if-as_slice-ge-ENTRY_LIMIT.false)) h call
+    refused_memory g.S.Site c.args.core.now c.look.ensures.kept c.requires.going (omega (arith, same, c.if-as_slice-ge-ENTRY_LIMIT.false)) h call

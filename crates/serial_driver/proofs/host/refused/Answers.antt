@@ -3,4 +3,4 @@ use Rattle.serial_driver.proofs.Refused.{refused_stopped}
 use Rattle.serial_driver.proofs.host.refused.Goals as goal
 
 pub returns-in-Some-clause-event : goal.returns-in-Some-clause-event
-returns-in-Some-clause-event g c = λ h call. refused_stopped g.S.Site.tells g.S.Site.told g.S.Site.writes g.S.Site.faults c.args.core.now _ (sym c.stopped.ensures ∙ c.in-Some.is) h call
+returns-in-Some-clause-event g c = λ h call. refused_stopped g.S.Site c.args.core.now _ (sym c.stopped.ensures ∙ c.in-Some.is) h call

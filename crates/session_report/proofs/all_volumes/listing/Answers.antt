@@ -6,7 +6,7 @@ use Rattle.volume_table.specs.Listed.{listed}
 use Rattle.shown_volumes.specs.Shown.{shown_by}
 use Rattle.report_text.specs.Texts.{listing_title}
 use Rattle.report_text.specs.declared.report.ReportFault.TheVariants as part
-use Rattle.session_report.specs.Parties.{Devices, Stream, between, seen_with}
+use Rattle.session_report.specs.Parties.{Devices, Stream, seen_with, site_between, sink_between}
 use Rattle.session_report.specs.Parts.{IsUnread}
 use Rattle.session_report.specs.Reports.{BreaksOff, Heading, IsReported, OnRead, finished, untitled, volumes_below}
 use Rattle.session_report.specs.declared.reporting.Last.TheVariants.{End}
@@ -32,7 +32,7 @@ pub returns-clause-report : goal.returns-clause-report
 returns-clause-report g c =
     let shown : Volumes = shown_by (listed c.args.rows.now) (content (g.S.Site.told c.args.site.now)) in
     opened listing_title shown (volumes_below 32 shown.serial) (finished End) _ _ c.put_ending.result (g.O.Sink.told c.put_title.new.output) (g.O.Sink.faults c.put_title.new.output) c.in_ok-put_title.ensures.bytes c.in_ok-put_title.ensures.cause.same
-    (subst (λ (volumes : List Heading). IsReported (untitled volumes shown) (finished End) (between g.S.Site.tells g.S.Site.told g.S.Site.faults c.args.site.now c.put_ending.new.site) (between g.O.Sink.tells g.O.Sink.told g.O.Sink.faults c.put_title.new.output c.put_ending.new.output) c.put_ending.result)
+    (subst (λ (volumes : List Heading). IsReported (untitled volumes shown) (finished End) (site_between g.S.Site c.args.site.now c.put_ending.new.site) (sink_between g.O.Sink c.put_title.new.output c.put_ending.new.output) c.put_ending.result)
     (c.as_slice.ensures ∙ c.in_ok-volumes.ensures) c.put_ending.ensures.report)
 
 pub returns-in_err-put_title-clause-unread : goal.returns-in_err-put_title-clause-unread
@@ -48,13 +48,13 @@ returns-in_err-volumes-clause-unread g c =
 pub returns-clause-unread : goal.returns-clause-unread
 returns-clause-unread g c =
     let shown : Volumes = shown_by (listed c.args.rows.now) (content (g.S.Site.told c.args.site.now)) in
-    let site : Devices = between g.S.Site.tells g.S.Site.told g.S.Site.faults c.args.site.now c.put_ending.new.site in
-    let sink : Stream = between g.O.Sink.tells g.O.Sink.told g.O.Sink.faults c.args.output.now c.put_ending.new.output in
-    let late : Stream = between g.O.Sink.tells g.O.Sink.told g.O.Sink.faults c.put_title.new.output c.put_ending.new.output in
+    let site : Devices = site_between g.S.Site c.args.site.now c.put_ending.new.site in
+    let sink : Stream = sink_between g.O.Sink c.args.output.now c.put_ending.new.output in
+    let late : Stream = sink_between g.O.Sink c.put_title.new.output c.put_ending.new.output in
     broken_behind listing_title shown (volumes_below 32 shown.serial) (finished End) site sink c.put_ending.result
     (g.O.Sink.told c.put_title.new.output) (g.O.Sink.faults c.put_title.new.output) c.in_ok-put_title.ensures.bytes c.in_ok-put_title.ensures.cause.same
-    (IsUnread g.S.Site.never_fails_but c.args.site.now (listed c.args.rows.now) (volumes_below 32 shown.serial)) c.put_ending.result
-    (subst (λ (volumes : List Heading). OnRead c.put_ending.result (BreaksOff (IsUnread g.S.Site.never_fails_but c.args.site.now (listed c.args.rows.now) volumes) (untitled volumes shown) (seen_with site late)))
+    (IsUnread g.S.Site c.args.site.now (listed c.args.rows.now) (volumes_below 32 shown.serial)) c.put_ending.result
+    (subst (λ (volumes : List Heading). OnRead c.put_ending.result (BreaksOff (IsUnread g.S.Site c.args.site.now (listed c.args.rows.now) volumes) (untitled volumes shown) (seen_with site late)))
     (c.as_slice.ensures ∙ c.in_ok-volumes.ensures) c.put_ending.ensures.unread)
 
 pub returns-in_err-put_title-clause-framed : goal.returns-in_err-put_title-clause-framed

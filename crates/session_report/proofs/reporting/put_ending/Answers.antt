@@ -3,7 +3,7 @@ use Rattle.std.proofs.lemmas.Result.{err_from_is_err_and}
 use Rattle.mss_base.specs.Puts.{PutsFront}
 use Rattle.report_text.specs.Texts.{stopped_text}
 use Rattle.session_report.specs.Answers.{fault_of}
-use Rattle.session_report.specs.Parties.{between}
+use Rattle.session_report.specs.Parties.{site_between, sink_between}
 use Rattle.session_report.specs.Reports.{finished}
 use Rattle.session_report.specs.declared.fault.ReportFault.TheVariants as report_fault
 use Rattle.mss_base.specs.Content.{content}
@@ -50,8 +50,8 @@ returns-in_err-put_stopped-in-Err-Read-clause-unread g c =
 
 pub returns-in-Err-Read-clause-unread : goal.returns-in-Err-Read-clause-unread
 returns-in-Err-Read-clause-unread g c =
-    told_broken_off (shown_by (listed c.args.rows.now) (content (g.S.Site.told c.args.site.now))) c.args.volumes.now (between g.S.Site.tells g.S.Site.told g.S.Site.faults c.args.site.now c.put_to_end.new.site)
-    (between g.O.Sink.tells g.O.Sink.told g.O.Sink.faults c.args.output.now c.put_stopped.new.output) c.args.last (Err (report_fault.Read c.in-Err-Read.fault)) _ c.in-Err-Read.field-0 c.in-Err-Read.fault _ c.in-Err-Read.field-0-is c.in-Err-Read.ensures.counted c.in-Err-Read.ensures.bytes
+    told_broken_off (shown_by (listed c.args.rows.now) (content (g.S.Site.told c.args.site.now))) c.args.volumes.now (site_between g.S.Site c.args.site.now c.put_to_end.new.site)
+    (sink_between g.O.Sink c.args.output.now c.put_stopped.new.output) c.args.last (Err (report_fault.Read c.in-Err-Read.fault)) _ c.in-Err-Read.field-0 c.in-Err-Read.fault _ c.in-Err-Read.field-0-is c.in-Err-Read.ensures.counted c.in-Err-Read.ensures.bytes
     (λ t. subst (λ (n : ℕ). g.O.Sink.told c.put_stopped.new.output ≡ g.O.Sink.told c.put_to_end.new.output ++ stopped_text n) c.in-Err-Read.fault-is (c.in_ok-put_stopped-in-Err-Read.ensures.bytes t.1))
 
 pub returns-clause-unread : goal.returns-clause-unread

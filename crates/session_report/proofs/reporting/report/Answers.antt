@@ -7,7 +7,7 @@ use Rattle.shown_volumes.specs.Shown.{shown_by}
 use Rattle.core_state.specs.Sessions.{session_data}
 use Rattle.report_text.specs.Texts.{stopped_text}
 use Rattle.report_text.specs.declared.report.ReportFault.TheVariants as part
-use Rattle.session_report.specs.Parties.{between}
+use Rattle.session_report.specs.Parties.{site_between, sink_between}
 use Rattle.session_report.specs.Reports.{Frames, IsReported, ending_of, finished, stopped, opening_text, report_matter}
 use Rattle.session_report.specs.Parts.{IsUnread}
 use Rattle.session_report.proofs.Framing.{frames_behind, frames_front, frames_unput, grows_front, opening_long, put_no_read}
@@ -24,7 +24,7 @@ pub returns-in_err-put_stopped-in-Some-clause-report : goal.returns-in_err-put_s
 returns-in_err-put_stopped-in-Some-clause-report g c =
     let p = err_from_is_err_and c.from_residual-in_err-put_stopped-in-Some.result c.from_residual-in_err-put_stopped-in-Some.ensures.1 in
     let shown : Volumes = shown_by (listed c.args.rows.now) (content (g.S.Site.told c.args.site.now)) in
-    subst (λ (stop : Option ℕ). IsReported (report_matter (session_data c.args.session.now) c.args.volumes.now shown) (ending_of stop c.args.last) (between g.S.Site.tells g.S.Site.told g.S.Site.faults c.args.site.now c.args.site.now) (between g.O.Sink.tells g.O.Sink.told g.O.Sink.faults c.args.output.now c.put_stopped.new.output) c.from_residual-in_err-put_stopped-in-Some.result)
+    subst (λ (stop : Option ℕ). IsReported (report_matter (session_data c.args.session.now) c.args.volumes.now shown) (ending_of stop c.args.last) (site_between g.S.Site c.args.site.now c.args.site.now) (sink_between g.O.Sink c.args.output.now c.put_stopped.new.output) c.from_residual-in_err-put_stopped-in-Some.result)
     (sym c.in-Some.is)
     (opened (opening_text (session_data c.args.session.now)) shown c.args.volumes.now (stopped c.in-Some.kept) _ _ _ (g.O.Sink.told c.put_opening.new.output) (g.O.Sink.faults c.put_opening.new.output) c.in_ok-put_opening.ensures.bytes c.in_ok-put_opening.ensures.cause.same
     (stop_unput shown c.args.volumes.now c.in-Some.kept _ _ _ (p.1 ∙ ap Err p.2) c.in_err-put_stopped-in-Some.ensures.cause.failed c.in_err-put_stopped-in-Some.ensures.bytes))
@@ -32,7 +32,7 @@ returns-in_err-put_stopped-in-Some-clause-report g c =
 pub returns-in-Some-clause-report : goal.returns-in-Some-clause-report
 returns-in-Some-clause-report g c =
     let shown : Volumes = shown_by (listed c.args.rows.now) (content (g.S.Site.told c.args.site.now)) in
-    subst (λ (stop : Option ℕ). IsReported (report_matter (session_data c.args.session.now) c.args.volumes.now shown) (ending_of stop c.args.last) (between g.S.Site.tells g.S.Site.told g.S.Site.faults c.args.site.now c.args.site.now) (between g.O.Sink.tells g.O.Sink.told g.O.Sink.faults c.args.output.now c.put_stopped.new.output) _)
+    subst (λ (stop : Option ℕ). IsReported (report_matter (session_data c.args.session.now) c.args.volumes.now shown) (ending_of stop c.args.last) (site_between g.S.Site c.args.site.now c.args.site.now) (sink_between g.O.Sink c.args.output.now c.put_stopped.new.output) _)
     (sym c.in-Some.is)
     (opened (opening_text (session_data c.args.session.now)) shown c.args.volumes.now (stopped c.in-Some.kept) _ _ _ (g.O.Sink.told c.put_opening.new.output) (g.O.Sink.faults c.put_opening.new.output) c.in_ok-put_opening.ensures.bytes c.in_ok-put_opening.ensures.cause.same
     (stop_told shown c.args.volumes.now c.in-Some.kept _ _ _ refl c.in_ok-put_stopped-in-Some.ensures.bytes))
@@ -40,7 +40,7 @@ returns-in-Some-clause-report g c =
 pub returns-clause-report : goal.returns-clause-report
 returns-clause-report g c =
     let shown : Volumes = shown_by (listed c.args.rows.now) (content (g.S.Site.told c.args.site.now)) in
-    subst (λ (stop : Option ℕ). IsReported (report_matter (session_data c.args.session.now) c.args.volumes.now shown) (ending_of stop c.args.last) (between g.S.Site.tells g.S.Site.told g.S.Site.faults c.args.site.now c.put_ending.new.site) (between g.O.Sink.tells g.O.Sink.told g.O.Sink.faults c.args.output.now c.put_ending.new.output) c.put_ending.result)
+    subst (λ (stop : Option ℕ). IsReported (report_matter (session_data c.args.session.now) c.args.volumes.now shown) (ending_of stop c.args.last) (site_between g.S.Site c.args.site.now c.put_ending.new.site) (sink_between g.O.Sink c.args.output.now c.put_ending.new.output) c.put_ending.result)
     (sym c.in-None.is)
     (opened (opening_text (session_data c.args.session.now)) shown c.args.volumes.now (finished c.args.last) _ _ c.put_ending.result (g.O.Sink.told c.put_opening.new.output) (g.O.Sink.faults c.put_opening.new.output) c.in_ok-put_opening.ensures.bytes c.in_ok-put_opening.ensures.cause.same c.put_ending.ensures.report)
 
@@ -57,9 +57,9 @@ returns-in_err-put_stopped-in-Some-clause-unread g c =
 pub returns-clause-unread : goal.returns-clause-unread
 returns-clause-unread g c =
     broken_behind (opening_text (session_data c.args.session.now)) (shown_by (listed c.args.rows.now) (content (g.S.Site.told c.args.site.now))) c.args.volumes.now (finished c.args.last)
-    (between g.S.Site.tells g.S.Site.told g.S.Site.faults c.args.site.now c.put_ending.new.site) (between g.O.Sink.tells g.O.Sink.told g.O.Sink.faults c.args.output.now c.put_ending.new.output) c.put_ending.result
+    (site_between g.S.Site c.args.site.now c.put_ending.new.site) (sink_between g.O.Sink c.args.output.now c.put_ending.new.output) c.put_ending.result
     (g.O.Sink.told c.put_opening.new.output) (g.O.Sink.faults c.put_opening.new.output) c.in_ok-put_opening.ensures.bytes c.in_ok-put_opening.ensures.cause.same
-    (IsUnread g.S.Site.never_fails_but c.args.site.now (listed c.args.rows.now) c.args.volumes.now) c.put_ending.result c.put_ending.ensures.unread
+    (IsUnread g.S.Site c.args.site.now (listed c.args.rows.now) c.args.volumes.now) c.put_ending.result c.put_ending.ensures.unread
 
 pub returns-in_err-put_opening-clause-framed : goal.returns-in_err-put_opening-clause-framed
 returns-in_err-put_opening-clause-framed g c = λ told.

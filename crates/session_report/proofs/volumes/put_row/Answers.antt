@@ -17,12 +17,12 @@ returns-in_default-clause-bytes g c = λ tells.
 
 pub returns-clause-works : goal.returns-clause-works
 returns-clause-works g c =
-    subst (λ (row : Option RowValue). CanReadRow g.S.Site.never_fails_but c.args.site.now row → TellsNoRead c.put_tracks.result)
+    subst (λ (row : Option RowValue). CanReadRow g.S.Site c.args.site.now row → TellsNoRead c.put_tracks.result)
     (sym c.in-Some.is) c.put_tracks.ensures.works
 
 pub returns-clause-bytes : goal.returns-clause-bytes
 returns-clause-bytes g c =
-    subst (λ (row : Option RowValue). PutsTracks (g.S.Site.tells × g.O.Sink.tells) (λ n. MayFail g.S.Site.never_fails_but c.args.site.now (block_of row n)) [] (row_tracks (content (g.S.Site.told c.args.site.now)) row)
+    subst (λ (row : Option RowValue). PutsTracks (g.S.Site.tells × g.O.Sink.tells) (λ n. MayFail g.S.Site c.args.site.now (block_of row n)) [] (row_tracks (content (g.S.Site.told c.args.site.now)) row)
     (g.O.Sink.told c.args.output.now) (g.O.Sink.told c.put_tracks.new.output) c.put_tracks.result)
     (sym c.in-Some.is) c.put_tracks.ensures.bytes
 

@@ -12,7 +12,7 @@ use Rattle.session_report.proofs.volumes.put_tracks.Goals as goal
 
 pub loop-cylinder-init : goal.loop-cylinder-init
 loop-cylinder-init g c = record {
-  site = reads_none _ _ _ _ _ _ _;
+  site = reads_none _ _;
   same = refl;
   put = λ tells sink_tells. tracks_begin (row_tracks (content (g.S.Site.told c.args.site.now)) (Some c.args.row.now)) (g.O.Sink.told c.args.output.now);
   grown = λ sink_tells. grows_none (g.O.Sink.told c.args.output.now);
@@ -41,8 +41,8 @@ returns-in_err-put_shown-clause-bytes g c =
     rw (p.1, p.2)
     (tracks_left (g.S.Site.tells × g.O.Sink.tells) (row_tracks (content (g.S.Site.told c.args.site.now)) (Some c.args.row.now)) (g.O.Sink.told c.args.output.now) (g.O.Sink.told c.loop-head.output) (g.O.Sink.told c.put_shown.new.output)
     c.in-Some.cylinder c.loop-head.head c.in-Some-of.head (omega arith) c.in-Some-of.ensures.value (λ t. c.loop-head.invariant.put t.0 t.1) (omega arith)
-    (MayFail g.S.Site.never_fails_but c.loop-head.site (source c.args.row.now c.in-Some.cylinder c.in-Some-of.head)) (λ n. MayFail g.S.Site.never_fails_but c.args.site.now (block_of (Some c.args.row.now) n))
-    (track_unread g.S.Site.never_fails_but c.args.site.now c.loop-head.site c.loop-head.invariant.site.sound c.args.row.now c.in-Some.cylinder c.in-Some-of.head (omega arith))
+    (MayFail g.S.Site c.loop-head.site (source c.args.row.now c.in-Some.cylinder c.in-Some-of.head)) (λ n. MayFail g.S.Site c.args.site.now (block_of (Some c.args.row.now) n))
+    (track_unread g.S.Site c.args.site.now c.loop-head.site c.loop-head.invariant.site.sound c.args.row.now c.in-Some.cylinder c.in-Some-of.head (omega arith))
     c.in_err-put_shown.field-0.0
     (track_put_same (g.S.Site.tells × g.O.Sink.tells) _ _ _ (g.O.Sink.told c.loop-head.output) (g.O.Sink.told c.put_shown.new.output) c.in_err-put_shown.field-0.0
     (λ t. ap (λ (s : SiteLog). track_text c.in-Some.cylinder c.in-Some-of.head (row_tracks (content s) (Some c.args.row.now) c.in-Some.cylinder c.in-Some-of.head)) (c.loop-head.invariant.site.log t.0))
@@ -50,7 +50,7 @@ returns-in_err-put_shown-clause-bytes g c =
 
 pub loop-head-preserved : goal.loop-head-preserved
 loop-head-preserved g c = record {
-  site = reads_then _ _ _ _ _ _ _ _ _ c.loop-head.invariant.site c.in_ok-put_shown.ensures.site;
+  site = reads_then _ _ _ _ c.loop-head.invariant.site c.in_ok-put_shown.ensures.site;
   same = c.in_ok-put_shown.ensures.counted ∙ c.loop-head.invariant.same;
   put = λ tells sink_tells.
       tracks_more (g.S.Site.tells × g.O.Sink.tells) (row_tracks (content (g.S.Site.told c.args.site.now)) (Some c.args.row.now)) (g.O.Sink.told c.args.output.now) (g.O.Sink.told c.loop-head.output) (g.O.Sink.told c.put_shown.new.output)
@@ -65,7 +65,7 @@ loop-head-preserved g c = record {
 pub returns-in_err-put_shown-clause-works : goal.returns-in_err-put_shown-clause-works
 returns-in_err-put_shown-clause-works g c = λ reads.
     let p = err_from_is_err_and c.from_residual.result c.from_residual.ensures.1 in
-    rw (p.1, p.2) (c.in_err-put_shown.ensures.works (row_on g.S.Site.never_fails_but c.args.site.now c.loop-head.site c.loop-head.invariant.site.sound (Some c.args.row.now) reads))
+    rw (p.1, p.2) (c.in_err-put_shown.ensures.works (row_on g.S.Site c.args.site.now c.loop-head.site c.loop-head.invariant.site.sound (Some c.args.row.now) reads))
 
 pub returns-in_err-put_shown-clause-grown : goal.returns-in_err-put_shown-clause-grown
 returns-in_err-put_shown-clause-grown g c = λ told. grows_then _ _ _ (c.loop-head.invariant.grown told) (c.put_shown.ensures.grown told)

@@ -19,14 +19,14 @@ returns-in_err-put_heading-clause-bytes g c =
 
 pub returns-clause-bytes : goal.returns-clause-bytes
 returns-clause-bytes g c =
-    subst (λ (row : Option RowValue). PutsTracks (g.S.Site.tells × g.O.Sink.tells) (λ n. MayFail g.S.Site.never_fails_but c.args.site.now (block_of row n)) (heading_text c.args.volume c.args.serial.now) (row_tracks (content (g.S.Site.told c.args.site.now)) row) (g.O.Sink.told c.args.output.now) (g.O.Sink.told c.put_row.new.output) c.put_row.result)
+    subst (λ (row : Option RowValue). PutsTracks (g.S.Site.tells × g.O.Sink.tells) (λ n. MayFail g.S.Site c.args.site.now (block_of row n)) (heading_text c.args.volume c.args.serial.now) (row_tracks (content (g.S.Site.told c.args.site.now)) row) (g.O.Sink.told c.args.output.now) (g.O.Sink.told c.put_row.new.output) c.put_row.result)
     c.row_of.ensures
     (volume_put (g.S.Site.tells × g.O.Sink.tells) _ (heading_text c.args.volume c.args.serial.now) _ (g.O.Sink.told c.args.output.now) (g.O.Sink.told c.put_heading.new.output) (g.O.Sink.told c.put_row.new.output) c.put_row.result
     (λ t. c.in_ok-put_heading.ensures.bytes t.1) c.put_row.ensures.bytes)
 
 pub returns-clause-works : goal.returns-clause-works
 returns-clause-works g c =
-    subst (λ (row : Option RowValue). CanReadRow g.S.Site.never_fails_but c.args.site.now row → TellsNoRead c.put_row.result)
+    subst (λ (row : Option RowValue). CanReadRow g.S.Site c.args.site.now row → TellsNoRead c.put_row.result)
     c.row_of.ensures c.put_row.ensures.works
 
 pub returns-in_err-put_heading-clause-grown : goal.returns-in_err-put_heading-clause-grown

@@ -19,8 +19,8 @@ returns-in_err-put_volume-clause-bytes g c =
     (row_tracks (content (g.S.Site.told c.args.site.now)) (listed c.args.rows.now c.entry-item.result.0))
     refl
     (g.O.Sink.told c.args.output.now) (g.O.Sink.told c.loop-entry.output) (g.O.Sink.told c.put_volume.new.output) (λ t. c.loop-entry.invariant.put t.0 t.1)
-    (λ n. MayFail g.S.Site.never_fails_but c.loop-entry.site (block_of (listed c.args.rows.now c.entry-item.result.0) n)) (IsUnread g.S.Site.never_fails_but c.args.site.now (listed c.args.rows.now) c.args.volumes.now)
-    (volume_unread g.S.Site.never_fails_but c.args.site.now c.loop-entry.site c.loop-entry.invariant.site.sound (listed c.args.rows.now) c.args.volumes.now c.loop-entry.entry-index c.entry-item.result c.loop-entry-test.true c.entry-item.is)
+    (λ n. MayFail g.S.Site c.loop-entry.site (block_of (listed c.args.rows.now c.entry-item.result.0) n)) (IsUnread g.S.Site c.args.site.now (listed c.args.rows.now) c.args.volumes.now)
+    (volume_unread g.S.Site c.args.site.now c.loop-entry.site c.loop-entry.invariant.site.sound (listed c.args.rows.now) c.args.volumes.now c.loop-entry.entry-index c.entry-item.result c.loop-entry-test.true c.entry-item.is)
     c.in_err-put_volume.field-0.0
     (tracks_put_same (g.S.Site.tells × g.O.Sink.tells) _ (heading_text c.entry-item.result.0 c.entry-item.result.1) _ _ (g.O.Sink.told c.loop-entry.output) (g.O.Sink.told c.put_volume.new.output) c.in_err-put_volume.field-0.0
     (λ t. ap (λ (s : SiteLog). row_tracks (content s) (listed c.args.rows.now c.entry-item.result.0)) (c.loop-entry.invariant.site.log t.0))
@@ -28,7 +28,7 @@ returns-in_err-put_volume-clause-bytes g c =
 
 pub loop-entry-preserved : goal.loop-entry-preserved
 loop-entry-preserved g c = record {
-  site = reads_then _ _ _ _ _ _ _ _ _ c.loop-entry.invariant.site c.in_ok-put_volume.ensures.site;
+  site = reads_then _ _ _ _ c.loop-entry.invariant.site c.in_ok-put_volume.ensures.site;
   same = c.in_ok-put_volume.ensures.counted ∙ c.loop-entry.invariant.same;
   put = λ tells sink_tells.
       volumes_go_on (g.S.Site.tells × g.O.Sink.tells) (shown_by (listed c.args.rows.now) (content (g.S.Site.told c.args.site.now))) c.args.volumes.now c.loop-entry.entry-index c.entry-item.result c.loop-entry-test.true c.entry-item.is
@@ -45,7 +45,7 @@ loop-entry-preserved g c = record {
 pub returns-in_err-put_volume-clause-works : goal.returns-in_err-put_volume-clause-works
 returns-in_err-put_volume-clause-works g c = λ reads.
     let p = err_from_is_err_and c.from_residual.result c.from_residual.ensures.1 in
-    rw (p.1, p.2) (c.in_err-put_volume.ensures.works (row_on g.S.Site.never_fails_but c.args.site.now c.loop-entry.site c.loop-entry.invariant.site.sound (listed c.args.rows.now c.entry-item.result.0) (reads c.entry-item.result.0)))
+    rw (p.1, p.2) (c.in_err-put_volume.ensures.works (row_on g.S.Site c.args.site.now c.loop-entry.site c.loop-entry.invariant.site.sound (listed c.args.rows.now c.entry-item.result.0) (reads c.entry-item.result.0)))
 
 pub returns-in_err-put_volume-clause-grown : goal.returns-in_err-put_volume-clause-grown
 returns-in_err-put_volume-clause-grown g c = λ told. grows_then _ _ _ (c.loop-entry.invariant.grown told) (c.put_volume.ensures.grown told)

@@ -7,6 +7,6 @@ use Rattle.session_report.proofs.volumes.put_volumes.Given as goal
 
 abbrev pub invariant-loop-entry : goal.invariant-loop-entry
 invariant-loop-entry g l =
-    IsPutting g.S.Site.tells g.O.Sink.tells g.S.Site.told g.S.Site.spare g.S.Site.writes g.S.Site.faults g.S.Site.never_fails_but l.fn.site l.site
+    IsPutting g.S.Site g.O.Sink.tells l.fn.site l.site
     (g.O.Sink.told l.fn.output) (g.O.Sink.told l.output) (g.O.Sink.faults l.fn.output) (g.O.Sink.faults l.output) (length l.block)
     (λ c. volumes_text (shown_by (listed l.rows) c) (take l.entry-index l.volumes))

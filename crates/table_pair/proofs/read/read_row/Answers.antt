@@ -45,7 +45,7 @@ returns-in_err-b-clause-row g c = λ tells.
     let old = content (g.S.Site.told c.args.site.now) in
     let p = err_from_is_err_and c.from_residual-in_err-b.result c.from_residual-in_err-b.ensures.1 in
     let a = subst (λ (at : BlockPlace). IsReadOf before mid (old at.unit at.block) (seen c.in_ok-a.a)) c.place_of.ensures (c.in_ok-a.ensures.copy tells) in
-    let there = subst (λ (at : BlockPlace). IsReadable g.S.Site.never_fails_but c.args.site.now at.unit → seen c.in_ok-a.a ≢ unread) c.place_of.ensures c.in_ok-a.ensures.works in
+    let there = subst (λ (at : BlockPlace). IsReadable g.S.Site c.args.site.now at.unit → seen c.in_ok-a.a ≢ unread) c.place_of.ensures c.in_ok-a.ensures.works in
     memory_later _ before _ c.args.volume old _ mid (seen c.in_ok-a.a) c.read_copy.ensures.devices.later c.in_err-b.ensures.kept a there (p.1 ∙ (λ i. Err (p.2 i)))
 
 pub returns-clause-row : goal.returns-clause-row
@@ -57,10 +57,10 @@ returns-clause-row g c = λ tells.
     let then = content (g.S.Site.told c.read_copy.new.site) in
     let a = subst (λ (at : BlockPlace). IsReadOf before mid (old at.unit at.block) (seen c.in_ok-a.a)) c.place_of.ensures (c.in_ok-a.ensures.copy tells) in
     let b = subst (λ (at : BlockPlace). IsReadOf mid now (then at.unit at.block) (seen c.in_ok-b.b)) c.place_of-2.ensures (c.in_ok-b.ensures.copy tells) in
-    let a_there = subst (λ (at : BlockPlace). IsReadable g.S.Site.never_fails_but c.args.site.now at.unit → seen c.in_ok-a.a ≢ unread) c.place_of.ensures c.in_ok-a.ensures.works in
-    let b_there = subst (λ (at : BlockPlace). IsReadable g.S.Site.never_fails_but c.read_copy.new.site at.unit → seen c.in_ok-b.b ≢ unread) c.place_of-2.ensures c.in_ok-b.ensures.works in
+    let a_there = subst (λ (at : BlockPlace). IsReadable g.S.Site c.args.site.now at.unit → seen c.in_ok-a.a ≢ unread) c.place_of.ensures c.in_ok-a.ensures.works in
+    let b_there = subst (λ (at : BlockPlace). IsReadable g.S.Site c.read_copy.new.site at.unit → seen c.in_ok-b.b ≢ unread) c.place_of-2.ensures c.in_ok-b.ensures.works in
     both_row _ before now c.args.volume old c.by_table-2.result mid then (seen c.in_ok-a.a) (seen c.in_ok-b.b) c.read_copy.ensures.devices.later c.read_copy-2.ensures.devices.later (ap content (c.read_copy.ensures.devices.log tells)) a b a_there
-    (λ readable. b_there (readable_on g.S.Site.never_fails_but c.args.site.now c.read_copy.new.site c.read_copy.ensures.devices.sound TableB readable)) c.by_table-2.ensures.told
+    (λ readable. b_there (readable_on g.S.Site c.args.site.now c.read_copy.new.site c.read_copy.ensures.devices.sound TableB readable)) c.by_table-2.ensures.told
 
 pub returns-clause-kept : goal.returns-clause-kept
 returns-clause-kept g c =
@@ -85,20 +85,20 @@ returns-then-is_open-clause-works g c = λ _ _.
 pub returns-in_err-b-clause-works : goal.returns-in_err-b-clause-works
 returns-in_err-b-clause-works g c = λ a_readable _.
     let p = err_from_is_err_and c.from_residual-in_err-b.result c.from_residual-in_err-b.ensures.1 in
-    let there = subst (λ (at : BlockPlace). IsReadable g.S.Site.never_fails_but c.args.site.now at.unit → seen c.in_ok-a.a ≢ unread) c.place_of.ensures c.in_ok-a.ensures.works in
+    let there = subst (λ (at : BlockPlace). IsReadable g.S.Site c.args.site.now at.unit → seen c.in_ok-a.a ≢ unread) c.place_of.ensures c.in_ok-a.ensures.works in
     record { none = memory_misses _ (p.1 ∙ (λ i. Err (p.2 i))); count = c.in_err-b.ensures.kept ∙ there_keeps _ _ c.in_ok-a.a (there a_readable) c.in_ok-a.ensures.kept }
 
 pub returns-in_err-b-clause-devices : goal.returns-in_err-b-clause-devices
 returns-in_err-b-clause-devices g c =
-    reads_then g.S.Site.tells g.S.Site.told g.S.Site.spare g.S.Site.writes g.S.Site.faults g.S.Site.never_fails_but c.args.site.now c.read_copy.new.site c.read_copy-2.new.site c.read_copy.ensures.devices c.read_copy-2.ensures.devices
+    reads_then g.S.Site c.args.site.now c.read_copy.new.site c.read_copy-2.new.site c.read_copy.ensures.devices c.read_copy-2.ensures.devices
 
 pub returns-clause-works : goal.returns-clause-works
 returns-clause-works g c = λ a_readable b_readable.
-    let a_there = subst (λ (at : BlockPlace). IsReadable g.S.Site.never_fails_but c.args.site.now at.unit → seen c.in_ok-a.a ≢ unread) c.place_of.ensures c.in_ok-a.ensures.works a_readable in
-    let later = readable_on g.S.Site.never_fails_but c.args.site.now c.read_copy.new.site c.read_copy.ensures.devices.sound TableB b_readable in
-    let b_there = subst (λ (at : BlockPlace). IsReadable g.S.Site.never_fails_but c.read_copy.new.site at.unit → seen c.in_ok-b.b ≢ unread) c.place_of-2.ensures c.in_ok-b.ensures.works later in
+    let a_there = subst (λ (at : BlockPlace). IsReadable g.S.Site c.args.site.now at.unit → seen c.in_ok-a.a ≢ unread) c.place_of.ensures c.in_ok-a.ensures.works a_readable in
+    let later = readable_on g.S.Site c.args.site.now c.read_copy.new.site c.read_copy.ensures.devices.sound TableB b_readable in
+    let b_there = subst (λ (at : BlockPlace). IsReadable g.S.Site c.read_copy.new.site at.unit → seen c.in_ok-b.b ≢ unread) c.place_of-2.ensures c.in_ok-b.ensures.works later in
     record { none = c.by_table-2.ensures.there a_there b_there; count = there_keeps _ _ c.in_ok-b.b b_there c.in_ok-b.ensures.kept ∙ there_keeps _ _ c.in_ok-a.a a_there c.in_ok-a.ensures.kept }
 
 pub returns-clause-devices : goal.returns-clause-devices
 returns-clause-devices g c =
-    reads_then g.S.Site.tells g.S.Site.told g.S.Site.spare g.S.Site.writes g.S.Site.faults g.S.Site.never_fails_but c.args.site.now c.read_copy.new.site c.read_copy-2.new.site c.read_copy.ensures.devices c.read_copy-2.ensures.devices
+    reads_then g.S.Site c.args.site.now c.read_copy.new.site c.read_copy-2.new.site c.read_copy.ensures.devices c.read_copy-2.ensures.devices

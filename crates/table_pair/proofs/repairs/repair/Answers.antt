@@ -120,52 +120,52 @@ pub returns-in_err-read_block-clause-memory : goal.returns-in_err-read_block-cla
 returns-in_err-read_block-clause-memory g c = λ is.
     let p = err_from_is_err_and c.from_residual-in_err-read_block.result c.from_residual-in_err-read_block.ensures.1 in
     let told : c.from_residual-in_err-read_block.result ≡ Err c.in_err-read_block.field-0.0 = p.1 ∙ (λ i. Err (p.2 i)) in
-    let r0 = got_room g.S.Site.tells g.S.Site.told g.S.Site.spare g.S.Site.writes g.S.Site.faults g.S.Site.never_fails_but c.args.site.now c.reserve.new.self c.reserve.ensures.told c.reserve.ensures.spare c.reserve.ensures.writes c.reserve.ensures.faults c.reserve.ensures.sound in
-    let r1 = room_read g.S.Site.tells g.S.Site.told g.S.Site.spare g.S.Site.writes g.S.Site.faults g.S.Site.never_fails_but c.args.site.now c.reserve.new.self c.read_block.new.site r0 c.read_block.ensures.devices in
-    room_leaves g.S.Site.tells g.S.Site.told g.S.Site.spare g.S.Site.writes g.S.Site.faults g.S.Site.never_fails_but c.args.site.now c.read_block.new.site r1 (memory_count {T = Unit {0}} _ _ (Err c.in_err-read_block.field-0.0) (sym told ∙ is) c.in_err-read_block.ensures.kept ∙ c.reserve.ensures.faults)
+    let r0 = got_room g.S.Site c.args.site.now c.reserve.new.self c.reserve.ensures.told c.reserve.ensures.spare c.reserve.ensures.writes c.reserve.ensures.faults c.reserve.ensures.sound in
+    let r1 = room_read g.S.Site c.args.site.now c.reserve.new.self c.read_block.new.site r0 c.read_block.ensures.devices in
+    room_leaves g.S.Site c.args.site.now c.read_block.new.site r1 (memory_count {T = Unit {0}} _ _ (Err c.in_err-read_block.field-0.0) (sym told ∙ is) c.in_err-read_block.ensures.kept ∙ c.reserve.ensures.faults)
 
 pub returns-in_err-read_block-clause-devices : goal.returns-in_err-read_block-clause-devices
 returns-in_err-read_block-clause-devices g c =
-    let r0 = got_room g.S.Site.tells g.S.Site.told g.S.Site.spare g.S.Site.writes g.S.Site.faults g.S.Site.never_fails_but c.args.site.now c.reserve.new.self c.reserve.ensures.told c.reserve.ensures.spare c.reserve.ensures.writes c.reserve.ensures.faults c.reserve.ensures.sound in
-    let r1 = room_read g.S.Site.tells g.S.Site.told g.S.Site.spare g.S.Site.writes g.S.Site.faults g.S.Site.never_fails_but c.args.site.now c.reserve.new.self c.read_block.new.site r0 c.read_block.ensures.devices in
-    room_may g.S.Site.tells g.S.Site.told g.S.Site.spare g.S.Site.writes g.S.Site.faults g.S.Site.never_fails_but 3 c.args.site.now c.read_block.new.site r1
+    let r0 = got_room g.S.Site c.args.site.now c.reserve.new.self c.reserve.ensures.told c.reserve.ensures.spare c.reserve.ensures.writes c.reserve.ensures.faults c.reserve.ensures.sound in
+    let r1 = room_read g.S.Site c.args.site.now c.reserve.new.self c.read_block.new.site r0 c.read_block.ensures.devices in
+    room_may g.S.Site 3 c.args.site.now c.read_block.new.site r1
 
 pub returns-in_err-read_block-clause-works : goal.returns-in_err-read_block-clause-works
 returns-in_err-read_block-clause-works g c = λ a_readable _.
-    let later = readable_on g.S.Site.never_fails_but c.args.site.now c.reserve.new.self c.reserve.ensures.sound TableA a_readable in
-    let there = subst (λ (at : BlockPlace). IsReadable g.S.Site.never_fails_but c.reserve.new.self at.unit) (sym c.place_of.ensures) later in
+    let later = readable_on g.S.Site c.args.site.now c.reserve.new.self c.reserve.ensures.sound TableA a_readable in
+    let there = subst (λ (at : BlockPlace). IsReadable g.S.Site c.reserve.new.self at.unit) (sym c.place_of.ensures) later in
     never_err (Unit {0}) c.in_err-read_block.field-0.0 _ (c.in_err-read_block.ensures.works there)
 
 pub returns-in_err-read_block-2-clause-memory : goal.returns-in_err-read_block-2-clause-memory
 returns-in_err-read_block-2-clause-memory g c = λ is.
     let p = err_from_is_err_and c.from_residual-in_err-read_block-2.result c.from_residual-in_err-read_block-2.ensures.1 in
     let told : c.from_residual-in_err-read_block-2.result ≡ Err c.in_err-read_block-2.field-0.0 = p.1 ∙ (λ i. Err (p.2 i)) in
-    let r0 = got_room g.S.Site.tells g.S.Site.told g.S.Site.spare g.S.Site.writes g.S.Site.faults g.S.Site.never_fails_but c.args.site.now c.reserve.new.self c.reserve.ensures.told c.reserve.ensures.spare c.reserve.ensures.writes c.reserve.ensures.faults c.reserve.ensures.sound in
-    let r1 = room_read g.S.Site.tells g.S.Site.told g.S.Site.spare g.S.Site.writes g.S.Site.faults g.S.Site.never_fails_but c.args.site.now c.reserve.new.self c.read_block.new.site r0 c.read_block.ensures.devices in
-    let r2 = room_read g.S.Site.tells g.S.Site.told g.S.Site.spare g.S.Site.writes g.S.Site.faults g.S.Site.never_fails_but c.args.site.now c.read_block.new.site c.read_block-2.new.site r1 c.read_block-2.ensures.devices in
-    room_leaves g.S.Site.tells g.S.Site.told g.S.Site.spare g.S.Site.writes g.S.Site.faults g.S.Site.never_fails_but c.args.site.now c.read_block-2.new.site r2 (memory_count {T = Unit {0}} _ _ (Err c.in_err-read_block-2.field-0.0) (sym told ∙ is) c.in_err-read_block-2.ensures.kept ∙ c.in_ok-read_block.ensures.kept ∙ c.reserve.ensures.faults)
+    let r0 = got_room g.S.Site c.args.site.now c.reserve.new.self c.reserve.ensures.told c.reserve.ensures.spare c.reserve.ensures.writes c.reserve.ensures.faults c.reserve.ensures.sound in
+    let r1 = room_read g.S.Site c.args.site.now c.reserve.new.self c.read_block.new.site r0 c.read_block.ensures.devices in
+    let r2 = room_read g.S.Site c.args.site.now c.read_block.new.site c.read_block-2.new.site r1 c.read_block-2.ensures.devices in
+    room_leaves g.S.Site c.args.site.now c.read_block-2.new.site r2 (memory_count {T = Unit {0}} _ _ (Err c.in_err-read_block-2.field-0.0) (sym told ∙ is) c.in_err-read_block-2.ensures.kept ∙ c.in_ok-read_block.ensures.kept ∙ c.reserve.ensures.faults)
 
 pub returns-in_err-read_block-2-clause-devices : goal.returns-in_err-read_block-2-clause-devices
 returns-in_err-read_block-2-clause-devices g c =
-    let r0 = got_room g.S.Site.tells g.S.Site.told g.S.Site.spare g.S.Site.writes g.S.Site.faults g.S.Site.never_fails_but c.args.site.now c.reserve.new.self c.reserve.ensures.told c.reserve.ensures.spare c.reserve.ensures.writes c.reserve.ensures.faults c.reserve.ensures.sound in
-    let r1 = room_read g.S.Site.tells g.S.Site.told g.S.Site.spare g.S.Site.writes g.S.Site.faults g.S.Site.never_fails_but c.args.site.now c.reserve.new.self c.read_block.new.site r0 c.read_block.ensures.devices in
-    let r2 = room_read g.S.Site.tells g.S.Site.told g.S.Site.spare g.S.Site.writes g.S.Site.faults g.S.Site.never_fails_but c.args.site.now c.read_block.new.site c.read_block-2.new.site r1 c.read_block-2.ensures.devices in
-    room_may g.S.Site.tells g.S.Site.told g.S.Site.spare g.S.Site.writes g.S.Site.faults g.S.Site.never_fails_but 3 c.args.site.now c.read_block-2.new.site r2
+    let r0 = got_room g.S.Site c.args.site.now c.reserve.new.self c.reserve.ensures.told c.reserve.ensures.spare c.reserve.ensures.writes c.reserve.ensures.faults c.reserve.ensures.sound in
+    let r1 = room_read g.S.Site c.args.site.now c.reserve.new.self c.read_block.new.site r0 c.read_block.ensures.devices in
+    let r2 = room_read g.S.Site c.args.site.now c.read_block.new.site c.read_block-2.new.site r1 c.read_block-2.ensures.devices in
+    room_may g.S.Site 3 c.args.site.now c.read_block-2.new.site r2
 
 pub returns-in_err-read_block-2-clause-works : goal.returns-in_err-read_block-2-clause-works
 returns-in_err-read_block-2-clause-works g c = λ _ b_readable.
-    let r0 = got_room g.S.Site.tells g.S.Site.told g.S.Site.spare g.S.Site.writes g.S.Site.faults g.S.Site.never_fails_but c.args.site.now c.reserve.new.self c.reserve.ensures.told c.reserve.ensures.spare c.reserve.ensures.writes c.reserve.ensures.faults c.reserve.ensures.sound in
-    let r1 = room_read g.S.Site.tells g.S.Site.told g.S.Site.spare g.S.Site.writes g.S.Site.faults g.S.Site.never_fails_but c.args.site.now c.reserve.new.self c.read_block.new.site r0 c.read_block.ensures.devices in
-    let later = readable_on g.S.Site.never_fails_but c.args.site.now c.read_block.new.site r1.sound TableB b_readable in
-    let there = subst (λ (at : BlockPlace). IsReadable g.S.Site.never_fails_but c.read_block.new.site at.unit) (sym c.place_of-2.ensures) later in
+    let r0 = got_room g.S.Site c.args.site.now c.reserve.new.self c.reserve.ensures.told c.reserve.ensures.spare c.reserve.ensures.writes c.reserve.ensures.faults c.reserve.ensures.sound in
+    let r1 = room_read g.S.Site c.args.site.now c.reserve.new.self c.read_block.new.site r0 c.read_block.ensures.devices in
+    let later = readable_on g.S.Site c.args.site.now c.read_block.new.site r1.sound TableB b_readable in
+    let there = subst (λ (at : BlockPlace). IsReadable g.S.Site c.read_block.new.site at.unit) (sym c.place_of-2.ensures) later in
     never_err (Unit {0}) c.in_err-read_block-2.field-0.0 _ (c.in_err-read_block-2.ensures.works there)
 
 pub returns-in-Ok-clause-devices : goal.returns-in-Ok-clause-devices
 returns-in-Ok-clause-devices g c =
-    let r0 = got_room g.S.Site.tells g.S.Site.told g.S.Site.spare g.S.Site.writes g.S.Site.faults g.S.Site.never_fails_but c.args.site.now c.reserve.new.self c.reserve.ensures.told c.reserve.ensures.spare c.reserve.ensures.writes c.reserve.ensures.faults c.reserve.ensures.sound in
-    let r1 = room_read g.S.Site.tells g.S.Site.told g.S.Site.spare g.S.Site.writes g.S.Site.faults g.S.Site.never_fails_but c.args.site.now c.reserve.new.self c.read_block.new.site r0 c.read_block.ensures.devices in
-    let r2 = room_read g.S.Site.tells g.S.Site.told g.S.Site.spare g.S.Site.writes g.S.Site.faults g.S.Site.never_fails_but c.args.site.now c.read_block.new.site c.read_block-2.new.site r1 c.read_block-2.ensures.devices in
-    room_write g.S.Site.tells g.S.Site.told g.S.Site.spare g.S.Site.writes g.S.Site.faults g.S.Site.never_fails_but 3 c.args.site.now c.read_block-2.new.site c.follow.new.site r2 c.follow.ensures.devices
+    let r0 = got_room g.S.Site c.args.site.now c.reserve.new.self c.reserve.ensures.told c.reserve.ensures.spare c.reserve.ensures.writes c.reserve.ensures.faults c.reserve.ensures.sound in
+    let r1 = room_read g.S.Site c.args.site.now c.reserve.new.self c.read_block.new.site r0 c.read_block.ensures.devices in
+    let r2 = room_read g.S.Site c.args.site.now c.read_block.new.site c.read_block-2.new.site r1 c.read_block-2.ensures.devices in
+    room_write g.S.Site 3 c.args.site.now c.read_block-2.new.site c.follow.new.site r2 c.follow.ensures.devices
 
 pub returns-in-Ok-clause-kept : goal.returns-in-Ok-clause-kept
 returns-in-Ok-clause-kept g c =
@@ -178,16 +178,16 @@ returns-clause-kept g c =
 
 pub returns-clause-devices : goal.returns-clause-devices
 returns-clause-devices g c =
-    let r0 = got_room g.S.Site.tells g.S.Site.told g.S.Site.spare g.S.Site.writes g.S.Site.faults g.S.Site.never_fails_but c.args.site.now c.reserve.new.self c.reserve.ensures.told c.reserve.ensures.spare c.reserve.ensures.writes c.reserve.ensures.faults c.reserve.ensures.sound in
-    let r1 = room_read g.S.Site.tells g.S.Site.told g.S.Site.spare g.S.Site.writes g.S.Site.faults g.S.Site.never_fails_but c.args.site.now c.reserve.new.self c.read_block.new.site r0 c.read_block.ensures.devices in
-    let r2 = room_read g.S.Site.tells g.S.Site.told g.S.Site.spare g.S.Site.writes g.S.Site.faults g.S.Site.never_fails_but c.args.site.now c.read_block.new.site c.read_block-2.new.site r1 c.read_block-2.ensures.devices in
-    room_write g.S.Site.tells g.S.Site.told g.S.Site.spare g.S.Site.writes g.S.Site.faults g.S.Site.never_fails_but 3 c.args.site.now c.read_block-2.new.site c.follow.new.site r2 c.follow.ensures.devices
+    let r0 = got_room g.S.Site c.args.site.now c.reserve.new.self c.reserve.ensures.told c.reserve.ensures.spare c.reserve.ensures.writes c.reserve.ensures.faults c.reserve.ensures.sound in
+    let r1 = room_read g.S.Site c.args.site.now c.reserve.new.self c.read_block.new.site r0 c.read_block.ensures.devices in
+    let r2 = room_read g.S.Site c.args.site.now c.read_block.new.site c.read_block-2.new.site r1 c.read_block-2.ensures.devices in
+    room_write g.S.Site 3 c.args.site.now c.read_block-2.new.site c.follow.new.site r2 c.follow.ensures.devices
 
 pub returns-clause-works : goal.returns-clause-works
 returns-clause-works g c = λ a_readable _.
-    let r0 = got_room g.S.Site.tells g.S.Site.told g.S.Site.spare g.S.Site.writes g.S.Site.faults g.S.Site.never_fails_but c.args.site.now c.reserve.new.self c.reserve.ensures.told c.reserve.ensures.spare c.reserve.ensures.writes c.reserve.ensures.faults c.reserve.ensures.sound in
-    let r1 = room_read g.S.Site.tells g.S.Site.told g.S.Site.spare g.S.Site.writes g.S.Site.faults g.S.Site.never_fails_but c.args.site.now c.reserve.new.self c.read_block.new.site r0 c.read_block.ensures.devices in
-    let r2 = room_read g.S.Site.tells g.S.Site.told g.S.Site.spare g.S.Site.writes g.S.Site.faults g.S.Site.never_fails_but c.args.site.now c.read_block.new.site c.read_block-2.new.site r1 c.read_block-2.ensures.devices in
+    let r0 = got_room g.S.Site c.args.site.now c.reserve.new.self c.reserve.ensures.told c.reserve.ensures.spare c.reserve.ensures.writes c.reserve.ensures.faults c.reserve.ensures.sound in
+    let r1 = room_read g.S.Site c.args.site.now c.reserve.new.self c.read_block.new.site r0 c.read_block.ensures.devices in
+    let r2 = room_read g.S.Site c.args.site.now c.read_block.new.site c.read_block-2.new.site r1 c.read_block-2.ensures.devices in
     never_err (Unit {0}) c.in-Err.field-0 ⊥ (c.in-Err.ensures.works a_readable.0 (r2.sound a_readable.0 a_readable.1))
 
 pub returns-in_err-reserve-clause-marks : goal.returns-in_err-reserve-clause-marks

@@ -1,9 +1,8 @@
 use Rattle.std.proofs.Common.{◌≡◌, sym, ◌∙◌, ap, subst}
-use Rattle.core_state.specs.CoreValue.{CoreValue, seen}
+use Rattle.core_state.specs.CoreValue.{CoreValue, seen, seen_site}
 use Rattle.core_state.specs.SessionData.{SessionData, data_of}
 use Rattle.core_state.specs.Sessions.{session_data}
 use Rattle.mss_restart.specs.Creations.{WritesOn}
-use Rattle.job_runs.specs.Parties.{seen_site}
 use Rattle.job_runs.proofs.SessionFacts.{promised_of}
 use Rattle.thread_runs.specs.Runs.{IsPlayedAtOnce, ended_as}
 use Rattle.thread_runs.proofs.AtOnce.{played_at_once, written_at_once}
@@ -15,25 +14,20 @@ returns-clause-session g c = λ was begun.
     let left : CoreValue g.row.S.Denot g.row.C.Denot = ran.result.core in
     let ended = c.into_session-site in
     let tells = g.S.Site.tells in
-    let told = g.S.Site.told in
-    let writes = g.S.Site.writes in
-    let faults = g.S.Site.faults in
     let site : left.site ≡ ended.result.0 = sym ended.ensures.site in
     let session : data_of left ≡ session_data ended.result.1 = sym ended.ensures.session in
     let law = c.sessions_are_plain.ensures in
-    subst (λ (x : g.row.S.Denot × SessionData). IsPlayedAtOnce c.args.job.now (record { tells = tells; was = was; now = seen_site told writes faults x.0 }) c.ended_as.result ran.result.hosts.items x.1) (λ i. (site i, session i))
-    (played_at_once tells told writes faults c.args.job.now c.args.core left c.ended_as.result ran.result.hosts.items
+    subst (λ (x : g.row.S.Denot × SessionData). IsPlayedAtOnce c.args.job.now (record { tells = tells; was = was; now = seen_site g.S.Site x.0 }) c.ended_as.result ran.result.hosts.items x.1) (λ i. (site i, session i))
+    (played_at_once g.S.Site c.args.job.now c.args.core left c.ended_as.result ran.result.hosts.items
     ran.ensures.later ran.ensures.hosts ran.ensures.ends ran.ensures.follow
     (c.ended_as.ensures ∙ ap ended_as ran.ensures.answer) was begun
-    (promised_of tells told writes faults c.args.core left c.args.job.now.config ran.ensures.later c.look.ensures.told c.look.ensures.counted c.look.ensures.marked was begun
-    (λ t over later kept. law.plain c.args.job.now.config was (seen told writes faults c.args.core) (seen told writes faults left) t over later kept)
-    (λ t over later kept. law.stops c.args.job.now.config was (seen told writes faults c.args.core) (seen told writes faults left) t over later kept)))
+    (promised_of g.S.Site c.args.core left c.args.job.now.config ran.ensures.later c.look.ensures.told c.look.ensures.counted c.look.ensures.marked was begun
+    (λ t over later kept. law.plain c.args.job.now.config was (seen g.S.Site c.args.core) (seen g.S.Site left) t over later kept)
+    (λ t over later kept. law.stops c.args.job.now.config was (seen g.S.Site c.args.core) (seen g.S.Site left) t over later kept)))
 
 pub returns-clause-devices : goal.returns-clause-devices
 returns-clause-devices g c =
     let ran = c.run_actors-core in
     let left : CoreValue g.row.S.Denot g.row.C.Denot = ran.result.core in
-    let writes = g.S.Site.writes in
-    let faults = g.S.Site.faults in
-    subst (λ (x : g.row.S.Denot). WritesOn writes faults g.S.Site.never_fails_but c.args.core.site x) (sym c.into_session-site.ensures.site)
-    (written_at_once g.S.Site.tells g.S.Site.told writes faults g.S.Site.never_fails_but c.args.core left c.requires.writes c.requires.faults ran.ensures.later c.look.ensures.counted ran.ensures.sound)
+    subst (λ (x : g.row.S.Denot). WritesOn g.S.Site c.args.core.site x) (sym c.into_session-site.ensures.site)
+    (written_at_once g.S.Site c.args.core left c.requires.writes c.requires.faults ran.ensures.later c.look.ensures.counted ran.ensures.sound)

@@ -1,13 +1,14 @@
 use Rattle.core_state.specs.Sessions.{session_data}
-use Rattle.session_report.specs.Parties.{Stream, between}
-use Rattle.job_runs.specs.Parties.{Devices, devices, seen_site}
+use Rattle.session_report.specs.Parties.{Stream, sink_between}
+use Rattle.job_runs.specs.Parties.{Devices, devices}
 use Rattle.thread_runs.proofs.AtOnce.{played_halts, ends_at_once}
 use Rattle.thread_runs.proofs.run.run_at_once.Goals as goal
+use Rattle.core_state.specs.CoreValue.{seen_site}
 
 pub put_report-requires-clause-halts : goal.put_report-requires-clause-halts
 put_report-requires-clause-halts g c =
     let p = c.in-Ok.done.played in
-    let site : Devices = devices g.S.Site.tells g.S.Site.told g.S.Site.writes g.S.Site.faults c.args.site p.site in
+    let site : Devices = devices g.S.Site c.args.site p.site in
     played_halts c.args.job.now site p.end c.in-Ok.done.hosts.items (session_data p.session) c.in-Ok.ensures.played
 
 pub returns-in-Ok-clause-ends : goal.returns-in-Ok-clause-ends
@@ -15,6 +16,6 @@ returns-in-Ok-clause-ends g c =
     let p = c.in-Ok.done.played in
     let told = g.S.Site.told in
     let put = c.put_report in
-    let sink : Stream = between g.O.Sink.tells g.O.Sink.told g.O.Sink.faults c.args.output.now put.new.output in
-    ends_at_once g.S.Site.tells told g.S.Site.writes g.S.Site.faults c.args.job.now (seen_site told g.S.Site.writes g.S.Site.faults c.args.site) p.site put.result.site p.end c.in-Ok.done.hosts.items (session_data p.session)
+    let sink : Stream = sink_between g.O.Sink c.args.output.now put.new.output in
+    ends_at_once g.S.Site c.args.job.now (seen_site g.S.Site c.args.site) p.site put.result.site p.end c.in-Ok.done.hosts.items (session_data p.session)
     c.in-Ok.ensures.played sink put.result.outcome (put.ensures.tells (told c.args.site) c.in-Ok.ensures.played.promised.plain)

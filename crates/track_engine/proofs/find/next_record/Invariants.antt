@@ -12,6 +12,6 @@ invariant-loop g l = record {
       ≡ next_within 20 (tracks_at (content (g.S.Site.told l.fn.site)) l.place.unit l.place.first_block) l.fn.from l.first l.multi;
   block : g.S.Site.tells → IsBlockOf (content (g.S.Site.told l.fn.site)) l.place.unit l.place.first_block l.host.head (g.S.Site.brought l.site);
   volume : l.host.mounted ≡ l.fn.from.mounted;
-  reads : OnlyReads g.S.Site.tells g.S.Site.told g.S.Site.spare g.S.Site.writes g.S.Site.faults g.S.Site.never_fails_but l.fn.site l.site;
+  reads : OnlyReads g.S.Site l.fn.site l.site;
   same : g.S.Site.faults l.site ≡ g.S.Site.faults l.fn.site;
 }

@@ -38,7 +38,7 @@ returns-in-Some-clause-untouched g c = λ tells none.
     let nothing : c.in-Some.bytes.now ≡ [] =
     update_of_nothing c.args.key_too c.copy_block.new.buffer c.args.host.now c.args.left c.args.argument.now c.number.result c.number.ensures _ there
     c.in_ok-at.at c.in_ok-at.ensures.itself c.requires.first c.in_ok-at.ensures.found c.found_in.result c.in-Some.bytes.now c.updated_length-length.result c.found_in.ensures.found c.updated_length-length.ensures c.in-Some.ensures none in
-    subst (λ s. OnlyReads g.S.Site.tells g.S.Site.told g.S.Site.spare g.S.Site.writes g.S.Site.faults g.S.Site.never_fails_but c.args.site.now s) (sym (c.update_at.ensures.untouched nothing)) c.copy_block.ensures.reads
+    subst (λ s. OnlyReads g.S.Site c.args.site.now s) (sym (c.update_at.ensures.untouched nothing)) c.copy_block.ensures.reads
 
 pub returns-in_ok-bytes-in-None-clause-untouched : goal.returns-in_ok-bytes-in-None-clause-untouched
 returns-in_ok-bytes-in-None-clause-untouched g c = λ tells none.
@@ -47,4 +47,4 @@ returns-in_ok-bytes-in-None-clause-untouched g c = λ tells none.
     update_of_nothing c.args.key_too c.copy_block.new.buffer c.args.host.now c.args.left c.args.argument.now c.number.result c.number.ensures _ there
     c.in_ok-at.at c.in_ok-at.ensures.itself c.requires.first c.in_ok-at.ensures.found c.found_in.result c.as_slice.result.now c.updated_length-length.result c.found_in.ensures.found c.updated_length-length.ensures
     (c.as_slice.ensures ∙ c.in_ok-bytes-in-None.ensures) none in
-    subst (λ s. OnlyReads g.S.Site.tells g.S.Site.told g.S.Site.spare g.S.Site.writes g.S.Site.faults g.S.Site.never_fails_but c.args.site.now s) (sym (c.update_at-in-None.ensures.untouched nothing)) c.copy_block.ensures.reads
+    subst (λ s. OnlyReads g.S.Site c.args.site.now s) (sym (c.update_at-in-None.ensures.untouched nothing)) c.copy_block.ensures.reads

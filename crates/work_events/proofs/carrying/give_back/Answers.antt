@@ -16,7 +16,7 @@ pub put-requires-clause-lies : goal.put-requires-clause-lies
 put-requires-clause-lies g c =
     let now = c.args.core.now in
     let is = c.core.view_is in
-    let kept = kept_at g.S.Site.tells g.S.Site.told g.S.Site.writes g.S.Site.faults (vec_len c.core.inside.buffer) _ now is c.core.invariant in
+    let kept = kept_at g.S.Site (vec_len c.core.inside.buffer) _ now is c.core.invariant in
     let says = rule_returns now c.args.recorder c.requires.fits kept.whole.kept c.args.cartridge c.requires.rule in
     ap (λ (z : CoreValue g.row.S.Denot g.row.C.Denot). place_of z.store c.args.cartridge) is ∙ says.lies
 
@@ -24,7 +24,7 @@ pub put-requires-clause-free : goal.put-requires-clause-free
 put-requires-clause-free g c =
     let now = c.args.core.now in
     let is = c.core.view_is in
-    let kept = kept_at g.S.Site.tells g.S.Site.told g.S.Site.writes g.S.Site.faults (vec_len c.core.inside.buffer) _ now is c.core.invariant in
+    let kept = kept_at g.S.Site (vec_len c.core.inside.buffer) _ now is c.core.invariant in
     let says = rule_returns now c.args.recorder c.requires.fits kept.whole.kept c.args.cartridge c.requires.rule in
     let beside = (kept.whole.kept says.going).beside in
     λ other low at. cell_is_free now.config.frames now.config.recorders now.recency now.recorders now.store beside c.args.cartridge other low (sym (ap (λ (z : CoreValue g.row.S.Denot g.row.C.Denot). place_of z.store other) is) ∙ at ∙ ap Cell c.get.ensures.value)
@@ -33,7 +33,7 @@ pub invariant_of-core-2 : goal.invariant_of-core-2
 invariant_of-core-2 g c =
     let now = c.args.core.now in
     let is = c.core.view_is in
-    let kept = kept_at g.S.Site.tells g.S.Site.told g.S.Site.writes g.S.Site.faults (vec_len c.core.inside.buffer) _ now is c.core.invariant in
+    let kept = kept_at g.S.Site (vec_len c.core.inside.buffer) _ now is c.core.invariant in
     let says = rule_returns now c.args.recorder c.requires.fits kept.whole.kept c.args.cartridge c.requires.rule in
     let known : c.args.cartridge < length now.store = subst (λ (z : CoreValue g.row.S.Denot g.row.C.Denot). c.args.cartridge < length z.store) is c.put.ensures.known in
     let number : c.from.result ≡ c.args.recorder = c.from.ensures ∙ c.get-3.ensures.value in

@@ -21,7 +21,7 @@ pub served-task-requires : goal.served-task-requires
 served-task-requires g c =
     let now = c.args.core.now in
     let is = c.core.view_is in
-    let kept = kept_at g.S.Site.tells g.S.Site.told g.S.Site.writes g.S.Site.faults (vec_len c.core.inside.buffer) _ now is c.core.invariant in
+    let kept = kept_at g.S.Site (vec_len c.core.inside.buffer) _ now is c.core.invariant in
     let says = rule_copies now c.args.recorder c.requires.fits kept.whole.kept c.args.transfer c.requires.rule in
     (says.task, says.request, says.serves)
 
@@ -29,7 +29,7 @@ pub invariant_of-core : goal.invariant_of-core
 invariant_of-core g c =
     let now = c.args.core.now in
     let is = c.core.view_is in
-    let kept = kept_at g.S.Site.tells g.S.Site.told g.S.Site.writes g.S.Site.faults (vec_len c.core.inside.buffer) _ now is c.core.invariant in
+    let kept = kept_at g.S.Site (vec_len c.core.inside.buffer) _ now is c.core.invariant in
     let says = rule_copies now c.args.recorder c.requires.fits kept.whole.kept c.args.transfer c.requires.rule in
     let session : session_data c.make_room.new.session ≡ data_of now = c.make_room.ensures.session ∙ ap (λ (x : CoreValue g.row.S.Denot g.row.C.Denot). data_of x) is in
     let x = c.make_room.new.site in
@@ -42,7 +42,7 @@ pub copy_track-requires-clause-more : goal.copy_track-requires-clause-more
 copy_track-requires-clause-more g c =
     let now = c.args.core.now in
     let is = c.core.view_is in
-    let kept = kept_at g.S.Site.tells g.S.Site.told g.S.Site.writes g.S.Site.faults (vec_len c.core.inside.buffer) _ now is c.core.invariant in
+    let kept = kept_at g.S.Site (vec_len c.core.inside.buffer) _ now is c.core.invariant in
     let says = rule_copies now c.args.recorder c.requires.fits kept.whole.kept c.args.transfer c.requires.rule in
     let may = says.may c.served-task.result.0 c.served-task.result.1 c.served-task.ensures.serves c.served-task.ensures.low in
     may.more
@@ -51,7 +51,7 @@ pub end_task-requires-clause-frame : goal.end_task-requires-clause-frame
 end_task-requires-clause-frame g c =
     let now = c.args.core.now in
     let is = c.core.view_is in
-    let kept = kept_at g.S.Site.tells g.S.Site.told g.S.Site.writes g.S.Site.faults (vec_len c.core.inside.buffer) _ now is c.core.invariant in
+    let kept = kept_at g.S.Site (vec_len c.core.inside.buffer) _ now is c.core.invariant in
     let says = rule_copies now c.args.recorder c.requires.fits kept.whole.kept c.args.transfer c.requires.rule in
     let low = (kept.whole.kept says.going).tasks_.each c.args.recorder c.served-task.result.0 c.served-task.ensures.serves.at in
     let size : length c.core.inside.frames.owners ≡ now.config.frames = ap (λ (z : CoreValue g.row.S.Denot g.row.C.Denot). length z.owners) is ∙ kept.whole.shaped.owners_ in
@@ -62,7 +62,7 @@ pub invariant_of-core-in-Ok : goal.invariant_of-core-in-Ok
 invariant_of-core-in-Ok g c =
     let now = c.args.core.now in
     let is = c.core.view_is in
-    let kept = kept_at g.S.Site.tells g.S.Site.told g.S.Site.writes g.S.Site.faults (vec_len c.core.inside.buffer) _ now is c.core.invariant in
+    let kept = kept_at g.S.Site (vec_len c.core.inside.buffer) _ now is c.core.invariant in
     let says = rule_copies now c.args.recorder c.requires.fits kept.whole.kept c.args.transfer c.requires.rule in
     let session : session_data c.make_room.new.session ≡ data_of now = c.make_room.ensures.session ∙ ap (λ (x : CoreValue g.row.S.Denot g.row.C.Denot). data_of x) is in
     let moved : g.S.Site.tells → g.S.Site.told c.make_room.new.site ≡ g.S.Site.told now.site = λ tl. c.make_room.ensures.site.log tl ∙ ap (λ (y : CoreValue g.row.S.Denot g.row.C.Denot). g.S.Site.told y.site) is in
@@ -86,7 +86,7 @@ pub invariant_of-core-in-Err : goal.invariant_of-core-in-Err
 invariant_of-core-in-Err g c =
     let now = c.args.core.now in
     let is = c.core.view_is in
-    let kept = kept_at g.S.Site.tells g.S.Site.told g.S.Site.writes g.S.Site.faults (vec_len c.core.inside.buffer) _ now is c.core.invariant in
+    let kept = kept_at g.S.Site (vec_len c.core.inside.buffer) _ now is c.core.invariant in
     let says = rule_copies now c.args.recorder c.requires.fits kept.whole.kept c.args.transfer c.requires.rule in
     let session : session_data c.make_room.new.session ≡ data_of now = c.make_room.ensures.session ∙ ap (λ (x : CoreValue g.row.S.Denot g.row.C.Denot). data_of x) is in
     let moved : g.S.Site.tells → g.S.Site.told c.make_room.new.site ≡ g.S.Site.told now.site = λ tl. c.make_room.ensures.site.log tl ∙ ap (λ (y : CoreValue g.row.S.Denot g.row.C.Denot). g.S.Site.told y.site) is in
@@ -115,7 +115,7 @@ pub returns-in-Err-clause-event : goal.returns-in-Err-clause-event
 returns-in-Err-clause-event g c =
     let now = c.args.core.now in
     let is = c.core.view_is in
-    let kept = kept_at g.S.Site.tells g.S.Site.told g.S.Site.writes g.S.Site.faults (vec_len c.core.inside.buffer) _ now is c.core.invariant in
+    let kept = kept_at g.S.Site (vec_len c.core.inside.buffer) _ now is c.core.invariant in
     let says = rule_copies now c.args.recorder c.requires.fits kept.whole.kept c.args.transfer c.requires.rule in
     let session : session_data c.make_room.new.session ≡ data_of now = c.make_room.ensures.session ∙ ap (λ (x : CoreValue g.row.S.Denot g.row.C.Denot). data_of x) is in
     let moved : g.S.Site.tells → g.S.Site.told c.make_room.new.site ≡ g.S.Site.told now.site = λ tl. c.make_room.ensures.site.log tl ∙ ap (λ (y : CoreValue g.row.S.Denot g.row.C.Denot). g.S.Site.told y.site) is in
@@ -136,7 +136,7 @@ returns-in-Err-clause-event g c =
     let path : ◌≡◌ {A = CoreValue g.row.S.Denot g.row.C.Denot} _ (record now { site = c.copy_track.new.site; moving = slice_set now.moving c.served-task.result.0.frame false; requests = with_state c.served-task.result.0.host (Failed (g.S.Site.faults c.copy_track.new.site)) now.requests; tasks = slice_set now.tasks c.args.recorder None; events = now.events ++ Work c.args.recorder ∷ [] }) =
     λ i. of_parts (is i) x (is i).rows (owners i) (moving i) (requests i) (tasks i) (is i).hosts (told i) in
     let rises : Rises (g.S.Site.faults now.site) (g.S.Site.faults x) = subst (λ (k : ℕ). Rises k (g.S.Site.faults x)) sound c.in-Err.ensures.copies.cause.failed in
-    uncopied_does g.S.Site.tells (g.C.Choose.may now.chooser) g.S.Site.told g.S.Site.writes g.S.Site.faults now _ c.args.recorder task c.args.transfer c.did-in-Err.result c.did-in-Err.ensures.answer c.served-task.ensures.serves.at
+    uncopied_does g.S.Site (g.C.Choose.may now.chooser) now _ c.args.recorder task c.args.transfer c.did-in-Err.result c.did-in-Err.ensures.answer c.served-task.ensures.serves.at
     (record { left = logged; later = more; failed = rises }) path
 
 pub returns-in-Ok-clause-unread : goal.returns-in-Ok-clause-unread

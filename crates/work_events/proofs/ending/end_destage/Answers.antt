@@ -27,7 +27,7 @@ pub served-task-requires : goal.served-task-requires
 served-task-requires g c =
     let now = c.args.core.now in
     let is = c.core.view_is in
-    let kept = kept_at g.S.Site.tells g.S.Site.told g.S.Site.writes g.S.Site.faults (vec_len c.core.inside.buffer) _ now is c.core.invariant in
+    let kept = kept_at g.S.Site (vec_len c.core.inside.buffer) _ now is c.core.invariant in
     let says = rule_ends now c.args.recorder c.requires.fits kept.whole.kept c.args.transfer c.requires.rule in
     (says.task, says.request, says.serves)
 
@@ -35,7 +35,7 @@ pub invariant_of-core : goal.invariant_of-core
 invariant_of-core g c =
     let now = c.args.core.now in
     let is = c.core.view_is in
-    let kept = kept_at g.S.Site.tells g.S.Site.told g.S.Site.writes g.S.Site.faults (vec_len c.core.inside.buffer) _ now is c.core.invariant in
+    let kept = kept_at g.S.Site (vec_len c.core.inside.buffer) _ now is c.core.invariant in
     let says = rule_ends now c.args.recorder c.requires.fits kept.whole.kept c.args.transfer c.requires.rule in
     let session : session_data c.make_room.new.session ≡ data_of now = c.make_room.ensures.session ∙ ap (λ (z : CoreValue g.row.S.Denot g.row.C.Denot). data_of z) is in
     let x = c.make_room.new.site in
@@ -48,7 +48,7 @@ pub write_change-requires-clause-there : goal.write_change-requires-clause-there
 write_change-requires-clause-there g c =
     let now = c.args.core.now in
     let is = c.core.view_is in
-    let kept = kept_at g.S.Site.tells g.S.Site.told g.S.Site.writes g.S.Site.faults (vec_len c.core.inside.buffer) _ now is c.core.invariant in
+    let kept = kept_at g.S.Site (vec_len c.core.inside.buffer) _ now is c.core.invariant in
     let says = rule_ends now c.args.recorder c.requires.fits kept.whole.kept c.args.transfer c.requires.rule in
     let may : MayEndDestage now c.served-task.result.0 c.args.transfer = subst (λ k. MayEnd now k c.served-task.result.0 c.args.transfer) c.requires.kind (says.may c.served-task.result.0 c.served-task.result.1 c.served-task.ensures.serves) in
     let due = due_destaged g.row.S.Denot g.S.Site.tells (g.S.Site.told now.site) now kept.whole says.going c.args.recorder c.served-task.result.0 c.served-task.result.1 c.served-task.ensures.serves c.args.transfer may in
@@ -58,7 +58,7 @@ pub write_change-requires-clause-held : goal.write_change-requires-clause-held
 write_change-requires-clause-held g c =
     let now = c.args.core.now in
     let is = c.core.view_is in
-    let kept = kept_at g.S.Site.tells g.S.Site.told g.S.Site.writes g.S.Site.faults (vec_len c.core.inside.buffer) _ now is c.core.invariant in
+    let kept = kept_at g.S.Site (vec_len c.core.inside.buffer) _ now is c.core.invariant in
     let says = rule_ends now c.args.recorder c.requires.fits kept.whole.kept c.args.transfer c.requires.rule in
     let moved : g.S.Site.tells → g.S.Site.told c.make_room.new.site ≡ g.S.Site.told now.site = λ tl. c.make_room.ensures.site.log tl ∙ ap (λ (z : CoreValue g.row.S.Denot g.row.C.Denot). g.S.Site.told z.site) is in
     λ tl r at. subst (λ (z : SiteLog). HoldsRow r c.args.transfer.volume (content z)) (sym (moved tl))
@@ -68,7 +68,7 @@ pub invariant_of-core-in-Ok : goal.invariant_of-core-in-Ok
 invariant_of-core-in-Ok g c =
     let now = c.args.core.now in
     let is = c.core.view_is in
-    let kept = kept_at g.S.Site.tells g.S.Site.told g.S.Site.writes g.S.Site.faults (vec_len c.core.inside.buffer) _ now is c.core.invariant in
+    let kept = kept_at g.S.Site (vec_len c.core.inside.buffer) _ now is c.core.invariant in
     let says = rule_ends now c.args.recorder c.requires.fits kept.whole.kept c.args.transfer c.requires.rule in
     let session : session_data c.make_room.new.session ≡ data_of now = c.make_room.ensures.session ∙ ap (λ (z : CoreValue g.row.S.Denot g.row.C.Denot). data_of z) is in
     let moved : g.S.Site.tells → g.S.Site.told c.make_room.new.site ≡ g.S.Site.told now.site = λ tl. c.make_room.ensures.site.log tl ∙ ap (λ (z : CoreValue g.row.S.Denot g.row.C.Denot). g.S.Site.told z.site) is in
@@ -93,7 +93,7 @@ pub invariant_of-core-in-Err : goal.invariant_of-core-in-Err
 invariant_of-core-in-Err g c =
     let now = c.args.core.now in
     let is = c.core.view_is in
-    let kept = kept_at g.S.Site.tells g.S.Site.told g.S.Site.writes g.S.Site.faults (vec_len c.core.inside.buffer) _ now is c.core.invariant in
+    let kept = kept_at g.S.Site (vec_len c.core.inside.buffer) _ now is c.core.invariant in
     let says = rule_ends now c.args.recorder c.requires.fits kept.whole.kept c.args.transfer c.requires.rule in
     let session : session_data c.make_room.new.session ≡ data_of now = c.make_room.ensures.session ∙ ap (λ (z : CoreValue g.row.S.Denot g.row.C.Denot). data_of z) is in
     let moved : g.S.Site.tells → g.S.Site.told c.make_room.new.site ≡ g.S.Site.told now.site = λ tl. c.make_room.ensures.site.log tl ∙ ap (λ (z : CoreValue g.row.S.Denot g.row.C.Denot). g.S.Site.told z.site) is in

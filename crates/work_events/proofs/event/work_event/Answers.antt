@@ -6,54 +6,54 @@ use Rattle.work_events.proofs.event.work_event.Goals as goal
 pub returns-in-IsStopped-clause-event : goal.returns-in-IsStopped-clause-event
 returns-in-IsStopped-clause-event g c =
     let now = c.args.core.now in
-    work_event_by g.S.Site.tells (g.C.Choose.may now.chooser) g.S.Site.told g.S.Site.writes g.S.Site.faults now c.args.recorder _ _ (IsStopped c.in-IsStopped.fault) (sym c.work_rule.ensures ∙ c.in-IsStopped.is) (refl, (record { told = λ tl. refl; unwritten = refl; sound = refl }, refl))
+    work_event_by g.S.Site (g.C.Choose.may now.chooser) now c.args.recorder _ _ (IsStopped c.in-IsStopped.fault) (sym c.work_rule.ensures ∙ c.in-IsStopped.is) (refl, (record { told = λ tl. refl; unwritten = refl; sound = refl }, refl))
 
 pub returns-in-IsIdle-clause-event : goal.returns-in-IsIdle-clause-event
 returns-in-IsIdle-clause-event g c =
     let now = c.args.core.now in
-    work_event_by g.S.Site.tells (g.C.Choose.may now.chooser) g.S.Site.told g.S.Site.writes g.S.Site.faults now c.args.recorder _ _ IsIdle (sym c.work_rule.ensures ∙ c.in-IsIdle.is) (refl, (record { told = λ tl. refl; unwritten = refl; sound = refl }, refl))
+    work_event_by g.S.Site (g.C.Choose.may now.chooser) now c.args.recorder _ _ IsIdle (sym c.work_rule.ensures ∙ c.in-IsIdle.is) (refl, (record { told = λ tl. refl; unwritten = refl; sound = refl }, refl))
 
 pub returns-in-GivesBack-clause-event : goal.returns-in-GivesBack-clause-event
 returns-in-GivesBack-clause-event g c =
     let now = c.args.core.now in
-    work_event_by g.S.Site.tells (g.C.Choose.may now.chooser) g.S.Site.told g.S.Site.writes g.S.Site.faults now c.args.recorder c.give_back.result _ (GivesBack c.in-GivesBack.cartridge) (sym c.work_rule.ensures ∙ c.in-GivesBack.is) c.give_back.ensures.event
+    work_event_by g.S.Site (g.C.Choose.may now.chooser) now c.args.recorder c.give_back.result _ (GivesBack c.in-GivesBack.cartridge) (sym c.work_rule.ensures ∙ c.in-GivesBack.is) c.give_back.ensures.event
 
 pub returns-in-Fetches-clause-event : goal.returns-in-Fetches-clause-event
 returns-in-Fetches-clause-event g c =
     let now = c.args.core.now in
-    work_event_by g.S.Site.tells (g.C.Choose.may now.chooser) g.S.Site.told g.S.Site.writes g.S.Site.faults now c.args.recorder c.fetch.result _ (Fetches c.in-Fetches.cartridge) (sym c.work_rule.ensures ∙ c.in-Fetches.is) c.fetch.ensures.event
+    work_event_by g.S.Site (g.C.Choose.may now.chooser) now c.args.recorder c.fetch.result _ (Fetches c.in-Fetches.cartridge) (sym c.work_rule.ensures ∙ c.in-Fetches.is) c.fetch.ensures.event
 
 pub returns-in-Picks-clause-event : goal.returns-in-Picks-clause-event
 returns-in-Picks-clause-event g c =
     let now = c.args.core.now in
-    work_event_by g.S.Site.tells (g.C.Choose.may now.chooser) g.S.Site.told g.S.Site.writes g.S.Site.faults now c.args.recorder c.pick.result _ (Picks c.in-Picks.host c.in-Picks.frame) (sym c.work_rule.ensures ∙ c.in-Picks.is) c.pick.ensures.event
+    work_event_by g.S.Site (g.C.Choose.may now.chooser) now c.args.recorder c.pick.result _ (Picks c.in-Picks.host c.in-Picks.frame) (sym c.work_rule.ensures ∙ c.in-Picks.is) c.pick.ensures.event
 
 pub returns-in-PicksVictim-clause-event : goal.returns-in-PicksVictim-clause-event
 returns-in-PicksVictim-clause-event g c =
     let now = c.args.core.now in
-    work_event_by g.S.Site.tells (g.C.Choose.may now.chooser) g.S.Site.told g.S.Site.writes g.S.Site.faults now c.args.recorder c.pick_victim.result _ (PicksVictim c.in-PicksVictim.host) (sym c.work_rule.ensures ∙ c.in-PicksVictim.is) c.pick_victim.ensures.event
+    work_event_by g.S.Site (g.C.Choose.may now.chooser) now c.args.recorder c.pick_victim.result _ (PicksVictim c.in-PicksVictim.host) (sym c.work_rule.ensures ∙ c.in-PicksVictim.is) c.pick_victim.ensures.event
 
 pub returns-in-Abandons-clause-event : goal.returns-in-Abandons-clause-event
 returns-in-Abandons-clause-event g c =
     let now = c.args.core.now in
-    work_event_by g.S.Site.tells (g.C.Choose.may now.chooser) g.S.Site.told g.S.Site.writes g.S.Site.faults now c.args.recorder c.abandon.result _ Abandons (sym c.work_rule.ensures ∙ c.in-Abandons.is) c.abandon.ensures.event
+    work_event_by g.S.Site (g.C.Choose.may now.chooser) now c.args.recorder c.abandon.result _ Abandons (sym c.work_rule.ensures ∙ c.in-Abandons.is) c.abandon.ensures.event
 
 pub returns-in-Copies-clause-event : goal.returns-in-Copies-clause-event
 returns-in-Copies-clause-event g c =
     let now = c.args.core.now in
-    work_event_by g.S.Site.tells (g.C.Choose.may now.chooser) g.S.Site.told g.S.Site.writes g.S.Site.faults now c.args.recorder c.copy.result _ (Copies c.in-Copies.transfer) (sym c.work_rule.ensures ∙ c.in-Copies.is) c.copy.ensures.event
+    work_event_by g.S.Site (g.C.Choose.may now.chooser) now c.args.recorder c.copy.result _ (Copies c.in-Copies.transfer) (sym c.work_rule.ensures ∙ c.in-Copies.is) c.copy.ensures.event
 
 pub returns-in-Ends-clause-event : goal.returns-in-Ends-clause-event
 returns-in-Ends-clause-event g c =
     let now = c.args.core.now in
-    work_event_by g.S.Site.tells (g.C.Choose.may now.chooser) g.S.Site.told g.S.Site.writes g.S.Site.faults now c.args.recorder c.end.result _ (Ends c.in-Ends.transfer) (sym c.work_rule.ensures ∙ c.in-Ends.is) c.end.ensures.event
+    work_event_by g.S.Site (g.C.Choose.may now.chooser) now c.args.recorder c.end.result _ (Ends c.in-Ends.transfer) (sym c.work_rule.ensures ∙ c.in-Ends.is) c.end.ensures.event
 
 pub returns-in-Frees-clause-event : goal.returns-in-Frees-clause-event
 returns-in-Frees-clause-event g c =
     let now = c.args.core.now in
-    work_event_by g.S.Site.tells (g.C.Choose.may now.chooser) g.S.Site.told g.S.Site.writes g.S.Site.faults now c.args.recorder c.free.result _ (Frees c.in-Frees.volume c.in-Frees.page) (sym c.work_rule.ensures ∙ c.in-Frees.is) c.free.ensures.event
+    work_event_by g.S.Site (g.C.Choose.may now.chooser) now c.args.recorder c.free.result _ (Frees c.in-Frees.volume c.in-Frees.page) (sym c.work_rule.ensures ∙ c.in-Frees.is) c.free.ensures.event
 
 pub returns-in-Assigns-clause-event : goal.returns-in-Assigns-clause-event
 returns-in-Assigns-clause-event g c =
     let now = c.args.core.now in
-    work_event_by g.S.Site.tells (g.C.Choose.may now.chooser) g.S.Site.told g.S.Site.writes g.S.Site.faults now c.args.recorder c.assign.result _ (Assigns c.in-Assigns.volume c.in-Assigns.page) (sym c.work_rule.ensures ∙ c.in-Assigns.is) c.assign.ensures.event
+    work_event_by g.S.Site (g.C.Choose.may now.chooser) now c.args.recorder c.assign.result _ (Assigns c.in-Assigns.volume c.in-Assigns.page) (sym c.work_rule.ensures ∙ c.in-Assigns.is) c.assign.ensures.event

@@ -27,7 +27,7 @@ pub served-task-requires : goal.served-task-requires
 served-task-requires g c =
     let now = c.args.core.now in
     let is = c.core.view_is in
-    let kept = kept_at g.S.Site.tells g.S.Site.told g.S.Site.writes g.S.Site.faults (vec_len c.core.inside.buffer) _ now is c.core.invariant in
+    let kept = kept_at g.S.Site (vec_len c.core.inside.buffer) _ now is c.core.invariant in
     let says = rule_assigns now c.args.recorder c.requires.fits kept.whole.kept c.args.volume c.args.page c.requires.rule in
     (says.task, says.request, says.serves)
 
@@ -35,7 +35,7 @@ pub invariant_of-core : goal.invariant_of-core
 invariant_of-core g c =
     let now = c.args.core.now in
     let is = c.core.view_is in
-    let kept = kept_at g.S.Site.tells g.S.Site.told g.S.Site.writes g.S.Site.faults (vec_len c.core.inside.buffer) _ now is c.core.invariant in
+    let kept = kept_at g.S.Site (vec_len c.core.inside.buffer) _ now is c.core.invariant in
     let says = rule_assigns now c.args.recorder c.requires.fits kept.whole.kept c.args.volume c.args.page c.requires.rule in
     let session : session_data c.make_room.new.session ≡ data_of now = c.make_room.ensures.session ∙ ap (λ (z : CoreValue g.row.S.Denot g.row.C.Denot). data_of z) is in
     let x = c.make_room.new.site in
@@ -48,7 +48,7 @@ pub write_change-requires-clause-there : goal.write_change-requires-clause-there
 write_change-requires-clause-there g c =
     let now = c.args.core.now in
     let is = c.core.view_is in
-    let kept = kept_at g.S.Site.tells g.S.Site.told g.S.Site.writes g.S.Site.faults (vec_len c.core.inside.buffer) _ now is c.core.invariant in
+    let kept = kept_at g.S.Site (vec_len c.core.inside.buffer) _ now is c.core.invariant in
     let says = rule_assigns now c.args.recorder c.requires.fits kept.whole.kept c.args.volume c.args.page c.requires.rule in
     let may : MayAssignPage now c.args.volume c.args.page c.served-task.result.0 c.served-task.result.1 = says.may c.served-task.result.0 c.served-task.result.1 c.served-task.ensures.serves c.served-task.ensures.low c.served-task.ensures.known in
     let due = due_assigned g.row.S.Denot g.S.Site.tells (g.S.Site.told now.site) now kept.whole says.going c.args.recorder c.served-task.result.0 c.served-task.result.1 c.served-task.ensures.serves c.args.volume c.args.page may in
@@ -58,7 +58,7 @@ pub write_change-requires-clause-held : goal.write_change-requires-clause-held
 write_change-requires-clause-held g c =
     let now = c.args.core.now in
     let is = c.core.view_is in
-    let kept = kept_at g.S.Site.tells g.S.Site.told g.S.Site.writes g.S.Site.faults (vec_len c.core.inside.buffer) _ now is c.core.invariant in
+    let kept = kept_at g.S.Site (vec_len c.core.inside.buffer) _ now is c.core.invariant in
     let says = rule_assigns now c.args.recorder c.requires.fits kept.whole.kept c.args.volume c.args.page c.requires.rule in
     let moved : g.S.Site.tells → g.S.Site.told c.make_room.new.site ≡ g.S.Site.told now.site = λ tl. c.make_room.ensures.site.log tl ∙ ap (λ (z : CoreValue g.row.S.Denot g.row.C.Denot). g.S.Site.told z.site) is in
     λ tl r at. subst (λ (z : SiteLog). HoldsRow r c.args.volume (content z)) (sym (moved tl))
@@ -68,7 +68,7 @@ pub give_frame-requires-clause-known : goal.give_frame-requires-clause-known
 give_frame-requires-clause-known g c =
     let now = c.args.core.now in
     let is = c.core.view_is in
-    let kept = kept_at g.S.Site.tells g.S.Site.told g.S.Site.writes g.S.Site.faults (vec_len c.core.inside.buffer) _ now is c.core.invariant in
+    let kept = kept_at g.S.Site (vec_len c.core.inside.buffer) _ now is c.core.invariant in
     let says = rule_assigns now c.args.recorder c.requires.fits kept.whole.kept c.args.volume c.args.page c.requires.rule in
     let its = (kept.whole.kept says.going).tasks_.each c.args.recorder c.served-task.result.0 c.served-task.ensures.serves.at in
     let size : length c.core.inside.frames.owners ≡ now.config.frames = ap (λ (z : CoreValue g.row.S.Denot g.row.C.Denot). length z.owners) is ∙ kept.whole.shaped.owners_ in
@@ -79,7 +79,7 @@ pub give_frame-requires-clause-ordered : goal.give_frame-requires-clause-ordered
 give_frame-requires-clause-ordered g c =
     let now = c.args.core.now in
     let is = c.core.view_is in
-    let kept = kept_at g.S.Site.tells g.S.Site.told g.S.Site.writes g.S.Site.faults (vec_len c.core.inside.buffer) _ now is c.core.invariant in
+    let kept = kept_at g.S.Site (vec_len c.core.inside.buffer) _ now is c.core.invariant in
     let says = rule_assigns now c.args.recorder c.requires.fits kept.whole.kept c.args.volume c.args.page c.requires.rule in
     let core = kept.whole.kept says.going in
     let low = in_order now.config.frames c.served-task.result.0.frame now.recency core.beside.order (core.tasks_.each c.args.recorder c.served-task.result.0 c.served-task.ensures.serves.at).low in
@@ -90,7 +90,7 @@ pub invariant_of-core-in-Ok : goal.invariant_of-core-in-Ok
 invariant_of-core-in-Ok g c =
     let now = c.args.core.now in
     let is = c.core.view_is in
-    let kept = kept_at g.S.Site.tells g.S.Site.told g.S.Site.writes g.S.Site.faults (vec_len c.core.inside.buffer) _ now is c.core.invariant in
+    let kept = kept_at g.S.Site (vec_len c.core.inside.buffer) _ now is c.core.invariant in
     let says = rule_assigns now c.args.recorder c.requires.fits kept.whole.kept c.args.volume c.args.page c.requires.rule in
     let session : session_data c.make_room.new.session ≡ data_of now = c.make_room.ensures.session ∙ ap (λ (z : CoreValue g.row.S.Denot g.row.C.Denot). data_of z) is in
     let moved : g.S.Site.tells → g.S.Site.told c.make_room.new.site ≡ g.S.Site.told now.site = λ tl. c.make_room.ensures.site.log tl ∙ ap (λ (z : CoreValue g.row.S.Denot g.row.C.Denot). g.S.Site.told z.site) is in
@@ -117,7 +117,7 @@ pub invariant_of-core-in-Err : goal.invariant_of-core-in-Err
 invariant_of-core-in-Err g c =
     let now = c.args.core.now in
     let is = c.core.view_is in
-    let kept = kept_at g.S.Site.tells g.S.Site.told g.S.Site.writes g.S.Site.faults (vec_len c.core.inside.buffer) _ now is c.core.invariant in
+    let kept = kept_at g.S.Site (vec_len c.core.inside.buffer) _ now is c.core.invariant in
     let says = rule_assigns now c.args.recorder c.requires.fits kept.whole.kept c.args.volume c.args.page c.requires.rule in
     let session : session_data c.make_room.new.session ≡ data_of now = c.make_room.ensures.session ∙ ap (λ (z : CoreValue g.row.S.Denot g.row.C.Denot). data_of z) is in
     let moved : g.S.Site.tells → g.S.Site.told c.make_room.new.site ≡ g.S.Site.told now.site = λ tl. c.make_room.ensures.site.log tl ∙ ap (λ (z : CoreValue g.row.S.Denot g.row.C.Denot). g.S.Site.told z.site) is in

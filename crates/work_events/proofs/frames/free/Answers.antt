@@ -26,7 +26,7 @@ pub served-requires : goal.served-requires
 served-requires g c =
     let now = c.args.core.now in
     let is = c.core.view_is in
-    let kept = kept_at g.S.Site.tells g.S.Site.told g.S.Site.writes g.S.Site.faults (vec_len c.core.inside.buffer) _ now is c.core.invariant in
+    let kept = kept_at g.S.Site (vec_len c.core.inside.buffer) _ now is c.core.invariant in
     let says = rule_frees now c.args.recorder c.requires.fits kept.whole.kept c.args.volume c.args.page c.requires.rule in
     (says.task, says.request, says.serves)
 
@@ -34,7 +34,7 @@ pub invariant_of-core : goal.invariant_of-core
 invariant_of-core g c =
     let now = c.args.core.now in
     let is = c.core.view_is in
-    let kept = kept_at g.S.Site.tells g.S.Site.told g.S.Site.writes g.S.Site.faults (vec_len c.core.inside.buffer) _ now is c.core.invariant in
+    let kept = kept_at g.S.Site (vec_len c.core.inside.buffer) _ now is c.core.invariant in
     let says = rule_frees now c.args.recorder c.requires.fits kept.whole.kept c.args.volume c.args.page c.requires.rule in
     let session : session_data c.make_room.new.session ≡ data_of now = c.make_room.ensures.session ∙ ap (λ (z : CoreValue g.row.S.Denot g.row.C.Denot). data_of z) is in
     let x = c.make_room.new.site in
@@ -47,7 +47,7 @@ pub write_change-requires-clause-there : goal.write_change-requires-clause-there
 write_change-requires-clause-there g c =
     let now = c.args.core.now in
     let is = c.core.view_is in
-    let kept = kept_at g.S.Site.tells g.S.Site.told g.S.Site.writes g.S.Site.faults (vec_len c.core.inside.buffer) _ now is c.core.invariant in
+    let kept = kept_at g.S.Site (vec_len c.core.inside.buffer) _ now is c.core.invariant in
     let says = rule_frees now c.args.recorder c.requires.fits kept.whole.kept c.args.volume c.args.page c.requires.rule in
     let may : MayFree now c.served.result.0 c.args.volume c.args.page = says.may c.served.result.0 c.served.result.1 c.served.ensures.serves in
     let due = due_freed g.row.S.Denot g.S.Site.tells (g.S.Site.told now.site) now kept.whole says.going c.args.recorder c.served.result.0 c.served.result.1 c.served.ensures.serves c.args.volume c.args.page may in
@@ -57,7 +57,7 @@ pub write_change-requires-clause-held : goal.write_change-requires-clause-held
 write_change-requires-clause-held g c =
     let now = c.args.core.now in
     let is = c.core.view_is in
-    let kept = kept_at g.S.Site.tells g.S.Site.told g.S.Site.writes g.S.Site.faults (vec_len c.core.inside.buffer) _ now is c.core.invariant in
+    let kept = kept_at g.S.Site (vec_len c.core.inside.buffer) _ now is c.core.invariant in
     let says = rule_frees now c.args.recorder c.requires.fits kept.whole.kept c.args.volume c.args.page c.requires.rule in
     let moved : g.S.Site.tells → g.S.Site.told c.make_room.new.site ≡ g.S.Site.told now.site = λ tl. c.make_room.ensures.site.log tl ∙ ap (λ (z : CoreValue g.row.S.Denot g.row.C.Denot). g.S.Site.told z.site) is in
     λ tl r at. subst (λ (z : SiteLog). HoldsRow r c.args.volume (content z)) (sym (moved tl))
@@ -67,7 +67,7 @@ pub set_owner-requires : goal.set_owner-requires
 set_owner-requires g c =
     let now = c.args.core.now in
     let is = c.core.view_is in
-    let kept = kept_at g.S.Site.tells g.S.Site.told g.S.Site.writes g.S.Site.faults (vec_len c.core.inside.buffer) _ now is c.core.invariant in
+    let kept = kept_at g.S.Site (vec_len c.core.inside.buffer) _ now is c.core.invariant in
     let says = rule_frees now c.args.recorder c.requires.fits kept.whole.kept c.args.volume c.args.page c.requires.rule in
     let its = (kept.whole.kept says.going).tasks_.each c.args.recorder c.served.result.0 c.served.ensures.serves.at in
     let size : length c.core.inside.frames.owners ≡ now.config.frames = ap (λ (z : CoreValue g.row.S.Denot g.row.C.Denot). length z.owners) is ∙ kept.whole.shaped.owners_ in
@@ -78,7 +78,7 @@ pub invariant_of-core-in-Ok : goal.invariant_of-core-in-Ok
 invariant_of-core-in-Ok g c =
     let now = c.args.core.now in
     let is = c.core.view_is in
-    let kept = kept_at g.S.Site.tells g.S.Site.told g.S.Site.writes g.S.Site.faults (vec_len c.core.inside.buffer) _ now is c.core.invariant in
+    let kept = kept_at g.S.Site (vec_len c.core.inside.buffer) _ now is c.core.invariant in
     let says = rule_frees now c.args.recorder c.requires.fits kept.whole.kept c.args.volume c.args.page c.requires.rule in
     let session : session_data c.make_room.new.session ≡ data_of now = c.make_room.ensures.session ∙ ap (λ (z : CoreValue g.row.S.Denot g.row.C.Denot). data_of z) is in
     let moved : g.S.Site.tells → g.S.Site.told c.make_room.new.site ≡ g.S.Site.told now.site = λ tl. c.make_room.ensures.site.log tl ∙ ap (λ (z : CoreValue g.row.S.Denot g.row.C.Denot). g.S.Site.told z.site) is in
@@ -105,7 +105,7 @@ pub invariant_of-core-in-Err : goal.invariant_of-core-in-Err
 invariant_of-core-in-Err g c =
     let now = c.args.core.now in
     let is = c.core.view_is in
-    let kept = kept_at g.S.Site.tells g.S.Site.told g.S.Site.writes g.S.Site.faults (vec_len c.core.inside.buffer) _ now is c.core.invariant in
+    let kept = kept_at g.S.Site (vec_len c.core.inside.buffer) _ now is c.core.invariant in
     let says = rule_frees now c.args.recorder c.requires.fits kept.whole.kept c.args.volume c.args.page c.requires.rule in
     let session : session_data c.make_room.new.session ≡ data_of now = c.make_room.ensures.session ∙ ap (λ (z : CoreValue g.row.S.Denot g.row.C.Denot). data_of z) is in
     let moved : g.S.Site.tells → g.S.Site.told c.make_room.new.site ≡ g.S.Site.told now.site = λ tl. c.make_room.ensures.site.log tl ∙ ap (λ (z : CoreValue g.row.S.Denot g.row.C.Denot). g.S.Site.told z.site) is in

@@ -16,7 +16,7 @@ pub begin_task-requires-clause-frame : goal.begin_task-requires-clause-frame
 begin_task-requires-clause-frame g c =
     let now = c.args.core.now in
     let is = c.core.view_is in
-    let kept = kept_at g.S.Site.tells g.S.Site.told g.S.Site.writes g.S.Site.faults (vec_len c.core.inside.buffer) _ now is c.core.invariant in
+    let kept = kept_at g.S.Site (vec_len c.core.inside.buffer) _ now is c.core.invariant in
     let says = rule_picks now c.args.recorder c.requires.fits kept.whole.kept c.args.host c.args.frame c.requires.rule in
     let size : length c.core.inside.frames.owners ≡ now.config.frames = ap (λ (z : CoreValue g.row.S.Denot g.row.C.Denot). length z.owners) is ∙ kept.whole.shaped.owners_ in
     let low = says.may.known in
@@ -26,7 +26,7 @@ pub begin_task-requires-clause-asked : goal.begin_task-requires-clause-asked
 begin_task-requires-clause-asked g c =
     let now = c.args.core.now in
     let is = c.core.view_is in
-    let kept = kept_at g.S.Site.tells g.S.Site.told g.S.Site.writes g.S.Site.faults (vec_len c.core.inside.buffer) _ now is c.core.invariant in
+    let kept = kept_at g.S.Site (vec_len c.core.inside.buffer) _ now is c.core.invariant in
     let says = rule_picks now c.args.recorder c.requires.fits kept.whole.kept c.args.host c.args.frame c.requires.rule in
     ap is_some (ap (λ (z : CoreValue g.row.S.Denot g.row.C.Denot). request_of z.requests c.args.host) is ∙ says.may.asked)
 
@@ -34,7 +34,7 @@ pub invariant_of-core-2 : goal.invariant_of-core-2
 invariant_of-core-2 g c =
     let now = c.args.core.now in
     let is = c.core.view_is in
-    let kept = kept_at g.S.Site.tells g.S.Site.told g.S.Site.writes g.S.Site.faults (vec_len c.core.inside.buffer) _ now is c.core.invariant in
+    let kept = kept_at g.S.Site (vec_len c.core.inside.buffer) _ now is c.core.invariant in
     let says = rule_picks now c.args.recorder c.requires.fits kept.whole.kept c.args.host c.args.frame c.requires.rule in
     let told : session_data c.did.new.session ≡ with_last_event (Work c.args.recorder) (data_of now) = c.did.ensures.told ∙ ap (with_last_event (Work c.args.recorder)) (c.reserve.ensures.same ∙ ap (λ (z : CoreValue g.row.S.Denot g.row.C.Denot). data_of z) is) in
     let tasks : c.begin_task.new.tasks.items ≡ slice_set now.tasks c.args.recorder (Some (task_for c.args.host c.args.frame None)) = c.begin_task.ensures.tasks ∙ (λ i. slice_set (is i).tasks c.args.recorder (Some (task_for c.args.host c.args.frame None))) in

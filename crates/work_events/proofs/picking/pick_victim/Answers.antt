@@ -18,7 +18,7 @@ pub candidates-requires : goal.candidates-requires
 candidates-requires g c =
     let now = c.args.core.now in
     let is = c.core.view_is in
-    let kept = kept_at g.S.Site.tells g.S.Site.told g.S.Site.writes g.S.Site.faults (vec_len c.core.inside.buffer) _ now is c.core.invariant in
+    let kept = kept_at g.S.Site (vec_len c.core.inside.buffer) _ now is c.core.invariant in
     let says = rule_picks_victim now c.args.recorder c.requires.fits kept.whole.kept c.args.host c.requires.rule in
     record { going = says.going }
 
@@ -26,7 +26,7 @@ pub chosen-choice-requires : goal.chosen-choice-requires
 chosen-choice-requires g c =
     let now = c.args.core.now in
     let is = c.core.view_is in
-    let kept = kept_at g.S.Site.tells g.S.Site.told g.S.Site.writes g.S.Site.faults (vec_len c.core.inside.buffer) _ now is c.core.invariant in
+    let kept = kept_at g.S.Site (vec_len c.core.inside.buffer) _ now is c.core.invariant in
     let says = rule_picks_victim now c.args.recorder c.requires.fits kept.whole.kept c.args.host c.requires.rule in
     let list : c.as_slice.result.now ≡ candidates now = c.as_slice.ensures ∙ c.in-Ok.ensures in
     let long = ap length list in
@@ -37,7 +37,7 @@ pub begin_task-requires-clause-frame : goal.begin_task-requires-clause-frame
 begin_task-requires-clause-frame g c =
     let now = c.args.core.now in
     let is = c.core.view_is in
-    let kept = kept_at g.S.Site.tells g.S.Site.told g.S.Site.writes g.S.Site.faults (vec_len c.core.inside.buffer) _ now is c.core.invariant in
+    let kept = kept_at g.S.Site (vec_len c.core.inside.buffer) _ now is c.core.invariant in
     let says = rule_picks_victim now c.args.recorder c.requires.fits kept.whole.kept c.args.host c.requires.rule in
     let list : c.as_slice.result.now ≡ candidates now = c.as_slice.ensures ∙ c.in-Ok.ensures in
     let answer = c.chosen-choice.ensures in
@@ -50,7 +50,7 @@ pub begin_task-requires-clause-asked : goal.begin_task-requires-clause-asked
 begin_task-requires-clause-asked g c =
     let now = c.args.core.now in
     let is = c.core.view_is in
-    let kept = kept_at g.S.Site.tells g.S.Site.told g.S.Site.writes g.S.Site.faults (vec_len c.core.inside.buffer) _ now is c.core.invariant in
+    let kept = kept_at g.S.Site (vec_len c.core.inside.buffer) _ now is c.core.invariant in
     let says = rule_picks_victim now c.args.recorder c.requires.fits kept.whole.kept c.args.host c.requires.rule in
     let list : c.as_slice.result.now ≡ candidates now = c.as_slice.ensures ∙ c.in-Ok.ensures in
     let answer = c.chosen-choice.ensures in
@@ -61,7 +61,7 @@ pub invariant_of-core-2 : goal.invariant_of-core-2
 invariant_of-core-2 g c =
     let now = c.args.core.now in
     let is = c.core.view_is in
-    let kept = kept_at g.S.Site.tells g.S.Site.told g.S.Site.writes g.S.Site.faults (vec_len c.core.inside.buffer) _ now is c.core.invariant in
+    let kept = kept_at g.S.Site (vec_len c.core.inside.buffer) _ now is c.core.invariant in
     let says = rule_picks_victim now c.args.recorder c.requires.fits kept.whole.kept c.args.host c.requires.rule in
     let list : c.as_slice.result.now ≡ candidates now = c.as_slice.ensures ∙ c.in-Ok.ensures in
     let answer = c.chosen-choice.ensures in

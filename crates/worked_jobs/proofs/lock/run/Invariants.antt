@@ -12,4 +12,4 @@ abbrev pub ghosts-run_named-N-Opening : goal.ghosts-run_named-N-Opening
 ghosts-run_named-N-Opening g a = record { opening = record { tells = g.S.Site.tells; state = opening_of (g.S.Site.told a.core.site) a.core } }
 
 abbrev pub ghosts-run_named-N-Setup : goal.ghosts-run_named-N-Setup
-ghosts-run_named-N-Setup g a = record { setup = record { began = seen g.S.Site.told g.S.Site.writes g.S.Site.faults a.core; never_fails_but = g.S.Site.never_fails_but a.core.site } }
+ghosts-run_named-N-Setup g a = record { setup = record { began = seen g.S.Site a.core; never_fails_but = g.S.Site.never_fails_but a.core.site } }

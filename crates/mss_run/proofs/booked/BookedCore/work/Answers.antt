@@ -6,8 +6,8 @@ use Rattle.mss_run.proofs.booked.BookedCore.work.Goals as goal
 
 pub invariant_of-self : goal.invariant_of-self
 invariant_of-self g c =
-    let old : CoreData = seen g.S.Site.told g.S.Site.writes g.S.Site.faults c.self.inside.core in
-    let new : CoreData = seen g.S.Site.told g.S.Site.writes g.S.Site.faults c.work_step.new.core in
+    let old : CoreData = seen g.S.Site c.self.inside.core in
+    let new : CoreData = seen g.S.Site c.work_step.new.core in
     record {
       made = c.self.invariant.made;
       book_ = c.self.invariant.book_ ∙ ap (λ (l : List EntryData). Some record { list = l; made = c.self.invariant.made }) (sym c.work_step.ensures.history);

@@ -9,10 +9,10 @@ use Rattle.serial_driver.proofs.drive.Drive.act.Goals as goal
 pub returns-then-number-hosts-clause-takes : goal.returns-then-number-hosts-clause-takes
 returns-then-number-hosts-clause-takes g c =
     let unknown : ScriptData = record { host = 0; items = [] } in
-    subst (λ (e : Event). EventTakes g.S.Site.tells (g.C.Choose.may c.args.self.now.core.chooser) c.args.self.now.scripts e (seen g.S.Site.told g.S.Site.writes g.S.Site.faults c.args.self.now.core) c.host.result (seen g.S.Site.told g.S.Site.writes g.S.Site.faults c.host.new.self.core))
+    subst (λ (e : Event). EventTakes g.S.Site.tells (g.C.Choose.may c.args.self.now.core.chooser) c.args.self.now.scripts e (seen g.S.Site c.args.self.now.core) c.host.result (seen g.S.Site c.host.new.self.core))
     (sym (host_of c.args.self.now.scripts c.args.actor unknown (omega (arith, c.host_count-hosts.ensures, c.if-number-hosts.true)))) (c.host.ensures.takes unknown)
 
 pub returns-clause-takes : goal.returns-clause-takes
 returns-clause-takes g c =
-    recorder_takes g.S.Site.tells (g.C.Choose.may c.args.self.now.core.chooser) c.args.self.now.scripts (seen g.S.Site.told g.S.Site.writes g.S.Site.faults c.args.self.now.core) c.answer_of.result (seen g.S.Site.told g.S.Site.writes g.S.Site.faults c.work_of.new.self.core)
+    recorder_takes g.S.Site.tells (g.C.Choose.may c.args.self.now.core.chooser) c.args.self.now.scripts (seen g.S.Site c.args.self.now.core) c.answer_of.result (seen g.S.Site c.work_of.new.self.core)
     c.args.actor (c.args.actor - c.host_count-hosts.result) c.work_of.result (omega (arith, c.host_count-hosts.ensures, c.if-number-hosts.false)) c.work_of.ensures.event c.answer_of.ensures

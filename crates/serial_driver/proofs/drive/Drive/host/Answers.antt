@@ -12,38 +12,38 @@ use Rattle.serial_driver.proofs.drive.Drive.host.Goals as goal
 pub bounds-as_slice-number : goal.bounds-as_slice-number
 bounds-as_slice-number g c =
     let low : c.args.number < length c.self.inside.scripts.now = omega (arith, c.requires, ap (λ (d : DriveValue g.row.S.Denot g.row.C.Denot). length d.scripts) c.self.view_is) in
-    as_long g.S.Site.tells g.S.Site.told g.S.Site.writes g.S.Site.faults c.self.inside.core c.self.inside.core c.self.inside.scripts.now c.self.inside.places.items c.look.ensures.kept c.self.invariant c.args.number c.index-self-number.result low c.as_slice.result.now c.as_slice.ensures (record { item = 0; next = Ended; cursor = record { word = 0; executed = 0 } })
+    as_long g.S.Site c.self.inside.core c.self.inside.core c.self.inside.scripts.now c.self.inside.places.items c.look.ensures.kept c.self.invariant c.args.number c.index-self-number.result low c.as_slice.result.now c.as_slice.ensures (record { item = 0; next = Ended; cursor = record { word = 0; executed = 0 } })
 
 pub call_host-answer-requires-clause-stands : goal.call_host-answer-requires-clause-stands
 call_host-answer-requires-clause-stands g c =
     let low : c.args.number < length c.self.inside.scripts.now = omega (arith, c.requires, ap (λ (d : DriveValue g.row.S.Denot g.row.C.Denot). length d.scripts) c.self.view_is) in
-    (_, stands_there g.S.Site.tells g.S.Site.told g.S.Site.writes g.S.Site.faults c.self.inside.core c.self.inside.core c.self.inside.scripts.now c.self.inside.places.items c.look.ensures.kept c.self.invariant c.args.number c.index-self-number.result low c.as_slice.result.now c.as_slice.ensures _)
+    (_, stands_there g.S.Site c.self.inside.core c.self.inside.core c.self.inside.scripts.now c.self.inside.places.items c.look.ensures.kept c.self.invariant c.args.number c.index-self-number.result low c.as_slice.result.now c.as_slice.ensures _)
 
 pub set-requires : goal.set-requires
 set-requires g c =
     let low : c.args.number < length c.self.inside.scripts.now = omega (arith, c.requires, ap (λ (d : DriveValue g.row.S.Denot g.row.C.Denot). length d.scripts) c.self.view_is) in
-    as_long g.S.Site.tells g.S.Site.told g.S.Site.writes g.S.Site.faults c.self.inside.core c.self.inside.core c.self.inside.scripts.now c.self.inside.places.items c.look.ensures.kept c.self.invariant c.args.number c.index-self-number.result low c.self.inside.places.items refl (record { item = 0; next = Ended; cursor = record { word = 0; executed = 0 } })
+    as_long g.S.Site c.self.inside.core c.self.inside.core c.self.inside.scripts.now c.self.inside.places.items c.look.ensures.kept c.self.invariant c.args.number c.index-self-number.result low c.self.inside.places.items refl (record { item = 0; next = Ended; cursor = record { word = 0; executed = 0 } })
 
 pub invariant_of-self : goal.invariant_of-self
 invariant_of-self g c =
     let low : c.args.number < length c.self.inside.scripts.now = omega (arith, c.requires, ap (λ (d : DriveValue g.row.S.Denot g.row.C.Denot). length d.scripts) c.self.view_is) in
     subst (λ (l : List Place). IsDriven c.call_host-answer.new.core c.self.inside.scripts.now l) (sym c.set.ensures.items)
-    (host_whole g.S.Site.tells g.S.Site.told g.S.Site.writes g.S.Site.faults c.self.inside.core c.call_host-answer.new.core c.self.inside.scripts.now c.self.inside.places.items c.look.ensures.kept c.self.invariant c.args.number c.index-self-number.result low c.as_slice.result.now c.as_slice.ensures _ c.call_host-answer.new.place c.call_host-answer.result c.call_host-answer.ensures.event c.call_host-answer.ensures.place).driven
+    (host_whole g.S.Site c.self.inside.core c.call_host-answer.new.core c.self.inside.scripts.now c.self.inside.places.items c.look.ensures.kept c.self.invariant c.args.number c.index-self-number.result low c.as_slice.result.now c.as_slice.ensures _ c.call_host-answer.new.place c.call_host-answer.result c.call_host-answer.ensures.event c.call_host-answer.ensures.place).driven
 
 pub returns-clause-takes : goal.returns-clause-takes
 returns-clause-takes g c =
     let low : c.args.number < length c.self.inside.scripts.now = omega (arith, c.requires, ap (λ (d : DriveValue g.row.S.Denot g.row.C.Denot). length d.scripts) c.self.view_is) in
     subst (λ (d : DriveValue g.row.S.Denot g.row.C.Denot). (unknown : ScriptData) → HostTakes g.S.Site.tells (slice_index_or d.scripts c.args.number unknown).host
-    (calls_of d.scripts d.core.history (slice_index_or d.scripts c.args.number unknown).host) (seen g.S.Site.told g.S.Site.writes g.S.Site.faults d.core) c.call_host-answer.result
-    (seen g.S.Site.told g.S.Site.writes g.S.Site.faults c.call_host-answer.new.core)) c.self.view_is
-    (host_takes g.S.Site.tells g.S.Site.told g.S.Site.writes g.S.Site.faults c.self.inside.core c.call_host-answer.new.core c.self.inside.scripts.now c.self.inside.places.items c.look.ensures.kept c.self.invariant c.args.number c.index-self-number.result low c.as_slice.result.now c.as_slice.ensures _ c.call_host-answer.new.place c.call_host-answer.result c.call_host-answer.ensures.event c.call_host-answer.ensures.place)
+    (calls_of d.scripts d.core.history (slice_index_or d.scripts c.args.number unknown).host) (seen g.S.Site d.core) c.call_host-answer.result
+    (seen g.S.Site c.call_host-answer.new.core)) c.self.view_is
+    (host_takes g.S.Site c.self.inside.core c.call_host-answer.new.core c.self.inside.scripts.now c.self.inside.places.items c.look.ensures.kept c.self.invariant c.args.number c.index-self-number.result low c.as_slice.result.now c.as_slice.ensures _ c.call_host-answer.new.place c.call_host-answer.result c.call_host-answer.ensures.event c.call_host-answer.ensures.place)
 
 pub returns-clause-leaves : goal.returns-clause-leaves
 returns-clause-leaves g c =
     let low : c.args.number < length c.self.inside.scripts.now = omega (arith, c.requires, ap (λ (d : DriveValue g.row.S.Denot g.row.C.Denot). length d.scripts) c.self.view_is) in
-    let whole = host_whole g.S.Site.tells g.S.Site.told g.S.Site.writes g.S.Site.faults c.self.inside.core c.call_host-answer.new.core c.self.inside.scripts.now c.self.inside.places.items c.look.ensures.kept c.self.invariant c.args.number c.index-self-number.result low c.as_slice.result.now c.as_slice.ensures _ c.call_host-answer.new.place c.call_host-answer.result c.call_host-answer.ensures.event c.call_host-answer.ensures.place in
-    let session_ = host_session g.S.Site.tells g.S.Site.told g.S.Site.writes g.S.Site.faults c.self.inside.core c.call_host-answer.new.core c.self.inside.scripts.now c.self.inside.places.items c.look.ensures.kept c.self.invariant c.args.number c.index-self-number.result low c.as_slice.result.now c.as_slice.ensures _ c.call_host-answer.new.place c.call_host-answer.result c.call_host-answer.ensures.event c.call_host-answer.ensures.place in
-    subst (λ (d : DriveValue g.row.S.Denot g.row.C.Denot). Leaves g.S.Site.tells g.S.Site.told g.S.Site.writes g.S.Site.faults g.S.Site.never_fails_but d (record { core = c.call_host-answer.new.core; scripts = c.self.inside.scripts.now }) c.call_host-answer.result) c.self.view_is
+    let whole = host_whole g.S.Site c.self.inside.core c.call_host-answer.new.core c.self.inside.scripts.now c.self.inside.places.items c.look.ensures.kept c.self.invariant c.args.number c.index-self-number.result low c.as_slice.result.now c.as_slice.ensures _ c.call_host-answer.new.place c.call_host-answer.result c.call_host-answer.ensures.event c.call_host-answer.ensures.place in
+    let session_ = host_session g.S.Site c.self.inside.core c.call_host-answer.new.core c.self.inside.scripts.now c.self.inside.places.items c.look.ensures.kept c.self.invariant c.args.number c.index-self-number.result low c.as_slice.result.now c.as_slice.ensures _ c.call_host-answer.new.place c.call_host-answer.result c.call_host-answer.ensures.event c.call_host-answer.ensures.place in
+    subst (λ (d : DriveValue g.row.S.Denot g.row.C.Denot). Leaves g.S.Site d (record { core = c.call_host-answer.new.core; scripts = c.self.inside.scripts.now }) c.call_host-answer.result) c.self.view_is
     (record {
       session = session_;
       scripts_ = refl;

@@ -7,7 +7,7 @@ use Rattle.serial_driver.proofs.drive.Drive.hosts_turn.Given as goal
 
 abbrev pub invariant-loop-number : goal.invariant-loop-number
 invariant-loop-number g l = record {
-  so_far : HostsSoFar g.S.Site.tells (g.C.Choose.may l.initial.self.core.chooser) l.initial.self.scripts (seen g.S.Site.told g.S.Site.writes g.S.Site.faults l.initial.self.core) l.number (seen g.S.Site.told g.S.Site.writes g.S.Site.faults l.self.core);
-  goes_on : l.initial.self.core.stopped ≡ None → GoesOn g.S.Site.tells l.initial.self.scripts (seen g.S.Site.told g.S.Site.writes g.S.Site.faults l.initial.self.core) l.number (seen g.S.Site.told g.S.Site.writes g.S.Site.faults l.self.core);
-  leaves : Leaves g.S.Site.tells g.S.Site.told g.S.Site.writes g.S.Site.faults g.S.Site.never_fails_but l.initial.self l.self Done;
+  so_far : HostsSoFar g.S.Site.tells (g.C.Choose.may l.initial.self.core.chooser) l.initial.self.scripts (seen g.S.Site l.initial.self.core) l.number (seen g.S.Site l.self.core);
+  goes_on : l.initial.self.core.stopped ≡ None → GoesOn g.S.Site.tells l.initial.self.scripts (seen g.S.Site l.initial.self.core) l.number (seen g.S.Site l.self.core);
+  leaves : Leaves g.S.Site l.initial.self l.self Done;
 }

@@ -13,8 +13,8 @@ returns-clause-scripts g c = subst (λ (d : DriveValue g.row.S.Denot g.row.C.Den
 
 pub returns-clause-owners : goal.returns-clause-owners
 returns-clause-owners g c =
-    subst (λ (d : DriveValue g.row.S.Denot g.row.C.Denot). d.core.stopped ≡ None → OwnersCall (seen g.S.Site.told g.S.Site.writes g.S.Site.faults d.core) (calls_of d.scripts d.core.history)) c.self.view_is
-    (owners_call g.S.Site.told g.S.Site.writes g.S.Site.faults c.self.inside.core c.self.inside.scripts.now c.self.inside.places.items c.self.invariant)
+    subst (λ (d : DriveValue g.row.S.Denot g.row.C.Denot). d.core.stopped ≡ None → OwnersCall (seen g.S.Site d.core) (calls_of d.scripts d.core.history)) c.self.view_is
+    (owners_call g.S.Site c.self.inside.core c.self.inside.scripts.now c.self.inside.places.items c.self.invariant)
 
 pub returns-clause-ended : goal.returns-clause-ended
 returns-clause-ended g c = λ h none.

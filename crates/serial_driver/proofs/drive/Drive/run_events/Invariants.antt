@@ -7,6 +7,6 @@ use Rattle.serial_driver.proofs.drive.Drive.run_events.Given as goal
 
 abbrev pub invariant-loop-event : goal.invariant-loop-event
 invariant-loop-event g l = record {
-  so_far : EventsSoFar g.S.Site.tells (g.C.Choose.may l.initial.self.core.chooser) l.initial.self.scripts l.events (seen g.S.Site.told g.S.Site.writes g.S.Site.faults l.initial.self.core) (drop l.event-index l.events) (seen g.S.Site.told g.S.Site.writes g.S.Site.faults l.self.core);
-  leaves : Leaves g.S.Site.tells g.S.Site.told g.S.Site.writes g.S.Site.faults g.S.Site.never_fails_but l.initial.self l.self Done;
+  so_far : EventsSoFar g.S.Site.tells (g.C.Choose.may l.initial.self.core.chooser) l.initial.self.scripts l.events (seen g.S.Site l.initial.self.core) (drop l.event-index l.events) (seen g.S.Site l.self.core);
+  leaves : Leaves g.S.Site l.initial.self l.self Done;
 }

@@ -7,9 +7,9 @@ use Rattle.serial_driver.proofs.drive.Drive.run_to_end.Given as goal
 
 abbrev pub invariant-loop-self : goal.invariant-loop-self
 invariant-loop-self g l = record {
-  so_far : RoundsSoFar g.S.Site.tells (g.C.Choose.may l.initial.self.core.chooser) l.initial.self.scripts (seen g.S.Site.told g.S.Site.writes g.S.Site.faults l.initial.self.core) (seen g.S.Site.told g.S.Site.writes g.S.Site.faults l.self.core);
-  leaves : Leaves g.S.Site.tells g.S.Site.told g.S.Site.writes g.S.Site.faults g.S.Site.never_fails_but l.initial.self l.self Done;
+  so_far : RoundsSoFar g.S.Site.tells (g.C.Choose.may l.initial.self.core.chooser) l.initial.self.scripts (seen g.S.Site l.initial.self.core) (seen g.S.Site l.self.core);
+  leaves : Leaves g.S.Site l.initial.self l.self Done;
 }
 
 abbrev pub decreases-loop-self : goal.decreases-loop-self
-decreases-loop-self g l = run_left (seen g.S.Site.told g.S.Site.writes g.S.Site.faults l.self.core)
+decreases-loop-self g l = run_left (seen g.S.Site l.self.core)

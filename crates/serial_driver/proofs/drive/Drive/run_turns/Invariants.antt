@@ -7,6 +7,6 @@ use Rattle.serial_driver.proofs.drive.Drive.run_turns.Given as goal
 
 abbrev pub invariant-loop-turn : goal.invariant-loop-turn
 invariant-loop-turn g l = record {
-  so_far : EventsSoFar g.S.Site.tells (g.C.Choose.may l.initial.self.core.chooser) l.initial.self.scripts (events_of l.initial.self.scripts l.turns) (seen g.S.Site.told g.S.Site.writes g.S.Site.faults l.initial.self.core) (drop l.turn-index (events_of l.initial.self.scripts l.turns)) (seen g.S.Site.told g.S.Site.writes g.S.Site.faults l.self.core);
-  leaves : Leaves g.S.Site.tells g.S.Site.told g.S.Site.writes g.S.Site.faults g.S.Site.never_fails_but l.initial.self l.self Done;
+  so_far : EventsSoFar g.S.Site.tells (g.C.Choose.may l.initial.self.core.chooser) l.initial.self.scripts (events_of l.initial.self.scripts l.turns) (seen g.S.Site l.initial.self.core) (drop l.turn-index (events_of l.initial.self.scripts l.turns)) (seen g.S.Site l.self.core);
+  leaves : Leaves g.S.Site l.initial.self l.self Done;
 }

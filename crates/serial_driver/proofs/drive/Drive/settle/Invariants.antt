@@ -7,9 +7,9 @@ use Rattle.serial_driver.proofs.drive.Drive.settle.Given as goal
 
 abbrev pub invariant-loop-halted : goal.invariant-loop-halted
 invariant-loop-halted g l = record {
-  so_far : SettlesSoFar g.S.Site.tells (g.C.Choose.may l.initial.self.core.chooser) (seen g.S.Site.told g.S.Site.writes g.S.Site.faults l.initial.self.core) (seen g.S.Site.told g.S.Site.writes g.S.Site.faults l.self.core);
-  leaves : Leaves g.S.Site.tells g.S.Site.told g.S.Site.writes g.S.Site.faults g.S.Site.never_fails_but l.initial.self l.self Done;
+  so_far : SettlesSoFar g.S.Site.tells (g.C.Choose.may l.initial.self.core.chooser) (seen g.S.Site l.initial.self.core) (seen g.S.Site l.self.core);
+  leaves : Leaves g.S.Site l.initial.self l.self Done;
 }
 
 abbrev pub decreases-loop-halted : goal.decreases-loop-halted
-decreases-loop-halted g l = settle_left (seen g.S.Site.told g.S.Site.writes g.S.Site.faults l.self.core)
+decreases-loop-halted g l = settle_left (seen g.S.Site l.self.core)

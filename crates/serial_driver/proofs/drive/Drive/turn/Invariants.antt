@@ -6,6 +6,6 @@ use Rattle.serial_driver.proofs.drive.Drive.turn.Given as goal
 
 abbrev pub invariant-loop-number : goal.invariant-loop-number
 invariant-loop-number g l = record {
-  so_far : TurnSoFar g.S.Site.tells (g.C.Choose.may l.initial.self.core.chooser) (seen g.S.Site.told g.S.Site.writes g.S.Site.faults l.initial.self.core) l.number l.idle (seen g.S.Site.told g.S.Site.writes g.S.Site.faults l.self.core);
-  leaves : Leaves g.S.Site.tells g.S.Site.told g.S.Site.writes g.S.Site.faults g.S.Site.never_fails_but l.initial.self l.self Done;
+  so_far : TurnSoFar g.S.Site.tells (g.C.Choose.may l.initial.self.core.chooser) (seen g.S.Site l.initial.self.core) l.number l.idle (seen g.S.Site l.self.core);
+  leaves : Leaves g.S.Site l.initial.self l.self Done;
 }
