@@ -6,7 +6,7 @@ use Rattle.std.proofs.lemmas.Bool.{and_parts, cases_lt, eqb-true, false≢true, 
 use Rattle.std.proofs.lemmas.List.{get_or_past}
 use Rattle.ckd_plain.specs.declared.host.HostState.{HostState}
 use Rattle.ckd_plain.specs.Plain.{fresh_host}
-use Rattle.volume_table.specs.Row.{RowValue, state_of, frame_of}
+use Rattle.volume_table.specs.Row.{RowValue, state_of, frame_of, cartridge_with}
 use Rattle.shown_volumes.specs.Sound.{frame_in}
 use Rattle.fault_queue.specs.declared.queue.Request.{Request}
 use Rattle.fault_queue.specs.Requests.{request_of}
@@ -19,7 +19,7 @@ use Rattle.volume_table.specs.Listed.{listed}
 use Rattle.core_state.specs.Pins.{owner_at, task_at, binds, is_volume_bound, state_of_row, state_in}
 use Rattle.core_state.specs.WorkRules.{cartridge_of}
 use Rattle.core_state.specs.Tasks.{IsTask, IsTransfer, IsChosen, HasFrame}
-use Rattle.transfers.specs.Dues.{due_state, cartridge_with}
+use Rattle.transfers.specs.Dues.{due_state}
 use Rattle.core_state.specs.IsCore.{IsCore}
 use Rattle.core_progress.specs.CoreFits.{RequestsFit, IsUnderWay, IsDestage, IsStaging, TasksFit, FramesFit, CartridgesFit, CoreFits}
 use Rattle.victim_choice.proofs.OrderFacts.{order_there, order_once, order_below}

@@ -10,7 +10,6 @@
 
 mod console;
 pub mod law;
-mod numbers;
 mod owners;
 mod parts;
 mod restarting;

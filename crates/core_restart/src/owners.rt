@@ -1,25 +1,13 @@
 // The owners of the frames: the pages that have them by the rows.
-ghost use Rattle.std.specs.Prelude.{◌≡◌, ◌+◌, ◌<◌, length};
+ghost use Rattle.std.specs.Prelude.{◌≡◌, ◌+◌, length};
 ghost use Rattle.volume_table.specs.Listed.{listed};
-ghost use Rattle.shown_volumes.specs.Sound.{frame_in};
 ghost use Rattle.staging_adapter.specs.Frames.{free_frames};
 ghost use Rattle.core_restart.specs.Owners.{AreOwners, AreOwnersBefore, HaveFrames};
 
-use crate::numbers::{page_at, volume_at};
-use mss_base::{FrameNo, Page, VolumeNo};
+use mss_base::{Page, VolumeNo, page_at, volume_at};
+use shown_volumes::frame_in;
 use staging_adapter::Frames;
 use volume_table::VolumeRow;
-
-/// The frame of a page, if the volume has a row and the page a frame.
-fn frame_in(rows: &[Option<VolumeRow>], volume: VolumeNo, page: Page) -> Option<FrameNo>
-    requires { length rows.now ≡ 32 }
-    ensures { result ≡ frame_in (listed rows.now) volume page }
-{
-    let Some(row) = &rows[volume.get() as usize] else {
-        return None;
-    };
-    row.frame(page)
-}
 
 /// Gives the frame of a page to it, where it has one.
 fn own_page(frames: &mut Frames, rows: &[Option<VolumeRow>], volume: VolumeNo, page: Page)

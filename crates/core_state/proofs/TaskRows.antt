@@ -6,7 +6,7 @@ use Rattle.std.proofs.lemmas.Bool.Decides.{eqb_tells}
 use Rattle.mss_base.specs.Content.{Content}
 use Rattle.mss_base.specs.declared.place.BlockPlace.{BlockPlace}
 use Rattle.ckd_plain.specs.declared.host.HostState.{HostState}
-use Rattle.volume_table.specs.Row.{RowValue, frame_of, state_of}
+use Rattle.volume_table.specs.Row.{RowValue, frame_of, state_of, cartridge_with}
 use Rattle.volume_table.specs.Changes.{with_frame, with_state, without_frame}
 use Rattle.volume_table.proofs.RowFacts.{frame-without_frame, state-without_frame}
 use Rattle.shown_volumes.specs.Shown.{RowsOf, block_at, on_cartridge, in_page}
@@ -17,7 +17,6 @@ use Rattle.transfers.specs.declared.transfer.Transfer.{Transfer}
 use Rattle.core_state.specs.Pins.{moves_at}
 use Rattle.fault_queue.specs.Requests.{request_of, RequestsData}
 use Rattle.core_state.specs.Tasks.{IsTask, IsTransfer, HasFrame}
-use Rattle.transfers.specs.Dues.{cartridge_with}
 use Rattle.core_state.specs.Served.{IsServed, AreCopied}
 use Rattle.core_state.proofs.RuleWalks.{some_is}
 use Rattle.core_state.proofs.Serving.{SameFor, same_for, copied_same, Counts}

@@ -2,7 +2,7 @@
 use Rattle.std.specs.Prelude.{ℕ, ◌==◌, nat_lt, Bool, true, false, not, ◌&&◌, if◌then◌else◌, List}
 use Rattle.std.specs.Prelude.{[], ◌∷◌, length, slice_get, Option, Some, None, is_some}
 use Rattle.std.specs.Option.{option_map, option_and_then, unwrap_or}
-use Rattle.volume_table.specs.Row.{RowValue}
+use Rattle.volume_table.specs.Row.{RowValue, cartridge_with}
 use Rattle.mss_base.specs.Firsts.{where_so, ◌or◌}
 use Rattle.fault_queue.specs.declared.queue.Request.{Request}
 use Rattle.fault_queue.specs.declared.queue.RequestState.{RequestState}
@@ -25,7 +25,6 @@ use Rattle.core_state.specs.Beside.{held_at}
 use Rattle.core_state.specs.Pins.{task_at, frame_in, state_in, asked_page, page_of, is_moving}
 use Rattle.core_state.specs.Pins.{free_frame, changed_in, candidates}
 use Rattle.volume_table.specs.Listed.{listed}
-use Rattle.transfers.specs.Dues.{cartridge_with}
 
 abbrev pub task_of : {S C : Type 0} → CoreValue S C → ℕ → Option Task
 task_of core recorder = task_at core.tasks recorder

@@ -110,6 +110,17 @@ impl<S: Site, C: Choose> Model for Core<S, C> {
 }
 
 impl<S: Site, C: Choose> Core<S, C> {
+    ghost use Rattle.std.specs.Prelude.{◌≤◌};
+
+    /// How many recorders there are, 1 to 8.
+    pub fn recorder_count(&self) -> u8
+        ensures value { result ≡ self.now.config.recorders }
+        ensures some { 1 ≤ result }
+        ensures few { result ≤ 8 }
+    {
+        self.config.recorder_count()
+    }
+
     /// The entries so far, [`ENTRY_LIMIT`] at most.
     pub fn history(&self) -> &EntryList
         ensures { result.now.items ≡ self.now.history }

@@ -1,11 +1,9 @@
 // Replies in place of the plain one: a failed staging, and no space.
 ghost use Rattle.std.specs.Prelude.{◌≡◌};
 ghost use Rattle.channel_commands.specs.Views.{call_of};
-ghost use Rattle.core_state.specs.CoreValue.{seen};
-ghost use Rattle.core_state.specs.HostEvents.{HostDoes};
 ghost use Rattle.core_state.specs.HostRules.{host_rule};
 ghost use Rattle.core_state.specs.declared.rule.HostRule.TheVariants.{HasFailed, HasNoSpace};
-ghost use Rattle.host_events.specs.Answers.{told_of};
+ghost use Rattle.host_events.specs.Answers.{HostStep};
 
 use crate::answer::HostAnswer;
 use crate::reply::reply;
@@ -25,8 +23,7 @@ pub fn fail<S: Site, C: Choose>(
     fault: u64,
 ) -> HostAnswer
     requires rule { host_rule core.old host (call_of call.now) ≡ HasFailed fault }
-    ensures event { HostDoes S.tells (seen S.Site core.old) host
-        (call_of call.now) (HasFailed fault) (told_of result) (seen S.Site core.new) }
+    ensures event { HostStep S.Site core.old host call.now (HasFailed fault) result core.new }
     ensures chooser { core.new.chooser ≡ core.old.chooser }
     ensures site { core.new.site ≡ core.old.site }
 {
@@ -45,8 +42,7 @@ pub fn refuse_space<S: Site, C: Choose>(
     call: &Call,
 ) -> HostAnswer
     requires rule { host_rule core.old host (call_of call.now) ≡ HasNoSpace }
-    ensures event { HostDoes S.tells (seen S.Site core.old) host
-        (call_of call.now) HasNoSpace (told_of result) (seen S.Site core.new) }
+    ensures event { HostStep S.Site core.old host call.now HasNoSpace result core.new }
     ensures chooser { core.new.chooser ≡ core.old.chooser }
     ensures site { core.new.site ≡ core.old.site }
 {

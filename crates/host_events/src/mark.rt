@@ -4,11 +4,9 @@ ghost use Rattle.mss_base.specs.Sites.{MayWrite};
 ghost use Rattle.mss_base.specs.declared.place.UnitNo.{UnitNo};
 ghost use Rattle.channel_commands.specs.Views.{call_of};
 ghost use Rattle.fault_queue.specs.Requests.{request_of};
-ghost use Rattle.core_state.specs.CoreValue.{seen};
 ghost use Rattle.core_state.specs.HostRules.{host_rule};
-ghost use Rattle.core_state.specs.HostEvents.{HostDoes};
 ghost use Rattle.core_state.specs.declared.rule.HostRule.TheVariants.{Marks};
-ghost use Rattle.host_events.specs.Answers.{told_of};
+ghost use Rattle.host_events.specs.Answers.{HostStep, told_of};
 ghost use Rattle.host_events.specs.Parts.{ready_for, asked_for, made_ready, given_up, GoesOn, IsUntold};
 
 use crate::answer::HostAnswer;
@@ -75,8 +73,7 @@ pub fn mark<S: Site, C: Choose>(
     cylinder: Cylinder,
 ) -> HostAnswer
     requires rule { host_rule core.old host (call_of call.now) ≡ Marks volume cylinder }
-    ensures event { HostDoes S.tells (seen S.Site core.old) host
-        (call_of call.now) (Marks volume cylinder) (told_of result) (seen S.Site core.new) }
+    ensures event { HostStep S.Site core.old host call.now (Marks volume cylinder) result core.new }
     ensures chooser { core.new.chooser ≡ core.old.chooser }
     ensures devices { MayWrite S.Site CHANGE_WRITES core.old.site core.new.site }
     ensures room { IsUntold (told_of result) → S.spare core.old.site ≤ S.spare core.new.site }

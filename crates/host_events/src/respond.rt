@@ -2,11 +2,10 @@
 ghost use Rattle.std.specs.Prelude.{◌≡◌, IfOk, length};
 ghost use Rattle.channel_commands.specs.Views.{call_of, reply_of};
 ghost use Rattle.ckd_plain.specs.Plain.{NeedsNoTrack, responded};
-ghost use Rattle.core_state.specs.CoreValue.{seen};
-ghost use Rattle.core_state.specs.HostEvents.{HostDoes, is_there};
+ghost use Rattle.core_state.specs.HostEvents.{is_there};
 ghost use Rattle.core_state.specs.HostRules.{host_rule};
 ghost use Rattle.core_state.specs.declared.rule.HostRule.TheVariants.{Responds};
-ghost use Rattle.host_events.specs.Answers.{told_of};
+ghost use Rattle.host_events.specs.Answers.{HostStep};
 
 use crate::answer::HostAnswer;
 use crate::reply::reply;
@@ -59,8 +58,7 @@ pub fn reply_plainly<S: Site, C: Choose>(
     call: &Call,
 ) -> HostAnswer
     requires rule { host_rule core.old host (call_of call.now) ≡ Responds }
-    ensures event { HostDoes S.tells (seen S.Site core.old) host
-        (call_of call.now) Responds (told_of result) (seen S.Site core.new) }
+    ensures event { HostStep S.Site core.old host call.now Responds result core.new }
     ensures chooser { core.new.chooser ≡ core.old.chooser }
     ensures site { core.new.site ≡ core.old.site }
 {

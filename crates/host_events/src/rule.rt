@@ -1,5 +1,5 @@
 // Which rule a host's call meets.
-ghost use Rattle.std.specs.Prelude.{◌≡◌, ◌≤◌, length, true};
+ghost use Rattle.std.specs.Prelude.{◌≡◌, length, true};
 ghost use Rattle.std.specs.Option.{option_and_then};
 ghost use Rattle.channel_commands.specs.Data.{is_command};
 ghost use Rattle.channel_commands.specs.Views.{call_of};
@@ -34,7 +34,7 @@ use ckd_plain::{HostState, admitted};
 use core_state::looks::{are_all_bound, frame_in, host_at, is_on, owner_of, state_in};
 use core_state::{Core, ENTRY_LIMIT, HostRule, Task};
 use fault_queue::{Request, RequestState};
-use mss_base::{Config, FrameNo, HostNo, Site, VolumeNo};
+use mss_base::{FrameNo, HostNo, Site, VolumeNo};
 use victim_choice::Choose;
 
 /// A host's call, with the state of the host and its request.
@@ -223,16 +223,8 @@ fn frame_under<S: Site, C: Choose>(
 fn has_no_space<S: Site, C: Choose>(core: &Core<S, C>) -> bool
     ensures { result ≡ are_all_bound core.now }
 {
-    let count = frame_count(&core.config);
+    let count = core.config.frame_count();
     are_all_bound(core.hosts.as_slice(), &core.frames, count)
-}
-
-fn frame_count(config: &Config) -> u16
-    ensures value { result ≡ config.now.frames }
-    ensures few { result ≤ 200 }
-{
-    let _volumes = &config.volumes;
-    config.frames
 }
 
 fn fault_rule<S: Site, C: Choose>(

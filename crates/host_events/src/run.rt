@@ -14,13 +14,12 @@ ghost use Rattle.ckd_plain.specs.Effects.{is_data};
 ghost use Rattle.ckd_plain.specs.Plain.{IsDone, opened};
 ghost use Rattle.track_engine.specs.Faults.{IsNoFailure, IsNoFailedWrite};
 ghost use Rattle.track_engine.specs.Tracks.{AreTracks};
-ghost use Rattle.core_state.specs.CoreValue.{seen, seen_site};
+ghost use Rattle.core_state.specs.CoreValue.{seen_site};
 ghost use Rattle.core_state.specs.HostRules.{host_rule};
-ghost use Rattle.core_state.specs.HostEvents.{HostDoes};
 ghost use Rattle.core_state.specs.Pins.{host_at};
 ghost use Rattle.core_state.specs.Tasks.{tasks_after};
 ghost use Rattle.core_state.specs.declared.rule.HostRule.TheVariants.{Runs};
-ghost use Rattle.host_events.specs.Answers.{told_of};
+ghost use Rattle.host_events.specs.Answers.{HostStep, told_of};
 ghost use Rattle.host_events.specs.Parts.{GoesOn, IsUnfailed, IsUntold};
 ghost use Rattle.host_events.specs.Runs.{argument_of, run_by, bare_write, Comes};
 
@@ -171,8 +170,8 @@ pub fn run<S: Site, C: Choose>(
     frame: FrameNo,
 ) -> HostAnswer
     requires rule { host_rule core.old host (call_of call.now) ≡ Runs command.now volume frame }
-    ensures event { HostDoes S.tells (seen S.Site core.old) host
-        (call_of call.now) (Runs command.now volume frame) (told_of result) (seen S.Site core.new) }
+    ensures event { HostStep S.Site core.old host call.now
+        (Runs command.now volume frame) result core.new }
     ensures chooser { core.new.chooser ≡ core.old.chooser }
     ensures devices { MayWrite S.Site RUN_WRITES core.old.site core.new.site }
     ensures room { IsUntold (told_of result) → S.spare core.old.site ≤ S.spare core.new.site }

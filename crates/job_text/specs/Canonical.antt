@@ -14,9 +14,11 @@ use Rattle.mss_base.specs.Configs.{VolumeData, ConfigData}
 use Rattle.job_text.specs.Jobs.{ScriptData, JobData}
 use Rattle.job_text.specs.Lines.{LineData, mss, volume, host, done, mount, demount, program, ccw, tic, end, spelling, keyword_at}
 
+-- a byte as two hexadecimal digits in upper case
 abbrev pub hex_byte : ℕ → List ℕ
 hex_byte b = digit_glyph true (b / 16) ∷ digit_glyph true (b % 16) ∷ []
 
+-- bytes as hexadecimal digits
 abbrev pub hex : List ℕ → List ℕ
 hex bytes = flat_map hex_byte bytes
 

@@ -12,6 +12,7 @@ mod law;
 mod line;
 mod lines;
 mod numbered;
+mod pairs;
 mod read;
 mod reading;
 mod words;
@@ -22,5 +23,6 @@ pub use kind::{JobKind, Keyword, Place};
 pub use law::{
     job_back, jobs_are_whole, line_back, lines_back, one_spelling, programs_can_be_run, text_back,
 };
+pub use pairs::{push_hex, push_hex_byte};
 pub use read::{JobFault, read_job};
 pub use write::push_job;

@@ -1,42 +1,19 @@
 //! A job as its canonical text: numbers are decimal, and bytes are pairs of upper-case digits.
-ghost use Rattle.std.specs.Prelude.{◌≡◌, ◌≤◌, ◌<◌, ◌++◌, [], ◌∷◌, map, true, OnOk};
+ghost use Rattle.std.specs.Prelude.{◌≡◌, ◌++◌, [], ◌∷◌, map, OnOk};
 ghost use Rattle.std.specs.List.{flat_map, join_with_byte};
-ghost use Rattle.std.specs.Fmt.{digit_glyph};
 ghost use Rattle.channel_commands.specs.Views.{ccw_of};
 ghost use Rattle.channel_program.specs.Script.{program as running};
 ghost use Rattle.job_text.specs.Lines.{spelling, mss, volume, host, mount, ccw};
 ghost use Rattle.job_text.specs.Views.{item_of};
-ghost use Rattle.job_text.specs.Canonical.{hex, line_text, word_line, serial_of, item_lines, script_lines, config_text, job_text};
+ghost use Rattle.job_text.specs.Canonical.{line_text, word_line, serial_of, item_lines, script_lines, config_text, job_text};
 
 use crate::job::{HostScript, Item, Job};
 use crate::kind::Keyword;
 use crate::numbered::volume_with;
+use crate::pairs::push_hex;
 use crate::reading::spelling;
 use channel_commands::Ccw;
 use mss_base::{Bytes, Config, HostNo, NoMemory, Serial, VolumeNo};
-
-fn digit(value: u8) -> u8
-    requires { value < 16 }
-    ensures { result ≡ digit_glyph true value }
-{
-    if value < 10 {
-        b'0' + value
-    } else {
-        b'A' - 10 + value
-    }
-}
-
-/// Puts bytes as pairs of digits.
-fn push_hex(out: &mut Bytes, bytes: &[u8]) -> Result<(), NoMemory>
-    ensures { OnOk result (out.new.items ≡ out.old.items ++ hex bytes.now) }
-{
-    out.reserve(2 * bytes.len())?;
-    for byte in bytes {
-        out.push(digit(*byte / 16));
-        out.push(digit(*byte % 16));
-    }
-    Ok(())
-}
 
 /// Puts a line: its keyword, and each word after one space.
 fn push_line(out: &mut Bytes, keyword: Keyword, words: &[&[u8]]) -> Result<(), NoMemory>

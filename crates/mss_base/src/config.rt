@@ -25,3 +25,25 @@ impl Model for Config {
 
     ghost invariant = { λ c. IsConfig (record { frames = c.frames; recorders = c.recorders; volumes = c.volumes.items }) };
 }
+
+impl Config {
+    ghost use Rattle.std.specs.Prelude.{◌≡◌, ◌≤◌};
+
+    /// How many frames the staging disks have, 1 to 200.
+    pub fn frame_count(&self) -> u16
+        ensures value { result ≡ self.now.frames }
+        ensures some { 1 ≤ result }
+        ensures few { result ≤ 200 }
+    {
+        self.frames
+    }
+
+    /// How many recorders there are, 1 to 8.
+    pub fn recorder_count(&self) -> u8
+        ensures value { result ≡ self.now.recorders }
+        ensures some { 1 ≤ result }
+        ensures few { result ≤ 8 }
+    {
+        self.recorders
+    }
+}

@@ -2,11 +2,10 @@
 ghost use Rattle.std.specs.Prelude.{◌≡◌, ◌≤◌, length};
 ghost use Rattle.shown_volumes.specs.Sound.{cartridge_of};
 ghost use Rattle.mss_base.specs.Firsts.{first_below};
-ghost use Rattle.shown_volumes.specs.Faults.{half_with, earlier_half, half_fault, halves_fault};
+ghost use Rattle.shown_volumes.specs.Faults.{half_with, half_fault, halves_fault};
 ghost use Rattle.volume_table.specs.Listed.{listed};
 
-use crate::numbers::volume_at;
-use mss_base::{CartridgeNo, VolumeNo};
+use mss_base::{CartridgeNo, VolumeNo, volume_at};
 use shown_volumes::{Half, Refused};
 use volume_table::VolumeRow;
 

@@ -13,7 +13,6 @@
 mod cartridges;
 mod creations;
 mod halves;
-mod numbers;
 mod opening;
 mod pages;
 mod repairs;

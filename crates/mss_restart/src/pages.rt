@@ -1,26 +1,13 @@
 // The walk over the pages: each frame is configured, and stands in one of them.
 ghost use Rattle.std.specs.Prelude.{◌≡◌, ◌≤◌, length};
-ghost use Rattle.shown_volumes.specs.Sound.{frame_in};
 ghost use Rattle.mss_base.specs.Firsts.{first_below};
 ghost use Rattle.shown_volumes.specs.Faults.{page_with, earlier_page, frame_fault, page_fault, pages_fault};
 ghost use Rattle.volume_table.specs.Listed.{listed};
 ghost use Rattle.mss_restart.specs.Walks.{lower_pages};
 
-use crate::numbers::{page_at, volume_at};
-use mss_base::{FrameNo, Page, VolumeNo};
-use shown_volumes::Refused;
+use mss_base::{FrameNo, Page, VolumeNo, page_at, volume_at};
+use shown_volumes::{Refused, frame_in};
 use volume_table::VolumeRow;
-
-/// The frame of a page, if the volume has a row and the page a frame.
-fn frame_in(rows: &[Option<VolumeRow>], volume: VolumeNo, page: Page) -> Option<FrameNo>
-    requires { length rows.now ≡ 32 }
-    ensures { result ≡ frame_in (listed rows.now) volume page }
-{
-    let Some(row) = &rows[volume.get() as usize] else {
-        return None;
-    };
-    row.frame(page)
-}
 
 /// A page, where it has a frame.
 fn page_with(

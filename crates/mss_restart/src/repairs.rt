@@ -10,8 +10,7 @@ ghost use Rattle.shown_volumes.specs.Sound.{IsSound, SoundAs};
 ghost use Rattle.mss_restart.specs.Creations.{IsStop, RepairsOthers, RepairsWhole, StopsAlone, WritesOn};
 ghost use Rattle.mss_restart.specs.Survey.{IsNoFailure, NeverFails, TellsNoFailure};
 
-use crate::numbers::volume_at;
-use mss_base::Site;
+use mss_base::{Site, volume_at};
 use shown_volumes::Refused;
 use std::alloc::Global;
 use table_pair::{RepairFault, repair};

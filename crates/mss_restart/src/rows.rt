@@ -1,6 +1,6 @@
 // The walk over the rows: each is read by the table of two copies, and its serial compared.
 ghost use Rattle.std.specs.Prelude.{◌≡◌, ◌≤◌, ℕ, List, Option, None, Err, length, IfOk};
-ghost use Rattle.mss_base.specs.Content.{Content, content};
+ghost use Rattle.mss_base.specs.Content.{content};
 ghost use Rattle.ckd_plain.specs.Plain.{serial_in};
 ghost use Rattle.mss_base.specs.Sites.{OnlyReads};
 ghost use Rattle.table_pair.specs.Pair.{RowReading};
@@ -23,8 +23,7 @@ ghost use Rattle.mss_restart.specs.Survey.{
 };
 ghost use Rattle.mss_restart.specs.OneCopy.{ArePaired, IsPaired, LosesOneTable};
 
-use crate::numbers::volume_at;
-use mss_base::{Listed, Serial, Site, VolumeNo};
+use mss_base::{Listed, Serial, Site, VolumeNo, volume_at};
 use shown_volumes::Refused;
 use std::alloc::Global;
 use table_pair::{RowRead, RowTrouble, read_row};

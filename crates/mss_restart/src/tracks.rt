@@ -1,13 +1,13 @@
 // The walk over the tracks: the shown block is a track, and the block in a frame stands for it.
-ghost use Rattle.std.specs.Prelude.{◌≡◌, ◌≤◌, ◌<◌, ◌/◌, not, Option, Some, OnOk, IfErr, length};
+ghost use Rattle.std.specs.Prelude.{◌≡◌, ◌≤◌, ◌/◌, not, Option, Some, OnOk, IfErr, length};
 ghost use Rattle.mss_base.specs.Content.{content};
 ghost use Rattle.mss_base.specs.Sites.{OnlyReads};
 ghost use Rattle.ckd_track.specs.Track.{reading};
 ghost use Rattle.volume_table.specs.Row.{frame_of, state_of};
 ghost use Rattle.std.specs.Option.{ForSome};
-ghost use Rattle.shown_volumes.specs.Shown.{block_at, on_cartridge};
+ghost use Rattle.shown_volumes.specs.Shown.{block_at};
 ghost use Rattle.mss_base.specs.Firsts.{where_so, first_below};
-ghost use Rattle.shown_volumes.specs.Faults.{is_torn, is_blank, is_same_list, row_track_fault, track_fault, cylinder_fault, tracks_fault};
+ghost use Rattle.shown_volumes.specs.Faults.{is_torn, is_blank, is_same_list, row_track_fault, tracks_fault};
 ghost use Rattle.shown_volumes.specs.declared.refused.Refused.TheVariants.{TornTrack, StagedDiffers};
 ghost use Rattle.volume_table.specs.Listed.{listed};
 ghost use Rattle.mss_restart.specs.Walks.{row_cylinder_fault, row_tracks_fault};
@@ -15,13 +15,12 @@ ghost use Rattle.table_pair.specs.Reads.{IsReadable};
 ghost use Rattle.mss_restart.specs.Survey.{FindsFault, Finds, CanReadRow, CanReadRows, CountsFaults, TellsNoFailure};
 ghost use Rattle.shown_volumes.specs.declared.refused.Refused.{Refused};
 
-use crate::numbers::{cylinder_at, head_at, volume_at};
 use ckd_track::{check_track, is_blank};
 use mss_base::{
-    BLOCK_BYTES, BlockPlace, CYLINDERS, Cylinder, FrameNo, HEADS, Head, Site, UnitNo, VolumeNo,
-    cartridge_block, frame_block,
+    BLOCK_BYTES, BlockPlace, CYLINDERS, Cylinder, FrameNo, HEADS, Head, Site, VolumeNo,
+    cylinder_at, frame_block, head_at, volume_at,
 };
-use shown_volumes::Refused;
+use shown_volumes::{Refused, on_cartridge};
 use volume_table::{CylinderState, VolumeRow};
 
 /// Reads the block at a place.
@@ -126,21 +125,6 @@ fn check_copy<S: Site>(
         });
     }
     Ok(())
-}
-
-/// The place of a track on its cartridge.
-fn on_cartridge(row: &VolumeRow, cylinder: Cylinder, head: Head) -> BlockPlace
-    ensures { result ≡ on_cartridge row.now cylinder head }
-{
-    let cartridge = if cylinder.get() < 202 {
-        row.first
-    } else {
-        row.second
-    };
-    BlockPlace {
-        unit: UnitNo::Cartridge(cartridge),
-        block: cartridge_block(cylinder, head),
-    }
 }
 
 /// The frame of a staged cylinder's page.

@@ -10,7 +10,7 @@ ghost use Rattle.mss_run.specs.Answers.{Answered};
 ghost use Rattle.mss_run.specs.Beginning.{OpensWith};
 ghost use Rattle.mss_run.specs.Happens.{Happens};
 
-use crate::event::{entries_of, host_step, recorders_of, work_step};
+use crate::event::{entries_of, host_step, work_step};
 use crate::setup::Setup;
 use channel_commands::Call;
 use ckd_plain::Entry;
@@ -111,7 +111,7 @@ impl<N: Setup, S: Site, C: Choose> BookedCore<N, S, C> {
     pub fn recorders(&self) -> u8
         ensures { result ≡ self.now.config.recorders }
     {
-        recorders_of(&self.core)
+        self.core.recorder_count()
     }
 
     /// One event of the pass's host, of which the book and the pass are told; and whether it is a wait that changed
@@ -144,7 +144,7 @@ impl<N: Setup, S: Site, C: Choose> BookedCore<N, S, C> {
         ensures idle { result ≡ Idle → IsSame S.tells
             (seen S.Site self.old) (seen S.Site self.new) }
     {
-        if recorder.get() >= recorders_of(&self.core) {
+        if recorder.get() >= self.core.recorder_count() {
             return WorkAnswer::Idle;
         }
         let _before = entries_of(&self.core);

@@ -25,13 +25,6 @@ use work_events::law::{
 };
 use work_events::work_event;
 
-/// How many recorders are configured.
-pub(crate) fn recorders_of<S: Site, C: Choose>(core: &Core<S, C>) -> u8
-    ensures { result ≡ core.now.config.recorders }
-{
-    core.config.recorders
-}
-
 /// How many entries the history has, 4,096 at most. It is legal.
 pub(crate) fn entries_of<S: Site, C: Choose>(core: &Core<S, C>) -> usize
     ensures count { result ≡ length core.now.history }

@@ -27,7 +27,7 @@ use crate::ends::{HostEnd, HostEnds, RunAnswer, RunEnd};
 use crate::host::Running;
 use crate::setup::Setup;
 use crate::shared::Shared;
-use core_state::Core;
+use core_state::{Core, ENTRY_LIMIT};
 use job_text::{HostScript, Job, programs_can_be_run};
 use mss_base::{RecorderNo, Site};
 use seen_book::{Blank, Book, HostPass, Name, PassList, Word, host_pass, make, start_book};
@@ -241,7 +241,7 @@ fn answer_of<S: Site, C: Choose>(core: &Core<S, C>, hosts: usize, ends: &[HostEn
     }
     let all_there = ends.len() == hosts;
     let finished = are_all_finished(ends);
-    let full = core.history().as_slice().len() == 4096;
+    let full = core.history().as_slice().len() == ENTRY_LIMIT;
     if all_there && finished {
         return RunAnswer::Done;
     }

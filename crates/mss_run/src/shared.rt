@@ -8,7 +8,7 @@ ghost use Rattle.host_events.specs.Answers.{told_of};
 ghost use Rattle.mss_run.specs.Answers.{Answered};
 ghost use Rattle.mss_run.specs.Beginning.{OpensWith};
 
-use crate::event::{entries_of, recorders_of};
+use crate::event::entries_of;
 use crate::held::Held;
 use crate::setup::Setup;
 use channel_commands::Call;
@@ -36,7 +36,7 @@ impl<N: Setup, S: Site, C: Choose> Shared<N, S, C> {
             (seen S.Site core) }
         requires history { book.list ≡ core.history }
     {
-        let recorders = recorders_of(&core);
+        let recorders = core.recorder_count();
         Shared {
             word,
             held: Mutex::new(Held::new(core, book)),

@@ -1,27 +1,19 @@
 -- The text of a report. Each line ends with a line feed.
-use Rattle.std.specs.Prelude.{ℕ, zero, suc, ◌+◌, ◌/◌, ◌%◌, Bool, true, List, [], ◌∷◌, ◌++◌, Option}
+use Rattle.std.specs.Prelude.{ℕ, zero, suc, ◌+◌, ◌/◌, ◌%◌, Bool, List, [], ◌∷◌, ◌++◌, Option}
 use Rattle.std.specs.Prelude.{Some, None, if◌then◌else◌, codes, decimal}
 use Rattle.std.specs.List.{flat_map}
-use Rattle.std.specs.Fmt.{digit_glyph}
 use Rattle.channel_commands.specs.Data.{CallData, mount, demount, command, break, ReplyData, done}
 use Rattle.channel_commands.specs.Data.{mounted, demounted, already_mounted, not_mounted, no_volume}
 use Rattle.channel_commands.specs.Data.{in_chain, program_check, chain_limit, equipment_check}
 use Rattle.channel_commands.specs.Data.{no_space, stopped}
 use Rattle.ckd_track.specs.Data.{RecordData}
 use Rattle.ckd_plain.specs.History.{EntryData}
+use Rattle.job_text.specs.Canonical.{hex, hex_byte}
 use Rattle.volume_table.specs.declared.changes.Change.{Change}
 use Rattle.volume_table.specs.declared.changes.Change.TheVariants.{Create, Assign, Free, Staged}
 use Rattle.volume_table.specs.declared.changes.Change.TheVariants.{Changed, Destaged}
 
 -- ---- bytes
-
--- a byte as two hexadecimal digits in upper case
-abbrev pub hex_byte : ℕ → List ℕ
-hex_byte b = digit_glyph true (b / 16) ∷ digit_glyph true (b % 16) ∷ []
-
--- bytes as hexadecimal digits
-abbrev pub hex : List ℕ → List ℕ
-hex bytes = flat_map hex_byte bytes
 
 -- ` data HEX` where there are data
 abbrev pub data_text : List ℕ → List ℕ

@@ -1,27 +1,10 @@
 // The lines of a report, each put at the end of a buffer.
-ghost use Rattle.std.specs.Prelude.{
-  ◌≡◌,
-  ◌++◌,
-  ◌<◌,
-  ◌≤◌,
-  ◌*◌,
-  ◌∷◌,
-  ℕ,
-  true,
-  OnOk,
-  decimal,
-  length,
-  take,
-};
+ghost use Rattle.std.specs.Prelude.{◌≡◌, ◌++◌, ◌∷◌, OnOk, decimal};
 ghost use Rattle.std.specs.List.{flat_map};
-ghost use Rattle.std.specs.Fmt.{digit_glyph};
 ghost use Rattle.channel_commands.specs.Views.{call_of, reply_of};
 ghost use Rattle.report_text.specs.Texts.{
-  hex_byte,
-  hex,
   data_text,
   field_text,
-  bind_text,
   fault_text,
   call_text,
   reply_text,
@@ -35,69 +18,13 @@ ghost use Rattle.report_text.specs.Texts.{
 use channel_commands::{Call, Reply};
 use ckd_plain::Entry;
 use ckd_track::{StoredRecord, StoredRecords};
+use job_text::{push_hex, push_hex_byte};
 use mss_base::{Bytes, Cylinder, Head, NoMemory, Serial, VolumeNo};
-
-/// A hexadecimal digit.
-fn digit(value: u8) -> u8
-    requires { value < 16 }
-    ensures { result ≡ digit_glyph true value }
-{
-    if value < 10 {
-        b'0' + value
-    } else {
-        b'A' + (value - 10)
-    }
-}
 
 pub fn push_text(out: &mut Bytes, text: &str) -> Result<(), NoMemory>
     ensures { OnOk result (out.new.items ≡ out.old.items ++ text.now) }
 {
     out.append(text.as_bytes())
-}
-
-/// How many bytes are spelled at once.
-const PIECE_BYTES: usize = 32;
-
-/// Spells bytes at the start of a buffer, two digits each.
-fn spell(bytes: &[u8], digits: &mut [u8])
-    requires { 2 * length bytes.now ≤ length digits.old }
-    ensures kept { length digits.new ≡ length digits.old }
-    ensures spelled { take (2 * length bytes.now) digits.new ≡ hex bytes.now }
-{
-    for i in 0..bytes.len() {
-        digits[2 * i] = digit(bytes[i] / 16);
-        digits[2 * i + 1] = digit(bytes[i] % 16);
-    }
-}
-
-fn push_piece(out: &mut Bytes, bytes: &[u8]) -> Result<(), NoMemory>
-    requires { length bytes.now ≤ 32 }
-    ensures { OnOk result (out.new.items ≡ out.old.items ++ hex bytes.now) }
-{
-    let mut digits = [0; 2 * PIECE_BYTES];
-    spell(bytes, &mut digits);
-    out.append(&digits[..2 * bytes.len()])
-}
-
-/// Makes room for all digits once, since a track has thousands. They are spelled piece by piece in a small buffer, which
-/// costs far less than to push each.
-fn push_hex(out: &mut Bytes, bytes: &[u8]) -> Result<(), NoMemory>
-    ensures { OnOk result (out.new.items ≡ out.old.items ++ hex bytes.now) }
-{
-    out.reserve(2 * bytes.len())?;
-    let mut rest = bytes;
-    while !rest.is_empty() {
-        let (piece, after) = rest.split_at(rest.len().min(PIECE_BYTES));
-        push_piece(out, piece)?;
-        rest = after;
-    }
-    Ok(())
-}
-
-fn push_hex_byte(out: &mut Bytes, byte: u8) -> Result<(), NoMemory>
-    ensures { OnOk result (out.new.items ≡ out.old.items ++ hex_byte byte) }
-{
-    out.append(&[digit(byte / 16), digit(byte % 16)])
 }
 
 pub fn push_number(out: &mut Bytes, number: u64) -> Result<(), NoMemory>

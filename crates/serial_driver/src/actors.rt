@@ -7,7 +7,6 @@ ghost use Rattle.serial_driver.specs.Scripts.{script_of, exchanges_of};
 
 use crate::answer::DriveAnswer;
 use crate::drive::{Drive, answer_of};
-use crate::turn::recorder_count;
 use mss_base::Site;
 use victim_choice::Choose;
 
@@ -30,7 +29,7 @@ impl<'a, S: Site, C: Choose> Drive<'a, S, C> {
             return self.host(number);
         }
         // There are at most 8, so that the number of one is a byte.
-        let _recorders = recorder_count(self.core());
+        let _recorders = self.core().recorder_count();
         answer_of(self.work_of((number - hosts) as u8))
     }
 

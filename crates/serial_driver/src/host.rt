@@ -6,7 +6,6 @@ ghost use Rattle.channel_commands.specs.Data.{CallData};
 ghost use Rattle.channel_commands.specs.Views.{call_of};
 ghost use Rattle.channel_program.specs.Items.{AreRunnable};
 ghost use Rattle.core_state.specs.CoreValue.{seen};
-ghost use Rattle.core_state.specs.HostEvents.{HostTold, HostEvent};
 ghost use Rattle.core_state.specs.IsCore.{IsCore};
 ghost use Rattle.host_events.specs.Answers.{told_of};
 ghost use Rattle.job_text.specs.Views.{item_of};
@@ -19,7 +18,7 @@ use crate::answer::DriveAnswer;
 use crate::place::{Place, next_call, passed};
 use channel_commands::Call;
 use ckd_plain::Entry;
-use core_state::Core;
+use core_state::{Core, ENTRY_LIMIT};
 use host_events::{HostAnswer, host_event};
 use job_text::{HostScript, Item};
 use mss_base::{HostNo, Site};
@@ -111,9 +110,6 @@ fn lacking<S: Site, C: Choose>(core: &Core<S, C>) -> DriveAnswer
     }
     DriveAnswer::Memory
 }
-
-/// The most entries of a session.
-const ENTRY_LIMIT: usize = 4096;
 
 /// Makes a host's next call, if it has one, and goes on in its script.
 pub fn call_host<S: Site, C: Choose>(

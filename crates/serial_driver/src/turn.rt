@@ -34,16 +34,6 @@ fn is_idle(told: WorkAnswer) -> bool
     }
 }
 
-/// How many recorders a core has, 1 to 8.
-pub(crate) fn recorder_count<S: Site, C: Choose>(core: &Core<S, C>) -> u8
-    ensures value { result ≡ core.now.config.recorders }
-    ensures some { 1 ≤ result }
-    ensures few { result ≤ 8 }
-{
-    let config = &core.config;
-    config.recorders
-}
-
 impl<'a, S: Site, C: Choose> Drive<'a, S, C> {
     ghost use Rattle.serial_driver.specs.Drives.{Leaves, SettlesIt};
     ghost use Rattle.serial_driver.specs.Turns.{TurnsTo, LeavesLessBy};
@@ -75,7 +65,7 @@ impl<'a, S: Site, C: Choose> Drive<'a, S, C> {
         ensures leaves { Leaves S.Site self.old self.new result.answer }
     {
         let mut idle = true;
-        let recorders = recorder_count(self.core());
+        let recorders = self.core().recorder_count();
         for number in 0..recorders {
             let told = self.work_of(number);
             match answer_of(told) {

@@ -2,13 +2,11 @@
 ghost use Rattle.std.specs.Prelude.{◌≡◌, ◌==◌, ◌||◌, length};
 ghost use Rattle.volume_table.specs.Listed.{listed};
 ghost use Rattle.volume_table.specs.Row.{state_of};
-ghost use Rattle.shown_volumes.specs.Shown.{in_page, on_cartridge, source};
+ghost use Rattle.shown_volumes.specs.Shown.{in_page, source};
 
-use mss_base::{BlockPlace, Cylinder, Head, UnitNo, VolumeNo, cartridge_block, frame_block};
+use mss_base::{BlockPlace, Cylinder, Head, VolumeNo, frame_block};
+use shown_volumes::on_cartridge;
 use volume_table::{CylinderState, VolumeRow};
-
-/// The cylinders of a volume's first cartridge.
-const CYLINDERS_OF_CARTRIDGE: u16 = 202;
 
 /// The row of a volume, if the list has one.
 pub fn row_of(rows: &[Option<VolumeRow>], volume: VolumeNo) -> &Option<VolumeRow>
@@ -16,21 +14,6 @@ pub fn row_of(rows: &[Option<VolumeRow>], volume: VolumeNo) -> &Option<VolumeRow
     ensures { result.now ≡ listed rows.now volume }
 {
     &rows[usize::from(volume.get())]
-}
-
-/// The place of a track on its cartridge.
-fn on_cartridge(row: &VolumeRow, cylinder: Cylinder, head: Head) -> BlockPlace
-    ensures { result ≡ on_cartridge row.now cylinder head }
-{
-    let cartridge = if cylinder.get() < CYLINDERS_OF_CARTRIDGE {
-        row.first
-    } else {
-        row.second
-    };
-    BlockPlace {
-        unit: UnitNo::Cartridge(cartridge),
-        block: cartridge_block(cylinder, head),
-    }
 }
 
 /// The place of a track in the frame of its page, if the page has one.

@@ -9,7 +9,7 @@ use Rattle.mss_base.specs.declared.place.UnitNo.{UnitNo}
 use Rattle.mss_base.specs.declared.place.UnitNo.TheVariants.{Cartridge}
 use Rattle.ckd_track.specs.Data.{RecordData, Volumes}
 use Rattle.ckd_track.specs.Track.{reading}
-use Rattle.volume_table.specs.Row.{RowValue, frame_of, state_of}
+use Rattle.volume_table.specs.Row.{RowValue, frame_of, state_of, cartridge_with}
 use Rattle.table_pair.specs.Pair.{RowReading, known, row_of, is_table}
 
 -- the rows of volumes, by number
@@ -36,9 +36,9 @@ SameTables c d = (unit : UnitNo) (block : ℕ) → is_table unit ≡ true → d 
 abbrev pub block_at : Content → BlockPlace → List ℕ
 block_at c place = c place.unit place.block
 
--- where a track lies on its cartridge: the first one has the cylinders 0 to 201
+-- where a track lies on its cartridge
 abbrev pub on_cartridge : RowValue → ℕ → ℕ → BlockPlace
-on_cartridge r cylinder head = record { unit = Cartridge (if nat_lt cylinder 202 then r.first else r.second); block = cartridge_block cylinder head }
+on_cartridge r cylinder head = record { unit = Cartridge (cartridge_with r cylinder); block = cartridge_block cylinder head }
 
 -- where it lies in its page's frame, if the page has one
 abbrev pub in_page : RowValue → ℕ → ℕ → Option BlockPlace

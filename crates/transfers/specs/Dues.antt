@@ -1,7 +1,7 @@
 -- Which transfers are due by a row, and what the row becomes by them.
-use Rattle.std.specs.Prelude.{◌≡◌, ℕ, ◌<◌, ◌/◌, nat_lt, Some, if◌then◌else◌}
+use Rattle.std.specs.Prelude.{◌≡◌, ℕ, ◌<◌, ◌/◌, Some}
 use Rattle.mss_base.specs.declared.numbers.TheConstants.{CYLINDERS}
-use Rattle.volume_table.specs.Row.{RowValue, frame_of, state_of}
+use Rattle.volume_table.specs.Row.{RowValue, frame_of, state_of, cartridge_with}
 use Rattle.volume_table.specs.declared.changes.Change.{Change}
 use Rattle.volume_table.specs.declared.changes.Change.TheVariants.{Staged, Destaged}
 use Rattle.transfers.specs.declared.transfer.Transfer.{Transfer}
@@ -14,10 +14,6 @@ abbrev pub due_state : TransferKind → ℕ
 due_state kind.StageBlank = 0
 due_state kind.StageCartridge = 1
 due_state kind.Destage = 4
-
--- the cartridge that has a cylinder: the first one has the cylinders 0 to 201
-abbrev pub cartridge_with : RowValue → ℕ → ℕ
-cartridge_with r cylinder = if nat_lt cylinder 202 then r.first else r.second
 
 -- a transfer that is due by its volume's row: with the frame of the cylinder's page, and with the
 -- cartridge that has the cylinder

@@ -1,5 +1,5 @@
 -- What a row says of a volume.
-use Rattle.std.specs.Prelude.{◌≡◌, ℕ, ◌<◌, ◌≤◌, ◌/◌, List, length, replicate, slice_index, slice_index_or, Option, None, IfSome, IsSome}
+use Rattle.std.specs.Prelude.{◌≡◌, ℕ, ◌<◌, ◌≤◌, ◌/◌, List, length, replicate, slice_index, slice_index_or, Option, None, IfSome, IsSome, nat_lt, if◌then◌else◌}
 use Rattle.mss_base.specs.Serial.{IsSerial}
 use Rattle.mss_base.specs.declared.numbers.TheConstants.{CYLINDERS}
 use Rattle.volume_table.specs.declared.layout.TheConstants.{PAGES}
@@ -14,6 +14,10 @@ pub record RowValue : Type 0 where
 
 abbrev pub frame_of : RowValue → ℕ → Option ℕ
 frame_of r page = slice_index_or r.pages page None
+
+-- the cartridge that has a cylinder: the first one has the cylinders 0 to 201
+abbrev pub cartridge_with : RowValue → ℕ → ℕ
+cartridge_with r cylinder = if nat_lt cylinder 202 then r.first else r.second
 
 -- 0 blank, 1 on its cartridge, 2 blank and staged, 3 staged and equal to its cartridge, 4 changed since it was staged
 abbrev pub state_of : RowValue → ℕ → ℕ

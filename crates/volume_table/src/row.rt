@@ -1,7 +1,7 @@
 // The row of a volume.
 use crate::lists::{PageList, StateList, blank_pages, blank_states};
 use crate::state::CylinderState;
-use mss_base::{CartridgeNo, Cylinder, FrameNo, NoMemory, Page, Serial};
+use mss_base::{CYLINDERS, CartridgeNo, Cylinder, FrameNo, NoMemory, Page, Serial};
 use std::alloc::Global;
 use std::marker::Model;
 
@@ -33,7 +33,7 @@ impl Model for VolumeRow {
 
 impl VolumeRow {
     ghost use Rattle.std.specs.Prelude.{◌≡◌, ◌/◌, IfOk};
-    ghost use Rattle.volume_table.specs.Row.{frame_of, state_of, blank_row};
+    ghost use Rattle.volume_table.specs.Row.{cartridge_with, frame_of, state_of, blank_row};
     ghost use Rattle.volume_table.specs.States.{state_number};
 
     /// The row of a new volume: no page has a frame, each cylinder is blank.
@@ -54,6 +54,17 @@ impl VolumeRow {
             pages,
             states,
         })
+    }
+
+    /// The cartridge that has a cylinder: the first one has the cylinders 0 to 201.
+    pub fn cartridge(&self, cylinder: Cylinder) -> CartridgeNo
+        ensures { result ≡ cartridge_with self.now cylinder }
+    {
+        if cylinder.get() < CYLINDERS / 2 {
+            self.first
+        } else {
+            self.second
+        }
     }
 
     /// The frame that a page has, if any.

@@ -3,7 +3,7 @@ use Rattle.std.proofs.Common.{◌≡◌, ◌≢◌, inl, inr, ℕ, ◌+◌, ◌�
 use Rattle.std.specs.Prelude.{slice_set}
 use Rattle.mss_base.specs.Content.{Content, SiteLog, content, Writes}
 use Rattle.mss_base.specs.Counts.{IsFaultSince}
-use Rattle.volume_table.specs.Row.{RowValue}
+use Rattle.volume_table.specs.Row.{RowValue, cartridge_with}
 use Rattle.volume_table.specs.Listed.{listed}
 use Rattle.shown_volumes.specs.Shown.{shown, block_at}
 use Rattle.shown_volumes.specs.Sound.{SoundAs}
@@ -15,7 +15,6 @@ use Rattle.transfers.specs.declared.transfer.Transfer.{Transfer}
 use Rattle.transfers.specs.declared.transfer.TransferKind.{TransferKind}
 use Rattle.transfers.specs.declared.transfer.TransferKind.TheVariants.{StageBlank, StageCartridge, Destage}
 use Rattle.transfers.specs.Copies.{target, source, moved_on, AddsAtMost}
-use Rattle.transfers.specs.Dues.{cartridge_with}
 use Rattle.transfers.proofs.CopyFacts.{leaves_table}
 use Rattle.core_state.specs.declared.task.Task.{Task}
 use Rattle.core_state.specs.declared.session.Event.TheVariants.{Work}

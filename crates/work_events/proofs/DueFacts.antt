@@ -6,11 +6,11 @@ use Rattle.std.specs.List.{range_with_len}
 use Rattle.std.proofs.lemmas.Bool.{and_parts, eqb-true, ltb-true}
 use Rattle.std.proofs.lemmas.List.FromFn.{length-range_with_len, get_or-range_with_len}
 use Rattle.volume_table.specs.Listed.{listed}
-use Rattle.volume_table.specs.Row.{RowValue, frame_of, state_of}
+use Rattle.volume_table.specs.Row.{RowValue, frame_of, state_of, cartridge_with}
 use Rattle.shown_volumes.specs.Sound.{frame_in as framed_in}
 use Rattle.fault_queue.specs.declared.queue.Request.{Request}
 use Rattle.fault_queue.specs.Requests.{request_of}
-use Rattle.transfers.specs.Dues.{due_state, cartridge_with}
+use Rattle.transfers.specs.Dues.{due_state}
 use Rattle.transfers.specs.declared.transfer.Transfer.{Transfer}
 use Rattle.transfers.specs.declared.transfer.TransferKind.{TransferKind}
 use Rattle.transfers.specs.declared.transfer.TransferKind.TheVariants.{StageBlank, StageCartridge, Destage}

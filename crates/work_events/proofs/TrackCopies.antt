@@ -11,7 +11,7 @@ use Rattle.mss_base.specs.declared.place.BlockPlace.{BlockPlace}
 use Rattle.mss_base.proofs.ContentLemmas.{after-append, written_elsewhere}
 use Rattle.ckd_track.specs.Track.{reading}
 use Rattle.ckd_track.proofs.TrackFacts.{reading-zeros}
-use Rattle.volume_table.specs.Row.{RowValue, frame_of, state_of}
+use Rattle.volume_table.specs.Row.{RowValue, frame_of, state_of, cartridge_with}
 use Rattle.shown_volumes.specs.Shown.{RowsOf, rows_of, shown, block_at, on_cartridge, in_page}
 use Rattle.shown_volumes.specs.Sound.{IsSound, SoundAs, HasCartridgesOnce, IsStagedAs, IsSameAt}
 use Rattle.shown_volumes.proofs.PlaceFacts.{in_frame}
@@ -22,7 +22,7 @@ use Rattle.transfers.specs.declared.transfer.Transfer.{Transfer}
 use Rattle.transfers.specs.declared.transfer.TransferKind.{TransferKind}
 use Rattle.transfers.specs.declared.transfer.TransferKind.TheVariants.{StageBlank, StageCartridge, Destage}
 use Rattle.transfers.specs.Copies.{target, target_of, source_of, copy_of, AddsAtMost}
-use Rattle.transfers.specs.Dues.{due_state, cartridge_with}
+use Rattle.transfers.specs.Dues.{due_state}
 use Rattle.transfers.proofs.DueFacts.{goes_outside, shows_same_while}
 use Rattle.core_state.specs.declared.task.Task.{Task}
 use Rattle.core_state.specs.Tasks.{IsTransfer}

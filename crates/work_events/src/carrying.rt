@@ -3,10 +3,9 @@ ghost use Rattle.std.specs.Prelude.{◌≡◌, ◌<◌, length, Some};
 ghost use Rattle.accessors.specs.Moves.{moved_from_to};
 ghost use Rattle.accessors.specs.Rails.{IsServed};
 ghost use Rattle.cartridge_store.specs.Places.{place_of, with_place, IsFreeFor};
-ghost use Rattle.core_state.specs.CoreValue.{seen};
-ghost use Rattle.core_state.specs.WorkEvents.{WorkDoes};
 ghost use Rattle.core_state.specs.WorkRules.{work_rule};
 ghost use Rattle.core_state.specs.declared.rule.WorkRule.TheVariants.{Fetches, GivesBack};
+ghost use Rattle.work_events.specs.Steps.{WorkStep};
 
 use crate::parts::did;
 use accessors::{Rail, cell_place, plan_move, recorder_place};
@@ -57,8 +56,8 @@ pub fn give_back<S: Site, C: Choose>(
 ) -> WorkAnswer
     requires rule { work_rule core.old recorder ≡ GivesBack cartridge }
     requires fits { recorder < core.old.config.recorders }
-    ensures event { WorkDoes S.tells (C.may core.old.chooser)
-        (seen S.Site core.old) recorder (GivesBack cartridge) result (seen S.Site core.new) }
+    ensures event { WorkStep S.Site C.Choose core.old recorder
+        (GivesBack cartridge) result core.new }
     ensures chooser { core.new.chooser ≡ core.old.chooser }
     ensures site { core.new.site ≡ core.old.site }
 {
@@ -86,8 +85,7 @@ pub fn fetch<S: Site, C: Choose>(
 ) -> WorkAnswer
     requires rule { work_rule core.old recorder ≡ Fetches cartridge }
     requires fits { recorder < core.old.config.recorders }
-    ensures event { WorkDoes S.tells (C.may core.old.chooser)
-        (seen S.Site core.old) recorder (Fetches cartridge) result (seen S.Site core.new) }
+    ensures event { WorkStep S.Site C.Choose core.old recorder (Fetches cartridge) result core.new }
     ensures chooser { core.new.chooser ≡ core.old.chooser }
     ensures site { core.new.site ≡ core.old.site }
 {

@@ -17,21 +17,12 @@ use crate::transfer::changed_at;
 use core_state::looks::is_bound;
 use core_state::{Core, Rows};
 use fault_queue::{Queue, Request, RequestState};
-use mss_base::{Config, FrameNo, Listed, NoMemory, Page, Site, VolumeNo};
+use mss_base::{FrameNo, Listed, NoMemory, Page, Site, VolumeNo};
 use victim_choice::{Candidate, Choose, FrameList};
 use volume_table::VolumeRow;
 
 /// Frames that may be taken, the least recently touched first.
 pub type CandidateList = Listed<Candidate>;
-
-/// How many frames there are, 200 at most.
-fn frame_count(config: &Config) -> u16
-    ensures value { result ≡ config.now.frames }
-    ensures few { result ≤ 200 }
-{
-    let _volumes = &config.volumes;
-    config.frames
-}
 
 /// Whether no page has the frame, and no task uses it.
 fn is_free<S: Site, C: Choose>(core: &Core<S, C>, frame: FrameNo) -> bool
@@ -45,7 +36,7 @@ fn is_free<S: Site, C: Choose>(core: &Core<S, C>, frame: FrameNo) -> bool
 pub fn free_frame<S: Site, C: Choose>(core: &Core<S, C>) -> Option<FrameNo>
     ensures { result ≡ free_frame core.now }
 {
-    for number in 0..frame_count(&core.config) {
+    for number in 0..core.config.frame_count() {
         let frame = FrameNo::of(number as u8).unwrap();
         if is_free(core, frame) {
             return Some(frame);
@@ -161,7 +152,7 @@ pub fn has_candidate<S: Site, C: Choose>(core: &Core<S, C>) -> bool
     requires going { core.now.stopped ≡ None }
     ensures { result ≡ nat_lt 0 (length (candidates core.now)) }
 {
-    for number in 0..frame_count(&core.config) {
+    for number in 0..core.config.frame_count() {
         let frame = FrameNo::of(number as u8).unwrap();
         if is_candidate(core, frame) {
             return true;

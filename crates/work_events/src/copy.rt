@@ -5,9 +5,9 @@ ghost use Rattle.mss_base.specs.declared.place.UnitNo.{UnitNo};
 ghost use Rattle.transfers.specs.Copies.{IsReadable};
 ghost use Rattle.core_state.specs.CoreValue.{seen};
 ghost use Rattle.core_state.specs.Devices.{FailRead};
-ghost use Rattle.core_state.specs.WorkEvents.{WorkDoes};
 ghost use Rattle.core_state.specs.WorkRules.{work_rule};
 ghost use Rattle.core_state.specs.declared.rule.WorkRule.TheVariants.{Copies};
+ghost use Rattle.work_events.specs.Steps.{WorkStep};
 
 use crate::parts::{did, end_task, put_task, served};
 use core_state::{Core, Task, WorkAnswer, WorkKind, make_room};
@@ -25,8 +25,7 @@ pub fn copy<S: Site, C: Choose>(
 ) -> WorkAnswer
     requires rule { work_rule core.old recorder ≡ Copies transfer }
     requires fits { recorder < core.old.config.recorders }
-    ensures event { WorkDoes S.tells (C.may core.old.chooser)
-        (seen S.Site core.old) recorder (Copies transfer) result (seen S.Site core.new) }
+    ensures event { WorkStep S.Site C.Choose core.old recorder (Copies transfer) result core.new }
     ensures chooser { core.new.chooser ≡ core.old.chooser }
     ensures devices { MayWrite S.Site 1 core.old.site core.new.site }
     ensures works { (but : UnitNo → Bool) → S.never_fails_but core.old.site but

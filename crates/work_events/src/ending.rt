@@ -3,10 +3,9 @@ ghost use Rattle.std.specs.Prelude.{◌≡◌, ◌≢◌, ◌<◌, Bool};
 ghost use Rattle.mss_base.specs.Sites.{MayWrite};
 ghost use Rattle.mss_base.specs.declared.place.UnitNo.{UnitNo};
 ghost use Rattle.transfers.specs.declared.transfer.TransferKind.TheVariants.{Destage};
-ghost use Rattle.core_state.specs.CoreValue.{seen};
-ghost use Rattle.core_state.specs.WorkEvents.{WorkDoes};
 ghost use Rattle.core_state.specs.WorkRules.{work_rule};
 ghost use Rattle.core_state.specs.declared.rule.WorkRule.TheVariants.{Ends};
+ghost use Rattle.work_events.specs.Steps.{WorkStep};
 
 use crate::parts::{did, end_task, put_task, served, stop};
 use core_state::{Core, Task, WorkAnswer, WorkKind, make_room, write_change};
@@ -26,8 +25,7 @@ fn end_destage<S: Site, C: Choose>(
     requires rule { work_rule core.old recorder ≡ Ends transfer }
     requires fits { recorder < core.old.config.recorders }
     requires kind { transfer.kind ≡ Destage }
-    ensures event { WorkDoes S.tells (C.may core.old.chooser)
-        (seen S.Site core.old) recorder (Ends transfer) result (seen S.Site core.new) }
+    ensures event { WorkStep S.Site C.Choose core.old recorder (Ends transfer) result core.new }
     ensures chooser { core.new.chooser ≡ core.old.chooser }
     ensures devices { MayWrite S.Site CHANGE_WRITES core.old.site core.new.site }
     ensures works { (but : UnitNo → Bool) → S.never_fails_but core.old.site but
@@ -69,8 +67,7 @@ fn end_stage<S: Site, C: Choose>(
     requires rule { work_rule core.old recorder ≡ Ends transfer }
     requires fits { recorder < core.old.config.recorders }
     requires kind { transfer.kind ≢ Destage }
-    ensures event { WorkDoes S.tells (C.may core.old.chooser)
-        (seen S.Site core.old) recorder (Ends transfer) result (seen S.Site core.new) }
+    ensures event { WorkStep S.Site C.Choose core.old recorder (Ends transfer) result core.new }
     ensures chooser { core.new.chooser ≡ core.old.chooser }
     ensures devices { MayWrite S.Site CHANGE_WRITES core.old.site core.new.site }
     ensures works { (but : UnitNo → Bool) → S.never_fails_but core.old.site but
@@ -116,8 +113,7 @@ pub fn end<S: Site, C: Choose>(
 ) -> WorkAnswer
     requires rule { work_rule core.old recorder ≡ Ends transfer }
     requires fits { recorder < core.old.config.recorders }
-    ensures event { WorkDoes S.tells (C.may core.old.chooser)
-        (seen S.Site core.old) recorder (Ends transfer) result (seen S.Site core.new) }
+    ensures event { WorkStep S.Site C.Choose core.old recorder (Ends transfer) result core.new }
     ensures chooser { core.new.chooser ≡ core.old.chooser }
     ensures devices { MayWrite S.Site CHANGE_WRITES core.old.site core.new.site }
     ensures works { (but : UnitNo → Bool) → S.never_fails_but core.old.site but

@@ -4,10 +4,9 @@ ghost use Rattle.mss_base.specs.Sites.{MayWrite};
 ghost use Rattle.mss_base.specs.declared.place.UnitNo.{UnitNo};
 ghost use Rattle.staging_adapter.specs.Frames.{IsFrame, with_owner};
 ghost use Rattle.victim_choice.specs.Order.{touched};
-ghost use Rattle.core_state.specs.CoreValue.{seen};
-ghost use Rattle.core_state.specs.WorkEvents.{WorkDoes};
 ghost use Rattle.core_state.specs.WorkRules.{work_rule};
 ghost use Rattle.core_state.specs.declared.rule.WorkRule.TheVariants.{Assigns, Frees};
+ghost use Rattle.work_events.specs.Steps.{WorkStep};
 
 use crate::parts::{did, put_task, served, stop};
 use core_state::{Core, Task, WorkAnswer, WorkKind, make_room, write_change};
@@ -44,8 +43,7 @@ pub fn free<S: Site, C: Choose>(
 ) -> WorkAnswer
     requires rule { work_rule core.old recorder ≡ Frees volume page }
     requires fits { recorder < core.old.config.recorders }
-    ensures event { WorkDoes S.tells (C.may core.old.chooser)
-        (seen S.Site core.old) recorder (Frees volume page) result (seen S.Site core.new) }
+    ensures event { WorkStep S.Site C.Choose core.old recorder (Frees volume page) result core.new }
     ensures chooser { core.new.chooser ≡ core.old.chooser }
     ensures devices { MayWrite S.Site CHANGE_WRITES core.old.site core.new.site }
     ensures works { (but : UnitNo → Bool) → S.never_fails_but core.old.site but
@@ -87,8 +85,8 @@ pub fn assign<S: Site, C: Choose>(
 ) -> WorkAnswer
     requires rule { work_rule core.old recorder ≡ Assigns volume page }
     requires fits { recorder < core.old.config.recorders }
-    ensures event { WorkDoes S.tells (C.may core.old.chooser)
-        (seen S.Site core.old) recorder (Assigns volume page) result (seen S.Site core.new) }
+    ensures event { WorkStep S.Site C.Choose core.old recorder
+        (Assigns volume page) result core.new }
     ensures chooser { core.new.chooser ≡ core.old.chooser }
     ensures devices { MayWrite S.Site CHANGE_WRITES core.old.site core.new.site }
     ensures works { (but : UnitNo → Bool) → S.never_fails_but core.old.site but

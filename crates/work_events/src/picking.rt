@@ -3,11 +3,10 @@ ghost use Rattle.std.specs.Prelude.{◌≡◌, ◌≤◌, ◌<◌, length, slice
 ghost use Rattle.fault_queue.specs.Requests.{request_of, with_state};
 ghost use Rattle.fault_queue.specs.declared.queue.RequestState.TheVariants.{Moving};
 ghost use Rattle.staging_adapter.specs.Frames.{IsFrame, with_moving};
-ghost use Rattle.core_state.specs.CoreValue.{seen};
-ghost use Rattle.core_state.specs.WorkEvents.{WorkDoes};
 ghost use Rattle.core_state.specs.WorkRules.{work_rule};
 ghost use Rattle.core_state.specs.declared.rule.WorkRule.TheVariants.{Abandons, Picks, PicksVictim};
 ghost use Rattle.work_events.specs.Chosen.{MayAnswer};
+ghost use Rattle.work_events.specs.Steps.{WorkStep};
 
 use crate::choices::candidates;
 use crate::parts::{did, end_task, put_task, served};
@@ -55,8 +54,7 @@ pub fn pick<S: Site, C: Choose>(
 ) -> WorkAnswer
     requires rule { work_rule core.old recorder ≡ Picks host frame }
     requires fits { recorder < core.old.config.recorders }
-    ensures event { WorkDoes S.tells (C.may core.old.chooser)
-        (seen S.Site core.old) recorder (Picks host frame) result (seen S.Site core.new) }
+    ensures event { WorkStep S.Site C.Choose core.old recorder (Picks host frame) result core.new }
     ensures chooser { core.new.chooser ≡ core.old.chooser }
     ensures site { core.new.site ≡ core.old.site }
 {
@@ -89,8 +87,7 @@ pub fn pick_victim<S: Site, C: Choose>(
 ) -> WorkAnswer
     requires rule { work_rule core.old recorder ≡ PicksVictim host }
     requires fits { recorder < core.old.config.recorders }
-    ensures event { WorkDoes S.tells (C.may core.old.chooser)
-        (seen S.Site core.old) recorder (PicksVictim host) result (seen S.Site core.new) }
+    ensures event { WorkStep S.Site C.Choose core.old recorder (PicksVictim host) result core.new }
     ensures chooser { core.new.chooser ≡ core.old.chooser }
     ensures site { core.new.site ≡ core.old.site }
 {
@@ -123,8 +120,7 @@ pub fn pick_victim<S: Site, C: Choose>(
 pub fn abandon<S: Site, C: Choose>(core: &mut Core<S, C>, recorder: RecorderNo) -> WorkAnswer
     requires rule { work_rule core.old recorder ≡ Abandons }
     requires fits { recorder < core.old.config.recorders }
-    ensures event { WorkDoes S.tells (C.may core.old.chooser)
-        (seen S.Site core.old) recorder Abandons result (seen S.Site core.new) }
+    ensures event { WorkStep S.Site C.Choose core.old recorder Abandons result core.new }
     ensures chooser { core.new.chooser ≡ core.old.chooser }
     ensures site { core.new.site ≡ core.old.site }
 {

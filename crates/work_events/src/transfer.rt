@@ -1,5 +1,5 @@
 // The transfer that a task is at.
-ghost use Rattle.std.specs.Prelude.{◌≡◌, ℕ, ◌*◌, length, slice_get};
+ghost use Rattle.std.specs.Prelude.{◌≡◌, ◌*◌, length, slice_get};
 ghost use Rattle.mss_base.specs.Firsts.{where_so};
 ghost use Rattle.core_state.specs.Pins.{changed_in, is_changed};
 ghost use Rattle.core_state.specs.WorkRules.{
@@ -51,8 +51,7 @@ fn cartridge_of(rows: &[Option<VolumeRow>], volume: VolumeNo, cylinder: Cylinder
     ensures { result ≡ cartridge_of rows.now volume cylinder }
 {
     match &rows[usize::from(volume.get())] {
-        Some(row) if cylinder.get() < 202 => row.first,
-        Some(row) => row.second,
+        Some(row) => row.cartridge(cylinder),
         None => CartridgeNo::of(0).unwrap(),
     }
 }

@@ -1,6 +1,6 @@
 use Rattle.std.proofs.Common.{◌≡◌, ◌++◌, length}
-use Rattle.report_text.specs.Texts.{hex}
-use Rattle.report_text.proofs.text.push_hex.Given as goal
+use Rattle.job_text.specs.Canonical.{hex}
+use Rattle.job_text.proofs.pairs.push_hex.Given as goal
 
 abbrev pub invariant-loop-rest : goal.invariant-loop-rest
 invariant-loop-rest l = l.out.items ++ hex l.rest ≡ l.fn.out.items ++ hex l.bytes

@@ -1,0 +1,14 @@
+-- What a recorder's event does by a rule.
+use Rattle.std.specs.Prelude.{ℕ}
+use Rattle.mss_base.specs.declared.site.Site.{Ghosts}
+use Rattle.victim_choice.specs.declared.choose.Choose as choose
+use Rattle.core_state.specs.declared.rule.WorkAnswer.{WorkAnswer}
+use Rattle.core_state.specs.declared.rule.WorkRule.{WorkRule}
+use Rattle.core_state.specs.CoreValue.{CoreValue, seen}
+use Rattle.core_state.specs.WorkEvents.{WorkDoes}
+
+-- the answer, and the core after it, of whose site only so much is seen
+abbrev pub WorkStep : {S C : Type 0} → Ghosts S → choose.Ghosts C → CoreValue S C → ℕ → WorkRule
+    → WorkAnswer → CoreValue S C → Type 0
+WorkStep g c old recorder rule answer new =
+    WorkDoes g.tells (c.may old.chooser) (seen g old) recorder rule answer (seen g new)
