@@ -1,7 +1,8 @@
 -- A session of a job, from its parts.
-use Rattle.std.proofs.Common.{◌≡◌, inl, inr, ℕ, List, [], ◌∷◌, length, Option, None, Ok, refl, sym, ◌∙◌, ap, subst}
+use Rattle.std.proofs.Common.{◌≡◌, inl, inr, ℕ, List, [], ◌∷◌, length, Option, None, Ok, Err, refl, sym, ◌∙◌, ap, subst}
 use Rattle.mss_base.specs.Configs.{ConfigData, IsConfig}
 use Rattle.mss_base.specs.Content.{SiteLog, content}
+use Rattle.mss_base.specs.Sound.{StaysSound}
 use Rattle.mss_base.specs.Sites.{OnlyReads}
 use Rattle.mss_base.specs.declared.site.Site.{Ghosts}
 use Rattle.channel_program.specs.Script.{ItemData, mounting, demounting, program, Follows, at_start}
@@ -22,14 +23,17 @@ use Rattle.core_state.specs.Beginning.{IsLater}
 use Rattle.serial_driver.specs.Drives.{Leaves, RunsOn, Halts}
 use Rattle.serial_driver.specs.declared.answer.DriveAnswer.{DriveAnswer}
 use Rattle.serial_driver.specs.declared.answer.DriveAnswer.TheVariants as ended
-use Rattle.session_report.specs.Answers.{Answer}
-use Rattle.session_report.specs.Parties.{Stream, site_between}
-use Rattle.session_report.specs.Reports.{report_matter, opening_text}
+use Rattle.session_report.specs.Answers.{Answer, SinkCounts}
+use Rattle.session_report.specs.Parties.{Stream, seen_with, site_between}
+use Rattle.session_report.specs.Parts.{IsUnread}
+use Rattle.session_report.specs.Reports.{BreaksOff, OnRead, SiteCounts, report_matter, opening_text}
+use Rattle.session_report.specs.declared.fault.ReportFault.TheVariants as report_fault
+use Rattle.session_report.proofs.SiteReads.{unread_since}
 use Rattle.job_runs.specs.Parties.{Devices, devices}
-use Rattle.job_runs.specs.Runs.{AreRowsOf, FollowScripts, FollowToEnd, Goes, GoesUnstopped, IsBegun, IsHalted, IsMarked, IsPlayed, IsPromised, IsReportOf, IsSessionOf, IsTold, Ends, TellsSession}
+use Rattle.job_runs.specs.Runs.{AreRowsOf, FollowScripts, FollowToEnd, Goes, GoesUnstopped, IsBegun, IsFramed, IsHalted, IsMarked, IsPlayed, IsPromised, IsReportOf, IsSessionOf, IsTold, Ends, OnUnread, ReportBrokeOff, TellsSession, matter_of}
 use Rattle.job_runs.specs.declared.run.Outcome.{Outcome}
 use Rattle.job_runs.specs.declared.run.Outcome.TheVariants.{Untaken, Ran}
-use Rattle.job_runs.proofs.Reporting.{told_alike}
+use Rattle.job_runs.proofs.Reporting.{broken_alike, read_going, told_alike}
 use Rattle.job_runs.proofs.Seen.{begins_seen, told_seen, with_seen}
 
 -- ---- scripts
@@ -113,13 +117,23 @@ module _ {S : Type 0} (g : Ghosts S) (job : JobData)
     (sink : Stream) (answer : Answer)
     (read : OnlyReads g mid site)
     (report : IsTold (report_matter s job.config.volumes (shown_by (listed rows) (content (g.told mid)))) end (site_between g mid site) sink answer) where
-  pub report_of : IsReportOf job was (devices g mid site) sink end answer s
-  report_of = record {
+  pub report_of : IsFramed s end sink answer → SiteCounts (g.faults mid) (g.faults site) answer → SinkCounts sink.faults_was sink.faults_now answer → IsReportOf job was (devices g mid site) sink end answer s
+  report_of framed counted puts = record {
     read = record { told_ = read.log; writes_ = read.unwritten; later = read.later };
     report = told_alike (opening_text s) job.config.volumes (site_between g mid site) sink answer
         (shown_by (listed rows) (content (g.told mid))) (plain_volumes job.config (content was) s.history) end s.stopped halts
         (λ t none. same_volumes (are_rows.shown_ t none) ∙ (plain t).shows none) report;
+    framed = framed;
+    counted = counted;
+    puts = puts;
   }
+
+  -- which broke off before a track that couldn't be read
+  pub broken_of : OnRead answer (BreaksOff (IsUnread g mid (listed rows) job.config.volumes) (report_matter s job.config.volumes (shown_by (listed rows) (content (g.told mid)))) (seen_with (site_between g mid site) sink))
+      → OnRead answer (BreaksOff (IsUnread g mid (listed rows) job.config.volumes) (matter_of job (content was) s) (seen_with (site_between g mid site) sink))
+  broken_of off = broken_alike (opening_text s) job.config.volumes (site_between g mid site) sink (IsUnread g mid (listed rows) job.config.volumes)
+      (shown_by (listed rows) (content (g.told mid))) (plain_volumes job.config (content was) s.history) answer end s.stopped halts
+      (λ t none. same_volumes (are_rows.shown_ t none) ∙ (plain t).shows none) report off
 
 module _ {S : Type 0} (g : Ghosts S) (may : List Candidate → ℕ → Type 0) (job : JobData) (turns : List ℕ)
     (was : DevicesSeen) (mid site : S) (end : DriveAnswer) (s : SessionData)
@@ -134,6 +148,34 @@ module _ {S : Type 0} (g : Ghosts S) (may : List Candidate → ℕ → Type 0) (
 pub unstopped_of : (job : JobData) (was : SiteLog) (site : Devices) (sink : Stream) (end : DriveAnswer) (s : SessionData) (o : Outcome) → TellsSession job was site sink end s o → s.stopped ≡ None → GoesUnstopped o
 unstopped_of job was site sink end s (Untaken why) is none = absurd is
 unstopped_of job was site sink end s (Ran session last answer) is none = ap (λ (x : SessionData). x.stopped) is.0 ∙ none
+
+-- its report broke off, over the devices that were handed in
+module _ {S : Type 0} (g : Ghosts S) (job : JobData)
+    (began mid site : S) (end : DriveAnswer) (s : SessionData) (rows : List (Option RowValue))
+    (halts : IsHalted end s.stopped) (are_rows : AreRowsOf g.tells (g.told mid) s.stopped rows)
+    (sound : StaysSound g.never_fails_but began mid) (read : OnlyReads g mid site) (sink : Stream) where
+  pub broke_off_of : (o : Outcome) → TellsSession job (g.told began) (devices g mid site) sink end s o
+      → OnUnread o (λ (x : SessionData). BreaksOff (IsUnread g mid (listed rows) job.config.volumes) (matter_of job (content (g.told began)) x) (seen_with (site_between g mid site) sink))
+      → OnUnread o (ReportBrokeOff g began job (devices g began site) sink)
+  broke_off_of (Untaken why) is off = tt
+  broke_off_of (Ran session last (Err (report_fault.Read fault))) is off =
+      let going : s.stopped ≡ None = read_going (matter_of job (content (g.told began)) s) (site_between g mid site) sink fault end s.stopped halts is.2.report in
+      record {
+        going = ap (λ (x : SessionData). x.stopped) is.0 ∙ going;
+        rows = rows;
+        shown_ = λ t. are_rows.shown_ t going ∙ ap (λ (log : SiteLog). rows_of (content log)) (sym (read.log t));
+        off = record {
+          place = off.place;
+          tracks = off.tracks;
+          there = off.there;
+          few = off.few;
+          unread_ = unread_since g began mid sound _ off.unread_;
+          put = off.put;
+        };
+      }
+  broke_off_of (Ran session last (Ok x)) is off = tt
+  broke_off_of (Ran session last (Err report_fault.Output)) is off = tt
+  broke_off_of (Ran session last (Err report_fault.Memory)) is off = tt
 
 -- ---- what a restart made
 

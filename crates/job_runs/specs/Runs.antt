@@ -2,6 +2,7 @@
 use Rattle.std.specs.Prelude.{◌≡◌, ◌⊎◌, ◌≤◌, ℕ, List, length, Option, None, Some, Result, Ok, Err}
 use Rattle.mss_base.specs.Configs.{ConfigData}
 use Rattle.mss_base.specs.Content.{Content, SiteLog, content}
+use Rattle.mss_base.specs.declared.site.Site.{Ghosts}
 use Rattle.ckd_plain.specs.History.{EntryData}
 use Rattle.channel_program.specs.Script.{Follows, FollowsToEnd}
 use Rattle.fault_queue.specs.Requests.{RequestsData}
@@ -23,10 +24,12 @@ use Rattle.serial_driver.specs.Drives.{IsFull, RunsOn}
 use Rattle.serial_driver.specs.Scripts.{exchanges_of, script_of}
 use Rattle.serial_driver.specs.declared.answer.DriveAnswer.{DriveAnswer}
 use Rattle.serial_driver.specs.declared.answer.DriveAnswer.TheVariants as ended
-use Rattle.session_report.specs.Answers.{Answer, IsPut}
-use Rattle.session_report.specs.Parties.{Stream, IsUntouched, Devices as ToldDevices}
+use Rattle.session_report.specs.Answers.{Answer, IsPut, SinkCounts}
+use Rattle.session_report.specs.Parties.{Stream, IsUntouched, Devices as ToldDevices, seen_with}
+use Rattle.session_report.specs.Parts.{IsUnread}
 use Rattle.session_report.specs.Reports.{Ending, Matter, IsReported, finished, stopped}
-use Rattle.session_report.specs.Reports.{report_matter}
+use Rattle.session_report.specs.Reports.{BreaksOff, Frames, OnRead, SiteCounts}
+use Rattle.session_report.specs.Reports.{opening_text, report_matter}
 use Rattle.session_report.specs.Summaries.{summary_text}
 use Rattle.session_report.specs.declared.fault.ReportFault.TheVariants as report_fault
 use Rattle.session_report.specs.declared.reporting.Last.{Last}
@@ -93,6 +96,11 @@ TellsOf put ended.Memory sink told = (told ≡ Err report_fault.Memory) × IsUnt
 -- its report
 abbrev pub IsTold : Matter → DriveAnswer → ToldDevices → Stream → Answer → Type 0
 IsTold m end site sink told = TellsOf (λ ending. IsReported m ending site sink told) end sink told
+
+-- its title, entries, changes of rows and last line, whatever the devices tell
+abbrev pub IsFramed : SessionData → DriveAnswer → Stream → Answer → Type 0
+IsFramed s end sink told = TellsOf
+    (λ ending. sink.tells → Frames (opening_text s) ending sink.was sink.now told) end sink told
 
 -- its summary, where so many programs were asked for
 abbrev pub IsSummed : ℕ → SessionData → DriveAnswer → Stream → Answer → Type 0
@@ -162,6 +170,10 @@ pub record IsReportOf (job : JobData) (was : SiteLog) (site : Devices) (sink : S
     (end : DriveAnswer) (told : Answer) (s : SessionData) : Type 0 where
   pub read : OnlyRead site.tells site.was site.now
   pub report : IsTold (matter_of job (content was) s) end (reported site) sink told
+  pub framed : IsFramed s end sink told
+  -- where all went well, both counts of faults stay
+  pub counted : SiteCounts site.was.faults site.now.faults told
+  pub puts : SinkCounts sink.faults_was sink.faults_now told
 
 -- such a session and its report, from the devices that were handed in to those that are handed back
 pub record IsSessionOf (may : List Candidate → ℕ → Type 0) (job : JobData) (turns : List ℕ)
@@ -185,6 +197,7 @@ pub record IsLoadOf (may : List Candidate → ℕ → Type 0) (job : JobData) (p
     (s : SessionData) : Type 0 where
   pub played : IsPlayed may job turns site end s
   pub summed : IsSummed programs s end sink told
+  pub puts : SinkCounts sink.faults_was sink.faults_now told
 
 -- the site isn't taken up, and nothing was put
 pub record IsUntaken (job : JobData) (site : Devices) (sink : Stream) (why : Refused) : Type 0 where
@@ -204,3 +217,21 @@ abbrev pub LoadEnds : (List Candidate → ℕ → Type 0) → JobData → ℕ �
 LoadEnds may job programs turns site sink (Untaken why) = IsUntaken job site sink why
 LoadEnds may job programs turns site sink (Ran session end told) =
     IsLoadOf may job programs turns site sink end told (session_data session)
+
+-- ---- a report that broke off
+
+-- what is so of a session whose report tells a failed read, with the count behind it
+abbrev pub OnUnread : Outcome → (SessionData → ℕ → Type 0) → Type 0
+OnUnread (Untaken why) P = Unit {0}
+OnUnread (Ran session end told) P = OnRead told (P (session_data session))
+
+-- a session's report broke off before a track of which a read may fail, by what was so of the site
+-- that was handed in
+pub record ReportBrokeOff {S : Type 0} (g : Ghosts S) (s : S) (job : JobData)
+    (site : Devices) (sink : Stream) (session : SessionData) (fault : ℕ) : Type 0 where
+  pub going : session.stopped ≡ None
+  -- the rows of the devices, of which one shows that track
+  pub rows : List (Option RowValue)
+  pub shown_ : site.tells → listed rows ≡ rows_of (content site.now.told)
+  pub off : BreaksOff (IsUnread g s (listed rows) job.config.volumes)
+      (matter_of job (content site.was.told) session) (seen_with (reported site) sink) fault

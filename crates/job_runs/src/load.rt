@@ -4,7 +4,7 @@ ghost use Rattle.mss_base.specs.declared.place.UnitNo.{UnitNo};
 ghost use Rattle.core_state.specs.Sessions.{session_data};
 ghost use Rattle.mss_restart.specs.Creations.{WritesOn};
 ghost use Rattle.serial_driver.specs.Drives.{AreTurns};
-ghost use Rattle.session_report.specs.Answers.{IsPut};
+ghost use Rattle.session_report.specs.Answers.{IsPut, SinkCounts};
 ghost use Rattle.session_report.specs.Parties.{sink_between};
 ghost use Rattle.session_report.specs.Reports.{ending_of};
 ghost use Rattle.session_report.specs.Summaries.{summary_text};
@@ -31,6 +31,7 @@ fn put_summary<O: Sink>(
     ensures put { let ending = ending_of session.now.stopped last in
         IsPut (Ok tt) (summary_text programs (session_data session.now) ending)
         (sink_between O.Sink output.old output.new) result }
+    ensures counted { SinkCounts (O.faults output.old) (O.faults output.new) result }
 {
     summary(programs, session, last, output)?;
     Ok(())
@@ -47,6 +48,7 @@ fn tell_load<O: Sink>(
     requires halts { IsHalted end session.now.stopped }
     ensures summed { IsSummed programs (session_data session.now) end
         (sink_between O.Sink output.old output.new) result }
+    ensures counted { SinkCounts (O.faults output.old) (O.faults output.new) result }
 {
     match last_of(end) {
         Some(last) => put_summary(programs, session, last, output),

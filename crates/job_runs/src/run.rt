@@ -1,19 +1,22 @@
 // A job, run on a site.
 ghost use Rattle.std.specs.Prelude.{◌≡◌, Bool, Err, IfErr, IfOk, None, length};
-ghost use Rattle.mss_base.specs.Content.{SiteLog};
+ghost use Rattle.mss_base.specs.Content.{SiteLog, content};
 ghost use Rattle.mss_base.specs.Sites.{OnlyReads};
 ghost use Rattle.mss_base.specs.declared.place.UnitNo.{UnitNo};
+ghost use Rattle.volume_table.specs.Listed.{listed};
 ghost use Rattle.core_state.specs.Counted.{IsCounted};
 ghost use Rattle.core_state.specs.CoreValue.{DevicesSeen, seen, seen_site};
 ghost use Rattle.core_state.specs.IsCore.{IsTold};
 ghost use Rattle.core_state.specs.SessionData.{data_of};
 ghost use Rattle.mss_restart.specs.Creations.{WritesOn};
 ghost use Rattle.plain_sessions.specs.Sessions.{IsPlainSession};
-ghost use Rattle.session_report.specs.Parties.{sink_between};
+ghost use Rattle.session_report.specs.Parties.{seen_with, site_between, sink_between};
+ghost use Rattle.session_report.specs.Parts.{IsUnread};
+ghost use Rattle.session_report.specs.Reports.{BreaksOff};
 ghost use Rattle.serial_driver.specs.Drives.{AreTurns, IsUnused, Leaves};
 ghost use Rattle.serial_driver.specs.declared.answer.DriveAnswer.TheVariants.{Done};
 ghost use Rattle.job_runs.specs.Parties.{devices};
-ghost use Rattle.job_runs.specs.Runs.{AreRowsOf, Ends, FollowScripts, FollowToEnd, Goes, IsBegun, GoesUnstopped, IsHalted, IsMarked, IsPlayed, Opens, TellsSession};
+ghost use Rattle.job_runs.specs.Runs.{AreRowsOf, Ends, FollowScripts, FollowToEnd, Goes, IsBegun, GoesUnstopped, IsHalted, IsMarked, IsPlayed, OnUnread, Opens, ReportBrokeOff, TellsSession, matter_of};
 ghost use Rattle.core_state.specs.Sessions.{session_data};
 
 use crate::telling::tell;
@@ -157,7 +160,8 @@ pub fn play<S: Site, C: Choose + Drop>(
 
 /// Puts the report of a session that was played, and hands the site back.
 ///
-/// Where it promises plain volumes, those are told.
+/// Where it promises plain volumes, those are told. Where a read fails, the report ends before a track that one of its
+/// rows shows in a unit of which a read may fail.
 pub fn put_report<S: Site, O: Sink>(
     alloc: Global,
     job: &Job,
@@ -172,6 +176,12 @@ pub fn put_report<S: Site, O: Sink>(
         → TellsSession job.now was (devices S.Site played.site result.site)
         (sink_between O.Sink output.old output.new)
         played.end (session_data played.session) result.outcome }
+    ensures unread { (was : SiteLog) → (S.tells → IsPlainSession job.now.config was
+        (S.told played.site) (session_data played.session))
+        → OnUnread result.outcome (λ s. BreaksOff
+        (IsUnread S.Site played.site (listed played.rows.items) job.now.config.volumes)
+        (matter_of job.now (content was) s) (seen_with (site_between S.Site played.site result.site)
+        (sink_between O.Sink output.old output.new))) }
     ensures site { OnlyReads S.Site played.site result.site }
 {
     rows_of_a_content_show_its_volumes();
@@ -189,7 +199,7 @@ pub fn put_report<S: Site, O: Sink>(
     }
 }
 
-/// Plays a job on a site, and puts the report.
+/// Plays a job on a site, and puts the report. Where a read for it fails, it ends before that track.
 pub fn run_job<S: Site, C: Choose + Drop, O: Sink>(
     alloc: Global,
     job: &Job,
@@ -202,6 +212,8 @@ pub fn run_job<S: Site, C: Choose + Drop, O: Sink>(
     requires turns { AreTurns job.now.hosts job.now.config turns.now }
     ensures ends { Ends (C.may chooser) job.now turns.now (devices S.Site site result.site)
         (sink_between O.Sink output.old output.new) result.outcome }
+    ensures unread { OnUnread result.outcome (ReportBrokeOff S.Site site job.now
+        (devices S.Site site result.site) (sink_between O.Sink output.old output.new)) }
     ensures devices { WritesOn S.Site site result.site }
     ensures only_reads_fail { (but : UnitNo → Bool) → S.never_fails_but site but
         → GoesUnstopped result.outcome }

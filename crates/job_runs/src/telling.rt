@@ -5,9 +5,11 @@ ghost use Rattle.mss_base.specs.Sites.{OnlyReads};
 ghost use Rattle.volume_table.specs.Listed.{listed};
 ghost use Rattle.shown_volumes.specs.Shown.{shown_by};
 ghost use Rattle.core_state.specs.Sessions.{session_data};
-ghost use Rattle.session_report.specs.Parties.{site_between, sink_between};
-ghost use Rattle.session_report.specs.Reports.{report_matter};
-ghost use Rattle.job_runs.specs.Runs.{IsHalted, IsTold, last_of};
+ghost use Rattle.session_report.specs.Answers.{SinkCounts};
+ghost use Rattle.session_report.specs.Parties.{seen_with, site_between, sink_between};
+ghost use Rattle.session_report.specs.Parts.{IsUnread};
+ghost use Rattle.session_report.specs.Reports.{BreaksOff, OnRead, SiteCounts, report_matter};
+ghost use Rattle.job_runs.specs.Runs.{IsFramed, IsHalted, IsTold, last_of};
 
 use core_state::Session;
 use mss_base::{Serial, Sink, Site, VolumeNo};
@@ -42,6 +44,15 @@ pub fn tell<S: Site, O: Sink>(
     ensures told { let shown = shown_by (listed rows.now) (content (S.told site.old)) in
         IsTold (report_matter (session_data session.now) volumes.now shown) end
         (site_between S.Site site.old site.new) (sink_between O.Sink output.old output.new) result }
+    ensures unread { let shown = shown_by (listed rows.now) (content (S.told site.old)) in
+        OnRead result (BreaksOff (IsUnread S.Site site.old (listed rows.now) volumes.now)
+        (report_matter (session_data session.now) volumes.now shown)
+        (seen_with (site_between S.Site site.old site.new)
+        (sink_between O.Sink output.old output.new))) }
+    ensures framed { IsFramed (session_data session.now) end
+        (sink_between O.Sink output.old output.new) result }
+    ensures counted { SiteCounts (S.faults site.old) (S.faults site.new) result }
+    ensures output { SinkCounts (O.faults output.old) (O.faults output.new) result }
     ensures site { OnlyReads S.Site site.old site.new }
 {
     match last_of(end) {

@@ -1,37 +1,56 @@
--- A look that broke off before a track that couldn't be read.
-use Rattle.std.proofs.Common.{◌≡◌, ℕ, List, Option, Ok, Err, ◌++◌, refl, sym, ◌∙◌, ap, subst}
+-- A look, or a report, that broke off before a track that couldn't be read.
+use Rattle.std.proofs.Common.{◌≡◌, ℕ, List, Option, None, Some, Ok, Err, ◌++◌, sym, ◌∙◌, ap, subst}
 use Rattle.mss_base.specs.Content.{SiteLog, content}
 use Rattle.mss_base.specs.Sites.{OnlyReads}
 use Rattle.mss_base.specs.declared.site.Site.{Ghosts}
 use Rattle.volume_table.specs.Listed.{listed}
 use Rattle.volume_table.specs.Row.{RowValue}
-use Rattle.table_pair.specs.Reads.{IsReadable}
 use Rattle.shown_volumes.specs.Shown.{shown_by}
 use Rattle.report_text.specs.declared.one_line.OneLine.{OneLine}
 use Rattle.report_text.specs.declared.one_line.OneLine.TheVariants as line
+use Rattle.serial_driver.specs.declared.answer.DriveAnswer.{DriveAnswer}
 use Rattle.serial_driver.specs.declared.answer.DriveAnswer.TheVariants as ended
-use Rattle.session_report.specs.Answers.{Answer}
-use Rattle.session_report.specs.Parties.{Stream}
+use Rattle.session_report.specs.Answers.{Answer, IsPut, whole as put_whole, broken as put_broken, cut}
+use Rattle.session_report.specs.Parties.{Stream, IsUntouched}
 use Rattle.session_report.specs.Reports.{OnRead, listing_matter, told_text, unread}
 use Rattle.session_report.specs.declared.fault.ReportFault.TheVariants as report_fault
 use Rattle.session_report.proofs.SiteReads.{unread_since}
-use Rattle.job_runs.specs.Parties.{devices}
+use Rattle.core_state.specs.SessionData.{SessionData}
+use Rattle.core_state.specs.Sessions.{session_data}
+use Rattle.core_state.specs.declared.session.Session.{Session}
+use Rattle.command_words.specs.Options.{Text}
+use Rattle.job_text.specs.Jobs.{JobData}
+use Rattle.job_runs.specs.Parties.{Devices, devices}
+use Rattle.job_runs.specs.Runs.{IsHalted, IsSummed, LoadEnds, OnUnread, ReportBrokeOff}
+use Rattle.job_runs.specs.declared.run.Outcome.{Outcome}
+use Rattle.job_runs.specs.declared.run.Outcome.TheVariants as outcome
+use Rattle.mss_top.specs.Admission.{IsAdmitted}
+use Rattle.mss_top.specs.Serial.{Chooses, Closes, IsToldOf, JobBrokeOff, OnUnstopped, Output, RunBrokeOff, since, until}
 use Rattle.mss_top.specs.Showing.{BrokeOff, IsSurvey, LookBrokeOff}
-use Rattle.mss_top.specs.Status.{IsLinePut, whole, broken, line_status, status_of}
+use Rattle.mss_top.specs.Threads.{IsThreadsJob, ThreadsBrokeOff}
+use Rattle.mss_top.specs.declared.admission.Admitted.{Admitted}
+use Rattle.mss_top.specs.Status.{IsLinePut, whole, broken, end_status, line_status, status_of}
 use Rattle.mss_top.specs.declared.status.Status.{Status}
 use Rattle.mss_top.specs.declared.status.Status.TheVariants as status
 use Rattle.core_state.specs.CoreValue.{seen_site}
 
--- a listing that was stopped tells a failed read
+-- a failed read, with the count behind it
 pub record Found (P : ℕ → Type 0) : Type 0 where
   pub fault : ℕ
   pub is : P fault
 
+read_found : (P : ℕ → Type 0) (end : DriveAnswer) (answer : Answer) (told : Status) → (end_status end ≡ status.Stopped → ⊥) → told ≡ status_of end answer → OnRead answer P → told ≡ status.Stopped → Found P
+read_found P end (Ok x) told going ends off stop = absurd (going (sym ends ∙ stop))
+read_found P end (Err (report_fault.Read fault)) told going ends off stop = record { fault = fault; is = off }
+read_found P end (Err report_fault.Output) told going ends off stop = absurd (let e : status.OutputFault ≡ status.Stopped = sym ends ∙ stop in cc)
+read_found P end (Err report_fault.Memory) told going ends off stop = absurd (let e : status.Memory ≡ status.Stopped = sym ends ∙ stop in cc)
+
+done_unstopped : status.Done ≡ status.Stopped → ⊥
+done_unstopped is = cc
+
+-- a listing that was stopped tells one
 pub listing_stopped : (P : ℕ → Type 0) (answer : Answer) (told : Status) → told ≡ status_of ended.Done answer → OnRead answer P → told ≡ status.Stopped → Found P
-listing_stopped P (Ok x) told ends off stop = absurd (let e : status.Done ≡ status.Stopped = sym ends ∙ stop in cc)
-listing_stopped P (Err (report_fault.Read fault)) told ends off stop = record { fault = fault; is = off }
-listing_stopped P (Err report_fault.Output) told ends off stop = absurd (let e : status.OutputFault ≡ status.Stopped = sym ends ∙ stop in cc)
-listing_stopped P (Err report_fault.Memory) told ends off stop = absurd (let e : status.Memory ≡ status.Stopped = sym ends ∙ stop in cc)
+listing_stopped P answer told ends off stop = read_found P ended.Done answer told done_unstopped ends off stop
 
 -- a line never has that status
 said_unstopped : (said : OneLine) → line_status said ≡ status.Stopped → ⊥
@@ -65,3 +84,74 @@ look_broken g old mid new rows sink reads survey broke = record {
     };
   };
 }
+
+-- ---- a report
+
+-- a summary tells no failed read
+summary_unread : (P : ℕ → Type 0) (text : List ℕ) (sink : Stream) (answer : Answer) → IsPut (Ok tt) text sink answer → OnRead answer P
+summary_unread P text sink answer (put_whole is bytes) = subst (λ (a : Answer). OnRead a P) (sym is) tt
+summary_unread P text sink answer (put_broken is rose front) = subst (λ (a : Answer). OnRead a P) (sym is) tt
+summary_unread P text sink answer (cut is counted front) = subst (λ (a : Answer). OnRead a P) (sym is) tt
+
+summed_unread : (P : ℕ → Type 0) (programs : ℕ) (s : SessionData) (end : DriveAnswer) (sink : Stream) (answer : Answer) → IsSummed programs s end sink answer → OnRead answer P
+summed_unread P programs s ended.Done sink answer is = summary_unread P _ sink answer is
+summed_unread P programs s ended.CommandLimit sink answer is = summary_unread P _ sink answer is
+summed_unread P programs s (ended.Stopped fault) sink answer is = summary_unread P _ sink answer is
+summed_unread P programs s ended.Memory sink answer is = subst (λ (a : Answer). OnRead a P) (sym is.0) tt
+
+pub load_unread : (may : Chooses) (job : JobData) (programs : ℕ) (turns : List ℕ) (site : Devices) (sink : Stream) (P : SessionData → ℕ → Type 0) (o : Outcome) → LoadEnds may job programs turns site sink o → OnUnread o P
+load_unread may job programs turns site sink P (outcome.Untaken why) is = tt
+load_unread may job programs turns site sink P (outcome.Ran session end answer) is = summed_unread (P (session_data session)) programs (session_data session) end sink answer is.summed
+
+-- how a session ended that was told
+pub halts_of : (may : Chooses) (load : Option ℕ) (job : JobData) (turns : List ℕ) (site : Devices) (sink : Stream) (end : DriveAnswer) (answer : Answer) (s : SessionData) → IsToldOf may load job turns site sink end answer s → IsHalted end s.stopped
+halts_of may None job turns site sink end answer s is = is.played.halts
+halts_of may (Some programs) job turns site sink end answer s is = is.played.halts
+
+limit_unstopped : status.Limit ≡ status.Stopped → ⊥
+limit_unstopped is = cc
+
+-- A run that tells a stop, though its session wasn't stopped, tells a failed read, and nothing was put behind that.
+run_stopped : (P : ℕ → Type 0) (end : DriveAnswer) (answer : Answer) (kept : Option ℕ) (late : Stream) (told : Status) → IsHalted end kept → kept ≡ None → Closes end answer late told → OnRead answer P → told ≡ status.Stopped
+    → IsUntouched late × Found P
+run_stopped P ended.Done answer kept late told halts none closes off stop = (closes.0, read_found P ended.Done answer told done_unstopped closes.1 off stop)
+run_stopped P ended.CommandLimit answer kept late told halts none closes off stop = (closes.0, read_found P ended.CommandLimit answer told limit_unstopped closes.1 off stop)
+run_stopped P (ended.Stopped fault) answer kept late told halts none closes off stop = absurd (let e : ◌≡◌ {A = Option ℕ} None (Some fault) = sym none ∙ halts in cc)
+run_stopped P ended.Memory answer kept late told halts none closes off stop = absurd (line_unstopped line.WantOfMemory late told closes stop)
+
+module _ {S : Type 0} (g : Ghosts S) (s : S) where
+  -- the report is all that was put
+  module _ (job : JobData) (site : Devices) (sink : Stream) where
+    whole_broken : (mid : Output) (session : SessionData) (fault : ℕ) → IsUntouched (since sink mid) → ReportBrokeOff g s job site (until sink mid) session fault → JobBrokeOff g s job site sink session
+    whole_broken mid session fault none broke = record {
+      fault = fault;
+      broke = record {
+        going = broke.going;
+        rows = broke.rows;
+        shown_ = broke.shown_;
+        off = record {
+          place = broke.off.place;
+          tracks = broke.off.tracks;
+          there = broke.off.there;
+          few = broke.off.few;
+          unread_ = broke.off.unread_;
+          put = λ t. none.told_ ∙ broke.off.put t;
+        };
+      };
+    }
+
+    pub job_broken : (mid : Output) (session : SessionData) (end : DriveAnswer) (answer : Answer) (told : Status) → IsHalted end session.stopped → Closes end answer (since sink mid) told
+        → OnRead answer (ReportBrokeOff g s job site (until sink mid) session) → told ≡ status.Stopped → session.stopped ≡ None → JobBrokeOff g s job site sink session
+    job_broken mid session end answer told halts closes off stop none =
+        let found = run_stopped (ReportBrokeOff g s job site (until sink mid) session) end answer session.stopped (since sink mid) told halts none closes off stop in
+        whole_broken mid session found.1.fault found.0 found.1.is
+
+  -- of a run that was admitted
+  module _ (words : List Text) (input : Stream) (site : Devices) (sink : Stream) where
+    pub run_broken : (run : Admitted) (session : Option Session) → IsAdmitted words input run → OnUnstopped session (JobBrokeOff g s run.job site sink) → OnUnstopped session (RunBrokeOff g s words input site sink)
+    run_broken run None admitted broke = tt
+    run_broken run (Some session) admitted broke = λ none. record { run = run; admitted = admitted; broke = broke none }
+
+    pub threads_broken : (job : JobData) (session : Option Session) → IsThreadsJob words input job → OnUnstopped session (JobBrokeOff g s job site sink) → OnUnstopped session (ThreadsBrokeOff g s words input site sink)
+    threads_broken job None admitted broke = tt
+    threads_broken job (Some session) admitted broke = λ none. record { job = job; admitted = admitted; broke = broke none }

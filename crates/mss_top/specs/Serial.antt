@@ -1,6 +1,7 @@
 -- What a run of `serial` promises.
 use Rattle.std.specs.Prelude.{◌≡◌, ◌⊎◌, ℕ, List, Option, Some, None, Err}
 use Rattle.mss_base.specs.Content.{content}
+use Rattle.mss_base.specs.declared.site.Site.{Ghosts}
 use Rattle.victim_choice.specs.declared.choose.Candidate.{Candidate}
 use Rattle.command_words.specs.Options.{Text}
 use Rattle.draws.specs.Load.{load_job}
@@ -18,6 +19,7 @@ use Rattle.session_report.specs.Answers.{Answer}
 use Rattle.session_report.specs.Parties.{Stream, IsUntouched}
 use Rattle.job_runs.specs.Parties.{Devices}
 use Rattle.job_runs.specs.Runs.{IsLoadOf, IsSessionOf, Opens, IsUntaken as IsNotTakenUp}
+use Rattle.job_runs.specs.Runs.{ReportBrokeOff}
 use Rattle.job_runs.specs.declared.run.Outcome.{Outcome}
 use Rattle.job_runs.specs.declared.run.Outcome.TheVariants as outcome
 use Rattle.mss_top.specs.Admission.{AskToRun, IsAdmitted, IsJobText, IsUnread}
@@ -127,6 +129,27 @@ Runs may load job turns site sink (outcome.Untaken why) =
     IsNotTakenUp job site sink why
 Runs may load job turns site sink (outcome.Ran session end answer) =
     IsToldOf may load job turns site sink end answer (session_data session)
+
+-- ---- a report that broke off
+
+-- what is so of a session that wasn't stopped, if there is one
+abbrev pub OnUnstopped : Option Session → (SessionData → Type 0) → Type 0
+OnUnstopped None P = Unit {0}
+OnUnstopped (Some s) P = (session_data s).stopped ≡ None → P (session_data s)
+
+-- the report of a job's session broke off, and tells a count of faults
+pub record JobBrokeOff {S : Type 0} (g : Ghosts S) (s : S) (job : JobData)
+    (site : Devices) (sink : Stream) (session : SessionData) : Type 0 where
+  pub fault : ℕ
+  pub broke : ReportBrokeOff g s job site sink session fault
+
+-- that of an admitted run
+pub record RunBrokeOff {S : Type 0} (g : Ghosts S) (s : S)
+    (words : List Text) (input : Stream) (site : Devices) (sink : Stream) (session : SessionData)
+    : Type 0 where
+  pub run : Admitted
+  pub admitted : IsAdmitted words input run
+  pub broke : JobBrokeOff g s run.job site sink session
 
 -- ---- completeness
 

@@ -1,5 +1,6 @@
 -- What a run of `threads` promises.
 use Rattle.std.specs.Prelude.{◌≡◌, ◌≢◌, ◌⊎◌, List, [], Option, Some, Result, Ok, Err}
+use Rattle.mss_base.specs.declared.site.Site.{Ghosts}
 use Rattle.command_words.specs.Options.{Text}
 use Rattle.command_words.specs.Words.{meaning}
 use Rattle.command_words.specs.declared.command.Command.TheVariants as command
@@ -16,7 +17,8 @@ use Rattle.job_runs.specs.Parties.{Devices}
 use Rattle.thread_runs.specs.Runs.{IsSessionAtOnce}
 use Rattle.mss_top.specs.Admission.{IsJobText, IsNoJob, Reads}
 use Rattle.mss_top.specs.Ending.{SaysWhy}
-use Rattle.mss_top.specs.Serial.{Closes, EndsAs, IsUntaken, NothingFails, Output, since, until}
+use Rattle.mss_top.specs.Serial.{Closes, EndsAs, IsUntaken, JobBrokeOff, NothingFails, Output}
+use Rattle.mss_top.specs.Serial.{since, until}
 use Rattle.mss_top.specs.declared.status.Status.{Status}
 
 -- ---- which run is admitted
@@ -96,6 +98,14 @@ abbrev pub EndsThreads : List Text → Stream → Devices → Stream → Status 
 EndsThreads words input site sink told hosts session =
     EndsAs (BeganNone words input site sink told hosts)
     (IsThreadsRun words input site sink told hosts) session
+
+-- the report of an admitted run in threads broke off
+pub record ThreadsBrokeOff {S : Type 0} (g : Ghosts S) (s : S)
+    (words : List Text) (input : Stream) (site : Devices) (sink : Stream) (session : SessionData)
+    : Type 0 where
+  pub job : JobData
+  pub admitted : IsThreadsJob words input job
+  pub broke : JobBrokeOff g s job site sink session
 
 -- ---- completeness
 

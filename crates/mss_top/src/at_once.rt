@@ -1,11 +1,13 @@
 //! A run in threads: words, input, job, session, report.
-ghost use Rattle.std.specs.Prelude.{[], map, string_bytes};
+ghost use Rattle.std.specs.Prelude.{◌≡◌, [], map, string_bytes};
 ghost use Rattle.job_text.specs.Jobs.{JobData};
 ghost use Rattle.mss_restart.specs.Creations.{WritesOn};
 ghost use Rattle.session_report.specs.Parties.{sink_between, source_between};
 ghost use Rattle.job_runs.specs.Parties.{devices};
-ghost use Rattle.mss_top.specs.Serial.{IsComplete};
+ghost use Rattle.mss_top.specs.Serial.{IsComplete, JobBrokeOff, OnUnstopped};
 ghost use Rattle.mss_top.specs.Threads.{AdmitsThreads, EndsJob, EndsThreads, GoesWellAtOnce};
+ghost use Rattle.mss_top.specs.Threads.{ThreadsBrokeOff};
+ghost use Rattle.mss_top.specs.declared.status.Status.TheVariants.{Stopped};
 
 use crate::admission::job_of_input;
 use crate::ending::{Ended, refusal_line, refuse};
@@ -54,6 +56,9 @@ fn run_job_at_once<
     ensures ended { EndsJob job.now (devices S.Site site result.run.site)
         (sink_between O.Sink output.old output.new)
         result.run.status result.hosts.items result.run.session }
+    ensures unread { result.run.status ≡ Stopped → OnUnstopped result.run.session (JobBrokeOff
+        S.Site site job.now (devices S.Site site result.run.site)
+        (sink_between O.Sink output.old output.new)) }
     ensures devices { WritesOn S.Site site result.run.site }
 {
     let EndAtOnce { job, hosts } = run_at_once(rt, rt.alloc(), job, site, chooser, gate, output);
@@ -80,7 +85,8 @@ fn run_job_at_once<
 /// The words are the command `threads`, which has no options. The input is read to its end, or to one byte past the
 /// longest job text, before anything is looked at; a text that is no job, and a site that isn't taken up, are refused
 /// as by `serial`. The order in which the threads come is the system's: the history is that of plain volumes for each.
-/// All actors pass the gate between events. Whether and when the threads get on no clause says.
+/// All actors pass the gate between events. Whether and when the threads get on no clause says. Where a read for the
+/// report fails, it ends before that track.
 pub fn threads<
     I: Source,
     O: Sink,
@@ -102,6 +108,10 @@ pub fn threads<
         (source_between I.Source input.old input.new) (devices S.Site site result.run.site)
         (sink_between O.Sink output.old output.new)
         result.run.status result.hosts.items result.run.session }
+    ensures unread { result.run.status ≡ Stopped → OnUnstopped result.run.session
+        (ThreadsBrokeOff S.Site site (map string_bytes words.now)
+        (source_between I.Source input.old input.new) (devices S.Site site result.run.site)
+        (sink_between O.Sink output.old output.new)) }
     ensures complete { (job : JobData) → GoesWellAtOnce (map string_bytes words.now)
         (source_between I.Source input.old input.new) (devices S.Site site result.run.site)
         (sink_between O.Sink output.old output.new) job

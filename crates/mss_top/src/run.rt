@@ -7,9 +7,11 @@ ghost use Rattle.mss_restart.specs.Creations.{WritesOn};
 ghost use Rattle.serial_driver.specs.Drives.{AreTurns};
 ghost use Rattle.session_report.specs.Parties.{sink_between, source_between};
 ghost use Rattle.job_runs.specs.Parties.{devices};
-ghost use Rattle.job_runs.specs.Runs.{GoesUnstopped};
+ghost use Rattle.job_runs.specs.Runs.{GoesUnstopped, OnUnread, ReportBrokeOff};
 ghost use Rattle.mss_top.specs.Serial.{Closes, Ends, EndsRun, GoesWell, IsComplete, Runs};
+ghost use Rattle.mss_top.specs.Serial.{JobBrokeOff, OnUnstopped, RunBrokeOff};
 ghost use Rattle.mss_top.specs.declared.admission.Settings.{Settings};
+ghost use Rattle.mss_top.specs.declared.status.Status.TheVariants.{Stopped};
 
 use crate::admission::{Admitted, admit};
 use crate::ending::{Ended, refusal_line, refuse, say, status_of};
@@ -46,6 +48,8 @@ fn run_told<S: Site, C: Choose + Drop, O: Sink>(
     ensures runs { Runs (C.may chooser) run.now.settings.load run.now.job run.now.turns.items
         (devices S.Site site result.site)
         (sink_between O.Sink output.old output.new) result.outcome }
+    ensures unread { OnUnread result.outcome (ReportBrokeOff S.Site site run.now.job
+        (devices S.Site site result.site) (sink_between O.Sink output.old output.new)) }
     ensures only_reads_fail { (but : UnitNo → Bool) → S.never_fails_but site but
         → GoesUnstopped result.outcome }
     ensures devices { WritesOn S.Site site result.site }
@@ -68,6 +72,9 @@ fn run_admitted<S: Site, C: Choose + Drop, O: Sink>(
     requires turns { AreTurns run.now.job.hosts run.now.job.config run.now.turns.items }
     ensures ended { EndsRun (C.may chooser) run.now (devices S.Site site result.site)
         (sink_between O.Sink output.old output.new) result.status result.session }
+    ensures unread { result.status ≡ Stopped → OnUnstopped result.session (JobBrokeOff
+        S.Site site run.now.job (devices S.Site site result.site)
+        (sink_between O.Sink output.old output.new)) }
     ensures only_reads_fail { (but : UnitNo → Bool) → S.never_fails_but site but
         → IfSome result.session (λ s. (session_data s).stopped ≡ None) }
     ensures devices { WritesOn S.Site site result.site }
@@ -91,7 +98,7 @@ fn run_admitted<S: Site, C: Choose + Drop, O: Sink>(
 /// is no job is refused with its first bad line, and a site that isn't taken up with its first fault. Hosts and
 /// recorders first take the turns that `--order` draws, `--turns` of them, and then go on by rounds. Nothing is
 /// written to the site before the whole job was admitted. Without a session the output is one line, which says why. Where
-/// nothing but reads can fail, no session is stopped.
+/// nothing but reads can fail, no session is stopped. Where a read for the report fails, it ends before that track.
 pub fn serial<I: Source, O: Sink, S: Site, C: Choose + Drop>(
     alloc: Global,
     words: &[String],
@@ -104,6 +111,9 @@ pub fn serial<I: Source, O: Sink, S: Site, C: Choose + Drop>(
     ensures ended { Ends (map string_bytes words.now) (C.may chooser)
         (source_between I.Source input.old input.new) (devices S.Site site result.site)
         (sink_between O.Sink output.old output.new) result.status result.session }
+    ensures unread { result.status ≡ Stopped → OnUnstopped result.session (RunBrokeOff
+        S.Site site (map string_bytes words.now) (source_between I.Source input.old input.new)
+        (devices S.Site site result.site) (sink_between O.Sink output.old output.new)) }
     ensures complete { (settings : Settings) (job : JobData) → GoesWell (map string_bytes words.now)
         (source_between I.Source input.old input.new) (devices S.Site site result.site)
         (sink_between O.Sink output.old output.new) settings job

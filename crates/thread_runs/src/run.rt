@@ -5,7 +5,7 @@ ghost use Rattle.core_state.specs.Sessions.{session_data};
 ghost use Rattle.mss_restart.specs.Creations.{WritesOn};
 ghost use Rattle.session_report.specs.Parties.{sink_between};
 ghost use Rattle.job_runs.specs.Parties.{devices};
-ghost use Rattle.job_runs.specs.Runs.{AreRowsOf, IsBegun, Opens};
+ghost use Rattle.job_runs.specs.Runs.{AreRowsOf, IsBegun, OnUnread, Opens, ReportBrokeOff};
 ghost use Rattle.thread_runs.specs.Runs.{Ends, IsPlayedAtOnce, ended_as};
 
 use core_restart::{Refused, restart};
@@ -149,7 +149,7 @@ pub fn play_at_once<
     }
 }
 
-/// Runs a job in threads on a site, and puts the report.
+/// Runs a job in threads on a site, and puts the report. Where a read for it fails, it ends before that track.
 pub fn run_at_once<
     S: Site + Send,
     C: Choose + Drop + Send,
@@ -160,6 +160,8 @@ pub fn run_at_once<
     requires able { C.can_choose chooser }
     ensures ends { Ends job.now (devices S.Site site result.job.site)
         (sink_between O.Sink output.old output.new) result.job.outcome result.hosts.items }
+    ensures unread { OnUnread result.job.outcome (ReportBrokeOff S.Site site job.now
+        (devices S.Site site result.job.site) (sink_between O.Sink output.old output.new)) }
     ensures devices { WritesOn S.Site site result.job.site }
 {
     match play_at_once(rt, alloc, job, site, chooser, gate) {

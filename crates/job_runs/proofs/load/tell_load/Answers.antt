@@ -15,6 +15,7 @@ returns-in-Some g c =
     record {
       summed = told_to_end (λ (ending : Ending). IsPut (Ok tt) (summary_text c.args.programs (session_data c.args.session.now) ending) sink c.put_summary.result) sink c.put_summary.result
           c.args.end c.args.session.now.stopped c.in-Some.last c.requires.halts (sym c.in-Some.ensures) c.put_summary.ensures.put;
+      counted = c.put_summary.ensures.counted;
     }
 
 pub returns-in-None : goal.returns-in-None
@@ -22,4 +23,5 @@ returns-in-None g c =
     let sink = sink_between g.O.Sink c.args.output.now c.args.output.now in
     record {
       summed = told_nothing (λ (ending : Ending). IsPut (Ok tt) (summary_text c.args.programs (session_data c.args.session.now) ending) sink (Err Memory)) sink (Err Memory) c.args.end (sym c.in-None.ensures) refl (record { told_ = refl; faults_ = refl });
+      counted = refl;
     }

@@ -4,10 +4,11 @@ use Rattle.volume_table.specs.Listed.{listed}
 use Rattle.volume_table.specs.Row.{RowValue}
 use Rattle.shown_volumes.specs.Shown.{shown_by}
 use Rattle.core_state.specs.Sessions.{session_data}
-use Rattle.session_report.specs.Parties.{Stream, site_between, sink_between}
-use Rattle.session_report.specs.Reports.{Heading, report_matter}
+use Rattle.session_report.specs.Parties.{Stream, seen_with, site_between, sink_between}
+use Rattle.session_report.specs.Parts.{IsUnread}
+use Rattle.session_report.specs.Reports.{BreaksOff, Heading, OnRead, report_matter}
 use Rattle.job_runs.specs.Runs.{IsTold}
-use Rattle.job_runs.proofs.SessionFacts.{report_of}
+use Rattle.job_runs.proofs.SessionFacts.{broken_of, report_of}
 use Rattle.job_runs.proofs.run.put_report.Goals as goal
 
 pub tell-told-requires-clause-rows : goal.tell-told-requires-clause-rows
@@ -31,5 +32,25 @@ returns-clause-tells g c =
       refl,
       report_of g.S.Site c.args.job.now was p.site site p.end (session_data p.session) p.rows.items
           plain c.requires.halts c.requires.rows
-          (c.rows_of_a_content_show_its_volumes.ensures p.rows.items (content (told p.site))) sink c.tell-told.result c.tell-told.ensures.site report,
+          (c.rows_of_a_content_show_its_volumes.ensures p.rows.items (content (told p.site))) sink c.tell-told.result c.tell-told.ensures.site report
+          c.tell-told.ensures.framed c.tell-told.ensures.counted c.tell-told.ensures.output,
     )
+
+pub returns-clause-unread : goal.returns-clause-unread
+returns-clause-unread g c =
+    let p = c.args.played in
+    let told = g.S.Site.told in
+    let site = c.tell-told.new.site in
+    let sink : Stream = sink_between g.O.Sink c.args.output.now c.tell-told.new.output in
+    let headings : c.as_slice-volumes.result.now ≡ c.args.job.now.config.volumes =
+    search rules in
+    let rows : c.deref.result.now ≡ p.rows.items = c.deref.ensures.value in
+    let report : IsTold (report_matter (session_data p.session) c.args.job.now.config.volumes (shown_by (listed p.rows.items) (content (told p.site)))) p.end (site_between g.S.Site p.site site) sink c.tell-told.result =
+    subst (λ (x : List Heading × List (Option RowValue)). IsTold (report_matter (session_data p.session) x.0 (shown_by (listed x.1) (content (told p.site)))) p.end (site_between g.S.Site p.site site) sink c.tell-told.result)
+    (λ i. (headings i, rows i)) c.tell-told.ensures.told in
+    λ was plain. broken_of g.S.Site c.args.job.now was p.site site p.end (session_data p.session) p.rows.items
+    plain c.requires.halts c.requires.rows
+    (c.rows_of_a_content_show_its_volumes.ensures p.rows.items (content (told p.site))) sink c.tell-told.result c.tell-told.ensures.site report
+    (subst (λ (x : List Heading × List (Option RowValue)). OnRead c.tell-told.result (BreaksOff (IsUnread g.S.Site p.site (listed x.1) x.0) (report_matter (session_data p.session) x.0 (shown_by (listed x.1) (content (told p.site))))
+    (seen_with (site_between g.S.Site p.site site) sink)))
+    (λ i. (headings i, rows i)) c.tell-told.ensures.unread)

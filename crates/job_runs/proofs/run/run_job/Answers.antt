@@ -3,7 +3,7 @@ use Rattle.core_state.specs.Sessions.{session_data}
 use Rattle.session_report.specs.Parties.{Stream, sink_between}
 use Rattle.mss_restart.proofs.Repaired.{written_on}
 use Rattle.job_runs.specs.Parties.{Devices, devices}
-use Rattle.job_runs.proofs.SessionFacts.{ends_of, unstopped_of}
+use Rattle.job_runs.proofs.SessionFacts.{broke_off_of, ends_of, unstopped_of}
 use Rattle.job_runs.proofs.run.run_job.Goals as goal
 use Rattle.core_state.specs.CoreValue.{seen_site}
 
@@ -25,4 +25,7 @@ returns-in-Ok g c =
           (record { written = omega (arith, read.unwritten); later = read.later; sound = read.sound });
       ends = ends_of g.S.Site (g.C.Choose.may c.args.chooser) c.args.job.now c.args.turns.now (seen_site g.S.Site c.args.site) p.site put.result.site p.end (session_data p.session)
           c.in-Ok.ensures.played sink put.result.outcome tells_it;
+      unread = broke_off_of g.S.Site c.args.job.now c.args.site p.site put.result.site p.end (session_data p.session) p.rows.items
+          c.in-Ok.ensures.played.halts c.in-Ok.ensures.rows c.in-Ok.ensures.devices.sound read sink put.result.outcome tells_it
+          (put.ensures.unread (told c.args.site) c.in-Ok.ensures.played.promised.plain);
     }

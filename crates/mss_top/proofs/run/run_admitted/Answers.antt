@@ -1,8 +1,11 @@
 use Rattle.std.proofs.Common.{subst}
+use Rattle.core_state.specs.Sessions.{session_data}
 use Rattle.job_runs.specs.Parties.{Devices, devices}
+use Rattle.job_runs.specs.Runs.{OnUnread, ReportBrokeOff}
 use Rattle.job_runs.specs.declared.run.Outcome.{Outcome}
 use Rattle.session_report.specs.Parties.{Stream, sink_between}
 use Rattle.mss_top.specs.Serial.{Runs}
+use Rattle.mss_top.proofs.Broken.{halts_of, job_broken}
 use Rattle.mss_top.proofs.run.run_admitted.Goals as goal
 
 pub returns-in-Ran-clause-ended : goal.returns-in-Ran-clause-ended
@@ -17,3 +20,16 @@ returns-in-Ran-clause-ended g c =
       session = subst (λ (o : Outcome). Runs (g.C.Choose.may c.args.chooser) c.args.run.now.settings.load c.args.run.now.job c.args.run.now.turns.items site sink o) c.in-Ran.is ran.ensures.runs;
       closes = c.close.ensures;
     }
+
+pub returns-in-Ran-clause-unread : goal.returns-in-Ran-clause-unread
+returns-in-Ran-clause-unread g c = λ stop none.
+    let ran = c.run_told-site in
+    let may = g.C.Choose.may c.args.chooser in
+    let run = c.args.run.now in
+    let site : Devices = devices g.S.Site c.args.site ran.result.site in
+    let put : Stream = sink_between g.O.Sink c.args.output.now ran.new.output in
+    let sink : Stream = sink_between g.O.Sink c.args.output.now c.close.new.output in
+    job_broken g.S.Site c.args.site run.job site sink (record { bytes = g.O.Sink.told ran.new.output; faults = g.O.Sink.faults ran.new.output })
+    (session_data c.in-Ran.session) c.in-Ran.end c.in-Ran.told c.close.result
+    (halts_of may run.settings.load run.job run.turns.items site put c.in-Ran.end c.in-Ran.told (session_data c.in-Ran.session) (subst (λ (o : Outcome). Runs may run.settings.load run.job run.turns.items site put o) c.in-Ran.is ran.ensures.runs))
+    c.close.ensures (subst (λ (o : Outcome). OnUnread o (ReportBrokeOff g.S.Site c.args.site run.job site put)) c.in-Ran.is ran.ensures.unread) stop none
