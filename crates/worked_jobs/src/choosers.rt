@@ -1,8 +1,8 @@
-// Two choosers on one job: the third page takes the frame of the first, or of the second.
-use crate::running::report_by;
-use memory_devices::MemorySink;
-use std::test::Fail;
-use victim_choice::{Kept, Lru};
+// A chooser of our own: the third page takes the frame of the second. `checks/cases` shows the program's choice.
+use crate::running::{NONE_FAILS, failing_site, new_output, run_by};
+use memory_devices::{MemorySink, MemorySite};
+use std::alloc::Global;
+use victim_choice::{Choose, Kept};
 
 /// Two frames for three pages, each looked at once.
 const THREE_PAGES: &str = "mss 1 frames 2 recorders 1\n\
@@ -35,33 +35,36 @@ const FRONT: &str = "MSS REPORT 1\n\
     change 4 volume 0 assign page 1 frame 1\n\
     change 5 volume 0 staged cylinder 8\n";
 
-const FIRST_TAKEN: &str = "change 6 volume 0 free page 0 frame 0\n\
-    change 7 volume 0 assign page 2 frame 0\n\
-    change 8 volume 0 staged cylinder 16\n\
-    volume 0 VOL001\n\
-    END\n";
-
 const LAST_TAKEN: &str = "change 6 volume 0 free page 1 frame 1\n\
     change 7 volume 0 assign page 2 frame 1\n\
     change 8 volume 0 staged cylinder 16\n\
     volume 0 VOL001\n\
     END\n";
 
-/// Whether a report has this end.
-fn has_end(report: &MemorySink, end: &str) -> bool {
-    report.bytes().strip_prefix(FRONT.as_bytes()) == Some(end.as_bytes())
+fn tells<C: Choose + Drop>(
+    alloc: Global,
+    chooser: C,
+    site: MemorySite,
+    output: &mut MemorySink,
+    end: &str,
+) -> bool
+    requires { C.can_choose chooser }
+{
+    run_by(alloc, THREE_PAGES, site, chooser, output).is_some()
+        && output.bytes().strip_prefix(FRONT.as_bytes()) == Some(end.as_bytes())
+}
+
+/// Whether the report on blank devices, in which this chooser takes the pages that give their frames, has this end.
+fn ends_so<C: Choose + Drop>(alloc: Global, chooser: C, end: &str) -> Option<bool>
+    requires { C.can_choose chooser }
+{
+    let mut output = new_output(alloc)?;
+    let site = failing_site(alloc, NONE_FAILS)?;
+    Some(tells(alloc, chooser, site, &mut output, end))
 }
 
 #[test]
-fn the_least_recently_touched_page_gives_its_frame(rt: HostRuntime) -> Result<(), Fail> {
-    let report = report_by(rt.alloc(), THREE_PAGES, Lru)?;
-    assert!(rt; has_end(&report, FIRST_TAKEN));
-    Ok(())
-}
-
-#[test]
-fn a_kept_closure_chooses_for_a_session(rt: HostRuntime) -> Result<(), Fail> {
-    let report = report_by(rt.alloc(), THREE_PAGES, Kept::new(|list| list.len() - 1))?;
-    assert!(rt; has_end(&report, LAST_TAKEN));
-    Ok(())
+fn a_kept_closure_chooses_for_a_session(rt: HostRuntime) {
+    let last = Kept::new(|list| list.len() - 1);
+    assert_eq!(rt; ends_so(rt.alloc(), last, LAST_TAKEN), Some(true));
 }

@@ -1,9 +1,7 @@
 // Devices that fail below an event.
-use crate::events::answers;
+use crate::events::{Course, other_answer};
 use crate::steps::{Row, Step, Told};
 use core_state::WorkKind;
-use memory_devices::SiteFault;
-use std::test::Fail;
 
 const ONE_VOLUME: &str = "mss 1 frames 1 recorders 1\nvolume 0 VOL001\ndone\n";
 
@@ -27,16 +25,17 @@ const WRITE_FAILS: &[Row] = &[
     (1, Step::Work, Told::Stopped(1)),
 ];
 
+const FAILED_WRITE: Course = Course {
+    job: ONE_VOLUME,
+    rows: WRITE_FAILS,
+    entries: 3,
+    changes: 4,
+    state: None,
+};
+
 #[test]
-fn a_failed_write_stops_the_session(rt: HostRuntime) -> Result<(), Fail> {
-    answers(
-        rt.alloc(),
-        &[SiteFault::Call(176)],
-        ONE_VOLUME,
-        WRITE_FAILS,
-        (3, 4),
-        None,
-    )
+fn a_failed_write_stops_the_session(rt: HostRuntime) {
+    assert_eq!(rt; other_answer(rt.alloc(), [176, 0], &FAILED_WRITE), None);
 }
 
 /// The second search reads the track by call 169.
@@ -53,16 +52,17 @@ const READ_FAILS: &[Row] = &[
     (1, Step::Ask(1, 0x31, R0), Told::Status(0x4C, 0)),
 ];
 
+const FAILED_READ: Course = Course {
+    job: ONE_VOLUME,
+    rows: READ_FAILS,
+    entries: 5,
+    changes: 3,
+    state: None,
+};
+
 #[test]
-fn a_failed_read_is_an_equipment_check_once(rt: HostRuntime) -> Result<(), Fail> {
-    answers(
-        rt.alloc(),
-        &[SiteFault::Call(169)],
-        ONE_VOLUME,
-        READ_FAILS,
-        (5, 3),
-        None,
-    )
+fn a_failed_read_is_an_equipment_check_once(rt: HostRuntime) {
+    assert_eq!(rt; other_answer(rt.alloc(), [169, 0], &FAILED_READ), None);
 }
 
 /// The fourth track can't be written by call 146, so the host is told; then the cylinder is staged anew.
@@ -82,16 +82,17 @@ const COPY_FAILS: &[Row] = &[
     (1, Step::Ask(1, 0x31, R0), Told::Status(0x4C, 0)),
 ];
 
+const FAILED_COPY: Course = Course {
+    job: ONE_VOLUME,
+    rows: COPY_FAILS,
+    entries: 3,
+    changes: 3,
+    state: None,
+};
+
 #[test]
-fn a_failed_copy_is_an_equipment_check_of_its_host(rt: HostRuntime) -> Result<(), Fail> {
-    answers(
-        rt.alloc(),
-        &[SiteFault::Call(146)],
-        ONE_VOLUME,
-        COPY_FAILS,
-        (3, 3),
-        None,
-    )
+fn a_failed_copy_is_an_equipment_check_of_its_host(rt: HostRuntime) {
+    assert_eq!(rt; other_answer(rt.alloc(), [146, 0], &FAILED_COPY), None);
 }
 
 const TWO_VOLUMES: &str = "mss 1 frames 1 recorders 1\nvolume 0 VOL001\nvolume 1 VOL002\ndone\n";
@@ -131,8 +132,15 @@ const BOTH_FAIL: &[Row] = &[
     (1, Step::Ask(1, 0x31, R0), Told::Status(0x4C, 0)),
 ];
 
+const FAILED_BOTH: Course = Course {
+    job: TWO_VOLUMES,
+    rows: BOTH_FAIL,
+    entries: 9,
+    changes: 12,
+    state: None,
+};
+
 #[test]
-fn a_frame_and_a_cartridge_that_fail_once_are_told_once(rt: HostRuntime) -> Result<(), Fail> {
-    let failing = [SiteFault::Call(186), SiteFault::Call(281)];
-    answers(rt.alloc(), &failing, TWO_VOLUMES, BOTH_FAIL, (9, 12), None)
+fn a_frame_and_a_cartridge_that_fail_once_are_told_once(rt: HostRuntime) {
+    assert_eq!(rt; other_answer(rt.alloc(), [186, 281], &FAILED_BOTH), None);
 }

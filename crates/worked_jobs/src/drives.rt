@@ -1,14 +1,13 @@
 // A run that is given its turns event by event.
 ghost use Rattle.serial_driver.specs.Drives.{IsUnused};
 
+use crate::running::{NONE_FAILS, failing_site, job_of};
 use core_restart::restart;
 use core_state::{Core, Event};
-use job_text::{Job, read_job};
-use memory_devices::MemorySite;
+use job_text::Job;
 use mss_base::{HostNo, RecorderNo, Site};
 use serial_driver::{Drive, DriveAnswer};
 use std::alloc::Global;
-use std::test::Fail;
 use victim_choice::{Choose, Lru};
 
 const ONE_SEARCH: &str = "mss 1 frames 1 recorders 1\n\
@@ -32,49 +31,65 @@ fn counts_of<S: Site, C: Choose>(core: &Core<S, C>) -> (usize, usize) {
     (entries, core.console().as_slice().len())
 }
 
-fn went_on(answer: DriveAnswer) -> Result<(), Fail> {
+fn is_done(answer: DriveAnswer) -> bool {
     match answer {
-        DriveAnswer::Done => Ok(()),
-        _ => Err("not done".into()),
+        DriveAnswer::Done => true,
+        _ => false,
     }
 }
 
-fn two_host_events<S: Site, C: Choose>(drive: &mut Drive<S, C>) -> Result<(), Fail> {
-    let host = HostNo::of(1).ok_or("host")?;
-    went_on(drive.run_events(&[Event::Host(host), Event::Host(host)]))
+fn two_host_events<S: Site, C: Choose>(drive: &mut Drive<S, C>, host: HostNo) -> bool {
+    is_done(drive.run_events(&[Event::Host(host), Event::Host(host)]))
 }
 
-fn recorder_event<S: Site, C: Choose>(drive: &mut Drive<S, C>) -> Result<(), Fail> {
-    let recorder = RecorderNo::of(0).ok_or("recorder")?;
+fn recorder_event<S: Site, C: Choose>(drive: &mut Drive<S, C>) -> bool {
+    let Some(recorder) = RecorderNo::of(0) else {
+        return false;
+    };
     if drive.core().config.recorders == 0 {
-        return Err("no recorder".into());
+        return false;
     }
-    went_on(drive.run_events(&[Event::Work(recorder)]))
+    is_done(drive.run_events(&[Event::Work(recorder)]))
 }
 
-fn counts_in<S: Site, C: Choose>(drive: &mut Drive<S, C>) -> Result<[(usize, usize); 3], Fail> {
-    two_host_events(drive)?;
-    let asked = counts_of(drive.core());
+fn recorder_events<S: Site, C: Choose>(drive: &mut Drive<S, C>) -> bool {
     for _ in 0..STEPS {
-        recorder_event(drive)?;
+        if !recorder_event(drive) {
+            return false;
+        }
+    }
+    true
+}
+
+/// The counts, as far as the events are done.
+fn counts_in<S: Site, C: Choose>(drive: &mut Drive<S, C>) -> Option<[(usize, usize); 3]> {
+    let host = HostNo::of(1)?;
+    if !two_host_events(drive, host) {
+        return None;
+    }
+    let asked = counts_of(drive.core());
+    if !recorder_events(drive) {
+        return None;
     }
     let staged = counts_of(drive.core());
-    two_host_events(drive)?;
-    Ok([asked, staged, counts_of(drive.core())])
+    if !two_host_events(drive, host) {
+        return None;
+    }
+    Some([asked, staged, counts_of(drive.core())])
 }
 
 fn let_go<S: Site + Drop, C: Choose + Drop>(core: Core<S, C>) {
-    let _ = core.into_session();
+    let (_site, _session, _rows) = core.into_session();
 }
 
 fn counts_on<S: Site + Drop, C: Choose + Drop>(
     core: Core<S, C>,
     job: &Job,
-) -> Result<[(usize, usize); 3], Fail>
+) -> Option<[(usize, usize); 3]>
     requires { IsUnused core job.now }
 {
     let Ok(mut drive) = Drive::new(core, job) else {
-        return Err("no memory".into());
+        return None;
     };
     let counts = counts_in(&mut drive);
     let_go(drive.into_core());
@@ -86,20 +101,22 @@ fn counts_by<S: Site + Drop, C: Choose + Drop>(
     job: &Job,
     site: S,
     chooser: C,
-) -> Result<[(usize, usize); 3], Fail>
+) -> Option<[(usize, usize); 3]>
     requires { C.can_choose chooser }
 {
     match restart(alloc, site, &job.config, chooser) {
         Ok(core) => counts_on(core, job),
-        Err(_) => Err("refused".into()),
+        Err(_) => None,
     }
 }
 
+fn counts(alloc: Global) -> Option<[(usize, usize); 3]> {
+    let job = job_of(alloc, ONE_SEARCH)?;
+    let site = failing_site(alloc, NONE_FAILS)?;
+    counts_by(alloc, &job, site, Lru)
+}
+
 #[test]
-fn events_are_done_in_their_order(rt: HostRuntime) -> Result<(), Fail> {
-    let alloc = rt.alloc();
-    let job = read_job(alloc, ONE_SEARCH.as_bytes()).ok().ok_or("job")?;
-    let counts = counts_by(alloc, &job, MemorySite::new(alloc)?, Lru)?;
-    assert_eq!(rt; counts, COUNTS);
-    Ok(())
+fn events_are_done_in_their_order(rt: HostRuntime) {
+    assert_eq!(rt; counts(rt.alloc()), Some(COUNTS));
 }

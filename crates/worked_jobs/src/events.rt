@@ -1,16 +1,14 @@
 // A session of a core, event by event.
-use crate::running::{failing_site, otherwise};
+use crate::running::{Failing, NONE_FAILS, failing_site, job_of};
 use crate::steps::{Events, Row, first_other};
 use channel_commands::Call;
 use core_restart::restart;
 use core_state::looks::state_in;
 use core_state::{Core, WorkAnswer};
 use host_events::{HostAnswer, host_event};
-use job_text::{Job, read_job};
-use memory_devices::SiteFault;
+use job_text::Job;
 use mss_base::{Cylinder, HostNo, RecorderNo, Site, VolumeNo};
 use std::alloc::Global;
-use std::test::Fail;
 use victim_choice::{Choose, Lru};
 use work_events::work_event;
 
@@ -30,15 +28,17 @@ impl<R, S: Site, C: Choose> Events<R> for Core<S, C> {
     }
 }
 
-/// How a session ended.
+/// A session that is worked out: its rows, and what it comes to.
 #[derive(Clone, Copy)]
-struct Ended {
-    /// The place of the first row that was answered otherwise.
-    other: Option<usize>,
-    entries: usize,
-    changes: usize,
-    /// The number of the state of volume 0, cylinder 0.
-    state: Option<u8>,
+pub struct Course {
+    /// The volumes.
+    pub job: &'static str,
+    pub rows: &'static [Row],
+    pub entries: usize,
+    /// So many changes of rows.
+    pub changes: usize,
+    /// The number of the state of volume 0, cylinder 0, where that is asked.
+    pub state: Option<u8>,
 }
 
 /// The number of the state of volume 0, cylinder 0.
@@ -48,18 +48,23 @@ fn state_of<S: Site, C: Choose>(core: &Core<S, C>) -> Option<u8> {
     Some(state_in(&core.rows, volume, cylinder))
 }
 
-fn ended_after<S: Site, C: Choose>(
+fn has_come_to<S: Site, C: Choose>(core: &Core<S, C>, course: &Course) -> bool {
+    core.history().as_slice().len() == course.entries
+        && core.console().as_slice().len() == course.changes
+        && (course.state.is_none() || course.state == state_of(core))
+}
+
+/// The place of the first row that a session answers otherwise; the count of the rows where it comes to another end.
+fn other_row<S: Site, C: Choose>(
     alloc: Global,
     core: &mut Core<S, C>,
-    rows: &[Row],
-) -> Result<Ended, Fail> {
-    let other = first_other(&(), alloc, core, rows)?;
-    Ok(Ended {
-        other,
-        entries: core.history().as_slice().len(),
-        changes: core.console().as_slice().len(),
-        state: state_of(core),
-    })
+    course: &Course,
+) -> Option<usize> {
+    let other = first_other(&(), alloc, core, course.rows);
+    if other.is_none() && !has_come_to(core, course) {
+        return Some(course.rows.len());
+    }
+    other
 }
 
 fn site_of<S: Site, C: Choose + Drop>(core: Core<S, C>) -> S {
@@ -67,63 +72,73 @@ fn site_of<S: Site, C: Choose + Drop>(core: Core<S, C>) -> S {
     site
 }
 
-/// A session of a job's devices and volumes, and the site that it left.
-fn play<S: Site + Drop, C: Choose + Drop>(
+/// A session of a job's devices and volumes.
+fn begin<S: Site + Drop, C: Choose + Drop>(
     alloc: Global,
     job: &Job,
     site: S,
     chooser: C,
-    rows: &[Row],
-) -> Result<(S, Ended), Fail>
+) -> Option<Core<S, C>>
     requires { C.can_choose chooser }
 {
     match restart(alloc, site, &job.config, chooser) {
-        Ok(mut core) => {
-            let ended = ended_after(alloc, &mut core, rows)?;
-            Ok((site_of(core), ended))
-        }
-        Err(_) => Err("refused".into()),
+        Ok(core) => Some(core),
+        Err(_) => None,
     }
 }
 
-/// Each row is answered so in a session on devices, which has so many entries and changes of rows in the end; and where a
-/// state is named, volume 0, cylinder 0 has it then. The least recently used page is the one that is replaced.
-pub fn answers_on<S: Site + Drop>(
+/// The site that a session left; or the place of the first row that was answered otherwise.
+fn played<S: Site + Drop, C: Choose + Drop>(
+    alloc: Global,
+    core: Core<S, C>,
+    course: &Course,
+) -> Result<S, usize> {
+    let mut core = core;
+    let other = other_row(alloc, &mut core, course);
+    let site = site_of(core);
+    match other {
+        Some(place) => Err(place),
+        None => Ok(site),
+    }
+}
+
+fn play<S: Site + Drop>(alloc: Global, site: S, course: &Course) -> Option<Result<S, usize>> {
+    let job = job_of(alloc, course.job)?;
+    let core = begin(alloc, &job, site, Lru)?;
+    Some(played(alloc, core, course))
+}
+
+/// Each row is answered so in a session on devices, which comes to that; and the least recently used page is the one that
+/// is replaced. Gives the devices, or the place of the first row that is answered otherwise; behind the last row that of
+/// an end which is another.
+fn answers_on<S: Site + Drop>(alloc: Global, site: S, course: &Course) -> Result<S, usize> {
+    play(alloc, site, course).unwrap_or(Err(usize::MAX))
+}
+
+/// The same on blank devices, of which these calls fail: the place of what is otherwise.
+pub fn other_answer(alloc: Global, failing: Failing, course: &Course) -> Option<usize> {
+    match failing_site(alloc, failing) {
+        Some(site) => answers_on(alloc, site, course).err(),
+        None => Some(usize::MAX),
+    }
+}
+
+fn other_on<S: Site + Drop>(
     alloc: Global,
     site: S,
-    job: &str,
-    rows: &[Row],
-    counts: (usize, usize),
-    state: Option<u8>,
-) -> Result<S, Fail> {
-    let job = read_job(alloc, job.as_bytes()).ok().ok_or("job")?;
-    let (site, ended) = play(alloc, &job, site, Lru, rows)?;
-    if let Some(place) = ended.other {
-        return Err(otherwise(place as u64));
+    first: &Course,
+    second: &Course,
+) -> Option<usize> {
+    match answers_on(alloc, site, first) {
+        Ok(site) => answers_on(alloc, site, second).err(),
+        Err(place) => Some(place),
     }
-    let is_counted = ended.entries == counts.0 && ended.changes == counts.1;
-    if !is_counted || state.is_some() && state != ended.state {
-        return Err(otherwise(rows.len() as u64));
-    }
-    Ok(site)
 }
 
-/// The same on blank devices, of which these calls fail.
-pub fn answers(
-    alloc: Global,
-    failing: &[SiteFault],
-    job: &str,
-    rows: &[Row],
-    counts: (usize, usize),
-    state: Option<u8>,
-) -> Result<(), Fail> {
-    answers_on(
-        alloc,
-        failing_site(alloc, failing)?,
-        job,
-        rows,
-        counts,
-        state,
-    )?;
-    Ok(())
+/// The same of two sessions, one after the other, on devices of which no call fails.
+pub fn other_of_both(alloc: Global, first: &Course, second: &Course) -> Option<usize> {
+    match failing_site(alloc, NONE_FAILS) {
+        Some(site) => other_on(alloc, site, first, second),
+        None => Some(usize::MAX),
+    }
 }

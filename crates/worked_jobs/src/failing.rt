@@ -1,9 +1,7 @@
 // Runs on blank devices of which calls fail, said by value.
-use crate::running::{failing_site, otherwise, run, shows};
-use memory_devices::SiteFault;
+use crate::running::{Failing, failing_site, left_by, shows};
 use mss_base::Site;
 use std::alloc::Global;
-use std::test::Fail;
 
 /// A job with what it tells where no call fails, on blank devices.
 #[derive(Clone, Copy)]
@@ -37,107 +35,163 @@ pub struct Ending {
 }
 
 /// Puts the first lines of a text behind another.
-fn put_lines(text: &mut String, lines: &str, count: usize) -> Result<(), Fail> {
+fn put_lines(text: &mut String, lines: &str, count: usize) -> Option<()> {
     for line in lines.lines().take(count) {
-        text.push_str(line)?;
-        text.push('\n')?;
+        text.push_str(line).ok()?;
+        text.push('\n').ok()?;
     }
-    Ok(())
+    Some(())
 }
 
-/// The report with which a run ends so.
-fn report_of(alloc: Global, worked: &Worked, ending: &Ending) -> Result<String, Fail> {
-    let mut text = String::new(alloc);
-    text.push_str("MSS REPORT 1\n")?;
-    put_lines(&mut text, worked.entries, ending.entries)?;
-    text.push_str(ending.then)?;
-    put_lines(&mut text, worked.changes, ending.changes)?;
-    text.push_str(ending.rest)?;
-    Ok(text)
+/// Puts the report with which a run ends so.
+fn put_report(text: &mut String, worked: &Worked, ending: &Ending) -> Option<()> {
+    text.push_str("MSS REPORT 1\n").ok()?;
+    put_lines(text, worked.entries, ending.entries)?;
+    text.push_str(ending.then).ok()?;
+    put_lines(text, worked.changes, ending.changes)?;
+    text.push_str(ending.rest).ok()
 }
 
-/// Whether the run on devices tells this, of which so many calls failed, and leaves these volumes.
-fn ends_with_faults<S: Site + Drop>(
+/// What a run is to come to.
+#[derive(Clone, Copy)]
+struct Due<'a> {
+    told: &'a str,
+    faults: u64,
+    /// How many writes are made, where that is asked.
+    writes: Option<u64>,
+    /// The end of the report of a job that asks nothing, on the devices that the run left, where that is asked.
+    left: Option<&'a str>,
+}
+
+fn has_counts<S: Site>(site: &S, due: &Due<'_>) -> bool {
+    let is_written = match due.writes {
+        Some(writes) => site.writes() == writes,
+        None => true,
+    };
+    is_written && site.faults() == due.faults
+}
+
+fn is_left<S: Site + Drop>(alloc: Global, worked: &Worked, site: S, due: &Due<'_>) -> bool {
+    match due.left {
+        Some(left) => shows(alloc, worked.idle, site, "", left),
+        None => true,
+    }
+}
+
+fn comes_to<S: Site + Drop>(alloc: Global, worked: &Worked, site: S, due: &Due<'_>) -> bool {
+    match left_by(alloc, worked.job, site, due.told) {
+        Some(site) => {
+            let is_counted = has_counts(&site, due);
+            is_left(alloc, worked, site, due) && is_counted
+        }
+        None => false,
+    }
+}
+
+/// Whether the run comes to that on blank devices of which these calls fail.
+fn is_so(alloc: Global, worked: &Worked, failing: Failing, due: &Due<'_>) -> bool {
+    match failing_site(alloc, failing) {
+        Some(site) => comes_to(alloc, worked, site, due),
+        None => false,
+    }
+}
+
+/// The first call of a stretch, from the one behind these on, with which a run ends otherwise where it fails.
+fn other_in(
     alloc: Global,
     worked: &Worked,
-    site: S,
-    faults: u64,
+    before: u64,
+    ending: &Ending,
     told: &str,
-    left: &str,
-) -> Result<bool, Fail> {
-    let end = run(alloc, worked.job, site)?;
-    let is_told = end.output.bytes() == told.as_bytes();
-    let failed = end.site.faults();
-    let is_left = shows(alloc, end.site, worked.idle, left)?;
-    Ok(is_told && failed == faults && is_left)
-}
-
-/// Whether the run on devices tells this, and no call failed in it.
-fn ends_unfailed<S: Site + Drop>(
-    alloc: Global,
-    job: &str,
-    site: S,
-    told: &str,
-) -> Result<bool, Fail> {
-    let end = run(alloc, job, site)?;
-    let is_told = end.output.bytes() == told.as_bytes();
-    let failed = end.site.faults();
-    Ok(is_told && failed == 0)
-}
-
-/// That a run makes no call behind so many: none fails, and its report is whole.
-fn makes_no_call(alloc: Global, worked: &Worked, calls: u64) -> Result<(), Fail> {
-    let mut text = String::new(alloc);
-    text.push_str("MSS REPORT 1\n")?;
-    text.push_str(worked.entries)?;
-    text.push_str(worked.changes)?;
-    text.push_str(worked.volumes)?;
-    let site = failing_site(alloc, &[SiteFault::Call(calls.saturating_add(1))])?;
-    if ends_unfailed(alloc, worked.job, site, &text)? {
-        return Ok(());
+) -> Option<u64> {
+    let due = Due {
+        told,
+        faults: 1,
+        writes: None,
+        left: Some(ending.left),
+    };
+    for call in before..ending.last {
+        if !is_so(alloc, worked, [call + 1, 0], &due) {
+            return Some(call + 1);
+        }
     }
-    Err(otherwise(calls))
+    None
+}
+
+/// The same, of the report that the ending has.
+fn other_of(alloc: Global, worked: &Worked, before: u64, ending: &Ending) -> Option<u64> {
+    let mut report = String::new(alloc);
+    if put_report(&mut report, worked, ending).is_none() {
+        return Some(before);
+    }
+    other_in(alloc, worked, before, ending, report.as_str())
+}
+
+/// Puts the report of a run of which no call fails.
+fn put_whole(text: &mut String, worked: &Worked) -> Option<()> {
+    text.push_str("MSS REPORT 1\n").ok()?;
+    text.push_str(worked.entries).ok()?;
+    text.push_str(worked.changes).ok()?;
+    text.push_str(worked.volumes).ok()
+}
+
+/// Whether a run makes no call behind so many: none fails, and its report is whole.
+fn makes_no_call(alloc: Global, worked: &Worked, calls: u64) -> bool {
+    let mut report = String::new(alloc);
+    if put_whole(&mut report, worked).is_none() {
+        return false;
+    }
+    let due = Due {
+        told: report.as_str(),
+        faults: 0,
+        writes: None,
+        left: None,
+    };
+    is_so(alloc, worked, [calls.saturating_add(1), 0], &due)
 }
 
 /// Lets each call behind the first ones fail once, in a run of its own, which has to end so. Behind the last of the
-/// table there is no further call.
-pub fn each_ends_so(
-    alloc: Global,
-    worked: &Worked,
-    first: u64,
-    endings: &[Ending],
-) -> Result<(), Fail> {
+/// table there is no further call. Gives the first call with which a run ends otherwise.
+pub fn other_ending(alloc: Global, worked: &Worked, first: u64, endings: &[Ending]) -> Option<u64> {
     let mut done = first;
     for ending in endings {
-        let report = report_of(alloc, worked, ending)?;
-        for before in done..ending.last {
-            let site = failing_site(alloc, &[SiteFault::Call(before + 1)])?;
-            if !ends_with_faults(alloc, worked, site, 1, &report, ending.left)? {
-                return Err(otherwise(before + 1));
-            }
+        let other = other_of(alloc, worked, done, ending);
+        if other.is_some() {
+            return other;
         }
         done = ending.last;
     }
-    makes_no_call(alloc, worked, done)
+    if makes_no_call(alloc, worked, done) {
+        None
+    } else {
+        Some(done)
+    }
 }
 
-/// Lets a call and the last one of an ending fail in one run, which has to end so.
-pub fn each_pair_ends_so(
-    alloc: Global,
-    worked: &Worked,
-    pairs: &[(u64, Ending)],
-) -> Result<(), Fail> {
+/// Whether a run ends so of which this call fails, and the last one of the ending.
+fn pair_ends_so(alloc: Global, worked: &Worked, first: u64, ending: &Ending) -> bool {
+    let mut report = String::new(alloc);
+    if put_report(&mut report, worked, ending).is_none() {
+        return false;
+    }
+    let due = Due {
+        told: report.as_str(),
+        faults: 2,
+        writes: None,
+        left: Some(ending.left),
+    };
+    is_so(alloc, worked, [first, ending.last], &due)
+}
+
+/// Lets a call and the last one of an ending fail in one run, which has to end so. Gives the first of those calls with
+/// which it ends otherwise.
+pub fn other_pair(alloc: Global, worked: &Worked, pairs: &[(u64, Ending)]) -> Option<u64> {
     for (first, ending) in pairs {
-        let report = report_of(alloc, worked, ending)?;
-        let site = failing_site(
-            alloc,
-            &[SiteFault::Call(*first), SiteFault::Call(ending.last)],
-        )?;
-        if !ends_with_faults(alloc, worked, site, 2, &report, ending.left)? {
-            return Err(otherwise(*first));
+        if !pair_ends_so(alloc, worked, *first, ending) {
+            return Some(*first);
         }
     }
-    Ok(())
+    None
 }
 
 /// How many calls there are before the session on one volume, which isn't there where one of them fails. For the survey
@@ -147,38 +201,33 @@ pub const CALLS_OF_RESTART: u64 = 136;
 
 /// How many writes are made up to one of these calls.
 fn writes_of_restart(call: u64) -> u64 {
-    match call {
-        0..=129 => 0,
-        130 | 131 => 1,
-        _ => call - 130,
+    if call < 130 {
+        return 0;
     }
+    (call - 130).max(1)
 }
 
 /// The line that is told of devices that aren't taken up, of which a call failed.
 pub const REFUSED: &str = "restart refused stopped fault 1\n";
 
-/// Whether a job isn't taken up on devices, of which a call fails before so many writes, and leaves these volumes.
-fn is_refused<S: Site + Drop>(
-    alloc: Global,
-    worked: &Worked,
-    site: S,
-    writes: u64,
-    left: &str,
-) -> Result<bool, Fail> {
-    let end = run(alloc, worked.job, site)?;
-    let is_told = end.output.bytes() == REFUSED.as_bytes();
-    let made = end.site.writes();
-    let is_left = shows(alloc, end.site, worked.idle, left)?;
-    Ok(is_told && made == writes && is_left)
+/// Whether a job isn't taken up on devices of which this call fails, and leaves these volumes.
+fn is_refused(alloc: Global, worked: &Worked, call: u64, left: &str) -> bool {
+    let due = Due {
+        told: REFUSED,
+        faults: 1,
+        writes: Some(writes_of_restart(call)),
+        left: Some(left),
+    };
+    is_so(alloc, worked, [call, 0], &due)
 }
 
-/// Lets each of these calls fail once: the devices aren't taken up, and have so many writes, and no record.
-pub fn none_is_taken_up(alloc: Global, worked: &Worked, left: &str) -> Result<(), Fail> {
+/// Lets each of these calls fail once: the devices aren't taken up, and have so many writes, and no record. Gives the first
+/// call with which it comes out otherwise.
+pub fn first_taken_up(alloc: Global, worked: &Worked, left: &str) -> Option<u64> {
     for before in 0..CALLS_OF_RESTART {
-        let site = failing_site(alloc, &[SiteFault::Call(before + 1)])?;
-        if !is_refused(alloc, worked, site, writes_of_restart(before + 1), left)? {
-            return Err(otherwise(before + 1));
+        if !is_refused(alloc, worked, before + 1, left) {
+            return Some(before + 1);
         }
     }
-    Ok(())
+    None
 }

@@ -1,9 +1,6 @@
 // A record is written and read back, and each call of the devices fails once.
-use crate::failing::{
-    CALLS_OF_RESTART, Ending, Worked, each_ends_so, each_pair_ends_so, none_is_taken_up,
-};
+use crate::failing::{CALLS_OF_RESTART, Ending, Worked, first_taken_up, other_ending, other_pair};
 use crate::jobs::{ONE_VOLUME, WRITE_AND_READ};
-use std::test::Fail;
 
 /// The last line of a session that was stopped, and of a report of which a track can't be read.
 pub const STOPPED: &str = "STOPPED 1\n";
@@ -182,13 +179,16 @@ const ENDINGS: &[Ending] = &[
 ];
 
 #[test]
-fn a_call_before_the_session_fails(rt: HostRuntime) -> Result<(), Fail> {
-    none_is_taken_up(rt.alloc(), &JOB, BLANK)
+fn a_call_before_the_session_fails(rt: HostRuntime) {
+    assert_eq!(rt; first_taken_up(rt.alloc(), &JOB, BLANK), None);
 }
 
 #[test]
-fn a_call_of_a_write_and_a_read_fails(rt: HostRuntime) -> Result<(), Fail> {
-    each_ends_so(rt.alloc(), &JOB, CALLS_OF_RESTART, ENDINGS)
+fn a_call_of_a_write_and_a_read_fails(rt: HostRuntime) {
+    assert_eq!(rt;
+        other_ending(rt.alloc(), &JOB, CALLS_OF_RESTART, ENDINGS),
+        None
+    );
 }
 
 const BOTH_SEARCHES: &str = "entry 3 host 1 ccw 31 equipment check fault 1\n\
@@ -237,6 +237,6 @@ const PAIRS: &[(u64, Ending)] = &[
 ];
 
 #[test]
-fn two_failed_calls_have_two_numbers(rt: HostRuntime) -> Result<(), Fail> {
-    each_pair_ends_so(rt.alloc(), &JOB, PAIRS)
+fn two_failed_calls_have_two_numbers(rt: HostRuntime) {
+    assert_eq!(rt; other_pair(rt.alloc(), &JOB, PAIRS), None);
 }

@@ -1,14 +1,13 @@
 // Three hosts take turns, and each call of the devices fails once.
 use crate::failing::REFUSED;
 use crate::jobs::{FOUR_VOLUMES, THREE_HOSTS};
-use crate::running::{RunEnd, ends_with, failing_site, otherwise, run};
+use crate::running::{ends_with, failing_site, new_output, run};
 use job_runs::Outcome;
-use memory_devices::SiteFault;
+use memory_devices::MemorySink;
 use mss_base::Site;
 use serial_driver::DriveAnswer;
 use session_report::ReportFault;
 use std::alloc::Global;
-use std::test::Fail;
 
 /// Which of the volumes have their record: those of the hosts 1 to 3, and the fourth.
 type Written = [bool; 4];
@@ -37,14 +36,19 @@ const VOLUMES: [(&str, &str); 4] = [
     ),
 ];
 
-/// The end of a report of these volumes.
-fn volumes_told(alloc: Global, written: &Written) -> Result<String, Fail> {
-    let mut text = String::new(alloc);
-    for ((with, without), is_written) in VOLUMES.iter().zip(written.iter()) {
-        text.push_str(if *is_written { with } else { without })?;
+/// Puts the end of a report of these volumes.
+fn put_volumes(text: &mut String, written: &[bool]) -> Option<()> {
+    for (place, (with, without)) in VOLUMES.iter().enumerate() {
+        let is_written = written.get(place) == Some(&true);
+        text.push_str(if is_written { with } else { without }).ok()?;
     }
-    text.push_str("END\n")?;
-    Ok(text)
+    text.push_str("END\n").ok()
+}
+
+fn volumes_told(alloc: Global, written: &Written) -> Option<String> {
+    let mut text = String::new(alloc);
+    put_volumes(&mut text, written)?;
+    Some(text)
 }
 
 /// The first line of a report, and the entries of the run without faults.
@@ -172,16 +176,15 @@ fn is_cut(report: &str, volumes: &str) -> bool {
         && ends_stopped(report, told.saturating_add(60))
 }
 
-/// The answers of a host in a report, a line each.
-fn answers_of(alloc: Global, report: &str, host: &str) -> Result<String, Fail> {
-    let mut answers = String::new(alloc);
+/// Puts the answers of a host in a report, a line each.
+fn put_answers(answers: &mut String, report: &str, host: &str) -> Option<()> {
     for line in report.lines() {
         if let Some((_, answer)) = line.split_once(host) {
-            answers.push_str(answer)?;
-            answers.push_str("\n")?;
+            answers.push_str(answer).ok()?;
+            answers.push_str("\n").ok()?;
         }
     }
-    Ok(answers)
+    Some(())
 }
 
 /// The beginning of each program.
@@ -305,97 +308,119 @@ fn last_end(rest: &str, moved: &str) -> Option<HostEnd> {
     })
 }
 
-/// How the programs of a host ended, and its last one.
-fn host_ends(alloc: Global, report: &str, host: &Host) -> Result<Option<(HostEnd, HostEnd)>, Fail> {
-    let answers = answers_of(alloc, report, host.mark)?;
-    let Some((end, rest)) = programs_end(answers.as_str(), host.mounted, host.found) else {
-        return Ok(None);
-    };
-    match last_end(rest, host.moved) {
-        Some(last) => Ok(Some((end, last))),
-        None => Ok(None),
-    }
+/// How the programs of a host ended with these answers, and its last one.
+fn ends_of(answers: &str, host: &Host) -> Option<(HostEnd, HostEnd)> {
+    let (end, rest) = programs_end(answers, host.mounted, host.found)?;
+    Some((end, last_end(rest, host.moved)?))
+}
+
+fn host_ends(alloc: Global, report: &str, host: &Host) -> Option<(HostEnd, HostEnd)> {
+    let mut answers = String::new(alloc);
+    put_answers(&mut answers, report, host.mark)?;
+    ends_of(answers.as_str(), host)
 }
 
 /// The volumes, where one program in all has an entry of the failed call, and the others are as without it.
-fn written_beside_one(alloc: Global, report: &str) -> Result<Option<Written>, Fail> {
-    let Some((first, last)) = host_ends(alloc, report, &FIRST)? else {
-        return Ok(None);
-    };
-    let Some((second, _)) = host_ends(alloc, report, &SECOND)? else {
-        return Ok(None);
-    };
-    let Some((third, _)) = host_ends(alloc, report, &THIRD)? else {
-        return Ok(None);
-    };
-    let ends = [first, second, third, last];
-    if ends.iter().filter(|end| end.failed).count() != 1 {
-        return Ok(None);
+fn written_beside_one(alloc: Global, report: &str) -> Option<Written> {
+    let (first, last) = host_ends(alloc, report, &FIRST)?;
+    let (second, _) = host_ends(alloc, report, &SECOND)?;
+    let (third, _) = host_ends(alloc, report, &THIRD)?;
+    let failed = u8::from(first.failed)
+        + u8::from(second.failed)
+        + u8::from(third.failed)
+        + u8::from(last.failed);
+    if failed != 1 {
+        return None;
     }
-    Ok(Some([first.written, second.written, third.written, last.written]))
+    Some([first.written, second.written, third.written, last.written])
 }
 
-/// The same, where the report ends with these volumes.
-fn told_once(alloc: Global, report: &str) -> Result<Option<Written>, Fail> {
-    let Some(written) = written_beside_one(alloc, report)? else {
-        return Ok(None);
-    };
-    if !report.ends_with(volumes_told(alloc, &written)?.as_str()) {
-        return Ok(None);
+/// Whether a report ends with these volumes.
+fn has_volumes(alloc: Global, report: &[u8], written: &Written) -> bool {
+    match volumes_told(alloc, written) {
+        Some(volumes) => ends_with(report, volumes.as_bytes()),
+        None => false,
     }
-    Ok(Some(written))
+}
+
+/// The volumes with which the report of a run to the end tells them, where one program failed.
+fn told_once(alloc: Global, report: &str) -> Option<Written> {
+    let written = written_beside_one(alloc, report)?;
+    if !has_volumes(alloc, report.as_bytes(), &written) {
+        return None;
+    }
+    Some(written)
+}
+
+/// All volumes, where a report is cut within them.
+fn told_cut(alloc: Global, report: &str) -> Option<Written> {
+    let volumes = volumes_told(alloc, &ALL_WRITTEN)?;
+    if !is_cut(report, volumes.as_str()) {
+        return None;
+    }
+    Some(ALL_WRITTEN)
 }
 
 /// The volumes that devices may show after a run of which one call failed, if it ended in one of the ways: those after
 /// its entries, or after one more where it was stopped in a write.
-fn may_show(
-    alloc: Global,
-    outcome: &Outcome,
-    report: &str,
-) -> Result<Option<(Written, Written)>, Fail> {
+fn may_show(alloc: Global, outcome: &Outcome, report: &str) -> Option<(Written, Written)> {
     match outcome {
-        Outcome::Untaken(_) => Ok((report == REFUSED).then_some((NONE_WRITTEN, NONE_WRITTEN))),
-        Outcome::Ran(_, DriveAnswer::Stopped { fault: 1 }, Ok(())) => Ok(stopped_with(report)),
-        Outcome::Ran(_, DriveAnswer::Done, Ok(())) => match told_once(alloc, report)? {
-            Some(written) => Ok(Some((written, written))),
-            None => Ok(None),
-        },
+        Outcome::Untaken(_) => (report == REFUSED).then_some((NONE_WRITTEN, NONE_WRITTEN)),
+        Outcome::Ran(_, DriveAnswer::Stopped { fault: 1 }, Ok(())) => stopped_with(report),
+        Outcome::Ran(_, DriveAnswer::Done, Ok(())) => twice(told_once(alloc, report)),
         Outcome::Ran(_, DriveAnswer::Done, Err(ReportFault::Read { fault: 1 })) => {
-            let volumes = volumes_told(alloc, &ALL_WRITTEN)?;
-            Ok(is_cut(report, volumes.as_str()).then_some((ALL_WRITTEN, ALL_WRITTEN)))
+            twice(told_cut(alloc, report))
         }
-        _ => Ok(None),
+        _ => None,
     }
+}
+
+fn twice(written: Option<Written>) -> Option<(Written, Written)> {
+    let written = written?;
+    Some((written, written))
 }
 
 /// Whether devices show the one or the other volumes.
-fn show<S: Site + Drop>(alloc: Global, site: S, written: (Written, Written)) -> Result<bool, Fail> {
-    let left = run(alloc, FOUR_VOLUMES, site)?;
-    let one = volumes_told(alloc, &written.0)?;
-    let other = volumes_told(alloc, &written.1)?;
-    let is_one = ends_with(left.output.bytes(), one.as_bytes());
-    let is_other = ends_with(left.output.bytes(), other.as_bytes());
-    Ok(is_one || is_other)
+fn show<S: Site + Drop>(alloc: Global, site: S, written: (Written, Written)) -> bool {
+    let Some(mut output) = new_output(alloc) else {
+        return false;
+    };
+    run(alloc, FOUR_VOLUMES, site, &mut output).is_some()
+        && (has_volumes(alloc, output.bytes(), &written.0)
+            || has_volumes(alloc, output.bytes(), &written.1))
 }
 
-/// Whether a run of which one call failed ended in one of the ways.
-fn ends_well<S: Site + Drop>(alloc: Global, end: RunEnd<S>) -> Result<bool, Fail> {
-    let Ok(report) = str::from_utf8(end.output.bytes()) else {
-        return Ok(false);
-    };
-    match may_show(alloc, &end.outcome, report)? {
-        Some(written) => show(alloc, end.site, written),
-        None => Ok(false),
+/// The volumes that devices may show after this end of a run, with this report.
+fn may_show_after(alloc: Global, outcome: &Outcome, report: &[u8]) -> Option<(Written, Written)> {
+    match str::from_utf8(report) {
+        Ok(report) => may_show(alloc, outcome, report),
+        Err(_) => None,
     }
+}
+
+/// The devices behind a run of which one call failed, and what they may show.
+fn left<S: Site + Drop>(
+    alloc: Global,
+    site: S,
+    output: &mut MemorySink,
+) -> Option<(S, (Written, Written))> {
+    let end = run(alloc, THREE_HOSTS, site, output)?;
+    if end.site.faults() != 1 {
+        return None;
+    }
+    let written = may_show_after(alloc, &end.outcome, output.bytes())?;
+    Some((end.site, written))
 }
 
 /// Whether a run on devices has one call that fails, and ends in one of the ways.
-fn fails_well<S: Site + Drop>(alloc: Global, site: S) -> Result<bool, Fail> {
-    let end = run(alloc, THREE_HOSTS, site)?;
-    if end.site.faults() != 1 {
-        return Ok(false);
+fn fails_well<S: Site + Drop>(alloc: Global, site: S) -> bool {
+    let Some(mut output) = new_output(alloc) else {
+        return false;
+    };
+    match left(alloc, site, &mut output) {
+        Some((site, written)) => show(alloc, site, written),
+        None => false,
     }
-    ends_well(alloc, end)
 }
 
 /// Each of the calls fails once: 128 reads of the rows, and 8 calls for each of the four that are created. Then of each
@@ -404,18 +429,25 @@ fn fails_well<S: Site + Drop>(alloc: Global, site: S) -> Result<bool, Fail> {
 /// staged cylinders are read for the report, and there is no further call.
 const CALLS: u64 = 409;
 
-fn each_fails_well(alloc: Global) -> Result<(), Fail> {
+/// Whether the run of which this call fails ends in one of the ways.
+fn call_fails_well(alloc: Global, call: u64) -> bool {
+    match failing_site(alloc, [call, 0]) {
+        Some(site) => fails_well(alloc, site),
+        None => false,
+    }
+}
+
+/// How many of the first calls fail well, one behind the other.
+fn failing_well(alloc: Global) -> u64 {
     for before in 0..=CALLS {
-        let site = failing_site(alloc, &[SiteFault::Call(before + 1)])?;
-        let is_made = before < CALLS;
-        if fails_well(alloc, site)? != is_made {
-            return Err(otherwise(before + 1));
+        if !call_fails_well(alloc, before + 1) {
+            return before;
         }
     }
-    Ok(())
+    CALLS + 1
 }
 
 #[test]
-fn a_call_of_three_hosts_fails(rt: HostRuntime) -> Result<(), Fail> {
-    each_fails_well(rt.alloc())
+fn a_call_of_three_hosts_fails(rt: HostRuntime) {
+    assert_eq!(rt; failing_well(rt.alloc()), CALLS);
 }

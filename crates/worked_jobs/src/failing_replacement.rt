@@ -1,8 +1,7 @@
 // A frame that goes from one page to another and back, and each call of the devices fails once.
-use crate::failing::{CALLS_OF_RESTART, Ending, Worked, each_ends_so};
+use crate::failing::{CALLS_OF_RESTART, Ending, Worked, other_ending};
 use crate::failing_calls::{BLANK, STOPPED};
 use crate::jobs::{ONE_VOLUME, REPLACEMENT};
-use std::test::Fail;
 
 const JOB: Worked = Worked {
     job: REPLACEMENT,
@@ -415,6 +414,9 @@ const ENDINGS: &[Ending] = &[
 ];
 
 #[test]
-fn a_call_of_replacements_fails(rt: HostRuntime) -> Result<(), Fail> {
-    each_ends_so(rt.alloc(), &JOB, CALLS_OF_RESTART, ENDINGS)
+fn a_call_of_replacements_fails(rt: HostRuntime) {
+    assert_eq!(rt;
+        other_ending(rt.alloc(), &JOB, CALLS_OF_RESTART, ENDINGS),
+        None
+    );
 }

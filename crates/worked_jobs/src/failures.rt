@@ -1,13 +1,12 @@
 // A cartridge that can't be read once, and a report that can't be put.
 use crate::jobs::ONE_VOLUME;
-use crate::running::{ends_with, failing, otherwise, run, run_putting};
+use crate::running::{NONE_FAILS, behind, ends_with, failing, failing_site, new_output, run};
 use job_runs::Outcome;
-use memory_devices::{MemorySite, SiteFault};
+use memory_devices::MemorySink;
 use mss_base::Site;
 use serial_driver::DriveAnswer;
 use session_report::ReportFault;
 use std::alloc::Global;
-use std::test::Fail;
 
 /// A record on cylinder 0; then the one frame goes to another page.
 const TO_THE_CARTRIDGE: &str = "mss 1 frames 1 recorders 1\n\
@@ -55,59 +54,84 @@ const SEARCH_TWICE_TOLD: &str = "MSS REPORT 1\n\
     record 0000000001 - 41\n\
     END\n";
 
-/// Whether a run tells just this, and one call failed in it; None where its report isn't whole.
-fn is_told_once<S: Site + Drop>(
-    alloc: Global,
-    text: &str,
-    site: S,
-    told: &str,
-) -> Result<Option<bool>, Fail> {
-    let end = run(alloc, text, site)?;
-    let is_whole = ends_with(end.output.bytes(), b"END\n");
-    let is_told = end.output.bytes() == told.as_bytes();
-    let failed = end.site.faults();
-    Ok(is_whole.then_some(is_told && failed == 1))
+/// How a run came out.
+#[derive(Clone, Copy)]
+enum Ended {
+    /// Its report isn't whole.
+    Broken,
+    Otherwise,
+    /// It tells just what is due, and one call failed in it.
+    Once,
+}
+
+fn end_of(report: &[u8], told: &str, faults: u64) -> Ended {
+    if !ends_with(report, b"END\n") {
+        return Ended::Broken;
+    }
+    if faults == 1 && report == told.as_bytes() {
+        return Ended::Once;
+    }
+    Ended::Otherwise
+}
+
+fn ended_on<S: Site + Drop>(alloc: Global, job: &str, site: S, told: &str) -> Option<Ended> {
+    let mut output = new_output(alloc)?;
+    let end = run(alloc, job, site, &mut output)?;
+    Some(end_of(output.bytes(), told, end.site.faults()))
+}
+
+/// How a job comes out of which this call fails, behind another one.
+fn ended_with(alloc: Global, before: &str, job: &str, told: &str, call: u64) -> Option<Ended> {
+    let blank = failing_site(alloc, NONE_FAILS)?;
+    let left = behind(alloc, before, blank)?;
+    let site = failing(left, [call, 0])?;
+    ended_on(alloc, job, site, told)
 }
 
 // A failed call of the restart is a refusal, and a failed write of a change is a stop. So the first failed call with
-// which the job is done is the first read of the cartridge.
-fn first_done_is(alloc: Global, before: &str, job: &str, told: &str) -> Result<(), Fail> {
+// which the job is done is the first read of the cartridge. Gives whether it is told just so.
+fn first_done_is(alloc: Global, before: &str, job: &str, told: &str) -> bool {
     for call in 1..400u64 {
-        let left = run(alloc, before, MemorySite::new(alloc)?)?;
-        let site = failing(left.site, &[SiteFault::Call(call)])?;
-        match is_told_once(alloc, job, site, told)? {
-            None => {}
-            Some(true) => return Ok(()),
-            Some(false) => return Err(otherwise(call)),
+        match ended_with(alloc, before, job, told, call) {
+            Some(Ended::Broken) => {}
+            Some(Ended::Once) => return true,
+            _ => return false,
         }
     }
-    Err("no such run".into())
+    false
 }
 
 #[test]
-fn a_cartridge_that_cant_be_read_once_is_told_once(rt: HostRuntime) -> Result<(), Fail> {
-    first_done_is(
+fn a_cartridge_that_cant_be_read_once_is_told_once(rt: HostRuntime) {
+    let is_so = first_done_is(
         rt.alloc(),
         TO_THE_CARTRIDGE,
         SEARCH_TWICE,
         SEARCH_TWICE_TOLD,
+    );
+    assert!(rt; is_so);
+}
+
+fn is_unput(outcome: &Outcome) -> bool {
+    matches!(
+        outcome,
+        Outcome::Ran(_, DriveAnswer::Done, Err(ReportFault::Output))
     )
 }
 
-/// Whether a report on devices, of which the first put fails, is told as one that can't be put.
-fn is_told_unput<S: Site + Drop>(alloc: Global, site: S) -> Result<bool, Fail> {
-    let end = run_putting(alloc, ONE_VOLUME, site, &[1])?;
-    let is_told = matches!(
-        &end.outcome,
-        Outcome::Ran(_, DriveAnswer::Done, Err(ReportFault::Output))
-    );
-    let is_empty = end.output.bytes().is_empty();
-    Ok(is_told && is_empty)
+fn unput_on<S: Site + Drop>(alloc: Global, site: S, output: &mut MemorySink) -> Option<bool> {
+    let end = run(alloc, ONE_VOLUME, site, output)?;
+    Some(is_unput(&end.outcome) && output.bytes().is_empty())
+}
+
+/// Whether a report of which the first put fails is told as one that can't be put.
+fn is_told_unput(alloc: Global) -> Option<bool> {
+    let mut output = MemorySink::new(alloc, &[1]).ok()?;
+    let site = failing_site(alloc, NONE_FAILS)?;
+    unput_on(alloc, site, &mut output)
 }
 
 #[test]
-fn a_report_that_cant_be_put_is_told_so(rt: HostRuntime) -> Result<(), Fail> {
-    let alloc = rt.alloc();
-    assert!(rt; is_told_unput(alloc, MemorySite::new(alloc)?)?);
-    Ok(())
+fn a_report_that_cant_be_put_is_told_so(rt: HostRuntime) {
+    assert_eq!(rt; is_told_unput(rt.alloc()), Some(true));
 }

@@ -3,21 +3,20 @@ ghost use Rattle.std.specs.Prelude.{◌≡◌, [], Contains};
 ghost use Rattle.core_state.specs.CoreValue.{seen};
 ghost use Rattle.mss_run.specs.Beginning.{OpensWith};
 
-use crate::running::{failing_site, otherwise};
+use crate::running::{NONE_FAILS, failing_site, job_of};
 use crate::steps::{Events, Row, first_other};
 use crate::two_hosts::{ONE_VOLUME, TURNS};
 use channel_commands::Call;
 use core_restart::restart;
 use core_state::{Core, WorkAnswer};
 use host_events::HostAnswer;
-use job_text::read_job;
+use job_text::Job;
 use mss_base::{HostNo, RecorderNo, Site};
 use mss_run::{Setup, Shared};
 use seen_book::{Blank, HostPass, PassList, host_pass, make, start_book};
 use std::alloc::Global;
 use std::marker::Brand;
 use std::sync::Wait;
-use std::test::Fail;
 use victim_choice::{Choose, Lru};
 
 /// A core under the lock, with the passes of hosts 1 and 2, each of which is out only within a call.
@@ -58,27 +57,39 @@ impl<R: Wait, N: Setup, S: Site, C: Choose> Events<R> for Passing<N, S, C> {
     }
 }
 
+fn list_of<N: Setup>(
+    alloc: Global,
+    first: Option<HostPass<N>>,
+    second: Option<HostPass<N>>,
+) -> Option<PassList<N>> {
+    let mut list = PassList::new(alloc);
+    list.reserve(2).ok()?;
+    let first = first?;
+    list.push(first);
+    let second = second?;
+    list.push(second);
+    Some(list)
+}
+
 /// How many entries a session has in the end.
 fn closed<N: Setup, S: Site + Drop, C: Choose + Drop>(
     alloc: Global,
     session: Passing<N, S, C>,
-) -> Result<usize, Fail> {
+) -> Option<usize> {
     let Passing {
         shared,
         first,
         second,
     } = session;
-    let first = first.ok_or("first pass")?;
-    let second = second.ok_or("second pass")?;
-    let mut list = PassList::new(alloc);
-    list.reserve(2)?;
-    list.push(first);
-    list.push(second);
+    let list = list_of(alloc, first, second)?;
     let core = shared.close(list);
-    Ok(core.history().as_slice().len())
+    Some(core.history().as_slice().len())
 }
 
-/// The place of the first row that a session of this core under a name answers otherwise, and how many entries it has.
+/// What a session is answered otherwise, by the place of its row, and how many entries it has.
+type Ended = (Option<usize>, Option<usize>);
+
+/// How a session of this core under a name ends.
 fn run_named<N: Setup, S: Site + Drop, C: Choose + Drop, R: Wait>(
     rt: &R,
     alloc: Global,
@@ -86,7 +97,7 @@ fn run_named<N: Setup, S: Site + Drop, C: Choose + Drop, R: Wait>(
     core: Core<S, C>,
     hosts: (HostNo, HostNo),
     rows: &[Row],
-) -> Result<(Option<usize>, usize), Fail>
+) -> Ended
     requires word { blank ≡ N.table }
     requires opening { OpensWith N.opening N.setup S.tells (S.never_fails_but core.site)
         (seen S.Site core) }
@@ -102,8 +113,8 @@ fn run_named<N: Setup, S: Site + Drop, C: Choose + Drop, R: Wait>(
         first: Some(first),
         second: Some(second),
     };
-    let other = first_other(rt, alloc, &mut session, rows)?;
-    Ok((other, closed(alloc, session)?))
+    let other = first_other(rt, alloc, &mut session, rows);
+    (other, closed(alloc, session))
 }
 
 /// The same of a session for hosts 1 and 2.
@@ -112,45 +123,41 @@ fn run<S: Site + Drop, C: Choose + Drop, R: Wait>(
     alloc: Global,
     core: Core<S, C>,
     rows: &[Row],
-) -> Result<(Option<usize>, usize), Fail>
+) -> Option<Ended>
     requires { core.history ≡ [] }
 {
-    let first = HostNo::of(1).ok_or("host 1")?;
-    let second = HostNo::of(2).ok_or("host 2")?;
-    let blank = make::<Brand>(alloc)?;
-    run_named::<Brand, S, C, R>(rt, alloc, blank, core, (first, second), rows)
+    let first = HostNo::of(1)?;
+    let second = HostNo::of(2)?;
+    let blank = make::<Brand>(alloc).ok()?;
+    let hosts = (first, second);
+    Some(run_named::<Brand, S, C, R>(rt, alloc, blank, core, hosts, rows))
 }
 
 /// The same of a session on a job's volumes, on this site.
 fn run_on<S: Site + Drop, C: Choose + Drop, R: Wait>(
     rt: &R,
     alloc: Global,
-    job: &str,
+    job: &Job,
     site: S,
     chooser: C,
     rows: &[Row],
-) -> Result<(Option<usize>, usize), Fail>
+) -> Option<Ended>
     requires { C.can_choose chooser }
 {
-    let job = read_job(alloc, job.as_bytes()).ok().ok_or("job")?;
     match restart(alloc, site, &job.config, chooser) {
         Ok(core) => run(rt, alloc, core, rows),
-        Err(_) => Err("refused".into()),
+        Err(_) => None,
     }
 }
 
+fn end_of<R: Wait>(rt: &R, alloc: Global, job: &str, rows: &[Row]) -> Option<Ended> {
+    let job = job_of(alloc, job)?;
+    let site = failing_site(alloc, NONE_FAILS)?;
+    run_on(rt, alloc, &job, site, Lru, rows)
+}
+
 #[test]
-fn each_call_under_the_lock_has_its_answer(rt: HostRuntime) -> Result<(), Fail> {
-    let alloc = rt.alloc();
-    match run_on(
-        &rt,
-        alloc,
-        ONE_VOLUME,
-        failing_site(alloc, &[])?,
-        Lru,
-        TURNS,
-    )? {
-        (None, 5) => Ok(()),
-        (other, _) => Err(otherwise(other.unwrap_or(TURNS.len()) as u64)),
-    }
+fn each_call_under_the_lock_has_its_answer(rt: HostRuntime) {
+    let ended = end_of(&rt, rt.alloc(), ONE_VOLUME, TURNS);
+    assert_eq!(rt; ended, Some((None, Some(5))));
 }

@@ -1,9 +1,8 @@
 // Pages that give their frame to another.
-use crate::events::{answers, answers_on};
+use crate::events::{Course, other_answer, other_of_both};
+use crate::running::NONE_FAILS;
 use crate::steps::{Row, Step, Told};
 use core_state::WorkKind;
-use memory_devices::MemorySite;
-use std::test::Fail;
 
 const TWO_VOLUMES: &str = "mss 1 frames 1 recorders 1\nvolume 0 VOL001\nvolume 1 VOL002\ndone\n";
 
@@ -55,11 +54,17 @@ const GIVEN_UP: &[Row] = &[
     (1, Step::Work, Told::Did(WorkKind::Abandon)),
 ];
 
+const GIVING_UP: Course = Course {
+    job: TWO_VOLUMES,
+    rows: GIVEN_UP,
+    entries: 8,
+    changes: 5,
+    state: Some(4),
+};
+
 #[test]
-fn a_page_that_is_written_while_it_is_destaged_keeps_its_frame(
-    rt: HostRuntime,
-) -> Result<(), Fail> {
-    answers(rt.alloc(), &[], TWO_VOLUMES, GIVEN_UP, (8, 5), Some(4))
+fn a_page_that_is_written_while_it_is_destaged_keeps_its_frame(rt: HostRuntime) {
+    assert_eq!(rt; other_answer(rt.alloc(), NONE_FAILS, &GIVING_UP), None);
 }
 
 /// Then the frame is taken all the same, and host 2 reads its byte from the cartridge.
@@ -133,9 +138,17 @@ const READ_BACK: &[Row] = &[
     (1, Step::Ask(2, 0x06, &[]), Told::Status(0x0C, 0x42)),
 ];
 
+const READING_BACK: Course = Course {
+    job: TWO_VOLUMES,
+    rows: READ_BACK,
+    entries: 12,
+    changes: 12,
+    state: None,
+};
+
 #[test]
-fn a_page_is_destaged_with_what_was_written_meanwhile(rt: HostRuntime) -> Result<(), Fail> {
-    answers(rt.alloc(), &[], TWO_VOLUMES, READ_BACK, (12, 12), None)
+fn a_page_is_destaged_with_what_was_written_meanwhile(rt: HostRuntime) {
+    assert_eq!(rt; other_answer(rt.alloc(), NONE_FAILS, &READING_BACK), None);
 }
 
 /// Cylinder 0 of both volumes is written, and then both are destaged.
@@ -190,25 +203,23 @@ const STAGED_IN_TURN: &[Row] = &[
     (1, Step::Work, Told::Idle),
 ];
 
+const CARTRIDGED: Course = Course {
+    job: TWO_VOLUMES,
+    rows: BOTH_ON_CARTRIDGES,
+    entries: 8,
+    changes: 14,
+    state: Some(1),
+};
+
+const STAGED: Course = Course {
+    job: TWO_MORE_FRAMES,
+    rows: STAGED_IN_TURN,
+    entries: 2,
+    changes: 4,
+    state: Some(3),
+};
+
 #[test]
-fn cylinders_on_cartridges_are_staged_in_turn(rt: HostRuntime) -> Result<(), Fail> {
-    let alloc = rt.alloc();
-    let blank = MemorySite::new(alloc)?;
-    let site = answers_on(
-        alloc,
-        blank,
-        TWO_VOLUMES,
-        BOTH_ON_CARTRIDGES,
-        (8, 14),
-        Some(1),
-    )?;
-    answers_on(
-        alloc,
-        site,
-        TWO_MORE_FRAMES,
-        STAGED_IN_TURN,
-        (2, 4),
-        Some(3),
-    )?;
-    Ok(())
+fn cylinders_on_cartridges_are_staged_in_turn(rt: HostRuntime) {
+    assert_eq!(rt; other_of_both(rt.alloc(), &CARTRIDGED, &STAGED), None);
 }

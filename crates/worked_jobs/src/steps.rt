@@ -4,7 +4,6 @@ use core_state::{Waiting, WorkAnswer, WorkKind};
 use host_events::HostAnswer;
 use mss_base::{Bytes, HostNo, VolumeNo};
 use std::alloc::Global;
-use std::test::Fail;
 
 /// A session whose hosts make their calls one by one, and whose recorder 0 its events, by a runtime.
 pub trait Events<R> {
@@ -118,51 +117,86 @@ fn settled<R, E: Events<R>>(rt: &R, session: &mut E) -> Told {
     Told::AnotherReply
 }
 
-fn command(alloc: Global, code: u8, argument: &[u8], chained: bool) -> Result<Call, Fail> {
-    let argument = Bytes::of(alloc, argument)?;
-    Ok(Call::Command(DeviceCommand {
+fn command(alloc: Global, code: u8, argument: &[u8], chained: bool) -> Option<Call> {
+    let argument = Bytes::of(alloc, argument).ok()?;
+    Some(Call::Command(DeviceCommand {
         code,
         argument,
         chained,
     }))
 }
 
-fn mount(volume: u8, bind: bool) -> Result<Call, Fail> {
-    let volume = VolumeNo::of(volume).ok_or("volume")?;
-    Ok(Call::Mount { volume, bind })
+fn mount(volume: u8, bind: bool) -> Option<Call> {
+    let volume = VolumeNo::of(volume)?;
+    Some(Call::Mount { volume, bind })
 }
 
-/// The host and the call of a step; none of a step of the recorder.
-fn call_of(alloc: Global, step: Step) -> Result<Option<(u8, Call)>, Fail> {
+/// The call of a step; none of a step of the recorder.
+fn call_of(alloc: Global, step: Step) -> Option<Call> {
     match step {
-        Step::Mount(host, volume) => Ok(Some((host, mount(volume, false)?))),
-        Step::Bind(host, volume) => Ok(Some((host, mount(volume, true)?))),
-        Step::Demount(host) => Ok(Some((host, Call::Demount))),
-        Step::Ask(host, code, argument) => {
-            Ok(Some((host, command(alloc, code, argument, false)?)))
-        }
-        Step::Chain(host, code, argument) => {
-            Ok(Some((host, command(alloc, code, argument, true)?)))
-        }
-        Step::Work | Step::Settle => Ok(None),
+        Step::Mount(_, volume) => mount(volume, false),
+        Step::Bind(_, volume) => mount(volume, true),
+        Step::Demount(_) => Some(Call::Demount),
+        Step::Ask(_, code, argument) => command(alloc, code, argument, false),
+        Step::Chain(_, code, argument) => command(alloc, code, argument, true),
+        Step::Work | Step::Settle => None,
     }
 }
 
+/// The host of a step; none of a step of the recorder.
+fn host_of(step: Step) -> Option<HostNo> {
+    match step {
+        Step::Mount(host, _)
+        | Step::Bind(host, _)
+        | Step::Demount(host)
+        | Step::Ask(host, _, _)
+        | Step::Chain(host, _, _) => HostNo::of(host),
+        Step::Work | Step::Settle => None,
+    }
+}
+
+fn called<R, E: Events<R>>(
+    rt: &R,
+    alloc: Global,
+    session: &mut E,
+    replies: &mut u64,
+    step: Step,
+) -> Option<Told> {
+    let host = host_of(step)?;
+    let call = call_of(alloc, step)?;
+    Some(answered(replies, session.call(rt, host, &call)))
+}
+
+/// What a step is answered; nothing where memory runs out, or it names no host or volume.
 fn perform<R, E: Events<R>>(
     rt: &R,
     alloc: Global,
     session: &mut E,
     replies: &mut u64,
     step: Step,
-) -> Result<Told, Fail> {
-    if let Some((host, call)) = call_of(alloc, step)? {
-        let host = HostNo::of(host).ok_or("host")?;
-        return Ok(answered(replies, session.call(rt, host, &call)));
-    }
+) -> Option<Told> {
     match step {
-        Step::Settle => Ok(settled(rt, session)),
-        _ => Ok(done(session.work(rt))),
+        Step::Work => Some(done(session.work(rt))),
+        Step::Settle => Some(settled(rt, session)),
+        _ => called(rt, alloc, session, replies, step),
     }
+}
+
+/// Whether a step that is done so many times is answered so each time.
+fn is_answered<R, E: Events<R>>(
+    rt: &R,
+    alloc: Global,
+    session: &mut E,
+    replies: &mut u64,
+    row: Row,
+) -> bool {
+    let (times, step, expected) = row;
+    for _ in 0..times {
+        if perform(rt, alloc, session, replies, step) != Some(expected) {
+            return false;
+        }
+    }
+    true
 }
 
 /// The place of the first row of a new session that is answered otherwise.
@@ -171,14 +205,12 @@ pub fn first_other<R, E: Events<R>>(
     alloc: Global,
     session: &mut E,
     rows: &[Row],
-) -> Result<Option<usize>, Fail> {
+) -> Option<usize> {
     let mut replies = 0u64;
-    for (place, (times, step, expected)) in rows.iter().enumerate() {
-        for _ in 0..*times {
-            if perform(rt, alloc, session, &mut replies, *step)? != *expected {
-                return Ok(Some(place));
-            }
+    for (place, row) in rows.iter().enumerate() {
+        if !is_answered(rt, alloc, session, &mut replies, *row) {
+            return Some(place);
         }
     }
-    Ok(None)
+    None
 }

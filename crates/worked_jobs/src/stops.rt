@@ -4,12 +4,12 @@ ghost use Rattle.std.specs.Prelude.{◌≤◌};
 use crate::jobs::{
     FOUR_VOLUMES, ONE_VOLUME, REPLACEMENT, THREE_HOSTS, THREE_HOSTS_LEFT, WRITE_AND_READ,
 };
-use crate::running::{ends_with, otherwise, run};
+use crate::running::{NONE_FAILS, behind, failing_site, new_output, run, shows, site_if};
+use core_state::Message;
 use job_runs::Outcome;
 use memory_devices::MemorySite;
 use mss_base::{BLOCK_BYTES, Site};
 use std::alloc::Global;
-use std::test::Fail;
 
 /// Stops after so many writes, and how the report of a job begins and ends on what each of them leaves.
 #[derive(Clone, Copy)]
@@ -21,67 +21,111 @@ struct Stops {
     ends: &'static str,
 }
 
-/// Whether the job is told so on what a stop left.
-fn is_told<S: Site + Drop>(alloc: Global, site: S, stops: &Stops) -> Result<bool, Fail> {
-    let left = run(alloc, stops.job, site)?;
-    let begins = left.output.bytes().starts_with(stops.begins.as_bytes());
-    let ends = ends_with(left.output.bytes(), stops.ends.as_bytes());
-    Ok(begins && ends)
+/// Whether a stop at this moment leaves that, within the next write by this tear.
+fn stop_leaves(
+    alloc: Global,
+    site: &MemorySite,
+    moment: u64,
+    tear: Option<&[u8]>,
+    stops: &Stops,
+) -> bool {
+    match site.image(moment, tear) {
+        Ok(image) => shows(alloc, stops.job, image, stops.begins, stops.ends),
+        Err(_) => false,
+    }
+}
+
+fn each_tear_leaves(
+    alloc: Global,
+    site: &MemorySite,
+    moment: u64,
+    tears: &[Option<&[u8]>],
+    stops: &Stops,
+) -> bool {
+    for tear in tears {
+        if !stop_leaves(alloc, site, moment, *tear, stops) {
+            return false;
+        }
+    }
+    true
+}
+
+/// The first moment that leaves something else, of those that are so far apart.
+fn other_in(
+    alloc: Global,
+    site: &MemorySite,
+    tears: &[Option<&[u8]>],
+    apart: u64,
+    stops: &Stops,
+) -> Option<u64>
+    requires { 1 ≤ apart }
+{
+    for moment in stops.first..=stops.last {
+        if moment % apart == 0 && !each_tear_leaves(alloc, site, moment, tears, stops) {
+            return Some(moment);
+        }
+    }
+    None
 }
 
 /// A stop at each of the moments that are so far apart leaves what the table says, within the next write by each of these
-/// tears.
-fn each_leaves(
+/// tears. Gives the first moment that leaves something else.
+fn other_stop(
     alloc: Global,
     site: &MemorySite,
     tears: &[Option<&[u8]>],
     apart: u64,
     table: &[Stops],
-) -> Result<(), Fail>
+) -> Option<u64>
     requires { 1 ≤ apart }
 {
     for stops in table {
-        for moment in stops.first..=stops.last {
-            for tear in tears {
-                if moment % apart == 0 && !is_told(alloc, site.image(moment, *tear)?, stops)? {
-                    return Err(otherwise(moment));
-                }
-            }
+        let other = other_in(alloc, site, tears, apart, stops);
+        if other.is_some() {
+            return other;
         }
     }
-    Ok(())
+    None
 }
 
-/// The devices that a job left which makes so many writes on blank ones, up to each entry and each change of rows.
-fn left_by(
-    alloc: Global,
-    job: &str,
+/// How many writes a job makes on blank devices, and how many of them before each entry and each change of rows.
+#[derive(Clone, Copy)]
+struct Marks {
     writes: u64,
-    entries: &[u64],
-    changes: &[u64],
-) -> Result<MemorySite, Fail> {
-    let left = run(alloc, job, MemorySite::new(alloc)?)?;
-    let made = left.site.writes();
-    if made != writes || !have_marks(&left.outcome, entries, changes) {
-        return Err(otherwise(made));
-    }
-    Ok(left.site)
+    entries: &'static [u64],
+    changes: &'static [u64],
 }
 
-/// Behind how many writes each entry was answered, and each change of rows stood.
-fn have_marks(outcome: &Outcome, entries: &[u64], changes: &[u64]) -> bool {
+fn are_marked(messages: &[Message], marks: &[u64]) -> bool {
+    for (place, message) in messages.iter().enumerate() {
+        if marks.get(place).copied() != Some(message.mark) {
+            return false;
+        }
+    }
+    messages.len() == marks.len()
+}
+
+fn have_marks(outcome: &Outcome, marks: &Marks) -> bool {
     match outcome {
         Outcome::Ran(session, _, Ok(())) => {
-            let told = session.console.as_slice();
-            session.marks.as_slice() == entries
-                && told.len() == changes.len()
-                && told
-                    .iter()
-                    .zip(changes)
-                    .all(|(one, mark)| one.mark == *mark)
+            session.marks.as_slice() == marks.entries
+                && are_marked(session.console.as_slice(), marks.changes)
         }
         _ => false,
     }
+}
+
+fn left_on<S: Site + Drop>(alloc: Global, job: &str, site: S, marks: &Marks) -> Option<S> {
+    let mut output = new_output(alloc)?;
+    let end = run(alloc, job, site, &mut output)?;
+    let is_due = end.site.writes() == marks.writes && have_marks(&end.outcome, marks);
+    site_if(end, is_due)
+}
+
+/// The devices that a job left which has these marks.
+fn left_by(alloc: Global, job: &str, marks: &Marks) -> Option<MemorySite> {
+    let blank = failing_site(alloc, NONE_FAILS)?;
+    left_on(alloc, job, blank, marks)
 }
 
 /// The record is found again, and its data are replaced.
@@ -121,14 +165,32 @@ const UPDATED: &[Stops] = &[Stops {
         END\n",
 }];
 
+/// The devices behind both jobs, which make so many writes.
+fn updated<S: Site + Drop>(alloc: Global, site: S, writes: u64) -> Option<S> {
+    let site = behind(alloc, WRITE_AND_READ, site)?;
+    let site = behind(alloc, UPDATE, site)?;
+    if site.writes() != writes {
+        return None;
+    }
+    Some(site)
+}
+
+fn other_update(alloc: Global, site: &MemorySite) -> Option<u64> {
+    let torn = other_stop(alloc, site, &[Some(&[0xFF, 0, 0xFF])], 1, TORN_UPDATE);
+    if torn.is_some() {
+        return torn;
+    }
+    other_stop(alloc, site, &[None], 1, UPDATED)
+}
+
+fn other_updated(alloc: Global) -> Option<Option<u64>> {
+    let site = updated(alloc, failing_site(alloc, NONE_FAILS)?, 46)?;
+    Some(other_update(alloc, &site))
+}
+
 #[test]
-fn a_torn_update_leaves_other_data_of_that_record(rt: HostRuntime) -> Result<(), Fail> {
-    let alloc = rt.alloc();
-    let written = run(alloc, WRITE_AND_READ, MemorySite::new(alloc)?)?;
-    let left = run(alloc, UPDATE, written.site)?;
-    assert!(rt; left.site.writes() == 46);
-    each_leaves(alloc, &left.site, &[Some(&[0xFF, 0, 0xFF])], 1, TORN_UPDATE)?;
-    each_leaves(alloc, &left.site, &[None], 1, UPDATED)
+fn a_torn_update_leaves_other_data_of_that_record(rt: HostRuntime) {
+    assert_eq!(rt; other_updated(rt.alloc()), Some(None));
 }
 
 /// The cylinder is told as changed with the writes 38 to 43: one copy of the row is closed, written and opened, and then
@@ -142,16 +204,32 @@ const ROW_CHANGE: &[Stops] = &[Stops {
         END\n",
 }];
 
-/// Behind how many writes the entries of the job were answered, and its changes of rows stood.
-const WRITTEN_ENTRIES: &[u64] = &[6, 6, 37, 45, 45, 45, 45, 45];
+const WRITTEN: Marks = Marks {
+    writes: 45,
+    entries: &[6, 6, 37, 45, 45, 45, 45, 45],
+    changes: &[6, 12, 37, 43],
+};
 
-const WRITTEN_CHANGES: &[u64] = &[6, 12, 37, 43];
+/// The first moment that leaves something else of this job.
+fn other_of(
+    alloc: Global,
+    job: &str,
+    marks: &Marks,
+    tears: &[Option<&[u8]>],
+    apart: u64,
+    table: &[Stops],
+) -> Option<Option<u64>>
+    requires { 1 ≤ apart }
+{
+    let site = left_by(alloc, job, marks)?;
+    Some(other_stop(alloc, &site, tears, apart, table))
+}
 
 #[test]
-fn a_stop_within_a_change_of_a_row_shows_the_same_volumes(rt: HostRuntime) -> Result<(), Fail> {
-    let alloc = rt.alloc();
-    let site = left_by(alloc, WRITE_AND_READ, 45, WRITTEN_ENTRIES, WRITTEN_CHANGES)?;
-    each_leaves(alloc, &site, &[Some(&[0xC1]), Some(&[0])], 1, ROW_CHANGE)
+fn a_stop_within_a_change_of_a_row_shows_the_same_volumes(rt: HostRuntime) {
+    let tears = [Some(b"\xC1".as_slice()), Some(b"\0".as_slice())];
+    let other = other_of(rt.alloc(), WRITE_AND_READ, &WRITTEN, &tears, 1, ROW_CHANGE);
+    assert_eq!(rt; other, Some(None));
 }
 
 /// Three records on a track; then a new second one is written behind the first.
@@ -174,7 +252,11 @@ const THREE_RECORDS: &str = "mss 1 frames 1 recorders 1\n\
     done\n";
 
 /// The records are written behind the 43 writes of all before, with two for each, and the new one with four.
-const FORMATTED_ENTRIES: &[u64] = &[6, 37, 45, 47, 49, 49, 49, 53];
+const FORMATTING: Marks = Marks {
+    writes: 53,
+    entries: &[6, 37, 45, 47, 49, 49, 49, 53],
+    changes: &[6, 12, 37, 43],
+};
 
 /// 43 writes before the first record, and two for each. Then the gate of the second is closed, that of the third too,
 /// the new record is put, and its gate is opened.
@@ -215,16 +297,16 @@ const FORMATTED: &[Stops] = &[
 ];
 
 #[test]
-fn a_track_that_is_formatted_ends_before_its_new_record(rt: HostRuntime) -> Result<(), Fail> {
-    let alloc = rt.alloc();
-    let site = left_by(
-        alloc,
+fn a_track_that_is_formatted_ends_before_its_new_record(rt: HostRuntime) {
+    let other = other_of(
+        rt.alloc(),
         THREE_RECORDS,
-        53,
-        FORMATTED_ENTRIES,
-        &[6, 12, 37, 43],
-    )?;
-    each_leaves(alloc, &site, &[None], 1, FORMATTED)
+        &FORMATTING,
+        &[None],
+        1,
+        FORMATTED,
+    );
+    assert_eq!(rt; other, Some(None));
 }
 
 /// The first record is read.
@@ -295,25 +377,35 @@ const FIRST_REPLACED: &[Stops] = &[Stops {
 
 const SHORT_TEARS: &[Option<&[u8]>] = &[Some(&[0]), Some(&[0xC1]), Some(&[0xFF, 0, 0xFF])];
 
-/// As many bytes as a block has, so that a tear of them fills the range of each write.
-fn whole_tear(alloc: Global, byte: u8) -> Result<Vec<u8>, Fail> {
-    Ok(vec![in alloc; byte; BLOCK_BYTES]?)
+/// So many bytes. As a number that the proof doesn't know, since it would write out a list of a whole block.
+fn filled(alloc: Global, byte: u8, count: usize) -> Option<Vec<u8>> {
+    vec![in alloc; byte; count].ok()
 }
 
-/// Behind how many writes each entry was answered, and each change of rows stood.
-const REPLACED_ENTRIES: &[u64] = &[6, 6, 37, 45, 45, 107, 115, 115, 177, 177, 177];
+const REPLACING: Marks = Marks {
+    writes: 177,
+    entries: &[6, 6, 37, 45, 45, 107, 115, 115, 177, 177, 177],
+    changes: &[6, 12, 37, 43, 70, 76, 82, 107, 113, 140, 146, 152, 177],
+};
 
-const REPLACED_CHANGES: &[u64] = &[6, 12, 37, 43, 70, 76, 82, 107, 113, 140, 146, 152, 177];
+fn other_torn(alloc: Global, site: &MemorySite, whole: &[u8]) -> Option<u64> {
+    let other = other_stop(alloc, site, &[None, Some(whole)], 1, REPLACED);
+    if other.is_some() {
+        return other;
+    }
+    other_stop(alloc, site, SHORT_TEARS, 1, FIRST_REPLACED)
+}
+
+fn other_replaced(alloc: Global) -> Option<Option<u64>> {
+    let site = left_by(alloc, REPLACEMENT, &REPLACING)?;
+    // It fills the range of each write.
+    let whole = filled(alloc, 0xFF, BLOCK_BYTES)?;
+    Some(other_torn(alloc, &site, whole.as_slice()))
+}
 
 #[test]
-fn a_stop_at_each_write_of_replacements_leaves_what_was_answered(
-    rt: HostRuntime,
-) -> Result<(), Fail> {
-    let alloc = rt.alloc();
-    let site = left_by(alloc, REPLACEMENT, 177, REPLACED_ENTRIES, REPLACED_CHANGES)?;
-    let whole = whole_tear(alloc, 0xFF)?;
-    each_leaves(alloc, &site, &[None, Some(whole.as_slice())], 1, REPLACED)?;
-    each_leaves(alloc, &site, SHORT_TEARS, 1, FIRST_REPLACED)
+fn a_stop_at_each_write_of_replacements_leaves_what_was_answered(rt: HostRuntime) {
+    assert_eq!(rt; other_replaced(rt.alloc()), Some(None));
 }
 
 /// Four rows are created with 24 writes. For each of three hosts a frame is assigned, a cylinder staged and told with 31;
@@ -385,27 +477,30 @@ const THREE_HOSTS_SHOWN: &[Stops] = &[
     },
 ];
 
-/// The searches of the three hosts are answered when all three cylinders are staged.
-const THREE_HOSTS_ENTRIES: &[u64] = &[
-    24, 24, 24, 24, 24, 24, 24, 24, 24, 24, 24, 24, 117, 117, 117, 137, 139, 141, 141, 141, 141,
-    141, 141, 141, 141, 141, 141, 141, 141, 141, 141, 141, 141, 141, 141, 141, 141, 141, 141, 141,
-    141, 172, 180,
-];
-
-/// Two recorders assign and stage side by side, and then one of them does for the third host.
-const THREE_HOSTS_CHANGES: &[u64] = &[
-    6, 12, 18, 24, 30, 36, 80, 86, 92, 117, 123, 129, 135, 147, 172, 178,
-];
+/// The searches of the three hosts are answered when all three cylinders are staged. Two recorders assign and stage side by
+/// side, and then one of them does for the third host.
+const TURNING: Marks = Marks {
+    writes: 180,
+    entries: &[
+        24, 24, 24, 24, 24, 24, 24, 24, 24, 24, 24, 24, 117, 117, 117, 137, 139, 141, 141, 141,
+        141, 141, 141, 141, 141, 141, 141, 141, 141, 141, 141, 141, 141, 141, 141, 141, 141, 141,
+        141, 141, 141, 172, 180,
+    ],
+    changes: &[
+        6, 12, 18, 24, 30, 36, 80, 86, 92, 117, 123, 129, 135, 147, 172, 178,
+    ],
+};
 
 #[test]
-fn stops_of_three_hosts_leave_what_was_answered(rt: HostRuntime) -> Result<(), Fail> {
-    let alloc = rt.alloc();
-    let site = left_by(
-        alloc,
+fn stops_of_three_hosts_leave_what_was_answered(rt: HostRuntime) {
+    let tears = [None, Some(b"\0".as_slice())];
+    let other = other_of(
+        rt.alloc(),
         THREE_HOSTS,
-        180,
-        THREE_HOSTS_ENTRIES,
-        THREE_HOSTS_CHANGES,
-    )?;
-    each_leaves(alloc, &site, &[None, Some(&[0])], 10, THREE_HOSTS_SHOWN)
+        &TURNING,
+        &tears,
+        10,
+        THREE_HOSTS_SHOWN,
+    );
+    assert_eq!(rt; other, Some(None));
 }

@@ -1,8 +1,8 @@
 // Two hosts of one volume, and hosts that bind all frames.
-use crate::events::answers;
+use crate::events::{Course, other_answer};
+use crate::running::NONE_FAILS;
 use crate::steps::{Row, Step, Told};
 use core_state::WorkKind;
-use std::test::Fail;
 
 pub const ONE_VOLUME: &str = "mss 1 frames 1 recorders 1\nvolume 0 VOL001\ndone\n";
 
@@ -32,9 +32,17 @@ pub const TURNS: &[Row] = &[
     (1, Step::Work, Told::Idle),
 ];
 
+const TAKING_TURNS: Course = Course {
+    job: ONE_VOLUME,
+    rows: TURNS,
+    entries: 5,
+    changes: 4,
+    state: None,
+};
+
 #[test]
-fn a_host_waits_for_the_owner_of_its_volume(rt: HostRuntime) -> Result<(), Fail> {
-    answers(rt.alloc(), &[], ONE_VOLUME, TURNS, (5, 4), None)
+fn a_host_waits_for_the_owner_of_its_volume(rt: HostRuntime) {
+    assert_eq!(rt; other_answer(rt.alloc(), NONE_FAILS, &TAKING_TURNS), None);
 }
 
 const THREE_VOLUMES: &str =
@@ -72,9 +80,17 @@ const NO_SPACE: &[Row] = &[
     (1, Step::Ask(3, 0x31, R0), Told::Status(0x4C, 0)),
 ];
 
+const WITHOUT_SPACE: Course = Course {
+    job: THREE_VOLUMES,
+    rows: NO_SPACE,
+    entries: 9,
+    changes: 10,
+    state: None,
+};
+
 #[test]
-fn there_is_no_space_while_every_frame_is_bound(rt: HostRuntime) -> Result<(), Fail> {
-    answers(rt.alloc(), &[], THREE_VOLUMES, NO_SPACE, (9, 10), None)
+fn there_is_no_space_while_every_frame_is_bound(rt: HostRuntime) {
+    assert_eq!(rt; other_answer(rt.alloc(), NONE_FAILS, &WITHOUT_SPACE), None);
 }
 
 /// A command without a volume; an update that no search leads to; a seek that the file mask forbids.
@@ -93,9 +109,17 @@ const REFUSED: &[Row] = &[
     (1, Step::Work, Told::Idle),
 ];
 
+const REFUSING: Course = Course {
+    job: ONE_VOLUME,
+    rows: REFUSED,
+    entries: 6,
+    changes: 1,
+    state: None,
+};
+
 #[test]
-fn a_refused_command_asks_for_no_cylinder(rt: HostRuntime) -> Result<(), Fail> {
-    answers(rt.alloc(), &[], ONE_VOLUME, REFUSED, (6, 1), None)
+fn a_refused_command_asks_for_no_cylinder(rt: HostRuntime) {
+    assert_eq!(rt; other_answer(rt.alloc(), NONE_FAILS, &REFUSING), None);
 }
 
 /// 4,096 entries, and then none more.
@@ -105,7 +129,15 @@ const FILLED: &[Row] = &[
     (1, Step::Work, Told::Idle),
 ];
 
+const FILLING: Course = Course {
+    job: ONE_VOLUME,
+    rows: FILLED,
+    entries: 4096,
+    changes: 1,
+    state: None,
+};
+
 #[test]
-fn the_history_ends_with_4096_entries(rt: HostRuntime) -> Result<(), Fail> {
-    answers(rt.alloc(), &[], ONE_VOLUME, FILLED, (4096, 1), None)
+fn the_history_ends_with_4096_entries(rt: HostRuntime) {
+    assert_eq!(rt; other_answer(rt.alloc(), NONE_FAILS, &FILLING), None);
 }
