@@ -1,5 +1,5 @@
 -- What an event leaves of a pass and of the lock, from what it did to the history.
-use Rattle.std.proofs.Common.{◌≡◌, ◌≤◌, ℕ, Bool, List, [], ◌∷◌, ◌++◌, length, Option, Some, None, inl, inr, refl, sym, ◌∙◌, ap, subst}
+use Rattle.std.proofs.Common.{◌≡◌, ◌≤◌, ◌<◌, ℕ, ◌+◌, Bool, List, [], ◌∷◌, ◌++◌, length, length-append, Option, Some, None, inl, inr, refl, sym, ◌∙◌, ap, subst, arith}
 use Rattle.std.specs.Prelude.{slice_get}
 use mathlib.Core.List.{IsPrefix}
 use Rattle.channel_commands.specs.Data.{CallData, ReplyData, stopped}
@@ -15,7 +15,7 @@ use Rattle.core_state.specs.IsCore.{opening_of}
 use Rattle.core_state.proofs.Later.{later_none, later_then}
 use Rattle.mss_run.specs.Answers.{Grows, IsFull, Stops}
 use Rattle.mss_run.specs.Beginning.{Failing, SetupData, OpensWith}
-use Rattle.mss_run.specs.Happens.{Enters, Happens}
+use Rattle.mss_run.specs.Happens.{Enters, EntersStop, Happens}
 use Rattle.mss_run.proofs.EventFacts.{same_opening}
 
 -- ---- passes
@@ -35,6 +35,25 @@ entered_is host call reply index old new before e n at got =
     let there : slice_get new before ≡ Some n.entry = (λ i. slice_get (n.history i) (at i)) ∙ last_there old n.entry in
     let same : Some e ≡ Some n.entry = sym got ∙ there in
     cc
+
+module _ (host : ℕ) (call : CallData) (old new : List EntryData) (before : ℕ) (e : EntryData) (at : before ≡ length old) (got : slice_get new before ≡ Some e) where
+  -- a stop that added an entry
+  pub entered_stop : (fault : ℕ) → Happens host call (halts fault) old new → EntersStop host call fault old new
+  entered_stop fault (inl same) = absurd (past_end old e (sym (λ i. slice_get (same i) (at i)) ∙ got))
+  entered_stop fault (inr n) = n
+
+  module _ (reply : ReplyData) (index : ℕ) (n : Enters host call reply index old new) where
+    is_entry : e ≡ n.entry
+    is_entry = entered_is host call reply index old new before e n at got
+
+    pub grown_by : new ≡ old ++ e ∷ []
+    grown_by = n.history ∙ ap (λ (x : EntryData). old ++ x ∷ []) (sym is_entry)
+
+    pub its_host : host ≡ e.host
+    its_host = sym (ap (λ (x : EntryData). x.host) is_entry ∙ n.host_)
+
+    pub had_room : length new ≤ 4096 → length old < 4096
+    had_room few = let long : length new ≡ length old + 1 = ap length n.history ∙ length-append old (n.entry ∷ []) in omega (arith, few, long)
 
 module _ (call : CallData) (p q : PassData) (old new : List EntryData) (before : ℕ) (e : EntryData) (at : before ≡ length old) (got : slice_get new before ≡ Some e) (pre : IsPrefix p.seen old)
     (is : q ≡ record { host = p.host; seen = old ++ e ∷ []; mine = p.mine ++ e ∷ [] }) where
@@ -74,13 +93,15 @@ is_full p q log long pre is = record {
 module _ (opening : OpeningData) (setup : SetupData) (tells : Type 0) where
   -- an event leaves a later core of the same session
   pub opens_still : (never never' : Failing) (core core' : CoreData) → OpensWith opening setup tells never core → (tells → core.first_write ≤ length core.site.told.log)
-      → IsLater tells core core' → ((but : UnitNo → Bool) → never but → never' but) → OpensWith opening setup tells never' core'
-  opens_still never never' core core' opens before later sound = record {
+      → IsLater tells core core' → ((but : UnitNo → Bool) → never but → never' but) → ((but : UnitNo → Bool) → never but → core.stopped ≡ None → core'.stopped ≡ None)
+      → OpensWith opening setup tells never' core'
+  opens_still never never' core core' opens before later sound goes_on = record {
     to = opens.to;
     from = opens.from;
     later = later_then tells setup.began core core' opens.later later;
     state_ = λ tl. same_opening core core' later.beginning (later.grown tl) (before tl) ∙ opens.state_ tl;
     sound = λ but none. sound but (opens.sound but none);
+    only_reads_fail = λ but none going. goes_on but (opens.sound but none) (opens.only_reads_fail but none going);
   }
 
   pub legal_from : (never : Failing) (core : CoreData) → OpensWith opening setup tells never core → (tells → IsLegal (opening_of core.site.told core) core.history) → IsLegalFrom opening core.history
@@ -101,7 +122,7 @@ book_there b x none some = absurd (let e : None ≡ Some x = sym none ∙ some i
 
 -- the session of a core has its own opening
 pub opens_itself : (tells : Type 0) (never : Failing) (core : CoreData) → OpensWith (record { tells = tells; state = opening_of core.site.told core }) (record { began = core; never_fails_but = never }) tells never core
-opens_itself tells never core = record { to = λ t. t; from = λ t. t; later = later_none tells core; state_ = λ _. refl; sound = λ but none. none }
+opens_itself tells never core = record { to = λ t. t; from = λ t. t; later = later_none tells core; state_ = λ _. refl; sound = λ but none. none; only_reads_fail = λ but none going. going }
 
 module _ (opening : OpeningData) (setup : SetupData) (tells : Type 0) (never : Failing) (core : CoreData) (opens : OpensWith opening setup tells never core) where
   pub legal_since : (log : List EntryData) → IsLegalFrom opening log → tells → IsLegal (opening_of core.site.told core) log

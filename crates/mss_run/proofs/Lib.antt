@@ -3,3 +3,4 @@ pub mod AnswerFacts
 pub mod OwnPlaces
 pub mod Asking
 pub mod RunFacts
+pub mod GoingOn

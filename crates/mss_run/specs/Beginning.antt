@@ -54,3 +54,5 @@ pub record OpensWith (opening : OpeningData) (setup : SetupData) (tells : Type 0
   pub later : IsLater tells setup.began core
   pub state_ : tells → opening_of core.site.told core ≡ opening.state
   pub sound : (but : UnitNo → Bool) → setup.never_fails_but but → never_fails_but but
+  pub only_reads_fail : (but : UnitNo → Bool) → setup.never_fails_but but
+      → setup.began.stopped ≡ None → core.stopped ≡ None

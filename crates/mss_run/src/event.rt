@@ -1,6 +1,7 @@
 // Events of a core, as what they leave of its session.
-ghost use Rattle.std.specs.Prelude.{◌≡◌, ◌≤◌, ◌<◌, length, true};
+ghost use Rattle.std.specs.Prelude.{◌≡◌, ◌≤◌, ◌<◌, Bool, length, true};
 ghost use Rattle.mss_base.specs.Sound.{StaysSound};
+ghost use Rattle.mss_base.specs.declared.place.UnitNo.{UnitNo};
 ghost use Rattle.channel_commands.specs.Views.{call_of};
 ghost use Rattle.ckd_plain.specs.History.{IsLegal};
 ghost use Rattle.core_state.specs.Beginning.{IsLater};
@@ -72,6 +73,8 @@ pub(crate) fn host_step<S: Site, C: Choose>(
         (seen S.Site core.new) }
     ensures later { IsLater S.tells (seen S.Site core.old) (seen S.Site core.new) }
     ensures sound { StaysSound S.never_fails_but core.old.site core.new.site }
+    ensures only_reads_fail { (but : UnitNo → Bool) → S.never_fails_but core.old.site but
+        → core.old.stopped ≡ None → core.new.stopped ≡ None }
 {
     events_add_one_entry_at_most::<S>();
     answers_have_their_causes::<S>();
@@ -95,6 +98,8 @@ pub(crate) fn work_step<S: Site, C: Choose>(
     ensures idle { result ≡ Idle → IsSame S.tells (seen S.Site core.old) (seen S.Site core.new) }
     ensures later { IsLater S.tells (seen S.Site core.old) (seen S.Site core.new) }
     ensures sound { StaysSound S.never_fails_but core.old.site core.new.site }
+    ensures only_reads_fail { (but : UnitNo → Bool) → S.never_fails_but core.old.site but
+        → core.old.stopped ≡ None → core.new.stopped ≡ None }
 {
     work_leaves_the_history::<S, C>();
     work_is_later::<S, C>();

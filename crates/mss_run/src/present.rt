@@ -7,7 +7,7 @@ use mss_base::{HostNo, RecorderNo};
 
 /// Which hosts and which recorders' workers are counted in, and whether the run has ended. So a host can see whether a
 /// recorder's own worker is in.
-#[derive(Clone, Copy, Debug)]
+#[derive(Clone, Copy)]
 pub(crate) struct Presence {
     /// By a host's number. Place 0 is nobody's.
     hosts: [bool; 9],

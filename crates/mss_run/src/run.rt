@@ -1,5 +1,5 @@
 // The actors of a job, each in a thread of its own.
-ghost use Rattle.std.specs.Prelude.{◌≡◌, ◌≤◌, ◌+◌, ◌++◌, ◌∷◌, [], Bool, length, nat_eq};
+ghost use Rattle.std.specs.Prelude.{◌≡◌, ◌≤◌, ◌+◌, ◌++◌, ◌∷◌, [], Bool, None, length, nat_eq};
 ghost use Rattle.std.specs.List.{IsDistinct, list_all};
 ghost use Rattle.std.specs.Thread.{IsSend, IsSync};
 ghost use Rattle.mss_base.specs.Sound.{StaysSound};
@@ -286,6 +286,8 @@ fn run_named<
     requires empty { core.history ≡ [] }
     ensures later { IsLater S.tells (seen S.Site core) (seen S.Site result.core) }
     ensures sound { StaysSound S.never_fails_but core.site result.core.site }
+    ensures only_reads_fail { (but : UnitNo → Bool) → S.never_fails_but core.site but
+        → core.stopped ≡ None → result.core.stopped ≡ None }
     ensures legal { S.tells → IsLegal (opening_of (S.told core.site) core) result.core.history }
     ensures hosts { AreOfThese (hosts_of job.now.hosts) result.core.history }
     ensures ends { Leaves result.core.history job.now.hosts result.hosts.items }
@@ -326,7 +328,8 @@ fn run_named<
 /// came, and each entry is of a host of the job. Of each host there is its end: the places of all entries that it was
 /// told of, in rising order, and whether what it was told follows its script to the end; for want of memory at the start
 /// there is none, and no entry. Each entry is a call of its host's script, in order, also one that stopped the core. All
-/// memory that is common to them is taken before the first actor starts.
+/// memory that is common to them is taken before the first actor starts. Where nothing but reads can fail, the core isn't
+/// stopped.
 pub fn run_actors<S: Site + Send, C: Choose + Send, G: Gate + Sync, R: Threads + Wait + Sync>(
     rt: &R,
     alloc: Global,
@@ -338,6 +341,8 @@ pub fn run_actors<S: Site + Send, C: Choose + Send, G: Gate + Sync, R: Threads +
     requires config { core.config ≡ job.now.config }
     ensures later { IsLater S.tells (seen S.Site core) (seen S.Site result.core) }
     ensures sound { StaysSound S.never_fails_but core.site result.core.site }
+    ensures only_reads_fail { (but : UnitNo → Bool) → S.never_fails_but core.site but
+        → core.stopped ≡ None → result.core.stopped ≡ None }
     ensures legal { S.tells → IsLegal (opening_of (S.told core.site) core) result.core.history }
     ensures hosts { AreOfThese (hosts_of job.now.hosts) result.core.history }
     ensures ends { Leaves result.core.history job.now.hosts result.hosts.items }

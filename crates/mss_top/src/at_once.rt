@@ -1,5 +1,7 @@
 //! A run in threads: words, input, job, session, report.
-ghost use Rattle.std.specs.Prelude.{◌≡◌, [], map, string_bytes};
+ghost use Rattle.std.specs.Prelude.{◌≡◌, [], Bool, IfSome, None, map, string_bytes};
+ghost use Rattle.mss_base.specs.declared.place.UnitNo.{UnitNo};
+ghost use Rattle.core_state.specs.Sessions.{session_data};
 ghost use Rattle.job_text.specs.Jobs.{JobData};
 ghost use Rattle.mss_restart.specs.Creations.{WritesOn};
 ghost use Rattle.session_report.specs.Parties.{sink_between, source_between};
@@ -59,6 +61,8 @@ fn run_job_at_once<
     ensures unread { result.run.status ≡ Stopped → OnUnstopped result.run.session (JobBrokeOff
         S.Site site job.now (devices S.Site site result.run.site)
         (sink_between O.Sink output.old output.new)) }
+    ensures only_reads_fail { (but : UnitNo → Bool) → S.never_fails_but site but
+        → IfSome result.run.session (λ s. (session_data s).stopped ≡ None) }
     ensures devices { WritesOn S.Site site result.run.site }
 {
     let EndAtOnce { job, hosts } = run_at_once(rt, rt.alloc(), job, site, chooser, gate, output);
@@ -85,8 +89,8 @@ fn run_job_at_once<
 /// The words are the command `threads`, which has no options. The input is read to its end, or to one byte past the
 /// longest job text, before anything is looked at; a text that is no job, and a site that isn't taken up, are refused
 /// as by `serial`. The order in which the threads come is the system's: the history is that of plain volumes for each.
-/// All actors pass the gate between events. Whether and when the threads get on no clause says. Where a read for the
-/// report fails, it ends before that track.
+/// All actors pass the gate between events. Where nothing but reads can fail, no session is stopped; where a read for the
+/// report fails, it ends before that track. Whether and when the threads get on no clause says.
 pub fn threads<
     I: Source,
     O: Sink,
@@ -116,6 +120,8 @@ pub fn threads<
         (source_between I.Source input.old input.new) (devices S.Site site result.run.site)
         (sink_between O.Sink output.old output.new) job
         → IsComplete result.run.status }
+    ensures only_reads_fail { (but : UnitNo → Bool) → S.never_fails_but site but
+        → IfSome result.run.session (λ s. (session_data s).stopped ≡ None) }
     ensures devices { WritesOn S.Site site result.run.site }
 {
     match admit_threads(rt.alloc(), words, input) {

@@ -1,11 +1,12 @@
 // A job, run in threads on a site.
-ghost use Rattle.std.specs.Prelude.{◌≡◌, [], Err, IfErr, IfOk};
+ghost use Rattle.std.specs.Prelude.{◌≡◌, [], Bool, Err, IfErr, IfOk, None};
+ghost use Rattle.mss_base.specs.declared.place.UnitNo.{UnitNo};
 ghost use Rattle.core_state.specs.CoreValue.{DevicesSeen, seen, seen_site};
 ghost use Rattle.core_state.specs.Sessions.{session_data};
 ghost use Rattle.mss_restart.specs.Creations.{WritesOn};
 ghost use Rattle.session_report.specs.Parties.{sink_between};
 ghost use Rattle.job_runs.specs.Parties.{devices};
-ghost use Rattle.job_runs.specs.Runs.{AreRowsOf, IsBegun, OnUnread, Opens, ReportBrokeOff};
+ghost use Rattle.job_runs.specs.Runs.{AreRowsOf, GoesUnstopped, IsBegun, OnUnread, Opens, ReportBrokeOff};
 ghost use Rattle.thread_runs.specs.Runs.{Ends, IsPlayedAtOnce, ended_as};
 
 use core_restart::{Refused, restart};
@@ -95,6 +96,8 @@ fn play_on<S: Site + Send, C: Choose + Drop + Send, G: Gate + Sync, R: Threads +
     ensures rows { AreRowsOf S.tells (S.told result.played.site) result.played.session.stopped
         result.played.rows.items }
     ensures devices { WritesOn S.Site core.site result.played.site }
+    ensures only_reads_fail { (but : UnitNo → Bool) → S.never_fails_but core.site but
+        → core.stopped ≡ None → result.played.session.stopped ≡ None }
 {
     sessions_are_plain::<S>();
     let RunEnd {
@@ -119,7 +122,8 @@ fn play_on<S: Site + Send, C: Choose + Drop + Send, G: Gate + Sync, R: Threads +
 ///
 /// A site that a session left, stopped at whatever moment, is taken up; one with another fault is refused by the
 /// first, untouched, and handed back. The session's history is that of plain volumes, whatever the order in which the
-/// threads came; in it each host's entries are those that it was told of. All actors pass the gate between events.
+/// threads came; in it each host's entries are those that it was told of. All actors pass the gate between events. Where
+/// nothing but reads can fail, the session isn't stopped.
 pub fn play_at_once<
     S: Site + Send,
     C: Choose + Drop + Send,
@@ -139,6 +143,8 @@ pub fn play_at_once<
     ensures rows { IfOk result (λ p.
         AreRowsOf S.tells (S.told p.played.site) p.played.session.stopped p.played.rows.items) }
     ensures devices { IfOk result (λ p. WritesOn S.Site site p.played.site) }
+    ensures only_reads_fail { IfOk result (λ p. (but : UnitNo → Bool)
+        → S.never_fails_but site but → p.played.session.stopped ≡ None) }
     ensures untaken { IfErr result (λ back. Opens job.now.config
         (devices S.Site site back.0) (Err back.1)) }
     ensures back { IfErr result (λ back. WritesOn S.Site site back.0) }
@@ -163,6 +169,8 @@ pub fn run_at_once<
     ensures unread { OnUnread result.job.outcome (ReportBrokeOff S.Site site job.now
         (devices S.Site site result.job.site) (sink_between O.Sink output.old output.new)) }
     ensures devices { WritesOn S.Site site result.job.site }
+    ensures only_reads_fail { (but : UnitNo → Bool) → S.never_fails_but site but
+        → GoesUnstopped result.job.outcome }
 {
     match play_at_once(rt, alloc, job, site, chooser, gate) {
         Ok(done) => EndAtOnce {

@@ -1,4 +1,4 @@
-use Rattle.std.proofs.Common.{subst}
+use Rattle.std.proofs.Common.{◌∙◌, subst}
 use Rattle.core_state.specs.CoreValue.{CoreData, seen}
 use Rattle.core_state.specs.declared.rule.WorkAnswer.{WorkAnswer}
 use Rattle.core_state.specs.declared.rule.WorkAnswer.TheVariants.{Idle}
@@ -32,3 +32,6 @@ returns-clause-idle g c = λ idle.
 
 pub returns-clause-sound : goal.returns-clause-sound
 returns-clause-sound g c = c.work_event.ensures.devices.sound
+
+pub returns-clause-only_reads_fail : goal.returns-clause-only_reads_fail
+returns-clause-only_reads_fail g c = λ but never going. c.work_event.ensures.only_reads_fail but never ∙ going

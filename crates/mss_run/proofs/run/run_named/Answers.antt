@@ -1,6 +1,8 @@
-use Rattle.std.proofs.Common.{ℕ, List, inl, sym, ◌∙◌, ap, subst}
+use Rattle.std.proofs.Common.{ℕ, List, inl, inr, sym, ◌∙◌, ap, subst}
 use Rattle.core_state.specs.Beginning.{IsLater}
-use Rattle.core_state.specs.CoreValue.{CoreData, seen}
+use Rattle.core_state.specs.CoreValue.{CoreValue, CoreData, seen}
+use Rattle.core_state.proofs.Later.{later_none}
+use Rattle.mss_base.specs.Sound.{StaysSound}
 use Rattle.job_text.specs.Jobs.{ScriptData, JobData, AreRunnableScripts}
 use Rattle.seen_book.specs.Books.{AreOfThese}
 use Rattle.mss_run.specs.Runs.{AreEndsIn, AskByScript}
@@ -44,3 +46,20 @@ returns-then-is_err-clause-follow g c = asks_nothing c.without_ends.result.core.
 
 pub returns-clause-hosts : goal.returns-clause-hosts
 returns-clause-hosts g c = subst (λ (hosts : List ℕ). AreOfThese hosts c.close-core.result.history) c.requires.hosts c.close-core.ensures.hosts
+
+pub returns-clause-only_reads_fail : goal.returns-clause-only_reads_fail
+returns-clause-only_reads_fail g c = λ but none going. c.close-core.ensures.opening.only_reads_fail but (c.requires.sound but none) (ap (λ (x : CoreData). x.stopped) c.requires.began ∙ going)
+
+pub returns-then-is_err-clause-later : goal.returns-then-is_err-clause-later
+returns-then-is_err-clause-later g c =
+    let old : CoreData = seen g.S.Site c.args.core in
+    subst (λ (x : CoreValue g.row.S.Denot g.row.C.Denot). IsLater g.S.Site.tells old (seen g.S.Site x)) (sym c.without_ends.ensures.core) (later_none g.S.Site.tells old)
+
+pub returns-then-is_err-clause-sound : goal.returns-then-is_err-clause-sound
+returns-then-is_err-clause-sound g c = subst (λ (x : CoreValue g.row.S.Denot g.row.C.Denot). StaysSound g.S.Site.never_fails_but c.args.core.site x.site) (sym c.without_ends.ensures.core) (λ but none. none)
+
+pub returns-then-is_err-clause-only_reads_fail : goal.returns-then-is_err-clause-only_reads_fail
+returns-then-is_err-clause-only_reads_fail g c = λ but none going. ap (λ (x : CoreValue g.row.S.Denot g.row.C.Denot). x.stopped) c.without_ends.ensures.core ∙ going
+
+pub returns-then-is_err-clause-ends : goal.returns-then-is_err-clause-ends
+returns-then-is_err-clause-ends g c = inr (c.without_ends.ensures.hosts, c.without_ends.ensures.empty)

@@ -31,3 +31,11 @@ returns-clause-devices g c =
     let left : CoreValue g.row.S.Denot g.row.C.Denot = ran.result.core in
     subst (λ (x : g.row.S.Denot). WritesOn g.S.Site c.args.core.site x) (sym c.into_session-site.ensures.site)
     (written_at_once g.S.Site c.args.core left c.requires.writes c.requires.faults ran.ensures.later c.look.ensures.counted ran.ensures.sound)
+
+pub returns-clause-only_reads_fail : goal.returns-clause-only_reads_fail
+returns-clause-only_reads_fail g c = λ but never going.
+    let ran = c.run_actors-core in
+    let left : CoreValue g.row.S.Denot g.row.C.Denot = ran.result.core in
+    let ended = c.into_session-site in
+    let session : session_data ended.result.1 ≡ data_of left = ended.ensures.session in
+    ap (λ (x : SessionData). x.stopped) session ∙ ran.ensures.only_reads_fail but never going

@@ -1,7 +1,7 @@
 use Rattle.core_state.specs.Sessions.{session_data}
 use Rattle.session_report.specs.Parties.{Stream, sink_between}
 use Rattle.job_runs.specs.Parties.{Devices, devices}
-use Rattle.job_runs.proofs.SessionFacts.{broke_off_of}
+use Rattle.job_runs.proofs.SessionFacts.{broke_off_of, unstopped_of}
 use Rattle.thread_runs.proofs.AtOnce.{played_halts, ends_at_once}
 use Rattle.thread_runs.proofs.run.run_at_once.Goals as goal
 use Rattle.core_state.specs.CoreValue.{seen_site}
@@ -31,3 +31,13 @@ returns-in-Ok-clause-unread g c =
     broke_off_of g.S.Site c.args.job.now c.args.site p.site put.result.site p.end (session_data p.session) p.rows.items
     (played_halts c.args.job.now whole p.end c.in-Ok.done.hosts.items (session_data p.session) c.in-Ok.ensures.played) c.in-Ok.ensures.rows c.in-Ok.ensures.devices.sound put.ensures.site sink put.result.outcome
     (put.ensures.tells (told c.args.site) c.in-Ok.ensures.played.promised.plain) (put.ensures.unread (told c.args.site) c.in-Ok.ensures.played.promised.plain)
+
+pub returns-in-Ok-clause-only_reads_fail : goal.returns-in-Ok-clause-only_reads_fail
+returns-in-Ok-clause-only_reads_fail g c = λ but never.
+    let p = c.in-Ok.done.played in
+    let told = g.S.Site.told in
+    let put = c.put_report in
+    let sink : Stream = sink_between g.O.Sink c.args.output.now put.new.output in
+    let site : Devices = devices g.S.Site p.site put.result.site in
+    unstopped_of c.args.job.now (told c.args.site) site sink p.end (session_data p.session) put.result.outcome
+    (put.ensures.tells (told c.args.site) c.in-Ok.ensures.played.promised.plain) (c.in-Ok.ensures.only_reads_fail but never)

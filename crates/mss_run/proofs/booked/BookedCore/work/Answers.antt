@@ -12,5 +12,5 @@ invariant_of-self g c =
       made = c.self.invariant.made;
       book_ = c.self.invariant.book_ ∙ ap (λ (l : List EntryData). Some record { list = l; made = c.self.invariant.made }) (sym c.work_step.ensures.history);
       opens = opens_still g.N.Opening.opening g.N.Setup.setup g.S.Site.tells (g.S.Site.never_fails_but c.self.inside.core.site) (g.S.Site.never_fails_but c.work_step.new.core.site) old new c.self.invariant.opens
-          c.entries_of-before.ensures.began c.work_step.ensures.later c.work_step.ensures.sound;
+          c.entries_of-before.ensures.began c.work_step.ensures.later c.work_step.ensures.sound c.work_step.ensures.only_reads_fail;
     }
