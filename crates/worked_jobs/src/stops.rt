@@ -377,7 +377,7 @@ const FIRST_REPLACED: &[Stops] = &[Stops {
 
 const SHORT_TEARS: &[Option<&[u8]>] = &[Some(&[0]), Some(&[0xC1]), Some(&[0xFF, 0, 0xFF])];
 
-/// So many bytes. As a number that the proof doesn't know, since it would write out a list of a whole block.
+/// So many bytes.
 fn filled(alloc: Global, byte: u8, count: usize) -> Option<Vec<u8>> {
     vec![in alloc; byte; count].ok()
 }

@@ -19,7 +19,6 @@ use memory_devices::{MemorySite, SiteFault};
 use mss_base::{CartridgeNo, Config, NoMemory, Serial, Site, UnitNo};
 use mss_restart::{Refused, Rows, survey};
 use std::alloc::Global;
-use std::test::Fail;
 
 /// Devices in memory of which just the reads of one unit of the table are to fail have lost one copy of the table, as
 /// the survey has it: so its clause for a lost copy speaks of devices that there can be.
@@ -54,17 +53,40 @@ fn survey_without(
     Ok(survey(alloc, site, config))
 }
 
+fn answer_told(alloc: Global, answer: &Result<Rows, Refused>) -> Told {
+    match answer {
+        Ok(rows) => volumes(alloc, rows.as_slice()),
+        Err(fault) => refused(alloc, fault),
+    }
+}
+
+fn survey_told(alloc: Global, site: &mut MemorySite, lost: UnitNo, config: &Config) -> Told
+    requires { is_table lost ≡ true }
+{
+    match survey_without(alloc, site, lost, config) {
+        Ok(answer) => answer_told(alloc, &answer),
+        Err(_) => None,
+    }
+}
+
+fn put_copies<S: Site>(alloc: Global, site: &mut S) -> Option<()> {
+    put_two_rows(alloc, site, UnitNo::TableA)?;
+    put_two_rows(alloc, site, UnitNo::TableB)
+}
+
+// Volume 0 is asked for.
+fn config_of(alloc: Global) -> Option<Config> {
+    let words = words_of(alloc, "survey 0 VOL001", 0)?;
+    asked(alloc, &words)
+}
+
 // What it tells, and how many reads failed.
 fn told_without(alloc: Global, site: &mut MemorySite, lost: UnitNo) -> Told
     requires { is_table lost ≡ true }
 {
-    put_two_rows(alloc, site, UnitNo::TableA)?;
-    put_two_rows(alloc, site, UnitNo::TableB)?;
-    let config = asked(alloc, &words_of(alloc, "survey 0 VOL001", 0)?)?;
-    let mut told = match survey_without(alloc, site, lost, &config).ok()? {
-        Ok(rows) => volumes(alloc, rows.as_slice())?,
-        Err(fault) => refused(alloc, &fault)?,
-    };
+    put_copies(alloc, site)?;
+    let config = config_of(alloc)?;
+    let mut told = survey_told(alloc, site, lost, &config)?;
     told.push(site.faults()).ok()?;
     Some(told)
 }
@@ -78,10 +100,10 @@ fn lost_told(alloc: Global, lost: UnitNo) -> Told
 
 // Copy B is read where copy A tells no row.
 #[test]
-fn a_lost_copy_of_the_table_changes_nothing(rt: HostRuntime) -> Result<(), Fail> {
+fn a_lost_copy_of_the_table_changes_nothing(rt: HostRuntime) {
     let alloc = rt.alloc();
     let without_a = lost_told(alloc, UnitNo::TableA);
-    assert_told(&rt, alloc, without_a, "0 VOL001 0 1 1 VOL002 2 3 32")?;
+    assert_told(&rt, alloc, without_a, "0 VOL001 0 1 1 VOL002 2 3 32");
     let without_b = lost_told(alloc, UnitNo::TableB);
-    assert_told(&rt, alloc, without_b, "0 VOL001 0 1 1 VOL002 2 3 30")
+    assert_told(&rt, alloc, without_b, "0 VOL001 0 1 1 VOL002 2 3 30");
 }

@@ -48,51 +48,48 @@ fn image(bench: &Bench, words: &[u64]) -> Option<Bench> {
 }
 
 // Behind a stop stands a line that is done to what it leaves.
+fn told_behind(alloc: Global, bench: &Bench, words: &[u64]) -> Told {
+    let line = words.get(4..)?;
+    let mut left = Some(image(bench, words)?);
+    whole_line(alloc, &mut left, line)
+}
+
 fn told_by(alloc: Global, slot: &mut Option<Bench>, words: &[u64]) -> Told {
-    if !is_word(words, 0, "stop") {
-        return whole_line(alloc, slot, words);
+    if is_word(words, 0, "stop") {
+        return told_behind(alloc, slot.as_ref()?, words);
     }
-    let mut left = Some(image(slot.as_ref()?, words)?);
-    whole_line(alloc, &mut left, words.get(4..)?)
+    whole_line(alloc, slot, words)
 }
 
-fn run_line(
-    rt: &impl Abort,
-    alloc: Global,
-    slot: &mut Option<Bench>,
-    line: &str,
-    turn: u64,
-) -> Option<()> {
-    let (asked, due) = match line.split_once(" -> ") {
-        Some((asked, due)) => (asked, due),
-        None => (line, "done"),
-    };
-    let told = told_by(alloc, slot, &words_of(alloc, asked, turn)?);
-    let told = told.unwrap_or(Vec::new(alloc));
-    let due = words_of(alloc, due, turn)?;
-    assert_eq!(rt; told.as_slice(), due.as_slice(), "in turn {turn}: {line}");
-    Some(())
+fn told_in(alloc: Global, slot: &mut Option<Bench>, asked: &str, turn: u64) -> Told {
+    let words = words_of(alloc, asked, turn)?;
+    told_by(alloc, slot, &words)
 }
 
-fn run_lines(
-    rt: &impl Abort,
-    alloc: Global,
-    slot: &mut Option<Bench>,
-    lines: &str,
-    turn: u64,
-) -> Option<()> {
+// Whether a line tells this.
+fn tells(alloc: Global, slot: &mut Option<Bench>, asked: &str, due: &str, turn: u64) -> bool {
+    is_due(alloc, &told_in(alloc, slot, asked, turn), due, turn)
+}
+
+fn run_line(rt: &impl Abort, alloc: Global, slot: &mut Option<Bench>, line: &str, turn: u64) {
+    let (asked, due) = line.split_once(" -> ").unwrap_or((line, "done"));
+    let is_told = tells(alloc, slot, asked, due, turn);
+    assert!(rt; is_told, "in turn {turn}: {line}");
+}
+
+fn run_lines(rt: &impl Abort, alloc: Global, slot: &mut Option<Bench>, lines: &str, turn: u64) {
     for line in lines.lines() {
         if !line.starts_with("turns") {
-            run_line(rt, alloc, slot, line, turn)?;
+            run_line(rt, alloc, slot, line, turn);
         }
     }
-    Some(())
 }
 
 fn run_turn(rt: &impl Abort, alloc: Global, before: &str, part: &str, turn: u64) -> Option<()> {
     let mut slot = Some(Bench::new(alloc)?);
-    run_lines(rt, alloc, &mut slot, before, turn)?;
-    run_lines(rt, alloc, &mut slot, part, turn)
+    run_lines(rt, alloc, &mut slot, before, turn);
+    run_lines(rt, alloc, &mut slot, part, turn);
+    Some(())
 }
 
 fn turns_of(alloc: Global, part: &str) -> Option<(u64, u64)> {
@@ -122,11 +119,19 @@ pub fn run(rt: &impl Abort, alloc: Global, before: &str, text: &str) -> Result<(
     Ok(())
 }
 
-/// Compares what was told with the words that are due.
-pub fn assert_told(rt: &impl Abort, alloc: Global, told: Told, due: &str) -> Result<(), Fail> {
-    let (Some(told), Some(due)) = (told, words_of(alloc, due, 0)) else {
-        return Err("nothing is told".into());
+/// Whether what was told are the words that are due; where nothing was, there are none.
+fn is_due(alloc: Global, told: &Told, due: &str, turn: u64) -> bool {
+    let Some(told) = told else {
+        return false;
     };
-    assert_eq!(rt; told.as_slice(), due.as_slice());
-    Ok(())
+    let Some(due) = words_of(alloc, due, turn) else {
+        return false;
+    };
+    told.as_slice() == due.as_slice()
+}
+
+/// Compares what was told with the words that are due.
+pub fn assert_told(rt: &impl Abort, alloc: Global, told: Told, due: &str) {
+    let is_told = is_due(alloc, &told, due, 0);
+    assert!(rt; is_told, "{due}");
 }
