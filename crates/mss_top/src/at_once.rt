@@ -1,5 +1,5 @@
 //! A run in threads: words, input, job, session, report.
-ghost use Rattle.std.specs.Prelude.{◌≡◌, [], Bool, IfSome, None, map, string_bytes};
+ghost use Rattle.std.specs.Prelude.{◌≡◌, Bool, IfSome, None, map, string_bytes};
 ghost use Rattle.mss_base.specs.declared.place.UnitNo.{UnitNo};
 ghost use Rattle.core_state.specs.Sessions.{session_data};
 ghost use Rattle.job_text.specs.Jobs.{JobData};
