@@ -10,11 +10,9 @@ use Rattle.memory_devices.specs.declared.memory_site.SiteFault.{SiteFault}
 use Rattle.memory_devices.specs.declared.memory_site.SiteFault.TheVariants.{ReadsOf}
 use Rattle.mss_base.specs.declared.place.UnitNo.{UnitNo}
 use Rattle.mss_base.proofs.ContentLemmas.{same_unit-refl, same_unit-true}
-use Rattle.table_pair.specs.Pair.{is_table}
-use Rattle.mss_restart.specs.OneCopy.{LosesOneTable}
 
 -- two units that differ are told apart
-told_apart : (a b : UnitNo) → a ≢ b → same_unit a b ≡ false
+pub told_apart : (a b : UnitNo) → a ≢ b → same_unit a b ≡ false
 told_apart a b other = by (same_unit a b) refl
   where
     by : (same : Bool) → same_unit a b ≡ same → same_unit a b ≡ false
@@ -22,14 +20,7 @@ told_apart a b other = by (same_unit a b) refl
     by false is = is
 
 -- all that fails are reads of that unit
-only_that : (site : MemorySite) (lost : UnitNo) → failing_of site ≡ ReadsOf lost ∷ [] → FailsOnly site (λ unit. same_unit unit lost)
+pub only_that : (site : MemorySite) (lost : UnitNo) → failing_of site ≡ ReadsOf lost ∷ [] → FailsOnly site (λ unit. same_unit unit lost)
 only_that site lost is =
     let fits : SiteFault → Type 0 = IsReadOf (λ unit. same_unit unit lost) in
     subst (All fits) (sym is) (All-cons fits (ReadsOf lost) [] (same_unit-refl lost) (All-nil fits))
-
-pub loses_one : (site : MemorySite) (unit : UnitNo) → is_table unit ≡ true → failing_of site ≡ ReadsOf unit ∷ [] → LosesOneTable FailsOnly site
-loses_one site lost of_table is = record {
-  lost = lost;
-  of_table = of_table;
-  others = λ unit other. ((λ u. same_unit u lost), only_that site lost is, told_apart unit lost other);
-}

@@ -2,7 +2,7 @@
 ghost use Rattle.std.specs.Prelude.{◌≡◌, true, [], ◌∷◌, IfOk};
 ghost use Rattle.mss_base.specs.Content.{content};
 ghost use Rattle.mss_base.specs.declared.place.UnitNo.{UnitNo};
-ghost use Rattle.memory_devices.specs.MemorySite.{FailsOnly, failing_of, told_of};
+ghost use Rattle.memory_devices.specs.MemorySite.{failing_of, told_of};
 ghost use Rattle.memory_devices.specs.declared.memory_site.MemorySite.{MemorySite};
 ghost use Rattle.memory_devices.specs.declared.memory_site.SiteFault.TheVariants.{ReadsOf};
 ghost use Rattle.ckd_plain.specs.Plain.{serial_in};
@@ -24,7 +24,7 @@ use std::alloc::Global;
 /// the survey has it: so its clause for a lost copy speaks of devices that there can be.
 fn a_memory_site_may_lose_one_table()
     ensures { (site : MemorySite) (unit : UnitNo) → is_table unit ≡ true
-        → failing_of site ≡ ReadsOf unit ∷ [] → LosesOneTable FailsOnly site }
+        → failing_of site ≡ ReadsOf unit ∷ [] → LosesOneTable ⟦<MemorySite as Site>⟧ site }
 {}
 
 // Each copy of the table has the rows of volumes 0 and 1.
