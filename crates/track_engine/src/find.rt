@@ -1,5 +1,5 @@
 // Where a command finds its record.
-ghost use Rattle.std.specs.Prelude.{◌≡◌, ◌≤◌, ◌<◌, ◌+◌, ◌^◌, Bool, false, Ok, Err, None, length};
+ghost use Rattle.std.specs.Prelude.{◌≡◌, ◌≤◌, ◌<◌, ◌+◌, Bool, false, Ok, Err, None, length};
 ghost use Rattle.std.specs.Prelude.{IfOk, IsOk, OnOk, IfErr, MatchOption, MatchResult};
 ghost use Rattle.mss_base.specs.Content.{content};
 ghost use Rattle.mss_base.specs.Counts.{HasCause};
@@ -18,7 +18,7 @@ use crate::place::{CylinderPlace, EngineFault, NotDone};
 use ckd_plain::steps::{FoundRecord, candidate, pass_index, to_home};
 use ckd_plain::{HostState, Refusal, UnitCheck};
 use ckd_track::{find_place, record_at};
-use mss_base::{BLOCK_BYTES, Failed, HEADS, Head, Site};
+use mss_base::{BLOCK_BYTES, Failed, Head, Site};
 
 /// How many tracks a command may look at.
 const LOOKS: u8 = 20;
@@ -39,7 +39,6 @@ pub fn bring_block<S: Site>(
     place: &CylinderPlace,
     head: Head,
 ) -> Result<(), EngineFault>
-    requires { place.now.first_block + HEADS ≤ 2 ^ 32 }
     ensures block { S.tells
         → OnOk result (IsBlockOn (S.told site.old) place.now head (S.brought site.new)) }
     ensures reads { OnlyReads S.Site site.old site.new }
@@ -65,7 +64,6 @@ pub fn copy_block<S: Site>(
     head: Head,
 ) -> Result<(), EngineFault>
     requires buffer { length buffer.old ≡ BLOCK_BYTES }
-    requires place { place.now.first_block + HEADS ≤ 2 ^ 32 }
     ensures block { S.tells → OnOk result (IsBlockOn (S.told site.old) place.now head buffer.new) }
     ensures reads { OnlyReads S.Site site.old site.new }
     ensures cause { HasCause (S.faults site.old) (S.faults site.new) result }
@@ -131,7 +129,6 @@ fn pass<S: Site>(
     host: &HostState,
     multi: bool,
 ) -> Result<HostState, NotDone>
-    requires { place.now.first_block + HEADS ≤ 2 ^ 32 }
     ensures passed { GivesBut (λ passed. passed) result (pass_index host.now multi) }
     ensures block { S.tells
         → IsBlockOn (S.told site.old) place.now host.now.head (S.brought site.old)
@@ -159,7 +156,6 @@ pub fn next_record<S: Site>(
     first: u8,
     multi: bool,
 ) -> Result<RecordPlace, NotDone>
-    requires { place.now.first_block + HEADS ≤ 2 ^ 32 }
     ensures found { S.tells → GivesBut (found_at (S.brought site.new)) result
         (next_record (tracks_on (S.told site.old) place.now) from.now first multi) }
     ensures there { IfOk result (StandsIn (S.brought site.new)) }
@@ -211,7 +207,6 @@ pub fn this_or_next<S: Site>(
     at_hand: Option<u8>,
     multi: bool,
 ) -> Result<RecordPlace, NotDone>
-    requires { place.now.first_block + HEADS ≤ 2 ^ 32 }
     ensures found { S.tells → GivesBut (found_at (S.brought site.new)) result
         (this_or_next at_hand (tracks_on (S.told site.old) place.now) host.now multi) }
     ensures there { IfOk result (StandsIn (S.brought site.new)) }

@@ -1,17 +1,18 @@
 // The blocks of a cylinder, and why a command on them isn't done.
-ghost use Rattle.std.specs.Prelude.{◌≡◌, ◌≤◌, ◌<◌, ◌+◌, ◌^◌, length, OnOk, OnErr, IfErr};
-ghost use Rattle.mss_base.specs.Content.{content};
+ghost use Rattle.std.specs.Prelude.{◌≡◌, ◌≤◌, ◌<◌, ◌+◌, ◌^◌};
+ghost use Rattle.mss_base.specs.declared.numbers.TheConstants.{HEADS};
 ghost use Rattle.track_engine.specs.declared.place.NotDone.TheVariants.{Refused, Fault};
 ghost use Rattle.track_engine.specs.declared.place.EngineFault.TheVariants.{Memory};
 
 use ckd_plain::Refusal;
-use mss_base::{BlockPlace, HEADS, Head, NoMemory, UnitNo};
+use mss_base::{BlockPlace, Head, NoMemory, UnitNo};
 
-/// The blocks of a cylinder: that of head 0, and those of the other heads behind it.
+/// The blocks of a cylinder: that of head 0, and those of the other heads behind it, which all have numbers.
 #[derive(Clone, Copy, Debug, PartialEq, Eq)]
 pub struct CylinderPlace {
     pub unit: UnitNo,
     pub first_block: u32,
+    pub ghost numbered: { first_block + HEADS ≤ 2 ^ 32 },
 }
 
 /// Why a command gave no reply: a device failed, and how many faults there were then, or memory was refused.
@@ -56,7 +57,6 @@ impl From<NoMemory> for NotDone {
 impl CylinderPlace {
     /// The block of a head.
     pub fn block_of(&self, head: Head) -> BlockPlace
-        requires { self.now.first_block + HEADS ≤ 2 ^ 32 }
         ensures value { result ≡ record {
           unit = self.now.unit;
           block = self.now.first_block +

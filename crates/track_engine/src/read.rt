@@ -1,5 +1,5 @@
 // Reads.
-ghost use Rattle.std.specs.Prelude.{◌≤◌, ◌≡◌, ◌≢◌, ◌<◌, ◌+◌, ◌^◌, IfOk, IfErr, Bool, true, false};
+ghost use Rattle.std.specs.Prelude.{◌≤◌, ◌≡◌, ◌≢◌, ◌<◌, ◌+◌, IfOk, IfErr, Bool, true, false};
 ghost use Rattle.mss_base.specs.Content.{content};
 ghost use Rattle.mss_base.specs.Sites.{OnlyReads};
 ghost use Rattle.mss_base.specs.declared.place.UnitNo.{UnitNo};
@@ -14,7 +14,7 @@ use crate::place::{CylinderPlace, NotDone};
 use channel_commands::ReadWhat;
 use ckd_plain::HostState;
 use ckd_plain::steps::{DoneCommand, at_hand, home_read, record_zero_read};
-use mss_base::{HEADS, Site};
+use mss_base::{Site};
 use std::alloc::Global;
 
 /// A read of a record.
@@ -27,7 +27,6 @@ fn read_record<S: Site>(
     what: ReadWhat,
     multi: bool,
 ) -> Result<DoneCommand, NotDone>
-    requires place { place.now.first_block + HEADS ≤ 2 ^ 32 }
     requires no_home { what ≢ ReadWhat.Home }
     requires no_zero { what ≢ ReadWhat.RecordZero }
     ensures done { S.tells → GivesBut effect_of result
@@ -54,7 +53,6 @@ pub fn read<S: Site>(
     what: ReadWhat,
     multi: bool,
 ) -> Result<DoneCommand, NotDone>
-    requires { place.now.first_block + HEADS ≤ 2 ^ 32 }
     ensures done { S.tells → GivesBut effect_of result
         (read (tracks_on (S.told site.old) place.now) host.now what multi) }
     ensures volume { KeepsVolume (λ done. done.host) host.now.mounted result }

@@ -1,5 +1,5 @@
 // A search, read or write on the blocks of a cylinder.
-ghost use Rattle.std.specs.Prelude.{◌≡◌, ◌≤◌, ◌<◌, ◌+◌, ◌^◌, ℕ, List, Bool, length, true, false, Some, IsTrue, IfOk, IfErr, OnOk, OnErr};
+ghost use Rattle.std.specs.Prelude.{◌≡◌, ◌≤◌, ◌<◌, ◌+◌, ℕ, List, Bool, length, true, false, Some, IsTrue, IfOk, IfErr, OnOk, OnErr};
 ghost use Rattle.mss_base.specs.Content.{content};
 ghost use Rattle.mss_base.specs.Sites.{OnlyReads, MayWrite};
 ghost use Rattle.mss_base.specs.declared.place.UnitNo.{UnitNo};
@@ -26,7 +26,7 @@ use crate::write::{write_count_key_data, write_data};
 use channel_commands::{Command, Reply, SearchField, WriteKind};
 use ckd_plain::steps::{DoneCommand, cleared, finished, opened, refused};
 use ckd_plain::{HostState, Prior};
-use mss_base::{BLOCK_BYTES, HEADS, Site};
+use mss_base::{BLOCK_BYTES, Site};
 use std::alloc::Global;
 
 /// A search or a read.
@@ -39,7 +39,6 @@ fn look<S: Site>(
     command: Command,
     argument: &[u8],
 ) -> Result<DoneCommand, NotDone>
-    requires place { place.now.first_block + HEADS ≤ 2 ^ 32 }
     requires long { least command ≤ length argument.now }
     requires data { is_data command ≡ true }
     requires reads { is_write command ≡ false }
@@ -77,7 +76,6 @@ fn carry_out<S: Site>(
     argument: &[u8],
 ) -> Result<DoneCommand, NotDone>
     requires buffer { length buffer.old ≡ BLOCK_BYTES }
-    requires place { place.now.first_block + HEADS ≤ 2 ^ 32 }
     requires long { least command ≤ length argument.now }
     requires permitted { IsTrue (is_prior_permitted left command) }
     requires data { is_data command ≡ true }
@@ -130,7 +128,6 @@ fn run<S: Site>(
     host: &mut HostState,
 ) -> Result<Reply, EngineFault>
     requires buffer { length buffer.old ≡ BLOCK_BYTES }
-    requires place { place.now.first_block + HEADS ≤ 2 ^ 32 }
     requires passes { Passes (opened host.old) command.now argument.now }
     requires data { is_data command.now ≡ true }
     requires tracks { S.tells → AreTracksOn (S.told site.old) place.now }
@@ -193,7 +190,6 @@ pub fn run_command<S: Site>(
     host: &mut HostState,
 ) -> Result<Reply, EngineFault>
     requires buffer { length buffer.old ≡ BLOCK_BYTES }
-    requires place { place.now.first_block + HEADS ≤ 2 ^ 32 }
     requires passes { Passes (opened host.old) command.now argument.now }
     requires data { is_data command.now ≡ true }
     requires tracks { S.tells → AreTracksOn (S.told site.old) place.now }

@@ -1,5 +1,5 @@
 // Searches.
-ghost use Rattle.std.specs.Prelude.{◌≡◌, ◌≤◌, ◌<◌, ◌+◌, ◌^◌, length, IfOk, IfErr, MatchResult, Bool, true, false};
+ghost use Rattle.std.specs.Prelude.{◌≡◌, ◌≤◌, ◌<◌, ◌+◌, length, IfOk, IfErr, MatchResult, Bool, true, false};
 ghost use Rattle.mss_base.specs.Content.{content};
 ghost use Rattle.mss_base.specs.Sites.{OnlyReads};
 ghost use Rattle.mss_base.specs.declared.place.UnitNo.{UnitNo};
@@ -17,7 +17,7 @@ use crate::place::{CylinderPlace, NotDone};
 use channel_commands::SearchTest;
 use ckd_plain::steps::{DoneCommand, home_searched, key_at_hand};
 use ckd_plain::{HostState, Refusal};
-use mss_base::{HEADS, Site};
+use mss_base::{Site};
 use std::alloc::Global;
 
 /// Search home address equal.
@@ -50,7 +50,6 @@ pub fn search_id<S: Site>(
     multi: bool,
     argument: &[u8],
 ) -> Result<DoneCommand, NotDone>
-    requires place { place.now.first_block + HEADS ≤ 2 ^ 32 }
     requires long { 5 ≤ length argument.now }
     ensures done { S.tells → GivesBut effect_of result
         (search (tracks_on (S.told site.old) place.now) host.now SearchField.Id test multi
@@ -77,7 +76,6 @@ pub fn search_key<S: Site>(
     multi: bool,
     argument: &[u8],
 ) -> Result<DoneCommand, NotDone>
-    requires { place.now.first_block + HEADS ≤ 2 ^ 32 }
     ensures done { S.tells → GivesBut effect_of result
         (search (tracks_on (S.told site.old) place.now) host.now SearchField.Key test multi
         argument.now) }

@@ -1,5 +1,5 @@
 // Writes.
-ghost use Rattle.std.specs.Prelude.{◌≡◌, ◌≤◌, ◌<◌, ◌+◌, ◌^◌, ◌-◌, Ok, None, [], length, take, IfOk, OnOk, IfErr, IfSome, Bool, true, false};
+ghost use Rattle.std.specs.Prelude.{◌≡◌, ◌≤◌, ◌<◌, ◌+◌, ◌-◌, Ok, None, [], length, take, IfOk, OnOk, IfErr, IfSome, Bool, true, false};
 ghost use Rattle.mss_base.specs.Content.{content};
 ghost use Rattle.mss_base.specs.Sites.{OnlyReads, MayWrite};
 ghost use Rattle.mss_base.specs.declared.place.UnitNo.{UnitNo};
@@ -21,7 +21,7 @@ use channel_commands::{Command, WriteKind};
 use ckd_plain::steps::{DONE, DoneCommand, FoundRecord, written};
 use ckd_plain::{HostState, Prior, Refusal, UnitCheck};
 use ckd_track::{TRACK_COST, cost_at, cost_of_front, format_record, record_length, update_record};
-use mss_base::{BLOCK_BYTES, BlockPlace, Bytes, Failed, HEADS, NoMemory, Site};
+use mss_base::{BLOCK_BYTES, BlockPlace, Bytes, Failed, NoMemory, Site};
 use std::alloc::Global;
 
 /// The first bytes of an argument, where it has so many.
@@ -61,7 +61,6 @@ fn kept_record<S: Site>(
     argument: &[u8],
 ) -> Result<RecordPlace, NotDone>
     requires buffer { length buffer.old ≡ BLOCK_BYTES }
-    requires place { place.now.first_block + HEADS ≤ 2 ^ 32 }
     requires long { 8 ≤ length argument.now }
     ensures format { S.tells → GivesBut
         (formatted_behind (reading buffer.new).records (new_record argument.now)) result
@@ -142,7 +141,6 @@ pub fn write_count_key_data<S: Site>(
     argument: &[u8],
 ) -> Result<DoneCommand, NotDone>
     requires buffer { length buffer.old ≡ BLOCK_BYTES }
-    requires place { place.now.first_block + HEADS ≤ 2 ^ 32 }
     requires long { 8 ≤ length argument.now }
     requires tracks { S.tells → AreTracksOn (S.told site.old) place.now }
     requires room { 4 ≤ S.spare site.old }
@@ -241,7 +239,6 @@ pub fn write_data<S: Site>(
     argument: &[u8],
 ) -> Result<DoneCommand, NotDone>
     requires buffer { length buffer.old ≡ BLOCK_BYTES }
-    requires place { place.now.first_block + HEADS ≤ 2 ^ 32 }
     requires first { 0 < prior_number left }
     requires tracks { S.tells → AreTracksOn (S.told site.old) place.now }
     requires room { 1 ≤ S.spare site.old }

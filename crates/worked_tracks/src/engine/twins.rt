@@ -21,9 +21,7 @@ use std::test::Fail;
 use track_engine::{CylinderPlace, EngineFault, run_command};
 
 /// The place of a cylinder in the tests: all cylinders stand on one unit.
-pub fn place_of(cylinder: Cylinder) -> CylinderPlace
-    ensures { result.first_block + 18 < 2 ^ 32 }
-{
+pub fn place_of(cylinder: Cylinder) -> CylinderPlace {
     CylinderPlace {
         unit: UnitNo::Staging(0),
         first_block: u32::from(cylinder.get()) * 19,
@@ -37,7 +35,6 @@ pub fn check_tracks(
     buffer: &mut [u8],
 ) -> Result<(), Fail>
     requires buffer { length buffer.old ≡ 16384 }
-    requires place { place.now.first_block + 18 < 2 ^ 32 }
     ensures told { told_of site.new ≡ told_of site.old }
     ensures room { room_of site.new ≡ room_of site.old }
     ensures tracks { OnOk result (AreTracks (content (told_of site.old)) place.now.unit
