@@ -1,5 +1,5 @@
 -- What the code's values stand for, and how what a function returned compares with what the definition gives.
-use Rattle.std.specs.Prelude.{◌≡◌, ℕ, ◌-◌, Option, Some, Result, Ok, Err}
+use Rattle.std.specs.Prelude.{◌≡◌, ℕ, Option, Some, Result, Ok, Err}
 use Rattle.channel_commands.specs.declared.call.Reply.{Reply}
 use Rattle.channel_commands.specs.Views.{reply_of}
 use Rattle.ckd_track.specs.Data.{RecordData}

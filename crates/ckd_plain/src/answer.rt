@@ -1,7 +1,6 @@
 // The steps round every command: what opens it, and what makes its reply.
-ghost use Rattle.std.specs.Prelude.{◌≡◌, true};
+ghost use Rattle.std.specs.Prelude.{◌≡◌};
 ghost use Rattle.channel_commands.specs.Views.{reply_of};
-ghost use Rattle.ckd_plain.specs.Effects.{is_ending};
 ghost use Rattle.ckd_plain.specs.Plain.{sense_of, opened, keeps_sense, cleared, keeps_passes, refused, refused_by, finished, KeepsChain};
 ghost use Rattle.ckd_plain.specs.Views.{effect_of};
 
@@ -136,7 +135,7 @@ fn finish(host: &mut HostState, command: Command, chained: bool, done: DoneComma
 pub fn finished(host: &mut HostState, command: Command, chained: bool, done: DoneCommand) -> Reply
     ensures reply_ { reply_of result ≡ (finished command chained (effect_of done)).reply }
     ensures host_ { host.new ≡ (finished command chained (effect_of done)).host }
-    ensures chain { is_ending done.status ≡ true → KeepsChain chained (reply_of result) host.new }
+    ensures chain { KeepsChain chained (reply_of result) host.new }
 {
     finish(host, command, chained, done)
 }

@@ -4,7 +4,7 @@ ghost use Rattle.channel_commands.specs.Codes.{least};
 ghost use Rattle.channel_commands.specs.Views.{reply_of};
 ghost use Rattle.ckd_plain.specs.declared.host.Prior.{Prior};
 ghost use Rattle.ckd_plain.specs.Checks.{is_address, Passes};
-ghost use Rattle.ckd_plain.specs.Effects.{is_data, is_ending, effect, seek_done};
+ghost use Rattle.ckd_plain.specs.Effects.{is_data, effect, seek_done};
 ghost use Rattle.ckd_plain.specs.Index.{Tracks};
 ghost use Rattle.ckd_plain.specs.Plain.{opened, performed, IsDone, KeepsChain};
 ghost use Rattle.ckd_plain.specs.Views.{Responds};
@@ -69,7 +69,6 @@ pub fn control(
     ensures value { IfOk result (λ done. (tracks : Tracks) (left : Prior)
         → effect tracks host.now left command argument.now ≡ Ok (effect_of done)) }
     ensures mounted { IfOk result (λ done. done.host.mounted ≡ host.now.mounted) }
-    ensures ends { IfOk result (λ done. is_ending done.status ≡ true) }
 {
     let there = match command {
         Command::Sense => {

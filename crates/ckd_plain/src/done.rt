@@ -1,4 +1,7 @@
 // Commands that were done, with their statuses.
+ghost use Rattle.std.specs.Prelude.{◌≡◌, true};
+ghost use Rattle.ckd_plain.specs.Effects.{is_ending};
+
 use crate::host::HostState;
 use mss_base::Bytes;
 
@@ -20,4 +23,5 @@ pub struct DoneCommand {
     pub status: u8,
     pub bytes: Bytes,
     pub host: HostState,
+    pub ghost ended: { is_ending status ≡ true },
 }

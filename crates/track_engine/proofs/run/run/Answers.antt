@@ -47,7 +47,7 @@ returns-in-Err-Fault-clause-still_tracks g c = λ tells.
     _ (c.in-Err-Fault.ensures.done tells) (c.requires.tracks tells)
 
 pub returns-in-Ok-clause-unwritten : goal.returns-in-Ok-clause-unwritten
-returns-in-Ok-clause-unwritten g c = λ checked. absurd (has_no_unit_check c.in-Ok.done.status c.in-Ok.done.bytes.items _ c.in-Ok.ensures.ends c.finished.ensures.reply_ checked)
+returns-in-Ok-clause-unwritten g c = λ checked. absurd (has_no_unit_check c.in-Ok.done.status c.in-Ok.done.bytes.items _ c.in-Ok.done.ended c.finished.ensures.reply_ checked)
 
 pub returns-in-Ok-clause-untouched : goal.returns-in-Ok-clause-untouched
 returns-in-Ok-clause-untouched g c = λ tells none. c.carry_out.ensures.untouched tells (nothing_for c.args.place.now.unit c.args.place.now.first_block c.args.host.now c.args.command.now c.args.argument.now c.args.chained (g.S.Site.told c.args.site.now) (g.S.Site.told c.carry_out.new.site) c.opened-now.result c.cleared-ready.result c.opened-now.ensures c.cleared-ready.ensures none)
