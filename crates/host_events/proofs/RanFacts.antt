@@ -20,11 +20,11 @@ use Rattle.ckd_plain.specs.Laws.{HasNoBytes}
 use Rattle.ckd_plain.specs.Plain.{IsDone, IsSmooth, opened}
 use Rattle.ckd_plain.proofs.WriteFacts.{no_bytes}
 use Rattle.track_engine.specs.declared.place.CylinderPlace.{CylinderPlace}
-use Rattle.track_engine.specs.Answers.{ran, Runs, LeavesHost, LeavesDevices}
+use Rattle.track_engine.specs.Answers.{asked, ran, AsksNothing, Runs, LeavesHost, LeavesDevices}
 use Rattle.track_engine.specs.Faults.{HasUnitCheck, FailsBy, IsNoFailure}
 use Rattle.track_engine.specs.declared.place.EngineFault.{EngineFault}
 use Rattle.track_engine.specs.declared.place.EngineFault.TheVariants.{ReadFailed, WriteFailed, Memory}
-use Rattle.track_engine.specs.Tracks.{tracks_at, tracks_on}
+use Rattle.track_engine.specs.Tracks.{tracks_at}
 use Rattle.track_engine.specs.Writing.{WritesTrack, HoldsWritten, IsOfNothing}
 use Rattle.core_state.specs.Devices.{StillHold, RunOn}
 use Rattle.host_events.specs.Runs.{argument_of, is_chained, run_by, bare_write}
@@ -76,9 +76,9 @@ lacks_room g by_write old new (WriteFailed fault) fails sound = absurd sound
 module _ {S : Type 0} (g : Ghosts S) (c : Command) (call : CallData)
     (bytes : List ℕ) (bytes_is : bytes ≡ argument_of call) (linked : Bool) (linked_is : linked ≡ is_chained call)
     (place : CylinderPlace) (at : BlockPlace) (unit_is : place.unit ≡ at.unit) (first_is : place.first_block ≡ at.block) (host left : HostState) (old new : S) (reply : Reply)
-    (runs : g.tells → Runs c bytes linked place host (g.told old) (g.told new) (Ok reply) left) (leaves : LeavesHost linked host left (Ok reply))
+    (runs : g.tells → Runs (asked c bytes linked host place) (g.told old) (g.told new) (Ok reply) left) (leaves : LeavesHost linked host left (Ok reply))
     (site : LeavesDevices g c place.unit old new (Ok reply))
-    (untouched : g.tells → IsOfNothing c (prior_number (opened host).prior) (tracks_on (g.told old) place host.head) → OnlyReads g old new) where
+    (untouched : g.tells → AsksNothing (asked c bytes linked host place) (g.told old) → OnlyReads g old new) where
   there : (F : List ℕ → Bool → UnitNo → ℕ → Type 0) → F bytes linked place.unit place.first_block → F (argument_of call) (is_chained call) at.unit at.block
   there F f = subst (λ (p : List ℕ × Bool × UnitNo × ℕ). F p.0 p.1 p.2 p.3) (λ i. (bytes_is i, linked_is i, unit_is i, first_is i)) f
 

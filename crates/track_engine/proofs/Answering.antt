@@ -1,10 +1,15 @@
 -- A command that was carried out answers as the plain machine does.
-use Rattle.std.proofs.Common.{◌≡◌, ℕ, ◌+◌, Bool, true, false, List, Option, Some, None, Result, Ok, Err, refl, sym, ap, subst, ◌∙◌}
+use Rattle.std.proofs.Common.{◌≡◌, ℕ, ◌+◌, ◌≤◌, Bool, true, false, List, Option, Some, None, Result, Ok, Err, refl, sym, ap, subst, ◌∙◌, arith}
 use Rattle.std.proofs.lemmas.Bool.{cond_both}
+use Rattle.mss_base.specs.Sites.{OnlyReads, MayWrite}
 use Rattle.mss_base.specs.declared.place.UnitNo.{UnitNo}
+use Rattle.mss_base.specs.declared.site.Site.{Ghosts}
 use Rattle.mss_base.specs.Content.{SiteLog, content}
 use Rattle.channel_commands.specs.declared.call.Reply.{Reply}
 use Rattle.channel_commands.specs.declared.command.Command.{Command}
+use Rattle.channel_commands.specs.declared.command.Command.TheVariants as command
+use Rattle.channel_commands.specs.declared.command.WriteKind.TheVariants as write
+use Rattle.channel_commands.specs.Codes.{is_write}
 use Rattle.channel_commands.specs.Views.{reply_of}
 use Rattle.ckd_track.specs.Data.{RecordData}
 use Rattle.ckd_track.specs.Track.{reading, reading_of}
@@ -17,83 +22,98 @@ use Rattle.ckd_plain.specs.Plain.{Answer, UNIT_CHECK, opened, cleared, refused, 
 use Rattle.ckd_plain.specs.Views.{Responds}
 use Rattle.ckd_plain.specs.Views.{effect_of}
 use Rattle.track_engine.specs.declared.place.NotDone.{NotDone}
-use Rattle.track_engine.specs.declared.place.NotDone.TheVariants.{Refused}
+use Rattle.track_engine.specs.declared.place.NotDone.TheVariants.{Refused, Fault}
+use Rattle.track_engine.specs.declared.place.EngineFault.{EngineFault}
+use Rattle.track_engine.specs.declared.place.EngineFault.TheVariants.{ReadFailed, WriteFailed, Memory}
 use Rattle.channel_commands.specs.Data.{ReplyData, done}
-use Rattle.track_engine.specs.Faults.{HasUnitCheck}
-use Rattle.track_engine.specs.Answers.{ran}
-use Rattle.track_engine.specs.Tracks.{tracks_at, AreTracks}
+use Rattle.track_engine.specs.Faults.{HasUnitCheck, UsesDevices}
+use Rattle.track_engine.specs.Answers.{Asked, AsksNothing, ran_for, Runs, LeavesDevices}
+use Rattle.track_engine.specs.Tracks.{tracks_on, AreTracksOn}
 use Rattle.track_engine.proofs.Steps.{tracks_stay}
-use Rattle.track_engine.specs.Writing.{HoldsWritten, IsOfNothing, WritesTrack, CarriesOut, written_of}
+use Rattle.track_engine.specs.Writing.{HoldsWritten, IsOfNothing, WritesTrack, CarriesOut, target_of, most_writes, written_of}
 use Rattle.track_engine.proofs.Unwritten.{performed_written}
 
 head-opened : (host : HostState) → (opened host).head ≡ host.head
 head-opened host = cond_both host.chain_open _ _ (λ (h : HostState). h.head ≡ host.head) (λ _. refl) (λ _. refl)
 
-module _ (unit : UnitNo) (first : ℕ) (host : HostState) (c : Command) (argument : List ℕ) (chained : Bool) (old new : SiteLog) (from ready : HostState)
-    (from_is : from ≡ opened host) (ready_is : ready ≡ cleared c from) where
+module _ (a : Asked) (old new : SiteLog) (from ready : HostState) (from_is : from ≡ opened a.host) (ready_is : ready ≡ cleared a.command from) where
   abbrev tracks : Tracks
-  tracks = tracks_at (content old) unit first
+  tracks = tracks_on old a.place
 
   abbrev given : Outcome
-  given = effect tracks (cleared c (opened host)) (opened host).prior c argument
+  given = effect tracks (cleared a.command (opened a.host)) (opened a.host).prior a.command a.argument
 
   abbrev answer : Answer
-  answer = ran (content old) unit first host c argument chained
+  answer = ran_for a old
+
+  -- the block of the host's head
+  abbrev block : ℕ → List ℕ
+  block head = content new a.place.unit (a.place.first_block + head)
 
   -- what was carried out for the host that was made ready
-  abbrev Carried : Result DoneCommand NotDone → Type 0
-  Carried result = CarriesOut (effect tracks ready from.prior c argument) c (prior_number from.prior) (tracks ready.head) unit (first + ready.head) old new result
+  abbrev pub Carried : Result DoneCommand NotDone → Type 0
+  Carried result = CarriesOut (effect tracks ready from.prior a.command a.argument) a.command (target_of old a.place ready from.prior) old new result
 
   carried_for : (result : Result DoneCommand NotDone) → Carried result
-      → CarriesOut given c (prior_number (opened host).prior) (tracks (opened host).head) unit (first + (opened host).head) old new result
+      → CarriesOut given a.command (target_of old a.place (opened a.host) (opened a.host).prior) old new result
   carried_for result carried =
-      subst (λ (h : HostState). CarriesOut (effect tracks (cleared c h) h.prior c argument) c (prior_number h.prior) (tracks h.head) unit (first + h.head) old new result) from_is
-      (subst (λ (h : HostState). CarriesOut (effect tracks h from.prior c argument) c (prior_number from.prior) (tracks h.head) unit (first + h.head) old new result) ready_is carried)
+      subst (λ (h : HostState). CarriesOut (effect tracks (cleared a.command h) h.prior a.command a.argument) a.command (target_of old a.place h h.prior) old new result) from_is
+      (subst (λ (h : HostState). CarriesOut (effect tracks h from.prior a.command a.argument) a.command (target_of old a.place h from.prior) old new result) ready_is carried)
 
   -- the same of the host that was made ready
-  pub nothing_for : IsOfNothing c (prior_number (opened host).prior) (tracks host.head) → IsOfNothing c (prior_number from.prior) (tracks ready.head)
+  pub nothing_for : AsksNothing a old → IsOfNothing a.command (prior_number from.prior) (tracks ready.head)
   nothing_for none =
-      let head_is : ready.head ≡ host.head = ap (λ (h : HostState). h.head) (ready_is ∙ ap (cleared c) from_is) ∙ head-opened host in
-      subst (λ (p : HostState × ℕ). IsOfNothing c (prior_number p.0.prior) (tracks p.1)) (λ i. (sym from_is i, sym head_is i)) none
+      let head_is : ready.head ≡ a.host.head = ap (λ (h : HostState). h.head) (ready_is ∙ ap (cleared a.command) from_is) ∙ head-opened a.host in
+      subst (λ (p : HostState × ℕ). IsOfNothing a.command (prior_number p.0.prior) (tracks p.1)) (λ i. (sym from_is i, sym head_is i)) none
 
-  answer_is : answer ≡ answered c chained given
+  answer_is : answer ≡ answered a.command a.chained given
   unfolding performed
   answer_is = refl
 
   written_is : answer.written ≡ written_of given
-  written_is = performed_written tracks (opened host) c argument chained
+  written_is = performed_written tracks (opened a.host) a.command a.argument a.chained
 
-  pub writes : (result : Result DoneCommand NotDone) → Carried result → WritesTrack c (opened host) unit first old new answer.written
-  writes result carried = subst (λ (w : Option (List RecordData)). WritesTrack c (opened host) unit first old new w) (sym written_is) (carried_for result carried).moments
+  writes : (result : Result DoneCommand NotDone) → Carried result → WritesTrack a.command (opened a.host) a.place.unit a.place.first_block old new answer.written
+  writes result carried =
+      subst (λ (w : Option (List RecordData)). WritesTrack a.command (opened a.host) a.place.unit a.place.first_block old new w) (sym written_is) (carried_for result carried).moments
 
-  pub still_tracks : (result : Result DoneCommand NotDone) → Carried result → AreTracks (content old) unit first → AreTracks (content new) unit first
-  still_tracks result carried are = tracks_stay c _ _ unit first ready.head old new _ carried.moments are
+  still_tracks : (result : Result DoneCommand NotDone) → Carried result → AreTracksOn old a.place → AreTracksOn new a.place
+  still_tracks result carried are = tracks_stay a.command _ _ a.place.unit a.place.first_block ready.head old new _ carried.moments are
 
-  pub answer_done : (d : DoneCommand) (reply : Reply) (left : HostState) → Carried (Ok d) → reply_of reply ≡ (finished c chained (effect_of d)).reply → left ≡ (finished c chained (effect_of d)).host
+  -- a reply and a host are those of an outcome's answer
+  responds : (outcome : Outcome) (reply : Reply) (left : HostState) → given ≡ outcome → reply_of reply ≡ (answered a.command a.chained outcome).reply → left ≡ (answered a.command a.chained outcome).host
       → Responds answer left reply
-  answer_done d reply left carried replies leaves =
-      let is = answer_is ∙ ap (answered c chained) (carried_for (Ok d) carried).outcome in
+  responds outcome reply left gives replies leaves =
+      let is = answer_is ∙ ap (answered a.command a.chained) gives in
       record { reply_ = replies ∙ sym (ap (λ (a : Answer). a.reply) is); host_ = leaves ∙ sym (ap (λ (a : Answer). a.host) is) }
 
   refuses : (e : NotDone) (refusal : Refusal) → e ≡ Refused refusal → Carried (Err e) → given ≡ Err refusal
   refuses e refusal is carried = (carried_for (Err (Refused refusal)) (subst (λ (e : NotDone). Carried (Err e)) is carried)).outcome
 
-  pub answer_refused : (e : NotDone) (refusal : Refusal) (reply : Reply) (left : HostState) → e ≡ Refused refusal → Carried (Err e) → reply_of reply ≡ (refused refusal).reply → left ≡ (refused refusal).host
-      → Responds answer left reply
-  answer_refused e refusal reply left ends carried replies leaves =
-      let is = answer_is ∙ ap (answered c chained) (refuses e refusal ends carried) in
-      record { reply_ = replies ∙ sym (ap (λ (a : Answer). a.reply) is); host_ = leaves ∙ sym (ap (λ (a : Answer). a.host) is) }
+  pub runs_done : (d : DoneCommand) (reply : Reply) (left : HostState) → Carried (Ok d) → reply_of reply ≡ (finished a.command a.chained (effect_of d)).reply → left ≡ (finished a.command a.chained (effect_of d)).host
+      → AreTracksOn old a.place → Runs a old new (Ok reply) left
+  runs_done d reply left carried replies leaves are = record {
+    answer = responds _ reply left (carried_for (Ok d) carried).outcome replies leaves;
+    writes = writes (Ok d) carried;
+    exact = λ track is.
+        ap (λ (head : ℕ). reading (block head)) (sym (head-opened a.host))
+        ∙ subst (λ (w : Option (List RecordData)). HoldsWritten w (reading (block (opened a.host).head))) (sym written_is ∙ is) (carried_for (Ok d) carried).exact;
+    still_tracks = still_tracks (Ok d) carried are;
+  }
 
-  -- the block of the head that the host had
-  pub exact_done : (d : DoneCommand) → Carried (Ok d) → (track : List RecordData) → answer.written ≡ Some track → reading (content new unit (first + host.head)) ≡ reading_of track
-  exact_done d carried track is =
-      ap (λ (head : ℕ). reading (content new unit (first + head))) (sym (head-opened host))
-      ∙ subst (λ (w : Option (List RecordData)). HoldsWritten w (reading (content new unit (first + (opened host).head)))) (sym written_is ∙ is) (carried_for (Ok d) carried).exact
+  pub runs_refused : (e : NotDone) (refusal : Refusal) (reply : Reply) (left : HostState) → e ≡ Refused refusal → Carried (Err e) → reply_of reply ≡ (refused refusal).reply → left ≡ (refused refusal).host
+      → AreTracksOn old a.place → Runs a old new (Ok reply) left
+  runs_refused e refusal reply left ends carried replies leaves are = record {
+    answer = responds (Err refusal) reply left (refuses e refusal ends carried) replies leaves;
+    writes = writes (Err e) carried;
+    exact = λ track is.
+        let none : None ≡ Some track = sym (ap written_of (refuses e refusal ends carried)) ∙ sym written_is ∙ is in
+        absurd cc;
+    still_tracks = still_tracks (Err e) carried are;
+  }
 
-  pub exact_refused : (e : NotDone) (refusal : Refusal) → e ≡ Refused refusal → Carried (Err e) → (track : List RecordData) → answer.written ≡ Some track → reading (content new unit (first + host.head)) ≡ reading_of track
-  exact_refused e refusal ends carried track is =
-      let none : None ≡ Some track = sym (ap written_of (refuses e refusal ends carried)) ∙ sym written_is ∙ is in
-      absurd cc
+  pub runs_failed : (e : NotDone) (fault : EngineFault) (left : HostState) → Carried (Err e) → AreTracksOn old a.place → Runs a old new (Err fault) left
+  runs_failed e fault left carried are = record { answer = tt; writes = writes (Err e) carried; exact = tt; still_tracks = still_tracks (Err e) carried are }
 
 -- a command that ended otherwise is not told a unit check
 pub has_no_unit_check : (status : ℕ) (bytes : List ℕ) (reply : ReplyData) → is_ending status ≡ true → reply ≡ done status bytes → HasUnitCheck reply → ⊥
@@ -102,3 +122,58 @@ has_no_unit_check status bytes reply ends is checked =
     let e : status ≡ UNIT_CHECK = subst HasUnitCheck is checked in
     let none : is_ending status ≡ false = ap is_ending e in
     absurd cc
+
+-- ---- what is left of the devices
+
+most_is_four : (c : Command) → most_writes c ≤ 4
+most_is_four (command.Write write.Data) = omega arith
+most_is_four (command.Write write.KeyData) = omega arith
+most_is_four (command.Write write.CountKeyData) = omega arith
+most_is_four _ = omega arith
+
+module _ {S : Type 0} (g : Ghosts S) (c : Command) (unit : UnitNo) (old new : S) where
+  may_write : MayWrite g (most_writes c) old new → MayWrite g 4 old new
+  may_write w = record { room = let few = most_is_four c in omega (arith, w.room, few); written = w.written; later = w.later; sound = w.sound }
+
+  abbrev Uses : Result DoneCommand NotDone → Type 0
+  Uses result = UsesDevices g (most_writes c) (is_write c) unit old new result
+
+  pub leaves_done : (d : DoneCommand) (reply : Reply) → Uses (Ok d) → reply_of reply ≡ done d.status d.bytes.items → LeavesDevices g c unit old new (Ok reply)
+  leaves_done d reply uses is = record {
+    devices = may_write uses.devices;
+    few = uses.few;
+    looks = uses.looks;
+    unwritten = λ checked. absurd (has_no_unit_check d.status d.bytes.items (reply_of reply) d.ended is checked);
+    same = uses.same;
+    cause = tt;
+    works = λ but holds sound. tt;
+    only_reads_fail = λ but holds. tt;
+  }
+
+  pub leaves_refused : (e : NotDone) (refusal : Refusal) (reply : Reply) → e ≡ Refused refusal → Uses (Err e) → LeavesDevices g c unit old new (Ok reply)
+  leaves_refused e refusal reply ends used =
+      let uses = subst (λ (e : NotDone). Uses (Err e)) ends used in
+      record {
+        devices = may_write uses.devices;
+        few = uses.few;
+        looks = uses.looks;
+        unwritten = λ checked. uses.undone.reads;
+        same = uses.undone.same;
+        cause = tt;
+        works = λ but holds sound. tt;
+        only_reads_fail = λ but holds. tt;
+      }
+
+  pub leaves_failed : (e : NotDone) (fault : EngineFault) → e ≡ Fault fault → Uses (Err e) → LeavesDevices g c unit old new (Err fault)
+  leaves_failed e fault ends used =
+      let uses = subst (λ (e : NotDone). Uses (Err e)) ends used in
+      record {
+        devices = may_write uses.devices;
+        few = uses.few;
+        looks = uses.looks;
+        unwritten = tt;
+        same = tt;
+        cause = uses.undone;
+        works = uses.works;
+        only_reads_fail = uses.only_reads_fail;
+      }

@@ -26,7 +26,7 @@ use Rattle.track_engine.specs.declared.place.EngineFault.TheVariants.{ReadFailed
 use Rattle.track_engine.specs.Faults.{LeavesSite}
 use Rattle.track_engine.specs.Found.{GivesBut}
 use Rattle.track_engine.specs.Tracks.{AreTracks}
-use Rattle.track_engine.specs.Writing.{IsStep, WritesBlock, HoldsWritten, CarriesOut, written_of, effect_as, formatted_behind}
+use Rattle.track_engine.specs.Writing.{IsStep, Target, target_in, WritesBlock, HoldsWritten, CarriesOut, written_of, effect_as, formatted_behind}
 
 -- ---- formatting a record
 
@@ -41,7 +41,7 @@ done_with written d = Ok (effect_as written d)
 abbrev writes_too : List RecordData → Effect → Outcome
 writes_too track e = Ok (record e { written = Some track })
 
-module _ (unit : UnitNo) (block : ℕ) (s t : SiteLog) (at : RecordPlace) (r : RecordData) (a : List ℕ) (good : (reading a).bad ≡ None) where
+module _ (to : BlockPlace) (s t : SiteLog) (at : RecordPlace) (r : RecordData) (a : List ℕ) (good : (reading a).bad ≡ None) where
   abbrev new_track : List RecordData
   new_track = take at.number (reading a).records ++ r ∷ []
 
@@ -52,18 +52,18 @@ module _ (unit : UnitNo) (block : ℕ) (s t : SiteLog) (at : RecordPlace) (r : R
   }
 
   module _ (number : ℕ) (behind : number ≡ at.number + 1)
-      (moments : Writes (ChangesBlock unit block (λ b. IsFormatting (number - 1) r (reading a) (reading b)) (content s)) s t) where
+      (moments : Writes (ChangesBlock to.unit to.block (λ b. IsFormatting (number - 1) r (reading a) (reading b)) (content s)) s t) where
     before_is : number - 1 ≡ at.number
     before_is = omega arith
 
-    steps : Writes (ChangesBlock unit block (IsStep format_command at.number (reading a).records new_track) (content s)) s t
+    steps : Writes (ChangesBlock to.unit to.block (IsStep format_command at.number (reading a).records new_track) (content s)) s t
     steps =
-        block_weaker unit block (λ b. IsFormatting at.number r (reading a) (reading b)) (IsStep format_command at.number (reading a).records new_track) from_formatting s t
-        (subst (λ (n : ℕ). Writes (ChangesBlock unit block (λ b. IsFormatting n r (reading a) (reading b)) (content s)) s t) before_is moments)
+        block_weaker to.unit to.block (λ b. IsFormatting at.number r (reading a) (reading b)) (IsStep format_command at.number (reading a).records new_track) from_formatting s t
+        (subst (λ (n : ℕ). Writes (ChangesBlock to.unit to.block (λ b. IsFormatting n r (reading a) (reading b)) (content s)) s t) before_is moments)
 
     pub format_carried_out : (d : DoneCommand) → effect_of d ≡ effect_with DONE [] (record at.host { position = position.Done number; prior = prior.Wrote number })
-        → reading (content t unit block) ≡ reading_of (take (number - 1) (reading a).records ++ r ∷ [])
-        → CarriesOut (Ok (formatted_behind (reading a).records r at)) format_command at.number (reading a).records unit block s t (Ok d)
+        → reading (content t to.unit to.block) ≡ reading_of (take (number - 1) (reading a).records ++ r ∷ [])
+        → CarriesOut (Ok (formatted_behind (reading a).records r at)) format_command (target_in to a at) s t (Ok d)
     format_carried_out d does holds = record {
       outcome = ap (λ (n : ℕ). writes_too new_track (effect_with DONE [] (record at.host { position = position.Done n; prior = prior.Wrote n }))) (sym behind) ∙ ap (writes_too new_track) (sym does);
       moments = steps;
@@ -71,26 +71,26 @@ module _ (unit : UnitNo) (block : ℕ) (s t : SiteLog) (at : RecordPlace) (r : R
       log = tt;
     }
 
-    pub format_failed : (fault : ℕ) → CarriesOut (Ok (formatted_behind (reading a).records r at)) format_command at.number (reading a).records unit block s t (Err (Fault (WriteFailed fault)))
+    pub format_failed : (fault : ℕ) → CarriesOut (Ok (formatted_behind (reading a).records r at)) format_command (target_in to a at) s t (Err (Fault (WriteFailed fault)))
     format_failed fault = record { outcome = tt; moments = steps; exact = tt; log = tt }
 
 -- ---- a command that wrote nothing
 
 -- a search or a read, whatever kept it from being done
-module _ (given : Outcome) (c : Command) (k : ℕ) (track : List RecordData) (unit : UnitNo) (block : ℕ) (old new : SiteLog) (unwritten : written_of given ≡ None) (same : new ≡ old) where
-  moments_of : WritesBlock c k track unit block old new (written_of given)
-  moments_of = subst (λ (written : Option (List RecordData)). WritesBlock c k track unit block old new written) (sym unwritten) same
+module _ (given : Outcome) (c : Command) (to : Target) (old new : SiteLog) (unwritten : written_of given ≡ None) (same : new ≡ old) where
+  moments_of : WritesBlock c to old new (written_of given)
+  moments_of = subst (λ (written : Option (List RecordData)). WritesBlock c to old new written) (sym unwritten) same
 
   leaves : (fault : EngineFault) → LeavesSite old new fault
   leaves (ReadFailed fault) = same
   leaves (WriteFailed fault) = tt
   leaves Memory = same
 
-  pub read_carried_out : (result : Result DoneCommand NotDone) → GivesBut effect_of result given → CarriesOut given c k track unit block old new result
+  pub read_carried_out : (result : Result DoneCommand NotDone) → GivesBut effect_of result given → CarriesOut given c to old new result
   read_carried_out (Ok d) gives = record {
     outcome = gives ∙ ap (λ (written : Option (List RecordData)). done_with written d) (sym unwritten);
     moments = moments_of;
-    exact = subst (λ (written : Option (List RecordData)). HoldsWritten written (reading (content new unit block))) (sym unwritten) tt;
+    exact = subst (λ (written : Option (List RecordData)). HoldsWritten written (reading (content new to.block.unit to.block.block))) (sym unwritten) tt;
     log = tt;
   }
   read_carried_out (Err (Refused refusal)) gives = record { outcome = gives; moments = moments_of; exact = tt; log = same }
@@ -100,7 +100,7 @@ module _ (given : Outcome) (c : Command) (k : ℕ) (track : List RecordData) (un
 
 -- after one of its blocks was written in steps, they are tracks again
 pub tracks_stay : (c : Command) (k : ℕ) (track : List RecordData) (unit : UnitNo) (first head : ℕ) (old new : SiteLog) (w : Option (List RecordData))
-    → WritesBlock c k track unit (first + head) old new w → AreTracks (content old) unit first → AreTracks (content new) unit first
+    → WritesBlock c (record { block = record { unit = unit; block = first + head }; track = track; number = k }) old new w → AreTracks (content old) unit first → AreTracks (content new) unit first
 tracks_stay c k track unit first head old new None same tracks = subst (λ (s : SiteLog). AreTracks (content s) unit first) (sym same) tracks
 tracks_stay c k track unit first head old new (Some w) writes tracks = λ other low.
     let now = ended_with (ChangesBlock unit (first + head) (IsStep c k track w) (content old)) old new writes in
@@ -112,13 +112,13 @@ tracks_stay c k track unit first head old new (Some w) writes tracks = λ other 
 -- ---- writes
 
 -- a write that ended with unit check
-pub refused_write : (given : Outcome) (c : Command) (k : ℕ) (track : List RecordData) (unit : UnitNo) (block : ℕ) (old new : SiteLog) (refusal : Refusal) → given ≡ Err refusal → new ≡ old
-    → CarriesOut given c k track unit block old new (Err (Refused refusal))
-refused_write given c k track unit block old new refusal gives same = read_carried_out given c k track unit block old new (ap written_of gives) same (Err (Refused refusal)) gives
+pub refused_write : (given : Outcome) (c : Command) (to : Target) (old new : SiteLog) (refusal : Refusal) → given ≡ Err refusal → new ≡ old
+    → CarriesOut given c to old new (Err (Refused refusal))
+refused_write given c to old new refusal gives same = read_carried_out given c to old new (ap written_of gives) same (Err (Refused refusal)) gives
 
 -- the same said of equal things
-pub carried_over : (given given' : Outcome) (c : Command) (k k' : ℕ) (track track' : List RecordData) (to : BlockPlace) (unit : UnitNo) (block : ℕ) (old old' new : SiteLog) (result : Result DoneCommand NotDone)
-    → given' ≡ given → k ≡ k' → track ≡ track' → to ≡ record { unit = unit; block = block } → old ≡ old'
-    → CarriesOut given c k track to.unit to.block old new result → CarriesOut given' c k' track' unit block old' new result
-carried_over given given' c k k' track track' to unit block old old' new result given_is k_is track_is to_is old_is carried =
-    subst (λ (T : Type 0). T) (λ i. CarriesOut (sym given_is i) c (k_is i) (track_is i) (to_is i).unit (to_is i).block (old_is i) new result) carried
+pub carried_over : (given given' : Outcome) (c : Command) (to to' : Target) (old old' new : SiteLog) (result : Result DoneCommand NotDone)
+    → given' ≡ given → to.number ≡ to'.number → to.track ≡ to'.track → to.block ≡ to'.block → old ≡ old'
+    → CarriesOut given c to old new result → CarriesOut given' c to' old' new result
+carried_over given given' c to to' old old' new result given_is number_is track_is block_is old_is carried =
+    subst (λ (T : Type 0). T) (λ i. CarriesOut (sym given_is i) c (record { block = block_is i; track = track_is i; number = number_is i }) (old_is i) new result) carried

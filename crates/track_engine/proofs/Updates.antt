@@ -3,7 +3,7 @@ use Rattle.std.proofs.Common.{◌≡◌, inr, ℕ, suc, ◌-◌, ◌≤◌, Bool
 use Rattle.std.specs.Prelude.{slice_index_or, replicate}
 use Rattle.std.proofs.lemmas.List.{length-take-le}
 use Rattle.std.proofs.lemmas.Option.{slice_get-get_or}
-use Rattle.mss_base.specs.declared.place.UnitNo.{UnitNo}
+use Rattle.mss_base.specs.declared.place.BlockPlace.{BlockPlace}
 use Rattle.mss_base.specs.Content.{SiteLog, content, Writes, ChangesBlock}
 use Rattle.mss_base.proofs.Moments.{block_weaker}
 use Rattle.channel_commands.specs.declared.command.Command.TheVariants as command
@@ -26,7 +26,7 @@ use Rattle.track_engine.specs.declared.find.RecordPlace.{RecordPlace}
 use Rattle.track_engine.specs.declared.place.NotDone.TheVariants.{Fault}
 use Rattle.track_engine.specs.declared.place.EngineFault.TheVariants.{WriteFailed}
 use Rattle.track_engine.specs.Found.{found_at, IsPlaceOf}
-use Rattle.track_engine.specs.Writing.{IsBetween, IsStep, CarriesOut, update_kind, updated_at}
+use Rattle.track_engine.specs.Writing.{IsBetween, IsStep, CarriesOut, target_in, update_kind, updated_at}
 
 -- ---- what the plain machine gives
 
@@ -99,7 +99,7 @@ module _ (key_too : Bool) (block : List ℕ) (host : HostState) (left : Prior) (
 
 -- ---- what the write leaves
 
-module _ (unit : UnitNo) (block : ℕ) (s t : SiteLog) (at : RecordPlace) (key_too : Bool) (bytes a : List ℕ) (good : (reading a).bad ≡ None)
+module _ (to : BlockPlace) (s t : SiteLog) (at : RecordPlace) (key_too : Bool) (bytes a : List ℕ) (good : (reading a).bad ≡ None)
     (first : 1 ≤ at.number) (there : at.number ≤ length (reading a).records) where
   abbrev records : List RecordData
   records = (reading a).records
@@ -130,9 +130,9 @@ module _ (unit : UnitNo) (block : ℕ) (s t : SiteLog) (at : RecordPlace) (key_t
     step = inr (inr (between key_too updates.bytes (reading b).records updates.long (ap (λ (r : Reading). r.records) updates.reading)));
   }
 
-  module _ (moments : Writes (ChangesBlock unit block (λ b. IsUpdating key_too (at.number - 1) (reading a) (reading b)) (content s)) s t) where
-    steps : Writes (ChangesBlock unit block (IsStep (command.Write (update_kind key_too)) at.number records new_track) (content s)) s t
-    steps = block_weaker unit block (λ b. IsUpdating key_too (at.number - 1) (reading a) (reading b)) (IsStep (command.Write (update_kind key_too)) at.number records new_track) from_updating s t moments
+  module _ (moments : Writes (ChangesBlock to.unit to.block (λ b. IsUpdating key_too (at.number - 1) (reading a) (reading b)) (content s)) s t) where
+    steps : Writes (ChangesBlock to.unit to.block (IsStep (command.Write (update_kind key_too)) at.number records new_track) (content s)) s t
+    steps = block_weaker to.unit to.block (λ b. IsUpdating key_too (at.number - 1) (reading a) (reading b)) (IsStep (command.Write (update_kind key_too)) at.number records new_track) from_updating s t moments
 
     -- what was done, with the track written
     abbrev writes_too : Effect → Outcome
@@ -140,8 +140,8 @@ module _ (unit : UnitNo) (block : ℕ) (s t : SiteLog) (at : RecordPlace) (key_t
 
     pub update_carried_out : (d : DoneCommand) (status : ℕ) → status ≡ status_of (record_behind (at.number - 1) records)
         → effect_of d ≡ effect_with status [] (record at.host { position = position.Done at.number })
-        → reading (content t unit block) ≡ record (reading a) { records = new_track }
-        → CarriesOut (Ok (updated_at key_too records bytes at)) (command.Write (update_kind key_too)) at.number records unit block s t (Ok d)
+        → reading (content t to.unit to.block) ≡ record (reading a) { records = new_track }
+        → CarriesOut (Ok (updated_at key_too records bytes at)) (command.Write (update_kind key_too)) (target_in to a at) s t (Ok d)
     update_carried_out d status status_is does holds = record {
       outcome = ap (λ (n : ℕ). writes_too (effect_with n [] (record at.host { position = position.Done at.number }))) (sym status_is) ∙ ap writes_too (sym does);
       moments = steps;
@@ -149,5 +149,5 @@ module _ (unit : UnitNo) (block : ℕ) (s t : SiteLog) (at : RecordPlace) (key_t
       log = tt;
     }
 
-    pub update_failed : (fault : ℕ) → CarriesOut (Ok (updated_at key_too records bytes at)) (command.Write (update_kind key_too)) at.number records unit block s t (Err (Fault (WriteFailed fault)))
+    pub update_failed : (fault : ℕ) → CarriesOut (Ok (updated_at key_too records bytes at)) (command.Write (update_kind key_too)) (target_in to a at) s t (Err (Fault (WriteFailed fault)))
     update_failed fault = record { outcome = tt; moments = steps; exact = tt; log = tt }

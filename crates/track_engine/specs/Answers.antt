@@ -11,29 +11,45 @@ use Rattle.channel_commands.specs.declared.command.Command.{Command}
 use Rattle.ckd_track.specs.Data.{RecordData}
 use Rattle.ckd_track.specs.Track.{reading, reading_of}
 use Rattle.ckd_plain.specs.declared.host.HostState.{HostState}
+use Rattle.ckd_plain.specs.Effects.{prior_number}
 use Rattle.ckd_plain.specs.Plain.{Answer, opened, performed, IsDone, KeepsChain}
 use Rattle.ckd_plain.specs.Views.{Responds}
 use Rattle.track_engine.specs.declared.place.CylinderPlace.{CylinderPlace}
 use Rattle.track_engine.specs.declared.place.EngineFault.{EngineFault}
 use Rattle.track_engine.specs.Faults.{FailsBy, HasUnitCheck, IsNoFailure, IsNoFailedWrite}
-use Rattle.track_engine.specs.Tracks.{tracks_at, AreTracksOn}
-use Rattle.track_engine.specs.Writing.{WritesTrack, most_writes}
+use Rattle.track_engine.specs.Tracks.{tracks_at, tracks_on, AreTracksOn}
+use Rattle.track_engine.specs.Writing.{WritesTrack, IsOfNothing, most_writes}
 
 -- the plain machine's answer to a command that passed its checks, on the tracks of a cylinder's blocks
 abbrev pub ran : Content → UnitNo → ℕ → HostState → Command → List ℕ → Bool → Answer
 ran c unit first host command argument chained = performed (tracks_at c unit first) (opened host) command argument chained
 
-abbrev pub ran_on : SiteLog → CylinderPlace → HostState → Command → List ℕ → Bool → Answer
-ran_on s place host command argument chained = ran (content s) place.unit place.first_block host command argument chained
+-- what is asked: a command with its bytes, and whether a further one is chained behind it, by a host on the blocks of its cylinder
+pub record Asked : Type 0 where
+  pub command : Command
+  pub argument : List ℕ
+  pub chained : Bool
+  pub host : HostState
+  pub place : CylinderPlace
+
+abbrev pub asked : Command → List ℕ → Bool → HostState → CylinderPlace → Asked
+asked command argument chained host place = record { command = command; argument = argument; chained = chained; host = host; place = place }
+
+abbrev pub ran_for : Asked → SiteLog → Answer
+ran_for a s = ran (content s) a.place.unit a.place.first_block a.host a.command a.argument a.chained
+
+-- an update of a record that has no bytes to update
+abbrev pub AsksNothing : Asked → SiteLog → Type 0
+AsksNothing a s = IsOfNothing a.command (prior_number (opened a.host).prior) (tracks_on s a.place a.host.head)
 
 -- What a command on a cylinder's blocks does, by the log of its site: the reply and the host that is left are the plain machine's;
 -- whatever the outcome, only the block of the host's head was written, in steps that a stop may leave, and in the end it is the new track.
-pub record Runs (c : Command) (argument : List ℕ) (chained : Bool) (place : CylinderPlace) (host : HostState) (old new : SiteLog) (result : Result Reply EngineFault) (left : HostState) : Type 0 where
-  pub answer : IfOk result (Responds (ran_on old place host c argument chained) left)
-  pub writes : WritesTrack c (opened host) place.unit place.first_block old new (ran_on old place host c argument chained).written
-  pub exact : OnOk result ((track : List RecordData) → (ran_on old place host c argument chained).written ≡ Some track
-      → reading (content new place.unit (place.first_block + host.head)) ≡ reading_of track)
-  pub still_tracks : AreTracksOn new place
+pub record Runs (a : Asked) (old new : SiteLog) (result : Result Reply EngineFault) (left : HostState) : Type 0 where
+  pub answer : IfOk result (Responds (ran_for a old) left)
+  pub writes : WritesTrack a.command (opened a.host) a.place.unit a.place.first_block old new (ran_for a old).written
+  pub exact : OnOk result ((track : List RecordData) → (ran_for a old).written ≡ Some track
+      → reading (content new a.place.unit (a.place.first_block + a.host.head)) ≡ reading_of track)
+  pub still_tracks : AreTracksOn new a.place
 
 -- what a command leaves of its host, whatever the site tells
 pub record LeavesHost (chained : Bool) (old new : HostState) (result : Result Reply EngineFault) : Type 0 where

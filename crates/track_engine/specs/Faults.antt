@@ -1,10 +1,12 @@
 -- What a command that is done, or isn't, leaves of the devices.
-use Rattle.std.specs.Prelude.{◌≡◌, ℕ, Bool, IsTrue, Result, OnOk, IfErr}
+use Rattle.std.specs.Prelude.{◌≡◌, ◌≤◌, ◌+◌, ℕ, Bool, false, length, IsTrue, Result, OnOk, IfErr}
 use Rattle.mss_base.specs.Content.{SiteLog}
 use Rattle.mss_base.specs.Counts.{Rises, IsFaultSince}
-use Rattle.mss_base.specs.Sites.{OnlyReads}
+use Rattle.mss_base.specs.Sites.{OnlyReads, MayWrite}
+use Rattle.mss_base.specs.declared.place.UnitNo.{UnitNo}
 use Rattle.mss_base.specs.declared.site.Site.{Ghosts}
 use Rattle.channel_commands.specs.Data.{ReplyData, done}
+use Rattle.ckd_plain.specs.declared.done.DoneCommand.{DoneCommand}
 use Rattle.ckd_plain.specs.Plain.{UNIT_CHECK}
 use Rattle.track_engine.specs.declared.place.EngineFault.{EngineFault}
 use Rattle.track_engine.specs.declared.place.EngineFault.TheVariants.{ReadFailed, WriteFailed, Memory}
@@ -77,6 +79,18 @@ FailsBy g by_write old new Memory = Untroubled g old new
 abbrev pub IsUndone : {S : Type 0} → Ghosts S → Bool → S → S → NotDone → Type 0
 IsUndone g by_write old new (Refused refusal) = Untroubled g old new
 IsUndone g by_write old new (Fault fault) = FailsBy g by_write old new fault
+
+-- What a command leaves of its devices, done or not, whatever the site tells: it makes so many writes at most, and one that is no write
+-- reads at most. The count of faults rises where a call failed, and the fault says which; where none on this unit may fail, none did, and
+-- where only reads may, no write failed.
+pub record UsesDevices {S : Type 0} (g : Ghosts S) (most : ℕ) (by_write : Bool) (unit : UnitNo) (old new : S) (result : Result DoneCommand NotDone) : Type 0 where
+  pub devices : MayWrite g most old new
+  pub few : g.tells → length (g.told new).log ≤ length (g.told old).log + most
+  pub looks : by_write ≡ false → OnlyReads g old new
+  pub same : OnOk result (g.faults new ≡ g.faults old)
+  pub undone : IfErr result (IsUndone g by_write old new)
+  pub works : (but : UnitNo → Bool) → g.never_fails_but old but → but unit ≡ false → IfErr result HasNotFailed
+  pub only_reads_fail : (but : UnitNo → Bool) → g.never_fails_but old but → IfErr result HasNoFailedWrite
 
 -- the reply has unit check
 abbrev pub HasUnitCheck : ReplyData → Type 0

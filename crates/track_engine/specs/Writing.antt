@@ -1,6 +1,7 @@
 -- What a command does on the blocks of a cylinder, and what a stop within it may leave.
 use Rattle.std.specs.Prelude.{◌≡◌, ◌⊎◌, ℕ, ◌+◌, ◌-◌, Bool, true, false, List, [], ◌∷◌, ◌++◌, take, Option, Some, None, Result, Ok, Err, OnOk, IfErr}
 use Rattle.mss_base.specs.Content.{SiteLog, content, Writes, ChangesBlock}
+use Rattle.mss_base.specs.declared.place.BlockPlace.{BlockPlace}
 use Rattle.mss_base.specs.declared.place.UnitNo.{UnitNo}
 use Rattle.channel_commands.specs.declared.command.Command.{Command}
 use Rattle.channel_commands.specs.declared.command.Command.TheVariants as command
@@ -13,14 +14,16 @@ use Rattle.ckd_track.specs.Updating.{record_behind, updated, updated_length}
 use Rattle.ckd_plain.specs.declared.done.DoneCommand.{DoneCommand}
 use Rattle.ckd_plain.specs.declared.host.HostState.{HostState}
 use Rattle.ckd_plain.specs.declared.host.Position.TheVariants as position
+use Rattle.ckd_plain.specs.declared.host.Prior.{Prior}
 use Rattle.ckd_plain.specs.declared.host.Prior.TheVariants as prior
 use Rattle.ckd_plain.specs.Effects.{Effect, Outcome, DONE, status_of, new_record, prior_number}
 use Rattle.ckd_plain.specs.Near.{IsOverwrittenAt, IsEndedAt}
 use Rattle.track_engine.specs.declared.find.RecordPlace.{RecordPlace}
+use Rattle.track_engine.specs.declared.place.CylinderPlace.{CylinderPlace}
 use Rattle.track_engine.specs.declared.place.NotDone.{NotDone}
 use Rattle.track_engine.specs.Faults.{LeavesLog}
 use Rattle.track_engine.specs.Found.{GivesBut}
-use Rattle.track_engine.specs.Tracks.{tracks_at}
+use Rattle.track_engine.specs.Tracks.{tracks_at, tracks_on}
 
 -- the track that is written, where one is
 abbrev pub written_of : Outcome → Option (List RecordData)
@@ -43,15 +46,39 @@ pub record IsStep (c : Command) (k : ℕ) (old new : List RecordData) (block : L
   pub good : (reading block).bad ≡ None
   pub step : ((reading block).records ≡ old) ⊎ (((reading block).records ≡ new) ⊎ IsBetween c k old (reading block).records)
 
+-- where a command writes: the block, the track that it has, and the record that the command before left
+pub record Target : Type 0 where
+  pub block : BlockPlace
+  pub track : List RecordData
+  pub number : ℕ
+
+-- the block under a host, where the command before left this prior
+abbrev pub target_of : SiteLog → CylinderPlace → HostState → Prior → Target
+target_of s place host left = record {
+  block = record { unit = place.unit; block = place.first_block + host.head };
+  track = tracks_on s place host.head;
+  number = prior_number left;
+}
+
+-- the record at a place, in a block with these bytes
+abbrev pub target_in : BlockPlace → List ℕ → RecordPlace → Target
+target_in to block at = record { block = to; track = (reading block).records; number = at.number }
+
 -- what is written where this is the track that comes of it: nothing, or one block, in steps
-abbrev pub WritesBlock : Command → ℕ → List RecordData → UnitNo → ℕ → SiteLog → SiteLog → Option (List RecordData) → Type 0
-WritesBlock c k track unit block old new None = new ≡ old
-WritesBlock c k track unit block old new (Some written) = Writes (ChangesBlock unit block (IsStep c k track written) (content old)) old new
+abbrev pub WritesBlock : Command → Target → SiteLog → SiteLog → Option (List RecordData) → Type 0
+WritesBlock c to old new None = new ≡ old
+WritesBlock c to old new (Some written) =
+    Writes (ChangesBlock to.block.unit to.block.block (IsStep c to.number to.track written) (content old)) old new
 
 -- the same of the block of the host's head, and the record that the command before left
 abbrev pub WritesTrack : Command → HostState → UnitNo → ℕ → SiteLog → SiteLog → Option (List RecordData) → Type 0
 WritesTrack c host unit first old new written =
-    WritesBlock c (prior_number host.prior) (tracks_at (content old) unit first host.head) unit (first + host.head) old new written
+    let to : Target = record {
+      block = record { unit = unit; block = first + host.head };
+      track = tracks_at (content old) unit first host.head;
+      number = prior_number host.prior;
+    } in
+    WritesBlock c to old new written
 
 -- the block has the track that was written, if one was
 abbrev pub HoldsWritten : Option (List RecordData) → Reading → Type 0
@@ -59,10 +86,10 @@ HoldsWritten None block = Unit {0}
 HoldsWritten (Some track) block = block ≡ reading_of track
 
 -- what a function did on a site that tells is what the definition gives: its outcome, its writes, whatever kept it from the others
-pub record CarriesOut (given : Outcome) (c : Command) (k : ℕ) (track : List RecordData) (unit : UnitNo) (block : ℕ) (old new : SiteLog) (result : Result DoneCommand NotDone) : Type 0 where
+pub record CarriesOut (given : Outcome) (c : Command) (to : Target) (old new : SiteLog) (result : Result DoneCommand NotDone) : Type 0 where
   pub outcome : GivesBut (effect_as (written_of given)) result given
-  pub moments : WritesBlock c k track unit block old new (written_of given)
-  pub exact : OnOk result (HoldsWritten (written_of given) (reading (content new unit block)))
+  pub moments : WritesBlock c to old new (written_of given)
+  pub exact : OnOk result (HoldsWritten (written_of given) (reading (content new to.block.unit to.block.block)))
   pub log : IfErr result (LeavesLog old new)
 
 -- the bytes are a count, a key and data: those that an argument spells

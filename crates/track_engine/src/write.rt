@@ -1,7 +1,7 @@
 // Writes.
 ghost use Rattle.std.specs.Prelude.{◌≡◌, ◌≤◌, ◌<◌, ◌+◌, ◌-◌, Ok, None, [], length, take, IfOk, OnOk, IfErr, IfSome, Bool, true, false};
 ghost use Rattle.mss_base.specs.Content.{content};
-ghost use Rattle.mss_base.specs.Sites.{OnlyReads, MayWrite};
+ghost use Rattle.mss_base.specs.Sites.{OnlyReads};
 ghost use Rattle.mss_base.specs.declared.place.UnitNo.{UnitNo};
 ghost use Rattle.ckd_track.specs.Data.{cost, cost_of, HasCount};
 ghost use Rattle.ckd_track.specs.Track.{reading, record_at};
@@ -11,9 +11,9 @@ ghost use Rattle.ckd_plain.specs.Data.{padded};
 ghost use Rattle.ckd_plain.specs.Effects.{effect_with, new_record, prior_number, write_};
 ghost use Rattle.ckd_plain.specs.Views.{effect_of, item_of};
 ghost use Rattle.track_engine.specs.Tracks.{tracks_on, AreTracksOn, IsBlockOn};
-ghost use Rattle.track_engine.specs.Faults.{HasReadCause, HasNotFailed, HasNoFailedWrite, IsUndone};
+ghost use Rattle.track_engine.specs.Faults.{HasReadCause, HasNotFailed, UsesDevices};
 ghost use Rattle.track_engine.specs.Found.{found_at, StandsIn, IsPlaceOf, GivesBut, KeepsVolume};
-ghost use Rattle.track_engine.specs.Writing.{CarriesOut, Spells, formatted_behind, update_kind, updated_at};
+ghost use Rattle.track_engine.specs.Writing.{CarriesOut, Spells, formatted_behind, target_in, target_of, update_kind, updated_at};
 
 use crate::find::{RecordPlace, copy_block, found_in, same_record};
 use crate::place::{CylinderPlace, EngineFault, NotDone};
@@ -109,14 +109,10 @@ fn format_behind<S: Site>(
     requires room { 4 ≤ S.spare site.old }
     ensures done { S.tells → CarriesOut (Ok
         (formatted_behind (reading block.now).records (record_at 0 bytes.now) at.now))
-        (Command.Write WriteKind.CountKeyData)
-        at.now.number (reading block.now).records to.now.unit to.now.block
+        (Command.Write WriteKind.CountKeyData) (target_in to.now block.now at.now)
         (S.told site.old) (S.told site.new) result }
     ensures volume { KeepsVolume (λ done. done.host) at.now.host.mounted result }
-    ensures devices { MayWrite S.Site 4 site.old site.new }
-    ensures few { S.tells → length (S.told site.new).log ≤ length (S.told site.old).log + 4 }
-    ensures same { OnOk result (S.faults site.new ≡ S.faults site.old) }
-    ensures undone { IfErr result (IsUndone S.Site true site.old site.new) }
+    ensures site_ { UsesDevices S.Site 4 true to.now.unit site.old site.new result }
     ensures works { (but : UnitNo → Bool) → S.never_fails_but site.old but
         → IfErr result HasNotFailed }
 {
@@ -146,19 +142,11 @@ pub fn write_count_key_data<S: Site>(
     ensures done { S.tells → CarriesOut
         (write_ (tracks_on (S.told site.old) place.now host.now.head)
         host.now left WriteKind.CountKeyData argument.now)
-        (Command.Write WriteKind.CountKeyData) (prior_number left)
-        (tracks_on (S.told site.old) place.now host.now.head)
-        place.now.unit (place.now.first_block + host.now.head)
+        (Command.Write WriteKind.CountKeyData)
+        (target_of (S.told site.old) place.now host.now left)
         (S.told site.old) (S.told site.new) result }
     ensures volume { KeepsVolume (λ done. done.host) host.now.mounted result }
-    ensures devices { MayWrite S.Site 4 site.old site.new }
-    ensures few { S.tells → length (S.told site.new).log ≤ length (S.told site.old).log + 4 }
-    ensures same { OnOk result (S.faults site.new ≡ S.faults site.old) }
-    ensures undone { IfErr result (IsUndone S.Site true site.old site.new) }
-    ensures works { (but : UnitNo → Bool) → S.never_fails_but site.old but
-        → but place.now.unit ≡ false → IfErr result HasNotFailed }
-    ensures only_reads_fail { (but : UnitNo → Bool) → S.never_fails_but site.old but
-        → IfErr result HasNoFailedWrite }
+    ensures site_ { UsesDevices S.Site 4 true place.now.unit site.old site.new result }
 {
     let to = place.block_of(host.head);
     let at = kept_record(site, place, buffer, host, left, argument)?;
@@ -203,15 +191,11 @@ fn update_at<S: Site>(
     requires room { 1 ≤ S.spare site.old }
     ensures done { S.tells → CarriesOut (Ok
         (updated_at key_too (reading block.now).records bytes.now at.now))
-        (Command.Write (update_kind key_too))
-        at.now.number (reading block.now).records to.now.unit to.now.block
+        (Command.Write (update_kind key_too)) (target_in to.now block.now at.now)
         (S.told site.old) (S.told site.new) result }
     ensures volume { KeepsVolume (λ done. done.host) at.now.host.mounted result }
     ensures untouched { bytes.now ≡ [] → site.new ≡ site.old }
-    ensures devices { MayWrite S.Site 1 site.old site.new }
-    ensures few { S.tells → length (S.told site.new).log ≤ length (S.told site.old).log + 1 }
-    ensures same { OnOk result (S.faults site.new ≡ S.faults site.old) }
-    ensures undone { IfErr result (IsUndone S.Site true site.old site.new) }
+    ensures site_ { UsesDevices S.Site 1 true to.now.unit site.old site.new result }
     ensures works { (but : UnitNo → Bool) → S.never_fails_but site.old but
         → IfErr result HasNotFailed }
 {
@@ -242,22 +226,14 @@ pub fn write_data<S: Site>(
     ensures done { S.tells → CarriesOut
         (write_ (tracks_on (S.told site.old) place.now host.now.head)
         host.now left (update_kind key_too) argument.now)
-        (Command.Write (update_kind key_too)) (prior_number left)
-        (tracks_on (S.told site.old) place.now host.now.head)
-        place.now.unit (place.now.first_block + host.now.head)
+        (Command.Write (update_kind key_too))
+        (target_of (S.told site.old) place.now host.now left)
         (S.told site.old) (S.told site.new) result }
     ensures volume { KeepsVolume (λ done. done.host) host.now.mounted result }
     ensures untouched { S.tells → updated_length key_too (record_behind (prior_number left - 1)
         (tracks_on (S.told site.old) place.now host.now.head)) ≡ 0
         → OnlyReads S.Site site.old site.new }
-    ensures devices { MayWrite S.Site 1 site.old site.new }
-    ensures few { S.tells → length (S.told site.new).log ≤ length (S.told site.old).log + 1 }
-    ensures same { OnOk result (S.faults site.new ≡ S.faults site.old) }
-    ensures undone { IfErr result (IsUndone S.Site true site.old site.new) }
-    ensures works { (but : UnitNo → Bool) → S.never_fails_but site.old but
-        → but place.now.unit ≡ false → IfErr result HasNotFailed }
-    ensures only_reads_fail { (but : UnitNo → Bool) → S.never_fails_but site.old but
-        → IfErr result HasNoFailedWrite }
+    ensures site_ { UsesDevices S.Site 1 true place.now.unit site.old site.new result }
 {
     let to = place.block_of(host.head);
     copy_block(site, place, buffer, host.head)?;

@@ -9,14 +9,14 @@ pub returns-in_err-at-clause-done : goal.returns-in_err-at-clause-done
 returns-in_err-at-clause-done g c = λ tells.
     let p = err_from_is_err_and c.from_residual-in_err-at.result c.from_residual-in_err-at.ensures.1 in
     let there = (c.in_ok-copy_block.ensures.block tells).records in
-    rw (p.1, p.2) (refused_write _ _ _ _ _ _ _ _ c.in_err-at.field-0.0
+    rw (p.1, p.2) (refused_write _ _ _ _ _ c.in_err-at.field-0.0
     (update_refused c.args.key_too c.copy_block.new.buffer c.args.host.now c.args.left c.args.argument.now c.number.result c.number.ensures _ there c.in_err-at.field-0.0 c.in_err-at.ensures.found)
     (c.copy_block.ensures.reads.log tells))
 
 pub returns-in-Some-clause-done : goal.returns-in-Some-clause-done
 returns-in-Some-clause-done g c = λ tells.
     let there = (c.in_ok-copy_block.ensures.block tells).records in
-    carried_over _ _ _ _ _ _ _ _ _ _ _ _ _ c.update_at.result
+    carried_over _ _ _ _ _ _ _ _ c.update_at.result
     (update_given c.args.key_too c.copy_block.new.buffer c.args.host.now c.args.left c.args.argument.now c.number.result c.number.ensures _ there
     c.in_ok-at.at c.in_ok-at.ensures.itself c.requires.first c.in_ok-at.ensures.found c.found_in.result c.in-Some.bytes.now c.updated_length-length.result c.found_in.ensures.found c.updated_length-length.ensures c.in-Some.ensures)
     (number_at_hand c.args.key_too c.copy_block.new.buffer c.args.host.now c.args.left c.args.argument.now c.number.result c.number.ensures _ there c.in_ok-at.at c.in_ok-at.ensures.itself c.requires.first c.in_ok-at.ensures.found)
@@ -25,7 +25,7 @@ returns-in-Some-clause-done g c = λ tells.
 pub returns-in_ok-bytes-in-None-clause-done : goal.returns-in_ok-bytes-in-None-clause-done
 returns-in_ok-bytes-in-None-clause-done g c = λ tells.
     let there = (c.in_ok-copy_block.ensures.block tells).records in
-    carried_over _ _ _ _ _ _ _ _ _ _ _ _ _ c.update_at-in-None.result
+    carried_over _ _ _ _ _ _ _ _ c.update_at-in-None.result
     (update_given c.args.key_too c.copy_block.new.buffer c.args.host.now c.args.left c.args.argument.now c.number.result c.number.ensures _ there
     c.in_ok-at.at c.in_ok-at.ensures.itself c.requires.first c.in_ok-at.ensures.found c.found_in.result c.as_slice.result.now c.updated_length-length.result c.found_in.ensures.found c.updated_length-length.ensures
     (c.as_slice.ensures ∙ c.in_ok-bytes-in-None.ensures))
