@@ -1,2 +1,3 @@
 pub mod BlankFacts
 pub mod StateFacts
+pub mod RunFacts
