@@ -1,7 +1,7 @@
 -- A command that was carried out answers as the plain machine does.
-use Rattle.std.proofs.Common.{◌≡◌, ℕ, ◌+◌, ◌≤◌, Bool, true, false, List, Option, Some, None, Result, Ok, Err, refl, sym, ap, subst, ◌∙◌, arith}
+use Rattle.std.proofs.Common.{◌≡◌, ℕ, ◌+◌, ◌≤◌, true, false, List, Option, Some, None, Result, Ok, Err, refl, sym, ap, subst, ◌∙◌, arith}
 use Rattle.std.proofs.lemmas.Bool.{cond_both}
-use Rattle.mss_base.specs.Sites.{OnlyReads, MayWrite}
+use Rattle.mss_base.specs.Sites.{MayWrite}
 use Rattle.mss_base.specs.declared.place.UnitNo.{UnitNo}
 use Rattle.mss_base.specs.declared.site.Site.{Ghosts}
 use Rattle.mss_base.specs.Content.{SiteLog, content}
@@ -12,7 +12,7 @@ use Rattle.channel_commands.specs.declared.command.WriteKind.TheVariants as writ
 use Rattle.channel_commands.specs.Codes.{is_write}
 use Rattle.channel_commands.specs.Views.{reply_of}
 use Rattle.ckd_track.specs.Data.{RecordData}
-use Rattle.ckd_track.specs.Track.{reading, reading_of}
+use Rattle.ckd_track.specs.Track.{reading}
 use Rattle.ckd_plain.specs.declared.done.DoneCommand.{DoneCommand}
 use Rattle.ckd_plain.specs.declared.host.HostState.{HostState}
 use Rattle.ckd_plain.specs.declared.unit_check.Refusal.{Refusal}
@@ -24,7 +24,6 @@ use Rattle.ckd_plain.specs.Views.{effect_of}
 use Rattle.track_engine.specs.declared.place.NotDone.{NotDone}
 use Rattle.track_engine.specs.declared.place.NotDone.TheVariants.{Refused, Fault}
 use Rattle.track_engine.specs.declared.place.EngineFault.{EngineFault}
-use Rattle.track_engine.specs.declared.place.EngineFault.TheVariants.{ReadFailed, WriteFailed, Memory}
 use Rattle.channel_commands.specs.Data.{ReplyData, done}
 use Rattle.track_engine.specs.Faults.{HasUnitCheck, UsesDevices}
 use Rattle.track_engine.specs.Answers.{Asked, AsksNothing, ran_for, Runs, LeavesDevices}

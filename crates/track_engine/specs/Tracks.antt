@@ -2,6 +2,7 @@
 use Rattle.std.specs.Prelude.{◌≡◌, ◌<◌, ℕ, ◌+◌, nat_lt, List, [], None, if◌then◌else◌}
 use Rattle.mss_base.specs.Content.{Content, SiteLog, content}
 use Rattle.mss_base.specs.declared.numbers.TheConstants.{HEADS}
+use Rattle.mss_base.specs.declared.place.BlockPlace.{BlockPlace}
 use Rattle.mss_base.specs.declared.place.UnitNo.{UnitNo}
 use Rattle.ckd_track.specs.Track.{reading}
 use Rattle.ckd_plain.specs.Index.{Tracks}
@@ -19,6 +20,11 @@ AreTracks c unit first = (head : ℕ) → head < HEADS → (reading (c unit (fir
 pub record IsBlockOf (c : Content) (unit : UnitNo) (first head : ℕ) (bytes : List ℕ) : Type 0 where
   pub block : bytes ≡ c unit (first + head)
   pub records : (reading bytes).records ≡ tracks_at c unit first head
+
+-- the bytes are what a block has, and they are a track
+pub record IsTrackAt (c : Content) (to : BlockPlace) (bytes : List ℕ) : Type 0 where
+  pub block : c to.unit to.block ≡ bytes
+  pub good : (reading bytes).bad ≡ None
 
 -- ---- on the blocks of a cylinder, as a log leaves them
 

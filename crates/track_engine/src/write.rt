@@ -10,7 +10,7 @@ ghost use Rattle.ckd_track.specs.Updating.{updated_length, record_behind};
 ghost use Rattle.ckd_plain.specs.Data.{padded};
 ghost use Rattle.ckd_plain.specs.Effects.{effect_with, new_record, prior_number, write_};
 ghost use Rattle.ckd_plain.specs.Views.{effect_of, item_of};
-ghost use Rattle.track_engine.specs.Tracks.{tracks_on, AreTracksOn, IsBlockOn};
+ghost use Rattle.track_engine.specs.Tracks.{tracks_on, AreTracksOn, IsBlockOn, IsTrackAt};
 ghost use Rattle.track_engine.specs.Faults.{HasReadCause, HasNotFailed, UsesDevices};
 ghost use Rattle.track_engine.specs.Found.{found_at, StandsIn, IsPlaceOf, GivesBut, KeepsVolume};
 ghost use Rattle.track_engine.specs.Writing.{CarriesOut, Spells, formatted_behind, target_in, target_of, update_kind, updated_at};
@@ -100,8 +100,7 @@ fn format_behind<S: Site>(
     bytes: &[u8],
 ) -> Result<DoneCommand, NotDone>
     requires whole { length block.now ≡ BLOCK_BYTES }
-    requires told { S.tells → content (S.told site.old) to.now.unit to.now.block ≡ block.now }
-    requires good { S.tells → (reading block.now).bad ≡ None }
+    requires track { S.tells → IsTrackAt (content (S.told site.old)) to.now block.now }
     requires there { at.now.number ≤ length (reading block.now).records }
     requires record { IsRecord bytes.now }
     requires fits { cost (take at.now.number (reading block.now).records)
@@ -182,8 +181,7 @@ fn update_at<S: Site>(
     bytes: &[u8],
 ) -> Result<DoneCommand, NotDone>
     requires whole { length block.now ≡ BLOCK_BYTES }
-    requires told { S.tells → content (S.told site.old) to.now.unit to.now.block ≡ block.now }
-    requires good { S.tells → (reading block.now).bad ≡ None }
+    requires track { S.tells → IsTrackAt (content (S.told site.old)) to.now block.now }
     requires first { 1 ≤ at.now.number }
     requires there { StandsIn block.now at.now }
     requires long { length bytes.now ≡ updated_length key_too
