@@ -1,7 +1,6 @@
 // Where a command finds its record.
-ghost use Rattle.std.specs.Prelude.{◌≡◌, ◌≤◌, ◌<◌, ◌+◌, Bool, false, Ok, Err, None, length};
+ghost use Rattle.std.specs.Prelude.{◌≡◌, Bool, false, Ok, Err, None, length};
 ghost use Rattle.std.specs.Prelude.{IfOk, IsOk, OnOk, IfErr, MatchOption, MatchResult};
-ghost use Rattle.mss_base.specs.Content.{content};
 ghost use Rattle.mss_base.specs.Counts.{HasCause};
 ghost use Rattle.mss_base.specs.Sites.{OnlyReads};
 ghost use Rattle.mss_base.specs.declared.place.UnitNo.{UnitNo};
@@ -11,7 +10,7 @@ ghost use Rattle.ckd_plain.specs.Views.{item_of, found_of};
 ghost use Rattle.ckd_plain.specs.Index.{record_at, pass_index, next_record, same_record, to_home};
 ghost use Rattle.ckd_plain.specs.Effects.{this_or_next};
 ghost use Rattle.track_engine.specs.Tracks.{tracks_on, IsBlockOn};
-ghost use Rattle.track_engine.specs.Faults.{HasReadCause, HasNotFailed, IsFailedRead};
+ghost use Rattle.track_engine.specs.Faults.{IsFailedRead, ReadsDevices};
 ghost use Rattle.track_engine.specs.Found.{found_at, StandsIn, IsPlaceOf, GivesBut, KeepsVolume};
 
 use crate::place::{CylinderPlace, EngineFault, NotDone};
@@ -135,10 +134,7 @@ fn pass<S: Site>(
         → IfOk result (λ passed.
         IsBlockOn (S.told site.old) place.now passed.head (S.brought site.new)) }
     ensures volume { KeepsVolume (λ passed. passed) host.now.mounted result }
-    ensures reads { OnlyReads S.Site site.old site.new }
-    ensures cause { HasReadCause (S.faults site.old) (S.faults site.new) result }
-    ensures works { (but : UnitNo → Bool) → S.never_fails_but site.old but
-        → but place.now.unit ≡ false → IfErr result HasNotFailed }
+    ensures site_ { ReadsDevices S.Site place.now.unit site.old site.new result }
 {
     let passed = pass_index(*host, multi)?;
     if passed.head == host.head {
@@ -160,10 +156,7 @@ pub fn next_record<S: Site>(
         (next_record (tracks_on (S.told site.old) place.now) from.now first multi) }
     ensures there { IfOk result (StandsIn (S.brought site.new)) }
     ensures volume { KeepsVolume (λ at. at.host) from.now.mounted result }
-    ensures reads { OnlyReads S.Site site.old site.new }
-    ensures cause { HasReadCause (S.faults site.old) (S.faults site.new) result }
-    ensures works { (but : UnitNo → Bool) → S.never_fails_but site.old but
-        → but place.now.unit ≡ false → IfErr result HasNotFailed }
+    ensures site_ { ReadsDevices S.Site place.now.unit site.old site.new result }
 {
     let mut host = *from;
     bring_block(site, place, host.head)?;
@@ -211,10 +204,7 @@ pub fn this_or_next<S: Site>(
         (this_or_next at_hand (tracks_on (S.told site.old) place.now) host.now multi) }
     ensures there { IfOk result (StandsIn (S.brought site.new)) }
     ensures volume { KeepsVolume (λ at. at.host) host.now.mounted result }
-    ensures reads { OnlyReads S.Site site.old site.new }
-    ensures cause { HasReadCause (S.faults site.old) (S.faults site.new) result }
-    ensures works { (but : UnitNo → Bool) → S.never_fails_but site.old but
-        → but place.now.unit ≡ false → IfErr result HasNotFailed }
+    ensures site_ { ReadsDevices S.Site place.now.unit site.old site.new result }
 {
     let Some(number) = at_hand else {
         return next_record(site, place, host, 1, multi);

@@ -1,12 +1,9 @@
 // Reads.
-ghost use Rattle.std.specs.Prelude.{◌≤◌, ◌≡◌, ◌≢◌, ◌<◌, ◌+◌, IfOk, IfErr, Bool, true, false};
-ghost use Rattle.mss_base.specs.Content.{content};
-ghost use Rattle.mss_base.specs.Sites.{OnlyReads};
-ghost use Rattle.mss_base.specs.declared.place.UnitNo.{UnitNo};
+ghost use Rattle.std.specs.Prelude.{◌≢◌};
 ghost use Rattle.ckd_plain.specs.Effects.{read};
 ghost use Rattle.ckd_plain.specs.Views.{effect_of};
 ghost use Rattle.track_engine.specs.Tracks.{tracks_on};
-ghost use Rattle.track_engine.specs.Faults.{HasReadCause, HasNotFailed};
+ghost use Rattle.track_engine.specs.Faults.{ReadsDevices};
 ghost use Rattle.track_engine.specs.Found.{GivesBut, KeepsVolume};
 
 use crate::find::{at_home, found_in, this_or_next};
@@ -32,10 +29,7 @@ fn read_record<S: Site>(
     ensures done { S.tells → GivesBut effect_of result
         (read (tracks_on (S.told site.old) place.now) host.now what multi) }
     ensures volume { KeepsVolume (λ done. done.host) host.now.mounted result }
-    ensures reads { OnlyReads S.Site site.old site.new }
-    ensures cause { HasReadCause (S.faults site.old) (S.faults site.new) result }
-    ensures works { (but : UnitNo → Bool) → S.never_fails_but site.old but
-        → but place.now.unit ≡ false → IfErr result HasNotFailed }
+    ensures site_ { ReadsDevices S.Site place.now.unit site.old site.new result }
 {
     let at_hand = at_hand(what, host.position);
     let at = this_or_next(site, place, host, at_hand, multi)?;
@@ -55,10 +49,7 @@ pub fn read<S: Site>(
     ensures done { S.tells → GivesBut effect_of result
         (read (tracks_on (S.told site.old) place.now) host.now what multi) }
     ensures volume { KeepsVolume (λ done. done.host) host.now.mounted result }
-    ensures reads { OnlyReads S.Site site.old site.new }
-    ensures cause { HasReadCause (S.faults site.old) (S.faults site.new) result }
-    ensures works { (but : UnitNo → Bool) → S.never_fails_but site.old but
-        → but place.now.unit ≡ false → IfErr result HasNotFailed }
+    ensures site_ { ReadsDevices S.Site place.now.unit site.old site.new result }
 {
     match what {
         ReadWhat::Home => Ok(home_read(alloc, &at_home(host, multi)?)?),

@@ -1,7 +1,6 @@
 // A search, read or write on the blocks of a cylinder.
-ghost use Rattle.std.specs.Prelude.{◌≡◌, ◌≤◌, ◌<◌, ◌+◌, Bool, length, true, false, IsTrue, IfErr};
+ghost use Rattle.std.specs.Prelude.{◌≡◌, ◌≤◌, length, true, false, IsTrue};
 ghost use Rattle.mss_base.specs.Sites.{OnlyReads};
-ghost use Rattle.mss_base.specs.declared.place.UnitNo.{UnitNo};
 ghost use Rattle.channel_commands.specs.Codes.{least, is_write};
 ghost use Rattle.ckd_plain.specs.declared.host.Prior.{Prior};
 ghost use Rattle.ckd_plain.specs.Checks.{Passes, is_prior_permitted};
@@ -9,7 +8,7 @@ ghost use Rattle.ckd_plain.specs.Effects.{effect, is_data, prior_number};
 ghost use Rattle.ckd_plain.specs.Plain.{opened};
 ghost use Rattle.ckd_plain.specs.Views.{effect_of};
 ghost use Rattle.track_engine.specs.Answers.{asked, AsksNothing, Runs, LeavesHost, LeavesDevices};
-ghost use Rattle.track_engine.specs.Faults.{HasReadCause, HasNotFailed, UsesDevices};
+ghost use Rattle.track_engine.specs.Faults.{ReadsDevices, UsesDevices};
 ghost use Rattle.track_engine.specs.Found.{GivesBut, KeepsVolume};
 ghost use Rattle.track_engine.specs.Tracks.{tracks_on, AreTracksOn};
 ghost use Rattle.track_engine.specs.Writing.{CarriesOut, IsOfNothing, most_writes, target_of};
@@ -41,10 +40,7 @@ fn look<S: Site>(
         → GivesBut effect_of result
         (effect (tracks_on (S.told site.old) place.now) host.now left command argument.now) }
     ensures volume { KeepsVolume (λ done. done.host) host.now.mounted result }
-    ensures reads { OnlyReads S.Site site.old site.new }
-    ensures cause { HasReadCause (S.faults site.old) (S.faults site.new) result }
-    ensures works { (but : UnitNo → Bool) → S.never_fails_but site.old but
-        → but place.now.unit ≡ false → IfErr result HasNotFailed }
+    ensures site_ { ReadsDevices S.Site place.now.unit site.old site.new result }
 {
     match command {
         Command::Search { field, test, multi } => match field {

@@ -1,15 +1,12 @@
 // Searches.
-ghost use Rattle.std.specs.Prelude.{◌≡◌, ◌≤◌, ◌<◌, ◌+◌, length, IfOk, IfErr, MatchResult, Bool, true, false};
-ghost use Rattle.mss_base.specs.Content.{content};
-ghost use Rattle.mss_base.specs.Sites.{OnlyReads};
-ghost use Rattle.mss_base.specs.declared.place.UnitNo.{UnitNo};
+ghost use Rattle.std.specs.Prelude.{◌≡◌, ◌≤◌, length, MatchResult};
 ghost use Rattle.channel_commands.specs.declared.command.SearchField.{SearchField};
 ghost use Rattle.channel_commands.specs.declared.command.SearchTest.{SearchTest};
 ghost use Rattle.ckd_plain.specs.Effects.{search};
 ghost use Rattle.ckd_plain.specs.Index.{Tracks};
 ghost use Rattle.ckd_plain.specs.Views.{effect_of, Gives};
 ghost use Rattle.track_engine.specs.Tracks.{tracks_on};
-ghost use Rattle.track_engine.specs.Faults.{HasReadCause, HasNotFailed};
+ghost use Rattle.track_engine.specs.Faults.{ReadsDevices};
 ghost use Rattle.track_engine.specs.Found.{GivesBut, KeepsVolume};
 
 use crate::find::{at_home, found_in, next_record, this_or_next};
@@ -54,10 +51,7 @@ pub fn search_id<S: Site>(
         (search (tracks_on (S.told site.old) place.now) host.now SearchField.Id test multi
         argument.now) }
     ensures volume { KeepsVolume (λ done. done.host) host.now.mounted result }
-    ensures reads { OnlyReads S.Site site.old site.new }
-    ensures cause { HasReadCause (S.faults site.old) (S.faults site.new) result }
-    ensures works { (but : UnitNo → Bool) → S.never_fails_but site.old but
-        → but place.now.unit ≡ false → IfErr result HasNotFailed }
+    ensures site_ { ReadsDevices S.Site place.now.unit site.old site.new result }
 {
     let at = next_record(site, place, host, 0, multi)?;
     Ok(found_in(site.brought(), &at).id_searched(alloc, test, argument))
@@ -78,10 +72,7 @@ pub fn search_key<S: Site>(
         (search (tracks_on (S.told site.old) place.now) host.now SearchField.Key test multi
         argument.now) }
     ensures volume { KeepsVolume (λ done. done.host) host.now.mounted result }
-    ensures reads { OnlyReads S.Site site.old site.new }
-    ensures cause { HasReadCause (S.faults site.old) (S.faults site.new) result }
-    ensures works { (but : UnitNo → Bool) → S.never_fails_but site.old but
-        → but place.now.unit ≡ false → IfErr result HasNotFailed }
+    ensures site_ { ReadsDevices S.Site place.now.unit site.old site.new result }
 {
     let at_hand = key_at_hand(host.position);
     let at = this_or_next(site, place, host, at_hand, multi)?;

@@ -1,5 +1,5 @@
 // Writes.
-ghost use Rattle.std.specs.Prelude.{◌≡◌, ◌≤◌, ◌<◌, ◌+◌, ◌-◌, Ok, None, [], length, take, IfOk, OnOk, IfErr, IfSome, Bool, true, false};
+ghost use Rattle.std.specs.Prelude.{◌≡◌, ◌≤◌, ◌<◌, ◌+◌, ◌-◌, Ok, None, [], length, take, IfOk, OnOk, IfErr, IfSome, Bool, true};
 ghost use Rattle.mss_base.specs.Content.{content};
 ghost use Rattle.mss_base.specs.Sites.{OnlyReads};
 ghost use Rattle.mss_base.specs.declared.place.UnitNo.{UnitNo};
@@ -8,11 +8,11 @@ ghost use Rattle.ckd_track.specs.Track.{reading, record_at};
 ghost use Rattle.ckd_track.specs.Formatting.{IsRecord};
 ghost use Rattle.ckd_track.specs.Updating.{updated_length, record_behind};
 ghost use Rattle.ckd_plain.specs.Data.{padded};
-ghost use Rattle.ckd_plain.specs.Effects.{effect_with, new_record, prior_number, write_};
-ghost use Rattle.ckd_plain.specs.Views.{effect_of, item_of};
+ghost use Rattle.ckd_plain.specs.Effects.{new_record, prior_number, write_};
+ghost use Rattle.ckd_plain.specs.Views.{item_of};
 ghost use Rattle.track_engine.specs.Tracks.{tracks_on, AreTracksOn, IsBlockOn, IsTrackAt};
-ghost use Rattle.track_engine.specs.Faults.{HasReadCause, HasNotFailed, UsesDevices};
-ghost use Rattle.track_engine.specs.Found.{found_at, StandsIn, IsPlaceOf, GivesBut, KeepsVolume};
+ghost use Rattle.track_engine.specs.Faults.{HasNotFailed, ReadsDevices, UsesDevices};
+ghost use Rattle.track_engine.specs.Found.{StandsIn, IsPlaceOf, GivesBut, KeepsVolume};
 ghost use Rattle.track_engine.specs.Writing.{CarriesOut, Spells, formatted_behind, target_in, target_of, update_kind, updated_at};
 
 use crate::find::{RecordPlace, copy_block, found_in, same_record};
@@ -72,10 +72,7 @@ fn kept_record<S: Site>(
     ensures block { S.tells → OnOk result
         (IsBlockOn (S.told site.old) place.now host.now.head buffer.new) }
     ensures volume { KeepsVolume (λ at. at.host) host.now.mounted result }
-    ensures reads { OnlyReads S.Site site.old site.new }
-    ensures cause { HasReadCause (S.faults site.old) (S.faults site.new) result }
-    ensures works { (but : UnitNo → Bool) → S.never_fails_but site.old but
-        → but place.now.unit ≡ false → IfErr result HasNotFailed }
+    ensures site_ { ReadsDevices S.Site place.now.unit site.old site.new result }
 {
     copy_block(site, place, buffer, host.head)?;
     let at = same_record(buffer, host, left.number())?;

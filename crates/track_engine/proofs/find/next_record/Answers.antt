@@ -39,8 +39,8 @@ loop-preserved g c = record {
       subst (λ (s : SiteLog). IsBlockOf (content s) c.args.place.now.unit c.args.place.now.first_block c.in_ok-host.host.head (g.S.Site.brought c.pass.new.site)) told
       (c.in_ok-host.ensures.block tells (subst (λ (s : SiteLog). IsBlockOf (content s) c.args.place.now.unit c.args.place.now.first_block c.loop.host.head (g.S.Site.brought c.loop.site)) (sym told) (c.loop.invariant.block tells)));
   volume = c.in_ok-host.ensures.volume ∙ c.loop.invariant.volume;
-  reads = reads_then _ _ _ _ c.loop.invariant.reads c.pass.ensures.reads;
-  same = c.in_ok-host.ensures.cause.same ∙ c.loop.invariant.same;
+  reads = reads_then _ _ _ _ c.loop.invariant.reads c.in_ok-host.ensures.site_.reads;
+  same = c.in_ok-host.ensures.site_.cause.same ∙ c.loop.invariant.same;
 }
 
 pub returns-clause-found : goal.returns-clause-found
