@@ -51,8 +51,8 @@ pub record HasReadCause {X : Type 0} (before now : ℕ) (result : Result X NotDo
   pub same : OnOk result (now ≡ before)
   pub failed : IfErr result (IsReadFault before now)
 
--- What a search or a read leaves of its devices, whatever the site tells: it reads at most, and where no call on this unit may fail, none
--- keeps it from being done.
+-- What a search or a read leaves of its devices, whatever the site tells: it reads at most. The count of faults rises where a read failed,
+-- which the fault tells; where none on this unit may fail, none keeps it from being done.
 pub record ReadsDevices {S X : Type 0} (g : Ghosts S) (unit : UnitNo) (old new : S) (result : Result X NotDone) : Type 0 where
   pub reads : OnlyReads g old new
   pub cause : HasReadCause (g.faults old) (g.faults new) result
