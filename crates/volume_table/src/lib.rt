@@ -14,6 +14,7 @@ pub mod law;
 mod layout;
 mod lists;
 mod row;
+mod rows;
 mod state;
 
 pub use changes::{Change, apply, is_allowed};
@@ -23,4 +24,5 @@ pub use fault::{DecodeFault, RowFault, RowField};
 pub use layout::{BODY, BODY_BYTES, BODY_END, ROW_BYTES};
 pub use lists::{PageList, StateList};
 pub use row::VolumeRow;
+pub use rows::Rows;
 pub use state::CylinderState;
