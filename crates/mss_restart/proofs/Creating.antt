@@ -1,5 +1,5 @@
 -- One creation after another.
-use Rattle.std.proofs.Common.{◌≡◌, ◌≢◌, inl, inr, ℕ, suc, ◌+◌, ◌<◌, ◌≤◌, true, false, cond, List, [], ◌∷◌, ◌++◌, length, map, drop, get_or, append_assoc, Option, refl, sym, ◌∙◌, ap, subst, arith}
+use Rattle.std.proofs.Common.{◌≡◌, ◌≢◌, inl, inr, ℕ, suc, ◌+◌, ◌<◌, true, false, cond, List, [], ◌∷◌, ◌++◌, length, map, drop, get_or, append_assoc, Option, refl, sym, ◌∙◌, ap, subst, arith}
 use Rattle.std.specs.Prelude.{is_some}
 use Rattle.std.proofs.lemmas.List.{append-nil}
 use Rattle.std.specs.List.{AllByRecursion}
@@ -17,7 +17,6 @@ use Rattle.shown_volumes.specs.Shown.{RowsOf, shown}
 use Rattle.shown_volumes.specs.Sound.{IsSound, SoundAs}
 use Rattle.shown_volumes.specs.Changing.{WithOrWithout, with_row, with_blank}
 use Rattle.std.proofs.Math.Seq.{drop-cons}
-use Rattle.mss_restart.proofs.ListedFacts.{listed_at}
 use Rattle.volume_table.specs.Listed.{listed}
 use Rattle.mss_restart.specs.Creations.{RepairsOthers}
 use Rattle.mss_restart.proofs.OtherRows.{nothing_else, others_then, others_of, is_apart}
@@ -153,8 +152,3 @@ all_created all s t before rows is =
 -- what is to come: this one, and those behind it
 pub rest_is : (vs : List VolumeData) (i : ℕ) (v : VolumeData) → i < length vs → v ≡ get_or vs i v → drop i vs ≡ v ∷ drop (i + 1) vs
 rest_is vs i v lt item = let e : suc i ≡ i + 1 = omega arith in drop-cons vs i v lt ∙ (λ k. sym item k ∷ drop (e k) vs)
-
--- whether the volume that an index gave has a row
-pub has_row : (rows shared : List (Option RowValue)) (k got volume : ℕ) (o : Option RowValue) → shared ≡ rows → length rows ≡ 32 → k ≡ got → got ≡ volume → got ≤ 31 → o ≡ get_or shared k o → listed rows volume ≡ o
-has_row rows shared k got volume o same long at is low item =
-    listed_at rows k volume o (at ∙ is) (omega (arith, long, is, low)) (item ∙ ap (λ (x : List (Option RowValue)). get_or x k o) same)

@@ -1,5 +1,5 @@
 -- Rows in a list, and the tracks of one of them.
-use Rattle.std.proofs.Common.{◌≡◌, inl, ℕ, zero, false, suc, ◌<◌, List, [], ◌∷◌, length, get_or, Option, Some, None, refl, sym, ◌∙◌, ap, arith}
+use Rattle.std.proofs.Common.{◌≡◌, inl, ℕ, false, Option, Some, None, refl, ◌∙◌, ap}
 use Rattle.std.specs.Option.{option_and_then}
 use Rattle.mss_base.specs.Content.{Content}
 use Rattle.mss_base.specs.declared.place.BlockPlace.{BlockPlace}
@@ -11,17 +11,7 @@ use Rattle.mss_base.specs.Firsts.{first_below, where_so}
 use Rattle.shown_volumes.specs.Faults.{is_torn, differs, row_track_fault, tracks_fault}
 use Rattle.mss_base.proofs.FirstFacts.{all_none, both_none}
 use Rattle.shown_volumes.proofs.PlaceFacts.{source_blank}
-use Rattle.volume_table.specs.Listed.{listed}
 use Rattle.mss_restart.specs.Walks.{row_cylinder_fault, row_tracks_fault}
-
-get_any : {A : Type 0} (xs : List A) (k : ℕ) (d e : A) → k < length xs → get_or xs k d ≡ get_or xs k e
-get_any [] k d e lt = absurd (omega arith)
-get_any (x ∷ xs) zero d e lt = refl
-get_any (x ∷ xs) (suc k) d e lt = get_any xs k d e (omega arith)
-
--- what an index gave is the row of the volume
-pub listed_at : (rows : List (Option RowValue)) (k volume : ℕ) (o : Option RowValue) → k ≡ volume → volume < length rows → o ≡ get_or rows k o → listed rows volume ≡ o
-listed_at rows k volume o same lt is = get_any rows volume None o lt ∙ ap (λ (n : ℕ). get_or rows n o) (sym same) ∙ sym is
 
 abbrev tracks_of : Content → ℕ → Option RowValue → Option Refused
 tracks_of c volume o = first_below 404 (λ y. first_below 19 (λ h. option_and_then (row_track_fault c volume y h) o))

@@ -1,9 +1,9 @@
 -- Reading one row after another.
-use Rattle.std.proofs.Common.{◌≡◌, ℕ, zero, suc, ◌+◌, ◌<◌, ◌≤◌, ◌==◌, nat_lt, inl, inr, true, false, cond, List, [], ◌∷◌, ◌++◌, length, get_or, Option, Some, None, Result, Ok, Err, refl, sym, ◌∙◌, ap, subst, arith, length-append}
+use Rattle.std.proofs.Common.{◌≡◌, ℕ, zero, suc, ◌+◌, ◌<◌, ◌≤◌, ◌==◌, nat_lt, inl, inr, true, false, cond, List, length, set, Option, Some, None, Result, Ok, Err, refl, sym, ◌∙◌, ap, subst, arith}
 use Rattle.std.specs.Prelude.{is_some}
 use Rattle.std.specs.Option.{option_or, ForSome}
 use Rattle.std.proofs.lemmas.Bool.{cases_lt, cond-true, cond-false, eq-eqb, ne_eqb, lt-ltb, le-ltb}
-use Rattle.std.proofs.lemmas.List.{get_or_past}
+use Rattle.std.proofs.lemmas.List.{get_or-set_same, get_or-set_other}
 use Rattle.mss_base.specs.Content.{Content}
 use Rattle.volume_table.specs.Row.{RowValue}
 use Rattle.table_pair.specs.Pair.{RowReading, known, unknown, row_of}
@@ -24,18 +24,6 @@ pub first_same : {A : Type 0} (n : ℕ) (f g : ℕ → Option A) → ((i : ℕ) 
 unfolding first_below
 first_same zero f g same = refl
 first_same (suc n) f g same = let before = first_same n f g (λ i lt. same i (omega arith)) in let here = same n (omega arith) in cc
-
-push_here : {A : Type 0} (xs : List A) (x d : A) → get_or (xs ++ x ∷ []) (length xs) d ≡ x
-push_here [] x d = refl
-push_here (y ∷ xs) x d = push_here xs x d
-
-push_before : {A : Type 0} (xs : List A) (x d : A) (k : ℕ) → k < length xs → get_or (xs ++ x ∷ []) k d ≡ get_or xs k d
-push_before [] x d k lt = absurd (omega arith)
-push_before (y ∷ xs) x d zero lt = refl
-push_before (y ∷ xs) x d (suc k) lt = push_before xs x d k (omega arith)
-
-pub one_longer : {A : Type 0} (xs : List A) (x : A) → length (xs ++ x ∷ []) ≡ length xs + 1
-one_longer xs x = length-append xs (x ∷ [])
 
 -- the first rows were read, and those behind them weren't yet
 pub record SoFar (begun now n : ℕ) (asked : ℕ → Option (List ℕ)) (c : Content) (rows : List (Option RowValue)) (unread : Option ℕ) : Type 0 where
@@ -139,19 +127,19 @@ module _ (begun mid now n : ℕ) (asked : ℕ → Option (List ℕ)) (c : Conten
   }
 
   -- the walk goes on
-  module _ (read : RowRead) (tells : TellsRow n (asked n) one.read (Ok read)) (long : length rows ≡ n) where
-    pushed : listed (rows ++ read.row ∷ []) n ≡ read.row
-    pushed = ap (λ (k : ℕ). get_or (rows ++ read.row ∷ []) k None) (sym long) ∙ push_here rows read.row None
+  module _ (read : RowRead) (tells : TellsRow n (asked n) one.read (Ok read)) (long : length rows ≡ 32) where
+    placed : listed (set rows n read.row) n ≡ read.row
+    placed = get_or-set_same rows n read.row None (omega (arith, few, long))
 
-    known_now : (v : ℕ) → v < n + 1 → IsKnown (listed (rows ++ read.row ∷ []) v) (row v)
+    known_now : (v : ℕ) → v < n + 1 → IsKnown (listed (set rows n read.row) v) (row v)
     known_now v lt = elim (cases_lt v n) [
       | inl less ↦
           let was = so_far.known v less in
-          let same : listed (rows ++ read.row ∷ []) v ≡ listed rows v = push_before rows read.row None v (omega (arith, less, long)) in
+          let same : listed (set rows n read.row) v ≡ listed rows v = get_or-set_other rows n v read.row None (λ e. omega (arith, e, less)) in
           (was.0, row_before v less ∙ was.1 ∙ ap (λ (o : Option RowValue). known o was.0) (sym same))
       | inr le ↦
           let e : n ≡ v = omega (arith, le, lt) in
-          subst (λ (x : ℕ). IsKnown (listed (rows ++ read.row ∷ []) x) (row x)) e (is_some read.unread, row_here ∙ tells.0 ∙ ap (λ (o : Option RowValue). known o (is_some read.unread)) (sym pushed))
+          subst (λ (x : ℕ). IsKnown (listed (set rows n read.row) x) (row x)) e (is_some read.unread, row_here ∙ tells.0 ∙ ap (λ (o : Option RowValue). known o (is_some read.unread)) (sym placed))
     ]
 
     alone_same : (v : ℕ) → v < n → IsAlone (row v) → IsAlone (so_far.readings.row v)
@@ -179,7 +167,7 @@ module _ (begun mid now n : ℕ) (asked : ℕ → Option (List ℕ)) (c : Conten
           count_ = before.count_ ∙ sym (counts_before (before.volume + 1) (omega (arith, low)));
         }
 
-    pub row_read : MissingKeeps mid now read.unread → SoFar begun now (n + 1) asked c (rows ++ read.row ∷ []) (option_or unread read.unread)
+    pub row_read : MissingKeeps mid now read.unread → SoFar begun now (n + 1) asked c (set rows n read.row) (option_or unread read.unread)
     row_read keeps = record {
       readings = readings;
       rest = λ v le. row_past v (omega (arith, le));
@@ -205,19 +193,20 @@ first_kept begun mid now None (Some f) before start end keeps = let same : f ≡
 first_kept begun mid now (Some f) b before start end keeps = record { rises = before.rises; past = omega (arith, before.past, end) }
 
 -- one row more, whose serial is no fault
-pub serials_on : (asked : ℕ → Option (List ℕ)) (rows : List (Option RowValue)) (n : ℕ) (o : Option RowValue) → length rows ≡ n → HasSerialsAsked asked (listed rows) → serial_fault n o (asked n) ≡ None → HasSerialsAsked asked (listed (rows ++ o ∷ []))
-serials_on asked rows n o long before none v = elim (cases_lt v n) [
-  | inl less ↦ subst (λ (x : Option RowValue). ForSome x (λ r. ForSome (asked v) (λ s. r.serial ≡ s))) (sym (push_before rows o None v (omega (arith, less, long)))) (before v)
+pub serials_on : (asked : ℕ → Option (List ℕ)) (rows : List (Option RowValue)) (n : ℕ) (o : Option RowValue) → length rows ≡ 32 → n < 32 → HasSerialsAsked asked (listed rows) → serial_fault n o (asked n) ≡ None → HasSerialsAsked asked (listed (set rows n o))
+serials_on asked rows n o long few before none v = elim (cases_lt v n) [
+  | inl less ↦ stays (λ e. omega (arith, e, less))
   | inr le ↦ elim (cases_lt n v) [
-    | inl past ↦ λ r at.
-        (let e : ◌≡◌ {A = Option RowValue} None (Some r) = sym (get_or_past (rows ++ o ∷ []) v None (omega (arith, past, long, one_longer rows o))) ∙ at in absurd cc)
+    | inl past ↦ stays (λ e. omega (arith, e, past))
     | inr ge ↦
         let e : n ≡ v = omega (arith, le, ge) in
-        let here : listed (rows ++ o ∷ []) n ≡ o = ap (λ (k : ℕ). get_or (rows ++ o ∷ []) k None) (sym long) ∙ push_here rows o None in
-        subst (λ (x : ℕ). ForSome (listed (rows ++ o ∷ []) x) (λ r. ForSome (asked x) (λ s. r.serial ≡ s))) e
+        let here : listed (set rows n o) n ≡ o = get_or-set_same rows n o None (omega (arith, few, long)) in
+        subst (λ (x : ℕ). ForSome (listed (set rows n o) x) (λ r. ForSome (asked x) (λ s. r.serial ≡ s))) e
         (subst (λ (x : Option RowValue). ForSome x (λ r. ForSome (asked n) (λ s. r.serial ≡ s))) (sym here) (row_asked n o (asked n) none))
   ]
-]
+] where
+  stays : (v ≡ n → ⊥) → ForSome (listed (set rows n o) v) (λ r. ForSome (asked v) (λ s. r.serial ≡ s))
+  stays apart = subst (λ (x : Option RowValue). ForSome x (λ r. ForSome (asked v) (λ s. r.serial ≡ s))) (sym (get_or-set_other rows n v o None apart)) (before v)
 
-pub no_serials : (asked : ℕ → Option (List ℕ)) (rows : List (Option RowValue)) → rows ≡ [] → HasSerialsAsked asked (listed rows)
-no_serials asked rows none v r at = let e : ◌≡◌ {A = Option RowValue} None (Some r) = sym (ap (λ (xs : List (Option RowValue)). listed xs v) none) ∙ at in absurd cc
+pub no_serials : (asked : ℕ → Option (List ℕ)) (rows : List (Option RowValue)) → ((v : ℕ) → listed rows v ≡ None) → HasSerialsAsked asked (listed rows)
+no_serials asked rows none v r at = let e : ◌≡◌ {A = Option RowValue} None (Some r) = sym (none v) ∙ at in absurd cc

@@ -37,7 +37,7 @@ RefusesAs before now config old new e = (new ≡ old) × Surveys before now conf
 
 -- what opening answers
 abbrev pub Opens : ℕ → ℕ → ConfigData → SiteLog → SiteLog → Result Opened Refused → Type 0
-Opens before now config old new (Ok opened) = IsOpened config (content old) (content new) opened.rows.items
+Opens before now config old new (Ok opened) = IsOpened config (content old) (content new) opened.rows
 Opens before now config old new (Err e) = RefusesAs before now config old new e
 
 -- without a failed call opening answers rows exactly where the content has no fault, and else its first fault
@@ -68,7 +68,7 @@ pub record CreatesCounted (config : ConfigData) (written writes : ℕ) (rows : R
   pub counted : AreCounted written writes (missing before config.volumes) made
 
 abbrev pub MakesCounted : ConfigData → ℕ → ℕ → Result Opened Refused → Type 0
-MakesCounted config written writes (Ok opened) = CreatesCounted config written writes (listed opened.rows.items) opened.creations.items
+MakesCounted config written writes (Ok opened) = CreatesCounted config written writes (listed opened.rows) opened.creations.items
 MakesCounted config written writes (Err e) = Unit {0}
 
 -- the repairs and creations that were begun were written to their end where rows are answered or memory ran out

@@ -15,7 +15,6 @@ use Rattle.mss_base.specs.Firsts.{first_below}
 use Rattle.shown_volumes.specs.Faults.{read_fault, row_fault, halves_fault, pages_fault, first_fault_of, first_fault}
 use Rattle.shown_volumes.specs.Changing.{StandsOn}
 use Rattle.shown_volumes.specs.Shown.{RowsOf, rows_in, rows_of}
-use Rattle.mss_base.specs.Listing.{Listing}
 use Rattle.mss_base.specs.declared.site.Site.{Ghosts}
 use Rattle.shown_volumes.specs.declared.refused.Refused.{Refused}
 use Rattle.shown_volumes.specs.declared.refused.Refused.TheVariants.{RowUnread, Stopped, Memory}
@@ -185,7 +184,7 @@ pub record EndsAtRow (before now : ℕ) (asked : ℕ → Option (List ℕ)) (c :
   pub tells : TellsRow volume (asked volume) (readings.row volume) (Err e)
 
 abbrev pub ReadsRows : ℕ → ℕ → (ℕ → Option (List ℕ)) → Content → Result RowsRead Refused → Type 0
-ReadsRows before now asked c (Ok read) = AreRead before now asked c read.rows.items read.unread
+ReadsRows before now asked c (Ok read) = AreRead before now asked c read.rows read.unread
 ReadsRows before now asked c (Err Memory) = Unit {0}
 ReadsRows before now asked c (Err e) = EndsAtRow before now asked c e
 
@@ -242,12 +241,8 @@ pub record Surveys (before now frames : ℕ) (asked : ℕ → Option (List ℕ))
   pub counts : CountsSince mid now result
 
 abbrev pub rows_read : Result RowsRead Refused → Result (List (Option RowValue)) Refused
-rows_read (Ok read) = Ok read.rows.items
+rows_read (Ok read) = Ok read.rows
 rows_read (Err e) = Err e
-
-abbrev pub rows_given : Result (Listing (Option RowValue)) Refused → Result (List (Option RowValue)) Refused
-rows_given (Ok rows) = Ok rows.items
-rows_given (Err e) = Err e
 
 -- what a survey without a failed read answers: the rows of the content, which has no fault, or its first fault
 abbrev pub IsExact : ℕ → (ℕ → Option (List ℕ)) → Content → Result (List (Option RowValue)) Refused → Type 0

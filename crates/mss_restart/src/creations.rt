@@ -30,12 +30,11 @@ ghost use Rattle.mss_restart.specs.Creations.{
 ghost use Rattle.mss_restart.specs.Survey.{NeverFails, TellsNoFailure};
 
 use crate::cartridges::lowest_free;
-use crate::rows::Rows;
 use mss_base::{Listed, Serial, Site, VolumeNo};
 use shown_volumes::Refused;
 use std::alloc::Global;
 use table_pair::create_row;
-use volume_table::VolumeRow;
+use volume_table::{Rows, VolumeRow};
 
 /// A volume that was created, and how many writes the site counted behind the last one of its creation.
 #[derive(Clone, Copy, Debug, PartialEq, Eq)]
@@ -55,31 +54,29 @@ fn create_volume<S: Site>(
     volume: VolumeNo,
     serial: Serial,
 ) -> Result<Creation, Refused>
-    requires whole { length rows.old.items ≡ 32 }
-    requires none { listed rows.old.items volume ≡ None }
-    requires told { S.tells → RowsAre rows.old.items (content (S.told site.old)) }
+    requires none { listed rows.old volume ≡ None }
+    requires told { S.tells → RowsAre rows.old (content (S.told site.old)) }
     ensures moments { S.tells → (frames : ℕ) → IsSound frames (content (S.told site.old)) → Writes
         (λ d. IsSound frames d × WithOrWithout volume serial (shown (content (S.told site.old))) (shown d))
         (S.told site.old) (S.told site.new) }
     ensures created { S.tells → OnOk result (IsCreated volume serial
-        (content (S.told site.old)) (content (S.told site.new)) rows.old.items rows.new.items) }
-    ensures complete { S.tells → IfOk result (λ made. IsCreation (listed rows.old.items)
-        (listed rows.new.items) (volume, serial) made (S.told site.old) (S.told site.new)) }
+        (content (S.told site.old)) (content (S.told site.new)) rows.old rows.new) }
+    ensures complete { S.tells → IfOk result (λ made. IsCreation (listed rows.old)
+        (listed rows.new) (volume, serial) made (S.told site.old) (S.told site.new)) }
     ensures others { S.tells →
         RepairsOthers ((volume, serial) ∷ []) (S.told site.old) (S.told site.new) }
     ensures row { OnOk result
-        (HasNewRow volume serial (listed rows.old.items) (listed rows.new.items)) }
+        (HasNewRow volume serial (listed rows.old) (listed rows.new)) }
     ensures counted { IfOk result (λ made.
         (made.volume ≡ volume) × (made.writes ≡ S.writes site.new)) }
     ensures memory { result ≡ Err Memory → LeavesSite S.Site site.old site.new }
-    ensures whole { length rows.new.items ≡ 32 }
     ensures stops { StopsAlone (S.faults site.old) (S.faults site.new) result }
     ensures works { NeverFails S.Site site.old → TellsNoFailure result }
     ensures devices { WritesOn S.Site site.old site.new }
 {
-    let place = usize::from(volume.get());
-    let first = lowest_free(rows.as_slice(), None);
-    let second = lowest_free(rows.as_slice(), Some(first));
+    rows.look();
+    let first = lowest_free(rows, None);
+    let second = lowest_free(rows, Some(first));
     let row = VolumeRow::blank(alloc, serial, first, second)?;
     site.reserve(6)?;
     if create_row(site, volume, &row).is_err() {
@@ -87,7 +84,7 @@ fn create_volume<S: Site>(
             fault: site.faults(),
         });
     }
-    rows.set(place, Some(row));
+    rows.put(volume, Some(row));
     Ok(Creation {
         volume,
         writes: site.writes(),
@@ -103,33 +100,31 @@ pub fn create_volumes<S: Site>(
     creations: &mut Creations,
     volumes: &[(VolumeNo, Serial)],
 ) -> Result<(), Refused>
-    requires whole { length rows.old.items ≡ 32 }
     requires none { creations.old.items ≡ [] }
     requires room { length volumes.now ≤ creations.old.spare }
     requires rising { IsStrictlySortedBy nat_cmp (map (λ v. v.0) volumes.now) }
-    requires told { S.tells → RowsAre rows.old.items (content (S.told site.old)) }
-    requires held { S.tells → AreHeld (listed rows.old.items) (content (S.told site.old)) }
+    requires told { S.tells → RowsAre rows.old (content (S.told site.old)) }
+    requires held { S.tells → AreHeld (listed rows.old) (content (S.told site.old)) }
     ensures moments { S.tells → (frames : ℕ) → IsSound frames (content (S.told site.old)) → Writes
-        (ShowsFront frames (missing (listed rows.old.items) volumes.now)
+        (ShowsFront frames (missing (listed rows.old) volumes.now)
         (shown (content (S.told site.old)))) (S.told site.old) (S.told site.new) }
     ensures created { S.tells → OnOk result (AreCreated volumes.now
-        (content (S.told site.old)) (content (S.told site.new)) rows.old.items rows.new.items) }
-    ensures complete { S.tells → CreatesWhole (missing (listed rows.old.items) volumes.now)
-        creations.new.items (listed rows.old.items) (listed rows.new.items)
+        (content (S.told site.old)) (content (S.told site.new)) rows.old rows.new) }
+    ensures complete { S.tells → CreatesWhole (missing (listed rows.old) volumes.now)
+        creations.new.items (listed rows.old) (listed rows.new)
         (S.told site.old) (S.told site.new) result }
-    ensures others { S.tells → RepairsOthers (missing (listed rows.old.items) volumes.now)
+    ensures others { S.tells → RepairsOthers (missing (listed rows.old) volumes.now)
         (S.told site.old) (S.told site.new) }
-    ensures rows { OnOk result (Creates (missing (listed rows.old.items) volumes.now)
-        (listed rows.old.items) (listed rows.new.items)) }
+    ensures rows { OnOk result (Creates (missing (listed rows.old) volumes.now)
+        (listed rows.old) (listed rows.new)) }
     ensures counted { OnOk result (AreCounted (S.writes site.old) (S.writes site.new)
-        (missing (listed rows.old.items) volumes.now) creations.new.items) }
-    ensures whole { length rows.new.items ≡ 32 }
+        (missing (listed rows.old) volumes.now) creations.new.items) }
     ensures stops { StopsAlone (S.faults site.old) (S.faults site.new) result }
     ensures works { NeverFails S.Site site.old → TellsNoFailure result }
     ensures devices { WritesOn S.Site site.old site.new }
 {
     for entry in volumes {
-        let missing = rows.as_slice()[usize::from(entry.0.get())].is_none();
+        let missing = rows.row(entry.0).is_none();
         if missing {
             creations.push(create_volume(alloc, site, rows, entry.0, entry.1)?);
         }

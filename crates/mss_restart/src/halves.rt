@@ -1,5 +1,5 @@
 // The walk over the halves of volumes: each cartridge stands in one of them.
-ghost use Rattle.std.specs.Prelude.{◌≡◌, ◌≤◌, length};
+ghost use Rattle.std.specs.Prelude.{◌≡◌, ◌≤◌};
 ghost use Rattle.shown_volumes.specs.Sound.{cartridge_of};
 ghost use Rattle.mss_base.specs.Firsts.{first_below};
 ghost use Rattle.shown_volumes.specs.Faults.{half_with, half_fault, halves_fault};
@@ -7,14 +7,13 @@ ghost use Rattle.volume_table.specs.Listed.{listed};
 
 use mss_base::{CartridgeNo, VolumeNo, volume_at};
 use shown_volumes::{Half, Refused};
-use volume_table::VolumeRow;
+use volume_table::Rows;
 
 /// The cartridge of a half, if the volume has a row.
-fn cartridge_of(rows: &[Option<VolumeRow>], volume: VolumeNo, second: bool) -> Option<CartridgeNo>
-    requires { length rows.now ≡ 32 }
+fn cartridge_of(rows: &Rows, volume: VolumeNo, second: bool) -> Option<CartridgeNo>
     ensures { result ≡ cartridge_of (listed rows.now) volume second }
 {
-    let Some(row) = &rows[volume.get() as usize] else {
+    let Some(row) = rows.row(volume) else {
         return None;
     };
     if second {
@@ -25,8 +24,7 @@ fn cartridge_of(rows: &[Option<VolumeRow>], volume: VolumeNo, second: bool) -> O
 }
 
 /// The first half of a volume that has a cartridge.
-fn half_with(rows: &[Option<VolumeRow>], cartridge: CartridgeNo, volume: VolumeNo) -> Option<Half>
-    requires { length rows.now ≡ 32 }
+fn half_with(rows: &Rows, cartridge: CartridgeNo, volume: VolumeNo) -> Option<Half>
     ensures { result ≡ half_with (listed rows.now) cartridge volume }
 {
     if cartridge_of(rows, volume, false) == Some(cartridge) {
@@ -45,8 +43,7 @@ fn half_with(rows: &[Option<VolumeRow>], cartridge: CartridgeNo, volume: VolumeN
 }
 
 /// The first half of the first `count` volumes that has a cartridge.
-pub fn half_among(rows: &[Option<VolumeRow>], cartridge: CartridgeNo, count: u8) -> Option<Half>
-    requires rows { length rows.now ≡ 32 }
+pub fn half_among(rows: &Rows, cartridge: CartridgeNo, count: u8) -> Option<Half>
     requires count { count ≤ 32 }
     ensures { result ≡ first_below count (half_with (listed rows.now) cartridge) }
 {
@@ -60,8 +57,7 @@ pub fn half_among(rows: &[Option<VolumeRow>], cartridge: CartridgeNo, count: u8)
 }
 
 /// The fault of a half, if an earlier one has the same cartridge.
-fn half_fault(rows: &[Option<VolumeRow>], volume: VolumeNo, second: bool) -> Option<Refused>
-    requires { length rows.now ≡ 32 }
+fn half_fault(rows: &Rows, volume: VolumeNo, second: bool) -> Option<Refused>
     ensures { result ≡ half_fault (listed rows.now) volume second }
 {
     let Some(cartridge) = cartridge_of(rows, volume, second) else {
@@ -85,8 +81,7 @@ fn half_fault(rows: &[Option<VolumeRow>], volume: VolumeNo, second: bool) -> Opt
 }
 
 /// The fault of a volume's first half, or else of its second.
-fn volume_fault(rows: &[Option<VolumeRow>], volume: VolumeNo) -> Option<Refused>
-    requires { length rows.now ≡ 32 }
+fn volume_fault(rows: &Rows, volume: VolumeNo) -> Option<Refused>
     ensures { result ≡ halves_fault (listed rows.now) volume }
 {
     let first = half_fault(rows, volume, false);
@@ -97,8 +92,7 @@ fn volume_fault(rows: &[Option<VolumeRow>], volume: VolumeNo) -> Option<Refused>
 }
 
 /// The first half whose cartridge stands in an earlier one.
-pub fn halves_fault(rows: &[Option<VolumeRow>]) -> Option<Refused>
-    requires { length rows.now ≡ 32 }
+pub fn halves_fault(rows: &Rows) -> Option<Refused>
     ensures { result ≡ first_below 32 (halves_fault (listed rows.now)) }
 {
     for number in 0..32 {

@@ -22,6 +22,5 @@ mod tracks;
 
 pub use creations::{Creation, Creations};
 pub use opening::{Opened, open_rows};
-pub use rows::Rows;
 pub use shown_volumes::{Half, Refused};
 pub use surveying::survey;

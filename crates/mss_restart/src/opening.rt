@@ -39,11 +39,11 @@ ghost use Rattle.mss_restart.specs.Survey.{NeverFails, TellsNoFailure};
 
 use crate::creations::{Creations, create_volumes};
 use crate::repairs::repair_rows;
-use crate::rows::Rows;
 use crate::surveying::survey_rows;
 use mss_base::{Config, Site};
 use shown_volumes::Refused;
 use std::alloc::Global;
+use volume_table::Rows;
 
 /// The rows of an opened site, and the volumes that were created in the opening.
 #[derive(Drop)]
@@ -55,12 +55,11 @@ pub struct Opened {
 /// Surveys a site whose rows have to be told by all that was read of both copies.
 fn known_rows<S: Site>(alloc: Global, site: &mut S, config: &Config) -> Result<Rows, Refused>
     ensures known { S.tells →
-        IfOk result (λ rows. RowsAre rows.items (content (S.told site.old))) }
+        IfOk result (λ rows. RowsAre rows (content (S.told site.old))) }
     ensures faultless { S.tells → OnOk result (first_fault config.now.frames
         (serial_in config.now.volumes) (content (S.told site.old)) ≡ None) }
     ensures usable { IfOk result (λ rows. AreUsable config.now.frames (serial_in config.now.volumes)
-        (listed rows.items)) }
-    ensures whole { IfOk result (λ rows. length rows.items ≡ 32) }
+        (listed rows)) }
     ensures refused { S.tells → IfErr result (RefusesAs (S.faults site.old) (S.faults site.new)
         config.now (S.told site.old) (S.told site.new)) }
     ensures exact { S.tells → S.faults site.new ≡ S.faults site.old
@@ -71,6 +70,7 @@ fn known_rows<S: Site>(alloc: Global, site: &mut S, config: &Config) -> Result<R
     ensures devices { OnlyReads S.Site site.old site.new }
 {
     let read = survey_rows(alloc, site, config)?;
+    read.rows.look();
     match read.unread {
         None => Ok(read.rows),
         Some(fault) => Err(Refused::Stopped { fault }),
@@ -85,29 +85,28 @@ fn complete_rows<S: Site>(
     rows: &mut Rows,
     creations: &mut Creations,
 ) -> Result<(), Refused>
-    requires whole { length rows.old.items ≡ 32 }
     requires none { creations.old.items ≡ [] }
     requires room { length config.now.volumes ≤ creations.old.spare }
-    requires told { S.tells → RowsAre rows.old.items (content (S.told site.old)) }
+    requires told { S.tells → RowsAre rows.old (content (S.told site.old)) }
     ensures moments { S.tells → (frames : ℕ) → IsSound frames (content (S.told site.old)) → Writes
-        (ShowsFront frames (missing (listed rows.old.items) config.now.volumes)
+        (ShowsFront frames (missing (listed rows.old) config.now.volumes)
         (shown (content (S.told site.old)))) (S.told site.old) (S.told site.new) }
     ensures created { S.tells → OnOk result (AreCreated config.now.volumes
-        (content (S.told site.old)) (content (S.told site.new)) rows.old.items rows.new.items) }
-    ensures complete { S.tells → CompletesWhole (missing (listed rows.old.items) config.now.volumes)
-        creations.new.items (listed rows.old.items) (listed rows.new.items)
+        (content (S.told site.old)) (content (S.told site.new)) rows.old rows.new) }
+    ensures complete { S.tells → CompletesWhole (missing (listed rows.old) config.now.volumes)
+        creations.new.items (listed rows.old) (listed rows.new)
         (S.told site.old) (S.told site.new) result }
-    ensures others { S.tells → RepairsOthers (missing (listed rows.old.items) config.now.volumes)
+    ensures others { S.tells → RepairsOthers (missing (listed rows.old) config.now.volumes)
         (S.told site.old) (S.told site.new) }
-    ensures rows { OnOk result (Creates (missing (listed rows.old.items) config.now.volumes)
-        (listed rows.old.items) (listed rows.new.items)) }
+    ensures rows { OnOk result (Creates (missing (listed rows.old) config.now.volumes)
+        (listed rows.old) (listed rows.new)) }
     ensures counted { OnOk result (AreCounted (S.writes site.old) (S.writes site.new)
-        (missing (listed rows.old.items) config.now.volumes) creations.new.items) }
-    ensures whole { length rows.new.items ≡ 32 }
+        (missing (listed rows.old) config.now.volumes) creations.new.items) }
     ensures stops { StopsAlone (S.faults site.old) (S.faults site.new) result }
     ensures works { NeverFails S.Site site.old → TellsNoFailure result }
     ensures devices { WritesOn S.Site site.old site.new }
 {
+    rows.look();
     repair_rows(alloc, site)?;
     create_volumes(alloc, site, rows, creations, config.volumes.as_slice())
 }
@@ -127,8 +126,7 @@ fn open_lent<S: Site>(alloc: Global, site: &mut S, config: &Config) -> Result<Op
         (missing (rows_of (content (S.told site.old))) config.now.volumes)
         (S.told site.old) (S.told site.new) }
     ensures untouched { S.tells → WritesIfFaultless config.now (S.told site.old) (S.told site.new) }
-    ensures usable { IfOk result (λ opened. AreUsableFor config.now (listed opened.rows.items)) }
-    ensures whole { IfOk result (λ opened. length opened.rows.items ≡ 32) }
+    ensures usable { IfOk result (λ opened. AreUsableFor config.now (listed opened.rows)) }
     ensures counted { MakesCounted config.now (S.writes site.old) (S.writes site.new) result }
     ensures refused { IfErr result (RefusalLeaves (S.writes site.old) (S.writes site.new)
         (S.faults site.old) (S.faults site.new)) }
@@ -141,7 +139,9 @@ fn open_lent<S: Site>(alloc: Global, site: &mut S, config: &Config) -> Result<Op
     let mut creations = Creations::new(alloc);
     creations.reserve(config.volumes.as_slice().len())?;
     let mut rows = known_rows(alloc, site, config)?;
+    rows.look();
     complete_rows(alloc, site, config, &mut rows, &mut creations)?;
+    rows.look();
     Ok(Opened { rows, creations })
 }
 
@@ -179,8 +179,7 @@ pub fn open_rows<S: Site>(
     ensures untouched { S.tells →
         WritesIfFaultless config.now (S.told site) (S.told (site_of result)) }
     ensures usable { IfOk (answer_of result) (λ opened.
-        AreUsableFor config.now (listed opened.rows.items)) }
-    ensures whole { IfOk (answer_of result) (λ opened. length opened.rows.items ≡ 32) }
+        AreUsableFor config.now (listed opened.rows)) }
     ensures counted { MakesCounted config.now (S.writes site) (S.writes (site_of result))
         (answer_of result) }
     ensures refused { IfErr (answer_of result) (RefusalLeaves

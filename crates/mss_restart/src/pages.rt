@@ -1,5 +1,5 @@
 // The walk over the pages: each frame is configured, and stands in one of them.
-ghost use Rattle.std.specs.Prelude.{◌≡◌, ◌≤◌, length};
+ghost use Rattle.std.specs.Prelude.{◌≡◌, ◌≤◌};
 ghost use Rattle.mss_base.specs.Firsts.{first_below};
 ghost use Rattle.shown_volumes.specs.Faults.{page_with, earlier_page, frame_fault, page_fault, pages_fault};
 ghost use Rattle.volume_table.specs.Listed.{listed};
@@ -7,16 +7,10 @@ ghost use Rattle.mss_restart.specs.Walks.{lower_pages};
 
 use mss_base::{FrameNo, Page, VolumeNo, page_at, volume_at};
 use shown_volumes::{Refused, frame_in};
-use volume_table::VolumeRow;
+use volume_table::Rows;
 
 /// A page, where it has a frame.
-fn page_with(
-    rows: &[Option<VolumeRow>],
-    frame: FrameNo,
-    volume: VolumeNo,
-    page: Page,
-) -> Option<(VolumeNo, Page)>
-    requires { length rows.now ≡ 32 }
+fn page_with(rows: &Rows, frame: FrameNo, volume: VolumeNo, page: Page) -> Option<(VolumeNo, Page)>
     ensures { result ≡ page_with (listed rows.now) frame volume page }
 {
     if frame_in(rows, volume, page) == Some(frame) {
@@ -27,13 +21,7 @@ fn page_with(
 }
 
 /// The first page of a volume that has a frame, of its first `count` pages.
-fn page_among(
-    rows: &[Option<VolumeRow>],
-    frame: FrameNo,
-    volume: VolumeNo,
-    count: u8,
-) -> Option<(VolumeNo, Page)>
-    requires rows { length rows.now ≡ 32 }
+fn page_among(rows: &Rows, frame: FrameNo, volume: VolumeNo, count: u8) -> Option<(VolumeNo, Page)>
     requires count { count ≤ 51 }
     ensures { result ≡ first_below count (page_with (listed rows.now) frame volume) }
 {
@@ -47,12 +35,7 @@ fn page_among(
 }
 
 /// The first page of the volumes before this one that has a frame.
-fn lower_page(
-    rows: &[Option<VolumeRow>],
-    frame: FrameNo,
-    volume: VolumeNo,
-) -> Option<(VolumeNo, Page)>
-    requires { length rows.now ≡ 32 }
+fn lower_page(rows: &Rows, frame: FrameNo, volume: VolumeNo) -> Option<(VolumeNo, Page)>
     ensures { result ≡ first_below volume (lower_pages (listed rows.now) frame) }
 {
     for number in 0..volume.get() {
@@ -66,12 +49,11 @@ fn lower_page(
 
 /// The first page before this one that has a frame.
 fn earlier_page(
-    rows: &[Option<VolumeRow>],
+    rows: &Rows,
     frame: FrameNo,
     volume: VolumeNo,
     page: Page,
 ) -> Option<(VolumeNo, Page)>
-    requires { length rows.now ≡ 32 }
     ensures { result ≡ earlier_page (listed rows.now) frame volume page }
 {
     let lower = lower_page(rows, frame, volume);
@@ -84,12 +66,11 @@ fn earlier_page(
 /// The fault of a frame, which a page has, if any.
 fn frame_fault(
     frames: u16,
-    rows: &[Option<VolumeRow>],
+    rows: &Rows,
     volume: VolumeNo,
     page: Page,
     frame: FrameNo,
 ) -> Option<Refused>
-    requires { length rows.now ≡ 32 }
     ensures { result ≡ frame_fault frames (listed rows.now) volume page frame }
 {
     if u16::from(frame.get()) >= frames {
@@ -106,13 +87,7 @@ fn frame_fault(
 }
 
 /// The fault of a page, if it has a frame at fault.
-fn page_fault(
-    frames: u16,
-    rows: &[Option<VolumeRow>],
-    volume: VolumeNo,
-    page: Page,
-) -> Option<Refused>
-    requires { length rows.now ≡ 32 }
+fn page_fault(frames: u16, rows: &Rows, volume: VolumeNo, page: Page) -> Option<Refused>
     ensures { result ≡ page_fault frames (listed rows.now) volume page }
 {
     let Some(frame) = frame_in(rows, volume, page) else {
@@ -122,8 +97,7 @@ fn page_fault(
 }
 
 /// The first fault of a volume's pages.
-fn volume_fault(frames: u16, rows: &[Option<VolumeRow>], volume: VolumeNo) -> Option<Refused>
-    requires { length rows.now ≡ 32 }
+fn volume_fault(frames: u16, rows: &Rows, volume: VolumeNo) -> Option<Refused>
     ensures { result ≡ pages_fault frames (listed rows.now) volume }
 {
     for number in 0..51 {
@@ -136,8 +110,7 @@ fn volume_fault(frames: u16, rows: &[Option<VolumeRow>], volume: VolumeNo) -> Op
 }
 
 /// The first page whose frame isn't one of the first `frames`, or stands in an earlier page.
-pub fn pages_fault(frames: u16, rows: &[Option<VolumeRow>]) -> Option<Refused>
-    requires { length rows.now ≡ 32 }
+pub fn pages_fault(frames: u16, rows: &Rows) -> Option<Refused>
     ensures { result ≡ first_below 32 (pages_fault frames (listed rows.now)) }
 {
     for number in 0..32 {

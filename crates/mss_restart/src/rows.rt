@@ -1,5 +1,5 @@
 // The walk over the rows: each is read by the table of two copies, and its serial compared.
-ghost use Rattle.std.specs.Prelude.{◌≡◌, ◌≤◌, ℕ, List, Option, None, Err, length, IfOk};
+ghost use Rattle.std.specs.Prelude.{◌≡◌, ◌≤◌, ℕ, List, Option, None, Err, IfOk};
 ghost use Rattle.mss_base.specs.Content.{content};
 ghost use Rattle.ckd_plain.specs.Plain.{serial_in};
 ghost use Rattle.mss_base.specs.Sites.{OnlyReads};
@@ -23,14 +23,11 @@ ghost use Rattle.mss_restart.specs.Survey.{
 };
 ghost use Rattle.mss_restart.specs.OneCopy.{ArePaired, IsPaired, LosesOneTable};
 
-use mss_base::{Listed, Serial, Site, VolumeNo, volume_at};
+use mss_base::{Serial, Site, VolumeNo, volume_at};
 use shown_volumes::Refused;
 use std::alloc::Global;
 use table_pair::{RowRead, RowTrouble, read_row};
-use volume_table::VolumeRow;
-
-/// The rows of the 32 volumes, by number.
-pub type Rows = Listed<Option<VolumeRow>>;
+use volume_table::{Rows, VolumeRow};
 
 /// The rows as they were read. Where one copy alone told a row, since a read of the other failed, `unread` is the site's
 /// count of faults after the first such read.
@@ -125,23 +122,21 @@ pub fn read_rows<S: Site>(
     ensures read { S.tells → ReadsRows (S.faults site.old) (S.faults site.new)
         (serial_in volumes.now) (content (S.told site.old)) result }
     ensures serials { IfOk result (λ read.
-        HasSerialsAsked (serial_in volumes.now) (listed read.rows.items)) }
-    ensures whole { IfOk result (λ read. length read.rows.items ≡ 32) }
+        HasSerialsAsked (serial_in volumes.now) (listed read.rows)) }
     ensures counts { KeepsRows (S.faults site.old) (S.faults site.new) result }
     ensures works { CanReadTable S.Site site.old → ReadsWholeRows result }
     ensures one_copy { S.tells → LosesOneTable S.Site site.old
         → ArePaired (content (S.told site.old)) → TellsNoFailure result }
     ensures devices { OnlyReads S.Site site.old site.new }
 {
-    let mut rows = Rows::new(alloc);
-    rows.reserve(32)?;
+    let mut rows = Rows::none(alloc)?;
     let mut unread = None;
     for number in 0..32 {
         let volume = volume_at(number);
         let asked = serial_asked(volumes, volume);
         let read = read_volume(alloc, site, volume, asked)?;
         unread = unread.or(read.unread);
-        rows.push(read.row);
+        rows.put(volume, read.row);
     }
     Ok(RowsRead { rows, unread })
 }

@@ -1,5 +1,5 @@
 // The survey: four walks, one after the other, which end at the first fault.
-ghost use Rattle.std.specs.Prelude.{◌≡◌, ◌≤◌, ◌<◌, ℕ, List, Option, length, IfOk, IfErr, OnOk};
+ghost use Rattle.std.specs.Prelude.{◌≡◌, ◌<◌, ℕ, List, Option, IfOk, IfErr, OnOk};
 ghost use Rattle.mss_base.specs.Content.{content};
 ghost use Rattle.mss_base.specs.Sites.{OnlyReads};
 ghost use Rattle.ckd_plain.specs.Plain.{serial_in};
@@ -20,7 +20,6 @@ ghost use Rattle.mss_restart.specs.Survey.{
   StopsBehind,
   Surveys,
   TellsNoFailure,
-  rows_given,
   rows_read,
 };
 ghost use Rattle.mss_restart.specs.Usable.{AreUsable};
@@ -29,21 +28,15 @@ ghost use Rattle.shown_volumes.specs.Sound.{HasSerialsAsked};
 
 use crate::halves::halves_fault;
 use crate::pages::pages_fault;
-use crate::rows::{Rows, RowsRead, read_rows};
+use crate::rows::{RowsRead, read_rows};
 use crate::tracks::check_tracks;
 use mss_base::{BLOCK_BYTES, Config, Site};
 use shown_volumes::Refused;
 use std::alloc::Global;
-use volume_table::VolumeRow;
+use volume_table::Rows;
 
 /// Checks the halves, then the pages, then the tracks of rows.
-fn check_rows<S: Site>(
-    alloc: Global,
-    site: &mut S,
-    frames: u16,
-    rows: &[Option<VolumeRow>],
-) -> Result<(), Refused>
-    requires { length rows.now ≡ 32 }
+fn check_rows<S: Site>(alloc: Global, site: &mut S, frames: u16, rows: &Rows) -> Result<(), Refused>
     ensures finds { S.tells → Finds result
         (rest_fault frames (listed rows.now) (content (S.told site.old))) }
     ensures behind { IfErr result (StopsBehind frames (listed rows.now)) }
@@ -53,6 +46,7 @@ fn check_rows<S: Site>(
     ensures works { CanReadRows S.Site site.old (listed rows.now) → TellsNoFailure result }
     ensures devices { OnlyReads S.Site site.old site.new }
 {
+    rows.look();
     if let Some(fault) = halves_fault(rows) {
         return Err(fault);
     }
@@ -73,10 +67,9 @@ pub fn survey_rows<S: Site>(
     ensures found { S.tells → Surveys (S.faults site.old) (S.faults site.new) config.now.frames
         (serial_in config.now.volumes) (content (S.told site.old)) (rows_read result) }
     ensures read { S.tells → IfOk result (λ read. AreRead (S.faults site.old) (S.faults site.new)
-        (serial_in config.now.volumes) (content (S.told site.old)) read.rows.items read.unread) }
+        (serial_in config.now.volumes) (content (S.told site.old)) read.rows read.unread) }
     ensures usable { IfOk result (λ read. AreUsable config.now.frames (serial_in config.now.volumes)
-        (listed read.rows.items)) }
-    ensures whole { IfOk result (λ read. length read.rows.items ≡ 32) }
+        (listed read.rows)) }
     ensures counts { KeepsRows (S.faults site.old) (S.faults site.new) result }
     ensures works { NeverFails S.Site site.old → ReadsWholeRows result }
     ensures reads { S.tells → CanReadTable S.Site site.old
@@ -87,7 +80,8 @@ pub fn survey_rows<S: Site>(
     ensures devices { OnlyReads S.Site site.old site.new }
 {
     let read = read_rows(alloc, site, config.volumes.as_slice())?;
-    check_rows(alloc, site, config.frames, read.rows.as_slice())?;
+    read.rows.look();
+    check_rows(alloc, site, config.frames, &read.rows)?;
     Ok(read)
 }
 
@@ -101,14 +95,13 @@ pub fn survey_rows<S: Site>(
 /// them.
 pub fn survey<S: Site>(alloc: Global, site: &mut S, config: &Config) -> Result<Rows, Refused>
     ensures found { S.tells → Surveys (S.faults site.old) (S.faults site.new) config.now.frames
-        (serial_in config.now.volumes) (content (S.told site.old)) (rows_given result) }
+        (serial_in config.now.volumes) (content (S.told site.old)) result }
     ensures exact { S.tells → S.faults site.new ≡ S.faults site.old
         → S.faults site.old < 18446744073709551615
         → IsExact config.now.frames (serial_in config.now.volumes) (content (S.told site.old))
-        (rows_given result) }
+        result }
     ensures usable { IfOk result (λ rows. AreUsable config.now.frames (serial_in config.now.volumes)
-        (listed rows.items)) }
-    ensures whole { IfOk result (λ rows. length rows.items ≡ 32) }
+        (listed rows)) }
     ensures kept { KeepsFault (S.faults site.old) (S.faults site.new) result }
     ensures works { NeverFails S.Site site.old → TellsNoFailure result }
     ensures reads { S.tells → CanReadTable S.Site site.old
@@ -117,7 +110,7 @@ pub fn survey<S: Site>(alloc: Global, site: &mut S, config: &Config) -> Result<R
     ensures one_copy { S.tells → LosesOneTable S.Site site.old
         → ArePaired (content (S.told site.old))
         → IsExact config.now.frames (serial_in config.now.volumes) (content (S.told site.old))
-        (rows_given result) }
+        result }
     ensures devices { OnlyReads S.Site site.old site.new }
 {
     match survey_rows(alloc, site, config) {

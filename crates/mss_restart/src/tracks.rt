@@ -21,7 +21,7 @@ use mss_base::{
     cylinder_at, frame_block, head_at, volume_at,
 };
 use shown_volumes::{Refused, on_cartridge};
-use volume_table::{CylinderState, VolumeRow};
+use volume_table::{CylinderState, Rows, VolumeRow};
 
 /// Reads the block at a place.
 fn read_block<S: Site>(site: &mut S, place: &BlockPlace, into: &mut [u8]) -> Result<(), Refused>
@@ -232,12 +232,11 @@ fn check_row<S: Site>(
 /// Checks the tracks of a volume, if it has a row.
 fn check_volume<S: Site>(
     site: &mut S,
-    rows: &[Option<VolumeRow>],
+    rows: &Rows,
     volume: VolumeNo,
     shown: &mut [u8],
     staged: &mut [u8],
 ) -> Result<(), Refused>
-    requires rows { length rows.now ≡ 32 }
     requires shown { length shown.old ≡ BLOCK_BYTES }
     requires staged { length staged.old ≡ BLOCK_BYTES }
     ensures finds { S.tells → Finds result
@@ -247,7 +246,7 @@ fn check_volume<S: Site>(
         → TellsNoFailure result }
     ensures devices { OnlyReads S.Site site.old site.new }
 {
-    let Some(row) = &rows[volume.get() as usize] else {
+    let Some(row) = rows.row(volume) else {
         return Ok(());
     };
     check_row(site, row, volume, shown, staged)
@@ -258,11 +257,10 @@ fn check_volume<S: Site>(
 /// It reads each block that is shown once, and of a staged cylinder the frame's block too. A blank track has none.
 pub fn check_tracks<S: Site>(
     site: &mut S,
-    rows: &[Option<VolumeRow>],
+    rows: &Rows,
     shown: &mut [u8],
     staged: &mut [u8],
 ) -> Result<(), Refused>
-    requires rows { length rows.now ≡ 32 }
     requires shown { length shown.old ≡ BLOCK_BYTES }
     requires staged { length staged.old ≡ BLOCK_BYTES }
     ensures finds { S.tells → Finds result

@@ -1,9 +1,7 @@
-use Rattle.std.proofs.Common.{◌∙◌, refl, sym, ap, Some, None, subst, List, Option, arith, ℕ, set}
+use Rattle.std.proofs.Common.{rules, ◌<◌, ◌∙◌, refl, sym, subst}
 use Rattle.mss_base.specs.Content.{SiteLog, content, Writes}
-use Rattle.volume_table.specs.Row.{RowValue}
 use Rattle.table_pair.specs.Pair.{ChangesRow, NoneOrNew, HoldsRow}
 use Rattle.volume_table.specs.Listed.{listed}
-use Rattle.mss_restart.specs.Cartridges.{IsLowestFree}
 use Rattle.mss_restart.proofs.CreatedFacts.{moments_of, created_of, listed_new, on_ok}
 use Rattle.mss_restart.proofs.Counting.{new_row}
 use Rattle.mss_restart.proofs.OtherRows.{creation_others}
@@ -11,47 +9,47 @@ use Rattle.mss_restart.proofs.creations.create_volume.Goals as goal
 
 pub returns-then-is_err-clause-moments : goal.returns-then-is_err-clause-moments
 returns-then-is_err-clause-moments g c = λ tells.
-    moments_of c.args.rows.now.items (g.S.Site.told c.args.site.now) (g.S.Site.told c.create_row.new.site) (c.requires.told tells) c.requires.whole c.args.volume c.lowest_free-first.result c.lowest_free-second.result c.args.serial c.in_ok-row.row
-    (omega (arith, c.get.ensures.value, c.get.ensures.in_range)) c.requires.none
-    (subst (λ (x : List (Option RowValue)). IsLowestFree (listed x) None c.lowest_free-first.result) c.as_slice.ensures c.lowest_free-first.ensures)
-    (subst (λ (x : List (Option RowValue)). IsLowestFree (listed x) (Some c.lowest_free-first.result) c.lowest_free-second.result) c.as_slice-2.ensures c.lowest_free-second.ensures) c.in_ok-row.ensures
+    moments_of c.args.rows.now (g.S.Site.told c.args.site.now) (g.S.Site.told c.create_row.new.site) (c.requires.told tells) c.look.ensures.places c.args.volume c.lowest_free-first.result c.lowest_free-second.result c.args.serial c.in_ok-row.row
+    (let low : c.args.volume < 32 = search rules in low) c.requires.none
+    c.lowest_free-first.ensures
+    c.lowest_free-second.ensures c.in_ok-row.ensures
     (subst (λ (x : SiteLog). Writes (ChangesRow c.args.volume (NoneOrNew c.args.volume c.in_ok-row.row) (content x)) x (g.S.Site.told c.create_row.new.site)) (c.reserve.ensures.told tells) (c.create_row.ensures.moments tells))
 
 pub returns-clause-moments : goal.returns-clause-moments
 returns-clause-moments g c = λ tells.
-    moments_of c.args.rows.now.items (g.S.Site.told c.args.site.now) (g.S.Site.told c.create_row.new.site) (c.requires.told tells) c.requires.whole c.args.volume c.lowest_free-first.result c.lowest_free-second.result c.args.serial c.in_ok-row.row
-    (omega (arith, c.get.ensures.value, c.get.ensures.in_range)) c.requires.none
-    (subst (λ (x : List (Option RowValue)). IsLowestFree (listed x) None c.lowest_free-first.result) c.as_slice.ensures c.lowest_free-first.ensures)
-    (subst (λ (x : List (Option RowValue)). IsLowestFree (listed x) (Some c.lowest_free-first.result) c.lowest_free-second.result) c.as_slice-2.ensures c.lowest_free-second.ensures) c.in_ok-row.ensures
+    moments_of c.args.rows.now (g.S.Site.told c.args.site.now) (g.S.Site.told c.create_row.new.site) (c.requires.told tells) c.look.ensures.places c.args.volume c.lowest_free-first.result c.lowest_free-second.result c.args.serial c.in_ok-row.row
+    (let low : c.args.volume < 32 = search rules in low) c.requires.none
+    c.lowest_free-first.ensures
+    c.lowest_free-second.ensures c.in_ok-row.ensures
     (subst (λ (x : SiteLog). Writes (ChangesRow c.args.volume (NoneOrNew c.args.volume c.in_ok-row.row) (content x)) x (g.S.Site.told c.create_row.new.site)) (c.reserve.ensures.told tells) (c.create_row.ensures.moments tells))
 
 pub returns-clause-created : goal.returns-clause-created
 returns-clause-created g c = λ tells.
-    created_of c.args.rows.now.items (g.S.Site.told c.args.site.now) (g.S.Site.told c.create_row.new.site) (c.requires.told tells) c.requires.whole c.args.volume c.lowest_free-first.result c.lowest_free-second.result c.args.serial c.in_ok-row.row
-    (omega (arith, c.get.ensures.value, c.get.ensures.in_range)) c.requires.none
-    (subst (λ (x : List (Option RowValue)). IsLowestFree (listed x) None c.lowest_free-first.result) c.as_slice.ensures c.lowest_free-first.ensures)
-    (subst (λ (x : List (Option RowValue)). IsLowestFree (listed x) (Some c.lowest_free-first.result) c.lowest_free-second.result) c.as_slice-2.ensures c.lowest_free-second.ensures) c.in_ok-row.ensures
+    created_of c.args.rows.now (g.S.Site.told c.args.site.now) (g.S.Site.told c.create_row.new.site) (c.requires.told tells) c.look.ensures.places c.args.volume c.lowest_free-first.result c.lowest_free-second.result c.args.serial c.in_ok-row.row
+    (let low : c.args.volume < 32 = search rules in low) c.requires.none
+    c.lowest_free-first.ensures
+    c.lowest_free-second.ensures c.in_ok-row.ensures
     (subst (λ (x : SiteLog). Writes (ChangesRow c.args.volume (NoneOrNew c.args.volume c.in_ok-row.row) (content x)) x (g.S.Site.told c.create_row.new.site)) (c.reserve.ensures.told tells) (c.create_row.ensures.moments tells))
     (on_ok (HoldsRow c.in_ok-row.row c.args.volume (content (g.S.Site.told c.create_row.new.site))) c.create_row.result (sym c.is_err.ensures.value ∙ c.if-is_err.false) (c.create_row.ensures.done tells))
-    c.set.new.self.items (c.set.ensures.items ∙ ap (λ (n : ℕ). set c.args.rows.now.items n (Some c.in_ok-row.row)) (c.from-place.ensures ∙ c.get.ensures.value))
+    c.put.new.self c.put.ensures.rows
 
 pub returns-clause-row : goal.returns-clause-row
 returns-clause-row g c =
-    let before = c.args.rows.now.items in
-    listed_new before c.set.new.self.items c.args.volume c.args.serial c.in_ok-row.row c.requires.whole (omega (arith, c.get.ensures.value, c.get.ensures.in_range))
+    let before = c.args.rows.now in
+    listed_new before c.put.new.self c.args.volume c.args.serial c.in_ok-row.row c.look.ensures.places (let low : c.args.volume < 32 = search rules in low)
     (new_row (listed before) c.lowest_free-first.result c.lowest_free-second.result c.args.serial c.in_ok-row.row
-    (subst (λ (x : List (Option RowValue)). IsLowestFree (listed x) None c.lowest_free-first.result) c.as_slice.ensures c.lowest_free-first.ensures)
-    (subst (λ (x : List (Option RowValue)). IsLowestFree (listed x) (Some c.lowest_free-first.result) c.lowest_free-second.result) c.as_slice-2.ensures c.lowest_free-second.ensures) c.in_ok-row.ensures)
-    (c.set.ensures.items ∙ ap (λ (n : ℕ). set before n (Some c.in_ok-row.row)) (c.from-place.ensures ∙ c.get.ensures.value))
+    c.lowest_free-first.ensures
+    c.lowest_free-second.ensures c.in_ok-row.ensures)
+    c.put.ensures.rows
 
 pub returns-clause-complete : goal.returns-clause-complete
 returns-clause-complete g c = λ tells.
-    let before = c.args.rows.now.items in
-    let new = listed_new before c.set.new.self.items c.args.volume c.args.serial c.in_ok-row.row c.requires.whole (omega (arith, c.get.ensures.value, c.get.ensures.in_range))
+    let before = c.args.rows.now in
+    let new = listed_new before c.put.new.self c.args.volume c.args.serial c.in_ok-row.row c.look.ensures.places (let low : c.args.volume < 32 = search rules in low)
     (new_row (listed before) c.lowest_free-first.result c.lowest_free-second.result c.args.serial c.in_ok-row.row
-    (subst (λ (x : List (Option RowValue)). IsLowestFree (listed x) None c.lowest_free-first.result) c.as_slice.ensures c.lowest_free-first.ensures)
-    (subst (λ (x : List (Option RowValue)). IsLowestFree (listed x) (Some c.lowest_free-first.result) c.lowest_free-second.result) c.as_slice-2.ensures c.lowest_free-second.ensures) c.in_ok-row.ensures)
-    (c.set.ensures.items ∙ ap (λ (n : ℕ). set before n (Some c.in_ok-row.row)) (c.from-place.ensures ∙ c.get.ensures.value)) in
+    c.lowest_free-first.ensures
+    c.lowest_free-second.ensures c.in_ok-row.ensures)
+    c.put.ensures.rows in
     record {
       row = c.in_ok-row.row;
       is_new = new.is_new;

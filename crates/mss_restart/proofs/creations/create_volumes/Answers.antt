@@ -4,7 +4,7 @@ use Rattle.std.proofs.Math.ListN.{drop_of_length-le}
 use Rattle.mss_base.specs.Configs.{VolumeData}
 use Rattle.volume_table.specs.Row.{RowValue}
 use Rattle.volume_table.specs.Listed.{listed}
-use Rattle.mss_restart.proofs.Creating.{AreRising, IsCreating, nothing_created, rest_is, has_row, rising_first, passed_over, moments_on, others_on, created_too, all_created}
+use Rattle.mss_restart.proofs.Creating.{AreRising, IsCreating, nothing_created, rest_is, rising_first, passed_over, moments_on, others_on, created_too, all_created}
 use Rattle.mss_restart.proofs.Counting.{AreComing, AreLogged, none_coming, none_logged, coming_past, coming_on, logged_past, logged_on, all_come, all_logged, memory_creates}
 use Rattle.mss_restart.proofs.Repaired.{nothing_written, written_on, stop_since}
 use Rattle.std.proofs.lemmas.Result.{err_from_is_err_and}
@@ -16,11 +16,10 @@ use Rattle.mss_restart.proofs.creations.create_volumes.Goals.{then-missing+in_ok
 
 pub loop-entry-init : goal.loop-entry-init
 loop-entry-init g c = record {
-  creating = λ tells. nothing_created c.args.volumes.now (g.S.Site.told c.args.site.now) c.args.rows.now.items (c.requires.told tells) (c.requires.held tells);
+  creating = λ tells. nothing_created c.args.volumes.now (g.S.Site.told c.args.site.now) c.args.rows.now (c.requires.told tells) (c.requires.held tells);
   rising = c.requires.rising;
-  coming = none_coming c.args.volumes.now (listed c.args.rows.now.items) (g.S.Site.writes c.args.site.now) c.args.creations.now.items c.requires.none;
-  logged = λ tells. none_logged c.args.volumes.now (listed c.args.rows.now.items) (g.S.Site.told c.args.site.now) c.args.creations.now.items c.requires.none;
-  whole = c.requires.whole;
+  coming = none_coming c.args.volumes.now (listed c.args.rows.now) (g.S.Site.writes c.args.site.now) c.args.creations.now.items c.requires.none;
+  logged = λ tells. none_logged c.args.volumes.now (listed c.args.rows.now) (g.S.Site.told c.args.site.now) c.args.creations.now.items c.requires.none;
   room = omega (arith, c.requires.room);
   count = refl;
   devices = nothing_written g.S.Site c.args.site.now;
@@ -29,50 +28,49 @@ loop-entry-init g c = record {
 pub returns-in_err-create_volume-clause-moments : goal.returns-in_err-create_volume-clause-moments
 returns-in_err-create_volume-clause-moments g c = λ tells.
     let all = c.args.volumes.now in
-    let start = listed c.args.rows.now.items in
+    let start = listed c.args.rows.now in
     let begun = g.S.Site.told c.args.site.now in
     let mid = g.S.Site.told c.loop-entry.site in
-    let rows = c.loop-entry.rows.items in
+    let rows = c.loop-entry.rows in
     let behind : List VolumeData = drop (c.loop-entry.entry-index + 1) all in
     let v : VolumeData = c.entry-item.result in
     let known = c.loop-entry.invariant in
     let rest = rest_is all c.loop-entry.entry-index v (omega (arith, c.loop-entry-test.true)) c.entry-item.is in
-    let row = has_row rows c.as_slice.result.now c.from.result c.get.result v.0 c.index-as_slice-from.result c.as_slice.ensures known.whole c.from.ensures c.get.ensures.value c.get.ensures.in_range c.index-as_slice-from.is in
+    let row = sym c.row.ensures in
     moments_on all start begun mid rows v behind (subst (λ (x : List VolumeData). IsCreating all start begun mid rows x) rest (known.creating tells))
     (ap (λ (o : Option RowValue). is_some o) row ∙ c.is_none-missing.ensures ∙ ap not c.if-missing.true) (g.S.Site.told c.create_volume.new.site) (c.create_volume.ensures.moments tells)
 
 pub loop-entry-preserved : goal.loop-entry-preserved
 loop-entry-preserved g c =
     let all = c.args.volumes.now in
-    let start = listed c.args.rows.now.items in
+    let start = listed c.args.rows.now in
     let begun = g.S.Site.told c.args.site.now in
     let mid = g.S.Site.told c.loop-entry.site in
-    let rows = c.loop-entry.rows.items in
+    let rows = c.loop-entry.rows in
     let behind : List VolumeData = drop (c.loop-entry.entry-index + 1) all in
     let v : VolumeData = c.entry-item.result in
     let known = c.loop-entry.invariant in
     let rest = rest_is all c.loop-entry.entry-index v (omega (arith, c.loop-entry-test.true)) c.entry-item.is in
-    let row = has_row rows c.as_slice.result.now c.from.result c.get.result v.0 c.index-as_slice-from.result c.as_slice.ensures known.whole c.from.ensures c.get.ensures.value c.get.ensures.in_range c.index-as_slice-from.is in
+    let row = sym c.row.ensures in
     let rising = rising_first v behind (subst AreRising rest known.rising) in
     elim c.if-missing.branch [
       | then-missing+in_ok-create_volume w ↦ rw (w.site-is, w.rows-is, w.creations-is) (record {
         creating = λ tells.
             created_too all start begun mid rows v behind (subst (λ (x : List VolumeData). IsCreating all start begun mid rows x) rest (known.creating tells))
             (ap (λ (o : Option RowValue). is_some o) row ∙ c.is_none-missing.ensures ∙ ap not w.if-missing.true) (g.S.Site.told w.create_volume.new.site) (w.create_volume.ensures.moments tells)
-            (w.create_volume.ensures.others tells) w.create_volume.new.rows.items (w.in_ok-create_volume.ensures.created tells) rising.0;
+            (w.create_volume.ensures.others tells) w.create_volume.new.rows (w.in_ok-create_volume.ensures.created tells) rising.0;
         coming =
             coming_on all start (listed rows) c.loop-entry.creations.items v behind (g.S.Site.writes c.args.site.now) (g.S.Site.writes c.loop-entry.site)
             (subst (λ (x : List VolumeData). AreComing all start (g.S.Site.writes c.args.site.now) (g.S.Site.writes c.loop-entry.site) (listed rows) c.loop-entry.creations.items x) rest known.coming)
-            (listed w.create_volume.new.rows.items) w.push.new.self.items (g.S.Site.writes w.create_volume.new.site) w.in_ok-create_volume.field-0 w.push.ensures.items
+            (listed w.create_volume.new.rows) w.push.new.self.items (g.S.Site.writes w.create_volume.new.site) w.in_ok-create_volume.field-0 w.push.ensures.items
             (ap (λ (o : Option RowValue). is_some o) row ∙ c.is_none-missing.ensures ∙ ap not w.if-missing.true) w.in_ok-create_volume.ensures.row rising.0 w.create_volume.ensures.devices.written
             w.in_ok-create_volume.ensures.counted.0 w.in_ok-create_volume.ensures.counted.1;
         logged = λ tells.
             logged_on all start (listed rows) c.loop-entry.creations.items v behind begun mid
             (subst (λ (x : List VolumeData). AreLogged all start begun mid (listed rows) c.loop-entry.creations.items x) rest (known.logged tells))
-            (listed w.create_volume.new.rows.items) w.push.new.self.items (g.S.Site.told w.create_volume.new.site) w.in_ok-create_volume.field-0 w.push.ensures.items
+            (listed w.create_volume.new.rows) w.push.new.self.items (g.S.Site.told w.create_volume.new.site) w.in_ok-create_volume.field-0 w.push.ensures.items
             (ap (λ (o : Option RowValue). is_some o) row ∙ c.is_none-missing.ensures ∙ ap not w.if-missing.true) (w.in_ok-create_volume.ensures.complete tells) rising.0;
         rising = rising.1;
-        whole = w.create_volume.ensures.whole;
         room = omega (arith, known.room, w.push.ensures.spare);
         count = w.in_ok-create_volume.ensures.stops ∙ known.count;
         devices = written_on g.S.Site c.args.site.now c.loop-entry.site w.create_volume.new.site known.devices w.create_volume.ensures.devices;
@@ -90,7 +88,6 @@ loop-entry-preserved g c =
             (subst (λ (x : List VolumeData). AreLogged all start begun mid (listed rows) c.loop-entry.creations.items x) rest (known.logged tells))
             (ap (λ (o : Option RowValue). is_some o) row ∙ c.is_none-missing.ensures ∙ ap not w.if-missing.false);
         rising = rising.1;
-        whole = known.whole;
         room = omega (arith, known.room);
         count = known.count;
         devices = known.devices;
@@ -100,8 +97,8 @@ loop-entry-preserved g c =
 pub returns-clause-created : goal.returns-clause-created
 returns-clause-created g c = λ tells.
     let none : drop c.loop-entry.entry-index c.args.volumes.now ≡ [] = drop_of_length-le c.args.volumes.now {i = c.loop-entry.entry-index} (omega (arith, c.loop-entry-test.false)) in
-    all_created c.args.volumes.now (g.S.Site.told c.args.site.now) (g.S.Site.told c.loop-entry.site) c.args.rows.now.items c.loop-entry.rows.items
-    (subst (λ (x : List VolumeData). IsCreating c.args.volumes.now (listed c.args.rows.now.items) (g.S.Site.told c.args.site.now) (g.S.Site.told c.loop-entry.site) c.loop-entry.rows.items x) none (c.loop-entry.invariant.creating tells))
+    all_created c.args.volumes.now (g.S.Site.told c.args.site.now) (g.S.Site.told c.loop-entry.site) c.args.rows.now c.loop-entry.rows
+    (subst (λ (x : List VolumeData). IsCreating c.args.volumes.now (listed c.args.rows.now) (g.S.Site.told c.args.site.now) (g.S.Site.told c.loop-entry.site) c.loop-entry.rows x) none (c.loop-entry.invariant.creating tells))
 
 pub returns-in_err-create_volume-clause-stops : goal.returns-in_err-create_volume-clause-stops
 returns-in_err-create_volume-clause-stops g c =
@@ -112,13 +109,13 @@ returns-in_err-create_volume-clause-stops g c =
 pub returns-in_err-create_volume-clause-complete : goal.returns-in_err-create_volume-clause-complete
 returns-in_err-create_volume-clause-complete g c = λ tells.
     let p = err_from_is_err_and c.from_residual.result c.from_residual.ensures.1 in
-    let start = listed c.args.rows.now.items in
+    let start = listed c.args.rows.now in
     let begun = g.S.Site.told c.args.site.now in
     let now = g.S.Site.told c.create_volume.new.site in
     let made = c.loop-entry.creations.items in
-    let last = listed c.create_volume.new.rows.items in
+    let last = listed c.create_volume.new.rows in
     subst (λ (r : Result (Unit {0}) Refused). CreatesWhole (missing start c.args.volumes.now) made start last begun now r) (sym (p.1 ∙ ap Err p.2))
-    (memory_creates c.args.volumes.now start (listed c.loop-entry.rows.items) last begun (g.S.Site.told c.loop-entry.site) now made made (drop c.loop-entry.entry-index c.args.volumes.now) c.in_err-create_volume.field-0.0
+    (memory_creates c.args.volumes.now start (listed c.loop-entry.rows) last begun (g.S.Site.told c.loop-entry.site) now made made (drop c.loop-entry.entry-index c.args.volumes.now) c.in_err-create_volume.field-0.0
     (c.loop-entry.invariant.logged tells) (λ is. (c.in_err-create_volume.ensures.memory (ap Err is)).log tells))
 
 pub returns-in_err-create_volume-clause-devices : goal.returns-in_err-create_volume-clause-devices
@@ -128,36 +125,36 @@ returns-in_err-create_volume-clause-devices g c =
 pub returns-clause-complete : goal.returns-clause-complete
 returns-clause-complete g c = λ tells.
     let none : drop c.loop-entry.entry-index c.args.volumes.now ≡ [] = drop_of_length-le c.args.volumes.now {i = c.loop-entry.entry-index} (omega (arith, c.loop-entry-test.false)) in
-    let start = listed c.args.rows.now.items in
-    all_logged c.args.volumes.now start (listed c.loop-entry.rows.items) (g.S.Site.told c.args.site.now) (g.S.Site.told c.loop-entry.site) c.loop-entry.creations.items
-    (subst (λ (x : List VolumeData). AreLogged c.args.volumes.now start (g.S.Site.told c.args.site.now) (g.S.Site.told c.loop-entry.site) (listed c.loop-entry.rows.items) c.loop-entry.creations.items x) none (c.loop-entry.invariant.logged tells))
+    let start = listed c.args.rows.now in
+    all_logged c.args.volumes.now start (listed c.loop-entry.rows) (g.S.Site.told c.args.site.now) (g.S.Site.told c.loop-entry.site) c.loop-entry.creations.items
+    (subst (λ (x : List VolumeData). AreLogged c.args.volumes.now start (g.S.Site.told c.args.site.now) (g.S.Site.told c.loop-entry.site) (listed c.loop-entry.rows) c.loop-entry.creations.items x) none (c.loop-entry.invariant.logged tells))
 
 pub returns-clause-rows : goal.returns-clause-rows
 returns-clause-rows g c =
     let none : drop c.loop-entry.entry-index c.args.volumes.now ≡ [] = drop_of_length-le c.args.volumes.now {i = c.loop-entry.entry-index} (omega (arith, c.loop-entry-test.false)) in
-    let start = listed c.args.rows.now.items in
-    (all_come c.args.volumes.now start (listed c.loop-entry.rows.items) (g.S.Site.writes c.args.site.now) (g.S.Site.writes c.loop-entry.site) c.loop-entry.creations.items
-    (subst (λ (x : List VolumeData). AreComing c.args.volumes.now start (g.S.Site.writes c.args.site.now) (g.S.Site.writes c.loop-entry.site) (listed c.loop-entry.rows.items) c.loop-entry.creations.items x) none c.loop-entry.invariant.coming)).0
+    let start = listed c.args.rows.now in
+    (all_come c.args.volumes.now start (listed c.loop-entry.rows) (g.S.Site.writes c.args.site.now) (g.S.Site.writes c.loop-entry.site) c.loop-entry.creations.items
+    (subst (λ (x : List VolumeData). AreComing c.args.volumes.now start (g.S.Site.writes c.args.site.now) (g.S.Site.writes c.loop-entry.site) (listed c.loop-entry.rows) c.loop-entry.creations.items x) none c.loop-entry.invariant.coming)).0
 
 pub returns-clause-counted : goal.returns-clause-counted
 returns-clause-counted g c =
     let none : drop c.loop-entry.entry-index c.args.volumes.now ≡ [] = drop_of_length-le c.args.volumes.now {i = c.loop-entry.entry-index} (omega (arith, c.loop-entry-test.false)) in
-    let start = listed c.args.rows.now.items in
-    (all_come c.args.volumes.now start (listed c.loop-entry.rows.items) (g.S.Site.writes c.args.site.now) (g.S.Site.writes c.loop-entry.site) c.loop-entry.creations.items
-    (subst (λ (x : List VolumeData). AreComing c.args.volumes.now start (g.S.Site.writes c.args.site.now) (g.S.Site.writes c.loop-entry.site) (listed c.loop-entry.rows.items) c.loop-entry.creations.items x) none c.loop-entry.invariant.coming)).1
+    let start = listed c.args.rows.now in
+    (all_come c.args.volumes.now start (listed c.loop-entry.rows) (g.S.Site.writes c.args.site.now) (g.S.Site.writes c.loop-entry.site) c.loop-entry.creations.items
+    (subst (λ (x : List VolumeData). AreComing c.args.volumes.now start (g.S.Site.writes c.args.site.now) (g.S.Site.writes c.loop-entry.site) (listed c.loop-entry.rows) c.loop-entry.creations.items x) none c.loop-entry.invariant.coming)).1
 
 pub returns-in_err-create_volume-clause-others : goal.returns-in_err-create_volume-clause-others
 returns-in_err-create_volume-clause-others g c = λ tells.
     let all = c.args.volumes.now in
-    let start = listed c.args.rows.now.items in
+    let start = listed c.args.rows.now in
     let begun = g.S.Site.told c.args.site.now in
     let mid = g.S.Site.told c.loop-entry.site in
-    let rows = c.loop-entry.rows.items in
+    let rows = c.loop-entry.rows in
     let behind : List VolumeData = drop (c.loop-entry.entry-index + 1) all in
     let v : VolumeData = c.entry-item.result in
     let known = c.loop-entry.invariant in
     let rest = rest_is all c.loop-entry.entry-index v (omega (arith, c.loop-entry-test.true)) c.entry-item.is in
-    let row = has_row rows c.as_slice.result.now c.from.result c.get.result v.0 c.index-as_slice-from.result c.as_slice.ensures known.whole c.from.ensures c.get.ensures.value c.get.ensures.in_range c.index-as_slice-from.is in
+    let row = sym c.row.ensures in
     others_on all start begun mid rows v behind (subst (λ (x : List VolumeData). IsCreating all start begun mid rows x) rest (known.creating tells))
     (ap (λ (o : Option RowValue). is_some o) row ∙ c.is_none-missing.ensures ∙ ap not c.if-missing.true) (g.S.Site.told c.create_volume.new.site) (c.create_volume.ensures.others tells)
 

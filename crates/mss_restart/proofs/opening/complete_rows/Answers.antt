@@ -17,20 +17,20 @@ use Rattle.mss_restart.proofs.opening.complete_rows.Goals as goal
 
 pub returns-in_err-repair_rows-clause-moments : goal.returns-in_err-repair_rows-clause-moments
 returns-in_err-repair_rows-clause-moments g c = λ tells frames sound.
-    no_front frames (missing (listed c.args.rows.now.items) c.args.config.now.volumes) (shown (content (g.S.Site.told c.args.site.now))) (g.S.Site.told c.args.site.now) (g.S.Site.told c.repair_rows.new.site) (c.repair_rows.ensures.moments tells frames sound)
+    no_front frames (missing (listed c.args.rows.now) c.args.config.now.volumes) (shown (content (g.S.Site.told c.args.site.now))) (g.S.Site.told c.args.site.now) (g.S.Site.told c.repair_rows.new.site) (c.repair_rows.ensures.moments tells frames sound)
 
 pub create_volumes-requires-clause-held : goal.create_volumes-requires-clause-held
 create_volumes-requires-clause-held g c = λ tells.
-    rows_held c.args.rows.now.items (g.S.Site.told c.args.site.now) (g.S.Site.told c.repair_rows.new.site) c.requires.whole (c.requires.told tells) (c.in_ok-repair_rows.ensures.held tells)
+    rows_held c.args.rows.now (g.S.Site.told c.args.site.now) (g.S.Site.told c.repair_rows.new.site) c.look.ensures.places (c.requires.told tells) (c.in_ok-repair_rows.ensures.held tells)
 
 pub returns-clause-moments : goal.returns-clause-moments
 returns-clause-moments g c = λ tells.
     let s = g.S.Site.told c.args.site.now in
     let mid = g.S.Site.told c.repair_rows.new.site in
     let now = g.S.Site.told c.create_volumes.new.site in
-    let rows = c.args.rows.now.items in
+    let rows = c.args.rows.now in
     let same : c.as_slice.result.now ≡ c.args.config.now.volumes = c.as_slice.ensures ∙ ap (λ (x : ConfigData). x.volumes) c.config.view_is in
-    then_created rows s mid c.requires.whole (c.requires.told tells) (c.repair_rows.ensures.moments tells) c.args.config.now.volumes now
+    then_created rows s mid c.look.ensures.places (c.requires.told tells) (c.repair_rows.ensures.moments tells) c.args.config.now.volumes now
     (subst (λ (x : List VolumeData). (frames : _) → IsSound frames (content mid) → Writes (ShowsFront frames (missing (listed rows) x) (shown (content mid))) mid now) same (c.create_volumes.ensures.moments tells))
 
 pub returns-clause-created : goal.returns-clause-created
@@ -38,11 +38,11 @@ returns-clause-created g c = λ tells.
     let s = g.S.Site.told c.args.site.now in
     let mid = g.S.Site.told c.repair_rows.new.site in
     let now = g.S.Site.told c.create_volumes.new.site in
-    let rows = c.args.rows.now.items in
-    let after = c.create_volumes.new.rows.items in
+    let rows = c.args.rows.now in
+    let after = c.create_volumes.new.rows in
     let same : c.as_slice.result.now ≡ c.args.config.now.volumes = c.as_slice.ensures ∙ ap (λ (x : ConfigData). x.volumes) c.config.view_is in
     on_ok_too (AreCreated c.args.config.now.volumes (content mid) (content now) rows after) (AreCreated c.args.config.now.volumes (content s) (content now) rows after)
-    (created_since rows s mid c.requires.whole (c.requires.told tells) (c.repair_rows.ensures.moments tells) c.args.config.now.volumes (content now) after) c.create_volumes.result
+    (created_since rows s mid c.look.ensures.places (c.requires.told tells) (c.repair_rows.ensures.moments tells) c.args.config.now.volumes (content now) after) c.create_volumes.result
     (subst (λ (x : List VolumeData). OnOk c.create_volumes.result (AreCreated x (content mid) (content now) rows after)) same (c.create_volumes.ensures.created tells))
 
 pub create_volumes-requires-clause-room : goal.create_volumes-requires-clause-room
@@ -53,7 +53,7 @@ create_volumes-requires-clause-room g c =
 pub returns-in_err-repair_rows-clause-complete : goal.returns-in_err-repair_rows-clause-complete
 returns-in_err-repair_rows-clause-complete g c = λ tells.
     let p = err_from_is_err_and c.from_residual.result c.from_residual.ensures.1 in
-    let rows = listed c.args.rows.now.items in
+    let rows = listed c.args.rows.now in
     let volumes = missing rows c.args.config.now.volumes in
     let old = g.S.Site.told c.args.site.now in
     let new = g.S.Site.told c.repair_rows.new.site in
@@ -65,8 +65,8 @@ returns-clause-complete g c = λ tells.
     let s = g.S.Site.told c.args.site.now in
     let mid = g.S.Site.told c.repair_rows.new.site in
     let now = g.S.Site.told c.create_volumes.new.site in
-    let rows = listed c.args.rows.now.items in
-    let last = listed c.create_volumes.new.rows.items in
+    let rows = listed c.args.rows.now in
+    let last = listed c.create_volumes.new.rows in
     let made = c.create_volumes.new.creations.items in
     let same : c.as_slice.result.now ≡ c.args.config.now.volumes = c.as_slice.ensures ∙ ap (λ (x : ConfigData). x.volumes) c.config.view_is in
     creates_complete (missing rows c.args.config.now.volumes) made rows last s mid now c.create_volumes.result (c.in_ok-repair_rows.ensures.complete tells)
@@ -75,7 +75,7 @@ returns-clause-complete g c = λ tells.
 pub returns-clause-rows : goal.returns-clause-rows
 returns-clause-rows g c =
     let same : c.as_slice.result.now ≡ c.args.config.now.volumes = c.as_slice.ensures ∙ ap (λ (x : ConfigData). x.volumes) c.config.view_is in
-    subst (λ (x : List VolumeData). OnOk c.create_volumes.result (Creates (missing (listed c.args.rows.now.items) x) (listed c.args.rows.now.items) (listed c.create_volumes.new.rows.items))) same c.create_volumes.ensures.rows
+    subst (λ (x : List VolumeData). OnOk c.create_volumes.result (Creates (missing (listed c.args.rows.now) x) (listed c.args.rows.now) (listed c.create_volumes.new.rows))) same c.create_volumes.ensures.rows
 
 pub returns-clause-counted : goal.returns-clause-counted
 returns-clause-counted g c =
@@ -84,9 +84,9 @@ returns-clause-counted g c =
     let mid = g.S.Site.writes c.repair_rows.new.site in
     let now = g.S.Site.writes c.create_volumes.new.site in
     let made = c.create_volumes.new.creations.items in
-    let volumes = missing (listed c.args.rows.now.items) c.args.config.now.volumes in
+    let volumes = missing (listed c.args.rows.now) c.args.config.now.volumes in
     on_ok_too (AreCounted mid now volumes made) (AreCounted begun now volumes made) (counted_since begun mid now volumes made c.repair_rows.ensures.devices.written) c.create_volumes.result
-    (subst (λ (x : List VolumeData). OnOk c.create_volumes.result (AreCounted mid now (missing (listed c.args.rows.now.items) x) made)) same c.create_volumes.ensures.counted)
+    (subst (λ (x : List VolumeData). OnOk c.create_volumes.result (AreCounted mid now (missing (listed c.args.rows.now) x) made)) same c.create_volumes.ensures.counted)
 
 pub returns-clause-stops : goal.returns-clause-stops
 returns-clause-stops g c = subst (λ (n : ℕ). StopsAlone n (g.S.Site.faults c.create_volumes.new.site) c.create_volumes.result) c.in_ok-repair_rows.ensures.stops c.create_volumes.ensures.stops
@@ -100,14 +100,14 @@ returns-clause-devices g c =
 
 pub returns-in_err-repair_rows-clause-others : goal.returns-in_err-repair_rows-clause-others
 returns-in_err-repair_rows-clause-others g c = λ tells.
-    none_of (missing (listed c.args.rows.now.items) c.args.config.now.volumes) (g.S.Site.told c.args.site.now) (g.S.Site.told c.repair_rows.new.site) (c.repair_rows.ensures.others tells)
+    none_of (missing (listed c.args.rows.now) c.args.config.now.volumes) (g.S.Site.told c.args.site.now) (g.S.Site.told c.repair_rows.new.site) (c.repair_rows.ensures.others tells)
 
 pub returns-clause-others : goal.returns-clause-others
 returns-clause-others g c = λ tells.
     let s = g.S.Site.told c.args.site.now in
     let mid = g.S.Site.told c.repair_rows.new.site in
     let now = g.S.Site.told c.create_volumes.new.site in
-    let rows = listed c.args.rows.now.items in
+    let rows = listed c.args.rows.now in
     let volumes = missing rows c.args.config.now.volumes in
     let same : c.as_slice.result.now ≡ c.args.config.now.volumes = c.as_slice.ensures ∙ ap (λ (x : ConfigData). x.volumes) c.config.view_is in
     others_then volumes s mid now (none_of volumes s mid (c.repair_rows.ensures.others tells))

@@ -20,22 +20,22 @@ use Rattle.mss_restart.proofs.opening.open_lent.Goals as goal
 
 pub returns-in_err-complete_rows-clause-moments : goal.returns-in_err-complete_rows-clause-moments
 returns-in_err-complete_rows-clause-moments g c = λ tells.
-    moments_at (g.S.Site.told c.args.site.now) (g.S.Site.told c.known_rows.new.site) (g.S.Site.told c.complete_rows.new.site) c.in_ok-rows.rows.items c.args.config.now.volumes (c.known_rows.ensures.devices.log tells)
-    c.in_ok-rows.ensures.whole (c.in_ok-rows.ensures.known tells) (c.complete_rows.ensures.moments tells)
+    moments_at (g.S.Site.told c.args.site.now) (g.S.Site.told c.known_rows.new.site) (g.S.Site.told c.complete_rows.new.site) c.in_ok-rows.rows c.args.config.now.volumes (c.known_rows.ensures.devices.log tells)
+    c.look.ensures.places (c.in_ok-rows.ensures.known tells) (c.complete_rows.ensures.moments tells)
 
 pub returns-clause-moments : goal.returns-clause-moments
 returns-clause-moments g c = λ tells.
-    moments_at (g.S.Site.told c.args.site.now) (g.S.Site.told c.known_rows.new.site) (g.S.Site.told c.complete_rows.new.site) c.in_ok-rows.rows.items c.args.config.now.volumes (c.known_rows.ensures.devices.log tells)
-    c.in_ok-rows.ensures.whole (c.in_ok-rows.ensures.known tells) (c.complete_rows.ensures.moments tells)
+    moments_at (g.S.Site.told c.args.site.now) (g.S.Site.told c.known_rows.new.site) (g.S.Site.told c.complete_rows.new.site) c.in_ok-rows.rows c.args.config.now.volumes (c.known_rows.ensures.devices.log tells)
+    c.look.ensures.places (c.in_ok-rows.ensures.known tells) (c.complete_rows.ensures.moments tells)
 
 pub returns-clause-opens : goal.returns-clause-opens
 returns-clause-opens g c = λ tells.
     let now = content (g.S.Site.told c.complete_rows.new.site) in
-    let before = c.in_ok-rows.rows.items in
-    let after = c.complete_rows.new.rows.items in
+    let before = c.in_ok-rows.rows in
+    let after = c.complete_rows.new.rows in
     let volumes = c.args.config.now.volumes in
-    opened c.args.config.now (content (g.S.Site.told c.args.site.now)) now before after (subst (λ (x : ConfigData). AreRising x.volumes) c.config.view_is c.config.invariant.rising) c.in_ok-rows.ensures.whole
-    (c.in_ok-rows.ensures.known tells) (c.in_ok-rows.ensures.faultless tells) c.complete_rows.ensures.whole
+    opened c.args.config.now (content (g.S.Site.told c.args.site.now)) now before after (subst (λ (x : ConfigData). AreRising x.volumes) c.config.view_is c.config.invariant.rising) c.look.ensures.places
+    (c.in_ok-rows.ensures.known tells) (c.in_ok-rows.ensures.faultless tells) c.look-2.ensures.places
     (subst (λ (x : SiteLog). AreCreated volumes (content x) now before after) (c.known_rows.ensures.devices.log tells) (c.in_ok-complete_rows.ensures.created tells))
 
 pub returns-in_err-reserve-clause-complete : goal.returns-in_err-reserve-clause-complete
@@ -61,7 +61,7 @@ returns-in_err-complete_rows-clause-opens g c = λ tells.
     let before = g.S.Site.faults c.args.site.now in
     let after = g.S.Site.faults c.complete_rows.new.site in
     subst (λ (r : Result Opened Refused). Opens before after c.args.config.now s now r) (sym (p.1 ∙ ap Err p.2))
-    (stop_refuses before after c.args.config.now s now c.in_ok-rows.rows.items c.in_err-complete_rows.field-0.0 (c.in_ok-rows.ensures.known tells) (c.in_ok-rows.ensures.faultless tells)
+    (stop_refuses before after c.args.config.now s now c.in_ok-rows.rows c.in_err-complete_rows.field-0.0 (c.in_ok-rows.ensures.known tells) (c.in_ok-rows.ensures.faultless tells)
     (stop_since before (g.S.Site.faults c.known_rows.new.site) after c.in_err-complete_rows.field-0.0 c.in_ok-rows.ensures.kept c.in_err-complete_rows.ensures.stops))
 
 pub returns-in_err-complete_rows-clause-complete : goal.returns-in_err-complete_rows-clause-complete
@@ -70,28 +70,31 @@ returns-in_err-complete_rows-clause-complete g c = λ tells.
     let s = g.S.Site.told c.args.site.now in
     let mid = g.S.Site.told c.known_rows.new.site in
     let now = g.S.Site.told c.complete_rows.new.site in
-    let rows = c.in_ok-rows.rows.items in
+    let rows = c.in_ok-rows.rows in
     subst (λ (r : Result Opened Refused). OpensWhole c.args.config.now s now r) (sym (p.1 ∙ ap Err p.2))
-    (refusal_complete c.args.config.now.volumes c.complete_rows.new.creations.items (listed rows) (listed c.complete_rows.new.rows.items) s mid now c.in_err-complete_rows.field-0.0 (c.known_rows.ensures.devices.log tells)
-    (rows_listed rows (content s) c.in_ok-rows.ensures.whole (c.in_ok-rows.ensures.known tells)) (c.in_err-complete_rows.ensures.complete tells))
+    (refusal_complete c.args.config.now.volumes c.complete_rows.new.creations.items (listed rows) (listed c.complete_rows.new.rows) s mid now c.in_err-complete_rows.field-0.0 (c.known_rows.ensures.devices.log tells)
+    (rows_listed rows (content s) c.look.ensures.places (c.in_ok-rows.ensures.known tells)) (c.in_err-complete_rows.ensures.complete tells))
 
 pub returns-clause-complete : goal.returns-clause-complete
 returns-clause-complete g c = λ tells.
     let s = g.S.Site.told c.args.site.now in
     let mid = g.S.Site.told c.known_rows.new.site in
     let now = g.S.Site.told c.complete_rows.new.site in
-    let rows = c.in_ok-rows.rows.items in
-    let after = c.complete_rows.new.rows.items in
+    let rows = c.in_ok-rows.rows in
+    let after = c.complete_rows.new.rows in
     answer_complete c.args.config.now.volumes c.complete_rows.new.creations.items (listed rows) (listed after) s mid now (c.known_rows.ensures.devices.log tells)
-    (rows_listed rows (content s) c.in_ok-rows.ensures.whole (c.in_ok-rows.ensures.known tells)) (rows_listed after (content now) c.complete_rows.ensures.whole (c.in_ok-complete_rows.ensures.created tells).are)
+    (rows_listed rows (content s) c.look.ensures.places (c.in_ok-rows.ensures.known tells)) (rows_listed after (content now) c.look-2.ensures.places (c.in_ok-complete_rows.ensures.created tells).are)
     (c.in_ok-complete_rows.ensures.complete tells)
+
+pub returns-in_err-complete_rows-clause-untouched : goal.returns-in_err-complete_rows-clause-untouched
+returns-in_err-complete_rows-clause-untouched g c = λ tells. inr (c.in_ok-rows.ensures.faultless tells)
 
 pub returns-clause-untouched : goal.returns-clause-untouched
 returns-clause-untouched g c = λ tells. inr (c.in_ok-rows.ensures.faultless tells)
 
 pub returns-clause-usable : goal.returns-clause-usable
 returns-clause-usable g c =
-    usable_for c.args.config.now c.in_ok-rows.rows.items c.complete_rows.new.rows.items (subst IsConfig c.config.view_is c.config.invariant) c.in_ok-rows.ensures.whole c.in_ok-rows.ensures.usable c.in_ok-complete_rows.ensures.rows
+    usable_for c.args.config.now c.in_ok-rows.rows c.complete_rows.new.rows (subst IsConfig c.config.view_is c.config.invariant) c.look.ensures.places c.in_ok-rows.ensures.usable c.in_ok-complete_rows.ensures.rows
 
 pub returns-in_err-reserve-clause-others : goal.returns-in_err-reserve-clause-others
 returns-in_err-reserve-clause-others g c = λ tells.
@@ -105,10 +108,10 @@ returns-in_err-rows-clause-others g c = λ tells.
 
 pub returns-in_err-complete_rows-clause-others : goal.returns-in_err-complete_rows-clause-others
 returns-in_err-complete_rows-clause-others g c = λ tells.
-    others_at (g.S.Site.told c.args.site.now) (g.S.Site.told c.known_rows.new.site) (g.S.Site.told c.complete_rows.new.site) c.in_ok-rows.rows.items c.args.config.now.volumes (c.known_rows.ensures.devices.log tells)
-    c.in_ok-rows.ensures.whole (c.in_ok-rows.ensures.known tells) (c.complete_rows.ensures.others tells)
+    others_at (g.S.Site.told c.args.site.now) (g.S.Site.told c.known_rows.new.site) (g.S.Site.told c.complete_rows.new.site) c.in_ok-rows.rows c.args.config.now.volumes (c.known_rows.ensures.devices.log tells)
+    c.look.ensures.places (c.in_ok-rows.ensures.known tells) (c.complete_rows.ensures.others tells)
 
 pub returns-clause-others : goal.returns-clause-others
 returns-clause-others g c = λ tells.
-    others_at (g.S.Site.told c.args.site.now) (g.S.Site.told c.known_rows.new.site) (g.S.Site.told c.complete_rows.new.site) c.in_ok-rows.rows.items c.args.config.now.volumes (c.known_rows.ensures.devices.log tells)
-    c.in_ok-rows.ensures.whole (c.in_ok-rows.ensures.known tells) (c.complete_rows.ensures.others tells)
+    others_at (g.S.Site.told c.args.site.now) (g.S.Site.told c.known_rows.new.site) (g.S.Site.told c.complete_rows.new.site) c.in_ok-rows.rows c.args.config.now.volumes (c.known_rows.ensures.devices.log tells)
+    c.look.ensures.places (c.in_ok-rows.ensures.known tells) (c.complete_rows.ensures.others tells)

@@ -1,4 +1,4 @@
-use Rattle.std.proofs.Common.{◌≡◌, ◌+◌, ◌≤◌, length}
+use Rattle.std.proofs.Common.{◌≡◌}
 use Rattle.mss_base.specs.Content.{content}
 use Rattle.mss_base.specs.Sites.{OnlyReads}
 use Rattle.ckd_plain.specs.Plain.{serial_in}
@@ -11,10 +11,8 @@ use Rattle.mss_restart.proofs.rows.read_rows.Given as goal
 
 abbrev pub invariant-loop-number : goal.invariant-loop-number
 invariant-loop-number g l = record {
-  read : g.S.Site.tells → SoFar (g.S.Site.faults l.initial.site) (g.S.Site.faults l.site) l.number (serial_in l.volumes) (content (g.S.Site.told l.initial.site)) l.rows.items l.unread;
-  serials : HasSerialsAsked (serial_in l.volumes) (listed l.rows.items);
-  long : length l.rows.items ≡ l.number;
-  room : 32 ≤ l.rows.spare + l.number;
+  read : g.S.Site.tells → SoFar (g.S.Site.faults l.initial.site) (g.S.Site.faults l.site) l.number (serial_in l.volumes) (content (g.S.Site.told l.initial.site)) l.rows l.unread;
+  serials : HasSerialsAsked (serial_in l.volumes) (listed l.rows);
   counts : KeepsFirst (g.S.Site.faults l.initial.site) (g.S.Site.faults l.site) l.unread;
   works : CanReadTable g.S.Site l.initial.site → l.unread ≡ None;
   devices : OnlyReads g.S.Site l.initial.site l.site;

@@ -25,7 +25,7 @@ returns-in-Some-pages_fault-clause-works g c = λ never.
 pub returns-clause-usable : goal.returns-clause-usable
 returns-clause-usable g c = λ asked serials.
     let rows = listed c.args.rows.now in
-    let is = walks_usable rows (few_listed c.args.rows.now c.requires) c.args.frames asked serials (sym c.halves_fault.ensures ∙ c.in_default.is) (sym c.pages_fault.ensures ∙ c.in_default-pages_fault.is) in
+    let is = walks_usable rows (few_listed c.args.rows.now c.look.ensures.places) c.args.frames asked serials (sym c.halves_fault.ensures ∙ c.in_default.is) (sym c.pages_fault.ensures ∙ c.in_default-pages_fault.is) in
     on_ok_any c.check_tracks.result is
 
 pub returns-clause-finds : goal.returns-clause-finds

@@ -8,7 +8,7 @@ use Rattle.mss_restart.proofs.surveying.survey.Goals as goal
 pub returns-in-Ok-clause-exact : goal.returns-in-Ok-clause-exact
 returns-in-Ok-clause-exact g c = λ tells still low.
     exact (g.S.Site.faults c.args.site.now) (g.S.Site.faults c.survey_rows.new.site) c.args.config.now.frames (serial_in c.args.config.now.volumes) (content (g.S.Site.told c.args.site.now)) still low
-    (Ok c.in-Ok.read.rows.items) c.in-Ok.ensures.devices.later (c.in-Ok.ensures.found tells)
+    (Ok c.in-Ok.read.rows) c.in-Ok.ensures.devices.later (c.in-Ok.ensures.found tells)
 
 pub returns-in-Err-clause-exact : goal.returns-in-Err-clause-exact
 returns-in-Err-clause-exact g c = λ tells still low.
@@ -17,7 +17,7 @@ returns-in-Err-clause-exact g c = λ tells still low.
 
 pub returns-in-Ok-clause-one_copy : goal.returns-in-Ok-clause-one_copy
 returns-in-Ok-clause-one_copy g c = λ tells loses paired.
-    exact_by_one (g.S.Site.faults c.args.site.now) (g.S.Site.faults c.survey_rows.new.site) c.args.config.now.frames (serial_in c.args.config.now.volumes) (content (g.S.Site.told c.args.site.now)) paired (Ok c.in-Ok.read.rows.items) (c.in-Ok.ensures.found tells) tt
+    exact_by_one (g.S.Site.faults c.args.site.now) (g.S.Site.faults c.survey_rows.new.site) c.args.config.now.frames (serial_in c.args.config.now.volumes) (content (g.S.Site.told c.args.site.now)) paired (Ok c.in-Ok.read.rows) (c.in-Ok.ensures.found tells) tt
 
 pub returns-in-Err-clause-one_copy : goal.returns-in-Err-clause-one_copy
 returns-in-Err-clause-one_copy g c = λ tells loses paired.
