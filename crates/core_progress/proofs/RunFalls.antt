@@ -6,7 +6,7 @@ use Rattle.std.proofs.lemmas.Bool.Decides.{eqb_tells}
 use Rattle.channel_commands.specs.declared.command.Command.{Command}
 use Rattle.channel_commands.specs.Data.{CallData, command as ask, equipment_check}
 use Rattle.volume_table.specs.Row.{RowValue}
-use Rattle.volume_table.specs.Listed.{listed}
+use Rattle.volume_table.specs.Listed.{listed, with_changed}
 use Rattle.volume_table.specs.declared.changes.Change.TheVariants as change
 use Rattle.fault_queue.specs.declared.queue.Request.{Request}
 use Rattle.fault_queue.specs.declared.queue.RequestState.TheVariants as request
@@ -20,7 +20,6 @@ use Rattle.core_state.specs.HostEvents.{HostTold, replied, marked, halts, no_mem
 use Rattle.core_state.specs.HostRules.{request_for, volume_of, host_rule}
 use Rattle.core_state.specs.IsCore.{IsCore}
 use Rattle.core_state.specs.Pins.{host_at, page_of, state_of_row, state_in, is_ready}
-use Rattle.core_state.specs.Rows.{with_changed}
 use Rattle.core_state.specs.Steps.{noted, ends_request, going_on, with_request, with_change, touching}
 use Rattle.core_progress.specs.Progress.{keeps_waiting, is_kept_waiting}
 use Rattle.core_progress.specs.WorkLeft.{is_ready_to_write, is_marked, has_request, one_unless, sum_below, hosts_without, run_left}

@@ -5,7 +5,7 @@ use Rattle.std.proofs.lemmas.Bool.{and_parts, and_from, both_ways, eq-eqb, eqb-t
 use Rattle.std.proofs.lemmas.Bool.Decides.{eqb_tells}
 use Rattle.volume_table.specs.Row.{RowValue, state_of}
 use Rattle.volume_table.specs.Changes.{effect, unstaged, map_numbered}
-use Rattle.volume_table.specs.Listed.{listed}
+use Rattle.volume_table.specs.Listed.{listed, with_changed}
 use Rattle.volume_table.specs.declared.changes.Change.{Change}
 use Rattle.volume_table.specs.declared.changes.Change.TheVariants as change
 use Rattle.fault_queue.specs.declared.queue.Request.{Request}
@@ -14,7 +14,6 @@ use Rattle.fault_queue.specs.Requests.{RequestsData, request_of, in_state}
 use Rattle.ckd_plain.specs.declared.host.HostState.{HostState}
 use Rattle.core_state.specs.CoreValue.{CoreData}
 use Rattle.core_state.specs.Pins.{host_at, state_of_row, state_in, is_ready, is_on, asks_for, owns}
-use Rattle.core_state.specs.Rows.{with_changed}
 use Rattle.core_state.proofs.RuleWalks.{some_is, none_some}
 use Rattle.core_progress.specs.Progress.{NextCalls, OwnersCall, place_asked, asked_by, StillAsk, LeavesRun}
 use Rattle.core_progress.specs.WorkLeft.{is_ready_to_write, is_marked, has_request, one_unless, sum_below, hosts_without}

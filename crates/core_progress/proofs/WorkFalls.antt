@@ -9,7 +9,7 @@ use Rattle.std.proofs.lemmas.List.Sums.{sum_by-set, sum_by-cons}
 use Rattle.std.proofs.lemmas.Map.Entries.{sum_by-set_value}
 use Rattle.volume_table.specs.Row.{RowValue, state_of}
 use Rattle.volume_table.specs.Changes.{effect, unstaged, map_numbered, unstaged_page}
-use Rattle.volume_table.specs.Listed.{listed}
+use Rattle.volume_table.specs.Listed.{listed, with_changed}
 use Rattle.volume_table.specs.declared.changes.Change.{Change}
 use Rattle.volume_table.specs.declared.changes.Change.TheVariants as change
 use Rattle.fault_queue.specs.declared.queue.Request.{Request}
@@ -21,7 +21,6 @@ use Rattle.transfers.specs.declared.transfer.Transfer.{Transfer}
 use Rattle.core_state.specs.declared.task.Task.{Task}
 use Rattle.core_state.specs.CoreValue.{CoreData}
 use Rattle.core_state.specs.Pins.{owner_at}
-use Rattle.core_state.specs.Rows.{with_changed}
 use Rattle.core_state.specs.Steps.{with_change, most_recent, with_owner, with_task, picked, task_ended, with_cartridge, given_back, fetched}
 use Rattle.core_state.specs.WorkRules.{task_of, held_in}
 use Rattle.core_progress.specs.WorkLeft.{state_left, request_left, victim_left, copies_left, task_left, changed_one, row_left, frame_left, work_left, needed, carry_left, recorder_left, sum_below, carries_left, settle_left}

@@ -5,7 +5,7 @@ use Rattle.channel_commands.specs.Data.{CallData, ReplyData, stopped}
 use Rattle.channel_commands.specs.declared.command.Command.{Command}
 use Rattle.ckd_plain.specs.declared.host.HostState.{HostState}
 use Rattle.ckd_plain.specs.History.{EntryData, count_of_host}
-use Rattle.volume_table.specs.Listed.{listed}
+use Rattle.volume_table.specs.Listed.{listed, with_changed}
 use Rattle.volume_table.specs.declared.changes.Change.{Change}
 use Rattle.fault_queue.specs.declared.queue.RequestState.{RequestState}
 use Rattle.fault_queue.specs.declared.queue.RequestState.TheVariants as request
@@ -23,7 +23,6 @@ use Rattle.core_state.specs.Agrees.{message_of}
 use Rattle.core_state.specs.CoreValue.{CoreData, DevicesSeen}
 use Rattle.core_state.specs.HostRules.{request_for}
 use Rattle.core_state.specs.Pins.{put_host}
-use Rattle.core_state.specs.Rows.{with_changed}
 use Rattle.core_state.specs.Tasks.{touched_all, tasks_after}
 
 -- ---- what is told

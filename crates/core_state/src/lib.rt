@@ -57,7 +57,7 @@ mod task;
 
 pub use change::write_change;
 pub use ckd_plain::Entry;
-pub use machine::{Core, HostStateList, RecorderList, Rows, TaskList};
+pub use machine::{Core, HostStateList, RecorderList, TaskList};
 pub use mss_base::{Config, VolumeList};
 pub use room::make_room;
 pub use rule::{HostRule, Waiting, WorkAnswer, WorkKind, WorkRule};
@@ -65,3 +65,4 @@ pub use session::{
     ENTRY_LIMIT, EntryList, Event, EventList, MarkList, Message, MessageList, Session,
 };
 pub use task::{Task, touch, touch_all};
+pub use volume_table::Rows;

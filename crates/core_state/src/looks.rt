@@ -1,6 +1,5 @@
 // What the rules ask of hosts, rows and frames.
-ghost use Rattle.std.specs.Prelude.{◌≡◌, ◌≤◌, ◌<◌, not, is_some, length, slice_index_or, None};
-ghost use Rattle.mss_base.specs.Firsts.{first_below, where_so};
+ghost use Rattle.std.specs.Prelude.{◌≡◌, ◌≤◌, ◌<◌, length, None};
 ghost use Rattle.core_state.specs.Pins.{
   are_frames_bound,
   asks_for,
@@ -14,13 +13,12 @@ ghost use Rattle.core_state.specs.Pins.{
   owns,
   state_in,
 };
-ghost use Rattle.volume_table.specs.Listed.{listed};
 
 use ckd_plain::HostState;
 use fault_queue::{Queue, Request};
 use mss_base::{Cylinder, FrameNo, HostNo, Page, VolumeNo};
 use staging_adapter::Frames;
-use volume_table::VolumeRow;
+use volume_table::Rows;
 
 /// The state of a host.
 #[tactic(auto, using(crate::proofs::LookLemmas::host_there))]
@@ -92,22 +90,20 @@ pub fn owner_of(hosts: &[HostState], requests: &Queue, volume: VolumeNo) -> Opti
 }
 
 /// The frame of a page.
-pub fn frame_in(rows: &[Option<VolumeRow>], volume: VolumeNo, page: Page) -> Option<FrameNo>
-    requires { length rows.now ≡ 32 }
+pub fn frame_in(rows: &Rows, volume: VolumeNo, page: Page) -> Option<FrameNo>
     ensures { result ≡ frame_in rows.now (volume, page) }
 {
-    match &rows[usize::from(volume.get())] {
+    match rows.row(volume) {
         Some(row) => row.frame(page),
         None => None,
     }
 }
 
 /// The number of a cylinder's state.
-pub fn state_in(rows: &[Option<VolumeRow>], volume: VolumeNo, cylinder: Cylinder) -> u8
-    requires { length rows.now ≡ 32 }
+pub fn state_in(rows: &Rows, volume: VolumeNo, cylinder: Cylinder) -> u8
     ensures { result ≡ state_in rows.now volume cylinder }
 {
-    match &rows[usize::from(volume.get())] {
+    match rows.row(volume) {
         Some(row) => row.state(cylinder).number(),
         None => 0,
     }

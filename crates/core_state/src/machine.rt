@@ -17,10 +17,7 @@ use staging_adapter::Frames;
 use std::alloc::Global;
 use std::marker::Model;
 use victim_choice::{Choose, Chooser, Recency};
-use volume_table::VolumeRow;
-
-/// The rows of the 32 volumes, by number.
-pub type Rows = Vec<Option<VolumeRow>>;
+use volume_table::Rows;
 
 /// The tasks of the configured recorders, by number.
 pub type TaskList = Vec<Option<Task>>;
@@ -64,7 +61,7 @@ impl<S: Site, C: Choose> Model for Core<S, C> {
       site = c.site;
       chooser = c.chooser;
       config = c.config;
-      rows = c.rows.items;
+      rows = c.rows;
       owners = c.frames.owners;
       moving = c.frames.moving;
       recency = c.recency;
@@ -89,7 +86,7 @@ impl<S: Site, C: Choose> Model for Core<S, C> {
           site = c.site;
           chooser = c.chooser;
           config = c.config;
-          rows = c.rows.items;
+          rows = c.rows;
           owners = c.frames.owners;
           moving = c.frames.moving;
           recency = c.recency;
@@ -151,7 +148,7 @@ impl<S: Site, C: Choose> Core<S, C> {
 
     /// The rows of the volumes, by number.
     pub fn rows(&self) -> &Rows
-        ensures { result.now.items ≡ self.now.rows }
+        ensures { result.now ≡ self.now.rows }
     {
         &self.rows
     }
@@ -207,7 +204,7 @@ impl<S: Site, C: Choose + Drop> Core<S, C> {
     pub fn into_session(self) -> (S, Session, Rows)
         ensures site { result.0 ≡ self.site }
         ensures session { session_data result.1 ≡ data_of self }
-        ensures rows { result.2.items ≡ self.rows }
+        ensures rows { result.2 ≡ self.rows }
     {
         let Core {
             config: _,
