@@ -8,7 +8,7 @@ use Rattle.mss_base.specs.Counts.{Rises}
 use Rattle.mss_base.specs.Sites.{MayWrite}
 use Rattle.mss_base.specs.declared.site.Site.{Ghosts}
 use Rattle.channel_commands.specs.Data.{CallData, stopped}
-use Rattle.volume_table.specs.Listed.{listed}
+use Rattle.volume_table.specs.Listed.{HasRow, listed, with_changed}
 use Rattle.volume_table.specs.Row.{RowValue}
 use Rattle.volume_table.specs.Changes.{IsAllowed, effect, with_state as state_set}
 use Rattle.volume_table.specs.declared.changes.Change.TheVariants.{Changed}
@@ -28,7 +28,7 @@ use Rattle.core_state.specs.HostRules.{request_for, host_rule}
 use Rattle.core_state.specs.MakingRoom.{Reserves}
 use Rattle.core_state.specs.IsCore.{IsCore}
 use Rattle.core_state.specs.Pins.{page_of, is_on}
-use Rattle.core_state.specs.Rows.{HasRow, Rewrites, with_changed}
+use Rattle.core_state.specs.Rows.{Rewrites}
 use Rattle.core_state.specs.SessionData.{SessionData, data_of, of_parts, with_stop, with_last_event, with_last_message}
 use Rattle.core_state.specs.Steps.{entry_of, noted, with_change, ends_request, going_on, with_request, touching}
 use Rattle.core_state.specs.Tasks.{touched_all}

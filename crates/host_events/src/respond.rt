@@ -1,5 +1,5 @@
 // Replies without a look at the tracks.
-ghost use Rattle.std.specs.Prelude.{◌≡◌, IfOk, length};
+ghost use Rattle.std.specs.Prelude.{◌≡◌, IfOk};
 ghost use Rattle.channel_commands.specs.Views.{call_of, reply_of};
 ghost use Rattle.ckd_plain.specs.Plain.{NeedsNoTrack, responded};
 ghost use Rattle.core_state.specs.HostEvents.{is_there};
@@ -17,15 +17,14 @@ use core_state::looks::host_at;
 use mss_base::{HostNo, NoMemory, Site};
 use std::alloc::Global;
 use victim_choice::Choose;
-use volume_table::VolumeRow;
+use volume_table::Rows;
 
 /// Whether the volume that a call asks for is there.
-fn is_there(rows: &[Option<VolumeRow>], call: &Call) -> bool
-    requires { length rows.now ≡ 32 }
+fn is_there(rows: &Rows, call: &Call) -> bool
     ensures { result ≡ is_there rows.now (call_of call.now) }
 {
     match call {
-        Call::Mount { volume, .. } => rows[usize::from(volume.get())].is_some(),
+        Call::Mount { volume, .. } => rows.row(*volume).is_some(),
         _ => false,
     }
 }

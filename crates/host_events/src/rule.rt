@@ -169,7 +169,7 @@ fn would_bind<S: Site, C: Choose>(
     let Call::Mount { volume, bind: true } = call else {
         return None;
     };
-    let is_there = core.rows[usize::from(volume.get())].is_some();
+    let is_there = core.rows.row(*volume).is_some();
     if !host.chain_open && host.mounted.is_none() && is_there {
         return Some(*volume);
     }

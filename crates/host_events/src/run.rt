@@ -38,7 +38,7 @@ use staging_adapter::{Translated, translate};
 use std::alloc::Global;
 use track_engine::{CylinderPlace, EngineFault, run_command};
 use victim_choice::Choose;
-use volume_table::VolumeRow;
+use volume_table::{Rows, VolumeRow};
 
 /// How many writes a command makes at most.
 const RUN_WRITES: u32 = 4;
@@ -57,12 +57,11 @@ fn standing(hosts: &[HostState], host: HostNo) -> HostState
 }
 
 /// The row of a volume that has one.
-fn row_of(rows: &[Option<VolumeRow>], volume: VolumeNo) -> &VolumeRow
-    requires all { length rows.now ≡ 32 }
+fn row_of(rows: &Rows, volume: VolumeNo) -> &VolumeRow
     requires there { IsSome (listed rows.now volume) }
     ensures { listed rows.now volume ≡ Some result.now }
 {
-    let Some(row) = &rows[usize::from(volume.get())] else {
+    let Some(row) = rows.row(volume) else {
         unreachable!()
     };
     row

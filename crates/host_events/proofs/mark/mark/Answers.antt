@@ -51,29 +51,29 @@ invariant_of-core-in-Ok-write_change g c =
     let S = g.S.Site in
     marked_kept g.row.S.Denot S c.args.core.now c.core.view_is (vec_len c.core.inside.buffer) c.core.invariant c.args.host (call_of c.args.call.now) c.args.volume c.args.cylinder c.requires.rule
     c.prepare.new.site c.prepare.ensures.site c.write_change.new.site c.write_change.ensures.devices (λ tl. g.met.S.Site.counted c.write_change.new.site tl)
-    c.write_change.ensures.moments c.write_change.new.rows.items c.write_change.ensures.rows
+    c.write_change.ensures.moments c.write_change.new.rows c.write_change.ensures.rows
     c.in-Ok-write_change.ensures.done c.in-Ok-write_change.ensures.grown c.in-Ok-write_change.ensures.cause.same
     c.make_ready.new.requests (ready_is c.args.host (ready_for c.args.volume c.args.cylinder) c.core.inside.requests c.is_some-had.result (c.is_some-had.ensures ∙ ap is_some c.of.ensures) c.ask.new.requests c.in-Ok-ask.ensures.ok c.make_ready.new.requests c.make_ready.ensures)
     c.touch_all.new.tasks.items (c.touch_all.ensures ∙ ap (λ n. touched_all c.args.volume n c.core.inside.tasks.items) c.page.ensures)
-    (session_data c.note.new.self) (c.note.ensures.noted ∙ ap (with_last_event (Host c.args.host)) (c.in-Ok-write_change.ensures.told ∙ (λ i. with_last_message (message_of (S.writes c.write_change.new.site) c.args.volume (Changed c.args.cylinder) (listed c.core.inside.rows.items)) (c.prepare.ensures.session i))))
+    (session_data c.note.new.self) (c.note.ensures.noted ∙ ap (with_last_event (Host c.args.host)) (c.in-Ok-write_change.ensures.told ∙ (λ i. with_last_message (message_of (S.writes c.write_change.new.site) c.args.volume (Changed c.args.cylinder) (listed c.core.inside.rows)) (c.prepare.ensures.session i))))
 
 pub returns-in-Ok-write_change-clause-event : goal.returns-in-Ok-write_change-clause-event
 returns-in-Ok-write_change-clause-event g c =
     let S = g.S.Site in
     marked_event g.row.S.Denot S c.args.core.now c.core.view_is (vec_len c.core.inside.buffer) c.core.invariant c.args.host (call_of c.args.call.now) c.args.volume c.args.cylinder c.requires.rule
     c.prepare.new.site c.prepare.ensures.site c.write_change.new.site c.write_change.ensures.devices (λ tl. g.met.S.Site.counted c.write_change.new.site tl)
-    c.write_change.ensures.moments c.write_change.new.rows.items c.write_change.ensures.rows
+    c.write_change.ensures.moments c.write_change.new.rows c.write_change.ensures.rows
     c.in-Ok-write_change.ensures.done c.in-Ok-write_change.ensures.grown c.in-Ok-write_change.ensures.cause.same
     c.make_ready.new.requests (ready_is c.args.host (ready_for c.args.volume c.args.cylinder) c.core.inside.requests c.is_some-had.result (c.is_some-had.ensures ∙ ap is_some c.of.ensures) c.ask.new.requests c.in-Ok-ask.ensures.ok c.make_ready.new.requests c.make_ready.ensures)
     c.touch_all.new.tasks.items (c.touch_all.ensures ∙ ap (λ n. touched_all c.args.volume n c.core.inside.tasks.items) c.page.ensures)
-    (session_data c.note.new.self) (c.note.ensures.noted ∙ ap (with_last_event (Host c.args.host)) (c.in-Ok-write_change.ensures.told ∙ (λ i. with_last_message (message_of (S.writes c.write_change.new.site) c.args.volume (Changed c.args.cylinder) (listed c.core.inside.rows.items)) (c.prepare.ensures.session i))))
+    (session_data c.note.new.self) (c.note.ensures.noted ∙ ap (with_last_event (Host c.args.host)) (c.in-Ok-write_change.ensures.told ∙ (λ i. with_last_message (message_of (S.writes c.write_change.new.site) c.args.volume (Changed c.args.cylinder) (listed c.core.inside.rows)) (c.prepare.ensures.session i))))
 
 pub invariant_of-core-in-Err : goal.invariant_of-core-in-Err
 invariant_of-core-in-Err g c =
     let S = g.S.Site in
     unmarked_kept g.row.S.Denot S c.args.core.now c.core.view_is (vec_len c.core.inside.buffer) c.core.invariant c.args.host (call_of c.args.call.now) c.args.volume c.args.cylinder c.requires.rule
     c.prepare.new.site c.prepare.ensures.site c.write_change.new.site c.write_change.ensures.devices (λ tl. g.met.S.Site.counted c.write_change.new.site tl)
-    c.write_change.ensures.moments c.write_change.new.rows.items c.write_change.ensures.rows
+    c.write_change.ensures.moments c.write_change.new.rows c.write_change.ensures.rows
     c.in-Err.ensures.cause.failed c.in-Err.ensures.counted c.give_up.new.requests (gone_is c.args.host (ready_for c.args.volume c.args.cylinder) c.core.inside.requests c.is_some-had.result (c.is_some-had.ensures ∙ ap is_some c.of.ensures) c.ask.new.requests c.in-Ok-ask.ensures.ok c.give_up.new.requests c.give_up.ensures) c.faults-fault.result c.faults-fault.ensures
     (session_data c.enter.new.session) (c.enter.ensures ∙ (λ i. with_reply c.args.host (c.in-Ok.ensures.copy i) stopped (Some c.faults-fault.result) (c.writes-mark.ensures i) ((c.in-Err.ensures.stopped ∙ (λ j. with_stop (S.faults c.write_change.new.site) (c.prepare.ensures.session j))) i)))
 
@@ -82,6 +82,6 @@ returns-in-Err-clause-event g c =
     let S = g.S.Site in
     unmarked_event g.row.S.Denot S c.args.core.now c.core.view_is (vec_len c.core.inside.buffer) c.core.invariant c.args.host (call_of c.args.call.now) c.args.volume c.args.cylinder c.requires.rule
     c.prepare.new.site c.prepare.ensures.site c.write_change.new.site c.write_change.ensures.devices (λ tl. g.met.S.Site.counted c.write_change.new.site tl)
-    c.write_change.ensures.moments c.write_change.new.rows.items c.write_change.ensures.rows
+    c.write_change.ensures.moments c.write_change.new.rows c.write_change.ensures.rows
     c.in-Err.ensures.cause.failed c.in-Err.ensures.counted c.give_up.new.requests (gone_is c.args.host (ready_for c.args.volume c.args.cylinder) c.core.inside.requests c.is_some-had.result (c.is_some-had.ensures ∙ ap is_some c.of.ensures) c.ask.new.requests c.in-Ok-ask.ensures.ok c.give_up.new.requests c.give_up.ensures) c.faults-fault.result c.faults-fault.ensures
     (session_data c.enter.new.session) (c.enter.ensures ∙ (λ i. with_reply c.args.host (c.in-Ok.ensures.copy i) stopped (Some c.faults-fault.result) (c.writes-mark.ensures i) ((c.in-Err.ensures.stopped ∙ (λ j. with_stop (S.faults c.write_change.new.site) (c.prepare.ensures.session j))) i)))

@@ -37,7 +37,7 @@ reply-requires-clause-upheld g c =
     let state : c.host_at-state.result ≡ host_at now.hosts c.args.host =
     c.host_at-state.ensures ∙ ap (λ (l : List HostState). host_at l c.args.host) (c.as_slice.ensures ∙ ap (λ (x : CoreValue g.row.S.Denot g.row.C.Denot). x.hosts) c.core.view_is) in
     let there : c.is_there-there.result ≡ is_there now.rows call =
-    c.is_there-there.ensures ∙ ap (λ (l : List (Option RowValue)). is_there l call) (c.deref.ensures.value ∙ ap (λ (x : CoreValue g.row.S.Denot g.row.C.Denot). x.rows) c.core.view_is) in
+    c.is_there-there.ensures ∙ ap (λ (l : List (Option RowValue)). is_there l call) (ap (λ (x : CoreValue g.row.S.Denot g.row.C.Denot). x.rows) c.core.view_is) in
     let answer : ◌≡◌ {A = ReplyData × HostState} (reply_of c.in-Ok.told, c.in-Ok.now) (responded (host_at now.hosts c.args.host) (is_there now.rows call) call) =
     c.in-Ok.ensures ∙ (λ i. responded (state i) (there i) call) in
     subst (λ (x : ReplyData × HostState). IsUpheld g.S.Site.tells (g.S.Site.told now.site) (g.S.Site.writes now.site) (g.S.Site.faults now.site)

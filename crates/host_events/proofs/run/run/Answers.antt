@@ -138,22 +138,24 @@ invariant_of-core-in-Err-Memory-2 g c =
     (seen_site S c.prepare.new.site) (seen_site S c.run_in.new.site) c.run_in.new.host (Err e)) c.in-Err-Memory.field-0-is c.in-Err-Memory.ensures.comes)
     (session_data c.prepare.new.session) c.prepare.ensures.session
 
-pub row_of-row-requires-clause-there : goal.row_of-row-requires-clause-there
-row_of-row-requires-clause-there g c =
+pub row_of-row-requires : goal.row_of-row-requires
+row_of-row-requires g c =
     let S = g.S.Site in
-    subst (λ (rows : List (Option RowValue)). IsSome (listed rows c.args.volume)) (sym c.deref.ensures.value) (has_row g.row.S.Denot S c.args.core.now c.core.view_is (vec_len c.core.inside.buffer) c.core.invariant c.args.host (call_of c.args.call.now) c.args.command.now
-    c.args.volume c.args.frame c.requires.rule c.standing-old.result (c.standing-old.ensures.state ∙ ap (λ l. host_at l c.args.host) c.as_slice.ensures) c.standing-old.ensures.cylinder c.standing-old.ensures.head)
+    record {
+      there = has_row g.row.S.Denot S c.args.core.now c.core.view_is (vec_len c.core.inside.buffer) c.core.invariant c.args.host (call_of c.args.call.now) c.args.command.now
+          c.args.volume c.args.frame c.requires.rule c.standing-old.result (c.standing-old.ensures.state ∙ ap (λ l. host_at l c.args.host) c.as_slice.ensures) c.standing-old.ensures.cylinder c.standing-old.ensures.head;
+    }
 
 pub run_in-requires-clause-frame : goal.run_in-requires-clause-frame
 run_in-requires-clause-frame g c =
     let S = g.S.Site in
     in_frame g.row.S.Denot S c.args.core.now c.core.view_is (vec_len c.core.inside.buffer) c.core.invariant c.args.host (call_of c.args.call.now) c.args.command.now
     c.args.volume c.args.frame c.requires.rule c.standing-old.result (c.standing-old.ensures.state ∙ ap (λ l. host_at l c.args.host) c.as_slice.ensures) c.standing-old.ensures.cylinder c.standing-old.ensures.head
-    c.row_of-row.result.now (let e : listed c.core.inside.rows.items c.args.volume ≡ Some c.row_of-row.result.now = search rules in e)
+    c.row_of-row.result.now (let e : listed c.core.inside.rows c.args.volume ≡ Some c.row_of-row.result.now = search rules in e)
 
 pub run_in-requires-clause-staged : goal.run_in-requires-clause-staged
 run_in-requires-clause-staged g c =
     let S = g.S.Site in
     is_staged g.row.S.Denot S c.args.core.now c.core.view_is (vec_len c.core.inside.buffer) c.core.invariant c.args.host (call_of c.args.call.now) c.args.command.now
     c.args.volume c.args.frame c.requires.rule c.standing-old.result (c.standing-old.ensures.state ∙ ap (λ l. host_at l c.args.host) c.as_slice.ensures) c.standing-old.ensures.cylinder c.standing-old.ensures.head
-    c.row_of-row.result.now (let e : listed c.core.inside.rows.items c.args.volume ≡ Some c.row_of-row.result.now = search rules in e)
+    c.row_of-row.result.now (let e : listed c.core.inside.rows c.args.volume ≡ Some c.row_of-row.result.now = search rules in e)
