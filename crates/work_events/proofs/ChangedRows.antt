@@ -6,7 +6,7 @@ use Rattle.std.proofs.lemmas.List.{length-set}
 use Rattle.mss_base.specs.Content.{SiteLog, content}
 use Rattle.mss_base.specs.Counts.{IsFaultSince}
 use Rattle.volume_table.specs.Row.{RowValue}
-use Rattle.volume_table.specs.Listed.{listed}
+use Rattle.volume_table.specs.Listed.{listed, with_changed}
 use Rattle.volume_table.specs.Changes.{IsAllowed, effect}
 use Rattle.volume_table.specs.declared.changes.Change.{Change}
 use Rattle.table_pair.specs.Pair.{HoldsRow}
@@ -21,7 +21,7 @@ use Rattle.core_state.specs.Agrees.{message_of}
 use Rattle.core_state.specs.CoreValue.{CoreValue}
 use Rattle.core_state.specs.Counted.{IsCounted}
 use Rattle.core_state.specs.SessionData.{data_of, with_last_message}
-use Rattle.core_state.specs.Rows.{with_changed, Rewrites}
+use Rattle.core_state.specs.Rows.{Rewrites}
 use Rattle.core_state.specs.TheCore.{IsWhole, IsKept}
 use Rattle.core_state.specs.Entered.{worked}
 use Rattle.core_state.proofs.WholeEvents.{whole_change_failed}

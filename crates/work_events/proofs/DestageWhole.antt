@@ -3,7 +3,7 @@ use Rattle.std.proofs.Common.{◌≡◌, ◌≢◌, inl, ℕ, ◌/◌, ◌≤◌
 use Rattle.std.specs.Prelude.{slice_set, is_some}
 use Rattle.mss_base.specs.Content.{SiteLog, content}
 use Rattle.volume_table.specs.Row.{RowValue, frame_of, state_of}
-use Rattle.volume_table.specs.Listed.{listed}
+use Rattle.volume_table.specs.Listed.{listed, with_changed}
 use Rattle.volume_table.specs.Changes.{IsAllowed, effect, with_state}
 use Rattle.volume_table.specs.declared.changes.Change.TheVariants.{Destaged}
 use Rattle.volume_table.proofs.RowLemmas.{row-with_state}
@@ -20,7 +20,6 @@ use Rattle.core_state.specs.Agrees.{message_of}
 use Rattle.core_state.specs.CoreValue.{CoreValue}
 use Rattle.core_state.specs.SessionData.{data_of}
 use Rattle.core_state.specs.Pins.{task_at}
-use Rattle.core_state.specs.Rows.{with_changed}
 use Rattle.core_state.specs.Tasks.{IsTask, IsTransfer}
 use Rattle.core_state.specs.Served.{AreCopied}
 use Rattle.core_state.specs.IsCore.{IsCore}

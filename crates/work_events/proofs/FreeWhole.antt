@@ -6,7 +6,7 @@ use Rattle.std.proofs.lemmas.Bool.Decides.{eqb_tells}
 use Rattle.std.proofs.lemmas.List.{length-set}
 use Rattle.mss_base.specs.Content.{SiteLog, content}
 use Rattle.volume_table.specs.Row.{RowValue, frame_of, state_of}
-use Rattle.volume_table.specs.Listed.{listed}
+use Rattle.volume_table.specs.Listed.{listed, with_changed}
 use Rattle.volume_table.specs.Changes.{IsAllowed, effect, without_frame}
 use Rattle.volume_table.specs.declared.changes.Change.TheVariants.{Free}
 use Rattle.volume_table.proofs.RowLemmas.{row-without_frame}
@@ -21,7 +21,6 @@ use Rattle.core_state.specs.Agrees.{message_of}
 use Rattle.core_state.specs.CoreValue.{CoreValue}
 use Rattle.core_state.specs.SessionData.{data_of}
 use Rattle.core_state.specs.Pins.{task_at, owner_at}
-use Rattle.core_state.specs.Rows.{with_changed}
 use Rattle.core_state.specs.Tasks.{IsTask, HasFrame, IsNowhere}
 use Rattle.core_state.specs.IsCore.{IsCore}
 use Rattle.core_state.specs.TheCore.{IsWhole, IsKept}

@@ -19,7 +19,6 @@ use core_state::{Core, Rows};
 use fault_queue::{Queue, Request, RequestState};
 use mss_base::{FrameNo, Listed, NoMemory, Page, Site, VolumeNo};
 use victim_choice::{Candidate, Choose, FrameList};
-use volume_table::VolumeRow;
 
 /// Frames that may be taken, the least recently touched first.
 pub type CandidateList = Listed<Candidate>;
@@ -104,8 +103,7 @@ fn stays<S: Site, C: Choose>(core: &Core<S, C>, frame: FrameNo) -> bool
 }
 
 /// How many cylinders of a page are changed, 0 to 8.
-fn count_changed(rows: &[Option<VolumeRow>], volume: VolumeNo, page: Page) -> u8
-    requires { length rows.now ≡ 32 }
+fn count_changed(rows: &Rows, volume: VolumeNo, page: Page) -> u8
     ensures { result ≡ length (changed_in rows.now (volume, page)) }
 {
     let from = u16::from(page.get()) * 8;

@@ -1,5 +1,5 @@
 // The transfer that a task is at.
-ghost use Rattle.std.specs.Prelude.{◌≡◌, ◌*◌, length, slice_get};
+ghost use Rattle.std.specs.Prelude.{◌≡◌, ◌*◌, slice_get};
 ghost use Rattle.mss_base.specs.Firsts.{where_so};
 ghost use Rattle.core_state.specs.Pins.{changed_in, is_changed};
 ghost use Rattle.core_state.specs.WorkRules.{
@@ -17,11 +17,10 @@ use fault_queue::{Queue, Request};
 use mss_base::{CartridgeNo, Cylinder, FrameNo, Page, Site, VolumeNo};
 use transfers::{Transfer, TransferKind};
 use victim_choice::Choose;
-use volume_table::VolumeRow;
+use volume_table::Rows;
 
 /// The cylinder with this number, where it is changed.
-pub fn changed_at(rows: &[Option<VolumeRow>], volume: VolumeNo, number: u16) -> Option<Cylinder>
-    requires { length rows.now ≡ 32 }
+pub fn changed_at(rows: &Rows, volume: VolumeNo, number: u16) -> Option<Cylinder>
     ensures { result ≡ where_so (is_changed rows.now volume number) number }
 {
     let cylinder = Cylinder::of(number)?;
@@ -32,8 +31,7 @@ pub fn changed_at(rows: &[Option<VolumeRow>], volume: VolumeNo, number: u16) -> 
 }
 
 /// The lowest changed cylinder of a page.
-fn first_changed(rows: &[Option<VolumeRow>], volume: VolumeNo, page: Page) -> Option<Cylinder>
-    requires { length rows.now ≡ 32 }
+fn first_changed(rows: &Rows, volume: VolumeNo, page: Page) -> Option<Cylinder>
     ensures { result ≡ slice_get (changed_in rows.now (volume, page)) 0 }
 {
     let from = u16::from(page.get()) * 8;
@@ -46,11 +44,10 @@ fn first_changed(rows: &[Option<VolumeRow>], volume: VolumeNo, page: Page) -> Op
 }
 
 /// The cartridge of a cylinder; cartridge 0 where the volume has no row.
-fn cartridge_of(rows: &[Option<VolumeRow>], volume: VolumeNo, cylinder: Cylinder) -> CartridgeNo
-    requires { length rows.now ≡ 32 }
+fn cartridge_of(rows: &Rows, volume: VolumeNo, cylinder: Cylinder) -> CartridgeNo
     ensures { result ≡ cartridge_of rows.now volume cylinder }
 {
-    match &rows[usize::from(volume.get())] {
+    match rows.row(volume) {
         Some(row) => row.cartridge(cylinder),
         None => CartridgeNo::of(0).unwrap(),
     }
@@ -58,13 +55,12 @@ fn cartridge_of(rows: &[Option<VolumeRow>], volume: VolumeNo, cylinder: Cylinder
 
 /// A transfer that begins.
 fn transfer(
-    rows: &[Option<VolumeRow>],
+    rows: &Rows,
     kind: TransferKind,
     volume: VolumeNo,
     cylinder: Cylinder,
     frame: FrameNo,
 ) -> Transfer
-    requires { length rows.now ≡ 32 }
     ensures { result ≡ transfer rows.now kind volume cylinder frame }
 {
     let cartridge = cartridge_of(rows, volume, cylinder);
@@ -79,13 +75,7 @@ fn transfer(
 }
 
 /// The destaging of a victim's lowest changed cylinder.
-fn destaging(
-    rows: &[Option<VolumeRow>],
-    frame: FrameNo,
-    volume: VolumeNo,
-    page: Page,
-) -> Option<Transfer>
-    requires { length rows.now ≡ 32 }
+fn destaging(rows: &Rows, frame: FrameNo, volume: VolumeNo, page: Page) -> Option<Transfer>
     ensures { result ≡ destaging rows.now frame (volume, page) }
 {
     let cylinder = first_changed(rows, volume, page)?;
@@ -93,8 +83,7 @@ fn destaging(
 }
 
 /// The staging of the asked cylinder, once its page has a frame.
-fn staging(rows: &[Option<VolumeRow>], frame: FrameNo, request: &Request) -> Option<Transfer>
-    requires { length rows.now ≡ 32 }
+fn staging(rows: &Rows, frame: FrameNo, request: &Request) -> Option<Transfer>
     ensures { result ≡ staging rows.now frame request.now }
 {
     let _taken = frame_in(rows, request.volume, request.cylinder.page())?;
@@ -107,8 +96,7 @@ fn staging(rows: &[Option<VolumeRow>], frame: FrameNo, request: &Request) -> Opt
 }
 
 /// What is to be copied next, where no transfer is under way.
-fn next_transfer(rows: &[Option<VolumeRow>], requests: &Queue, task: &Task) -> Option<Transfer>
-    requires { length rows.now ≡ 32 }
+fn next_transfer(rows: &Rows, requests: &Queue, task: &Task) -> Option<Transfer>
     ensures { result ≡ next_transfer rows.now requests.now task.now }
 {
     match task.victim {

@@ -3,14 +3,14 @@ use Rattle.std.specs.Prelude.{slice_set, vec_len}
 use Rattle.mss_base.specs.Content.{SiteLog, content}
 use Rattle.mss_base.specs.Counts.{Rises}
 use Rattle.volume_table.specs.Changes.{effect}
-use Rattle.volume_table.specs.Listed.{listed}
+use Rattle.volume_table.specs.Listed.{listed, with_changed}
 use Rattle.volume_table.specs.Row.{RowValue}
 use Rattle.volume_table.specs.declared.changes.Change.TheVariants.{Free}
 use Rattle.table_pair.specs.Pair.{HoldsRow}
 use Rattle.core_state.specs.declared.session.Event.TheVariants.{Work}
 use Rattle.core_state.specs.Agrees.{message_of}
 use Rattle.core_state.specs.CoreValue.{CoreValue}
-use Rattle.core_state.specs.Rows.{Rewrites, with_changed}
+use Rattle.core_state.specs.Rows.{Rewrites}
 use Rattle.core_state.specs.SessionData.{data_of, of_parts, with_last_event, with_last_message, with_stop}
 use Rattle.core_state.specs.Sessions.{session_data}
 use Rattle.core_state.specs.TheCore.{IsKept}
@@ -87,7 +87,7 @@ invariant_of-core-in-Ok g c =
     let x = c.write_change.new.site in
     let more : g.S.Site.writes now.site ≤ g.S.Site.writes x = let w = c.write_change.ensures.devices.written in omega (arith, w, unwritten) in
     let le : g.S.Site.faults now.site ≤ g.S.Site.faults x = let f = c.write_change.ensures.devices.later in omega (arith, f, sound) in
-    let rows : c.write_change.new.rows.items ≡ with_changed c.args.volume (Free c.args.page) now.rows = c.write_change.ensures.rows ∙ (λ i. with_changed c.args.volume (Free c.args.page) (is i).rows) in
+    let rows : c.write_change.new.rows ≡ with_changed c.args.volume (Free c.args.page) now.rows = c.write_change.ensures.rows ∙ (λ i. with_changed c.args.volume (Free c.args.page) (is i).rows) in
     let row = λ (r : RowValue) (at : listed now.rows c.args.volume ≡ Some r). ap (λ (z : CoreValue g.row.S.Denot g.row.C.Denot). listed z.rows c.args.volume) is ∙ at in
     let may : MayFree now c.served.result.0 c.args.volume c.args.page = says.may c.served.result.0 c.served.result.1 c.served.ensures.serves in
     let message = message_of (g.S.Site.writes x) c.args.volume (Free c.args.page) (listed now.rows) in
@@ -114,7 +114,7 @@ invariant_of-core-in-Err g c =
     let x = c.write_change.new.site in
     let more : g.S.Site.writes now.site ≤ g.S.Site.writes x = let w = c.write_change.ensures.devices.written in omega (arith, w, unwritten) in
     let le : g.S.Site.faults now.site ≤ g.S.Site.faults x = let f = c.write_change.ensures.devices.later in omega (arith, f, sound) in
-    let rows : c.write_change.new.rows.items ≡ with_changed c.args.volume (Free c.args.page) now.rows = c.write_change.ensures.rows ∙ (λ i. with_changed c.args.volume (Free c.args.page) (is i).rows) in
+    let rows : c.write_change.new.rows ≡ with_changed c.args.volume (Free c.args.page) now.rows = c.write_change.ensures.rows ∙ (λ i. with_changed c.args.volume (Free c.args.page) (is i).rows) in
     let row = λ (r : RowValue) (at : listed now.rows c.args.volume ≡ Some r). ap (λ (z : CoreValue g.row.S.Denot g.row.C.Denot). listed z.rows c.args.volume) is ∙ at in
     let may : MayFree now c.served.result.0 c.args.volume c.args.page = says.may c.served.result.0 c.served.result.1 c.served.ensures.serves in
     let due = due_freed g.row.S.Denot g.S.Site.tells (g.S.Site.told now.site) now kept.whole says.going c.args.recorder c.served.result.0 c.served.result.1 c.served.ensures.serves c.args.volume c.args.page may in
