@@ -31,35 +31,9 @@ none_told config now = record {
 }
 
 module _ (config : ConfigData) (old new : DevicesSeen) (opened : Opened) where
-  -- memory ran out behind the opening
-  pub then_none_told : OpensTold config old new (Ok opened) → OpensTold config old new (Err Memory)
-  then_none_told is = record {
-    opens = tt;
-    exact = λ _ _. tt;
-    moments = is.moments;
-    complete = (
-      32,
-      (
-        is.complete.0,
-        is.complete.1,
-        record {
-          done = missing (rows_of (content old.told)) config.volumes;
-          later = [];
-          order = append-nil (missing (rows_of (content old.told)) config.volumes);
-          made = opened.creations.items;
-          last = rows_of (content new.told);
-          each = is.complete.2;
-        },
-      ),
-    );
-    others = is.others;
-    paired = is.paired;
-    untouched = is.untouched;
-  }
-
-  -- so it is of the same rows and creations in other lists
-  pub told_as : (rows : List (Option RowValue)) (made : List Creation) → rows ≡ opened.rows.items → made ≡ opened.creations.items → OpensTold config old new (Ok opened)
-      → OpensTold config old new (Ok (record { rows = record { items = rows; spare = 0 }; creations = record { items = made; spare = 0 } }))
+  -- so it is of the same rows and creations in another list
+  pub told_as : (rows : List (Option RowValue)) (made : List Creation) → rows ≡ opened.rows → made ≡ opened.creations.items → OpensTold config old new (Ok opened)
+      → OpensTold config old new (Ok (record { rows = rows; creations = record { items = made; spare = 0 } }))
   told_as rows made rows_are made_are is = record {
     opens = subst (λ (rs : List (Option RowValue)). IsOpened config (content old.told) (content new.told) rs) (sym rows_are) is.opens;
     exact = is.exact;

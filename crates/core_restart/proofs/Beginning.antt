@@ -5,7 +5,7 @@ use Rattle.mss_base.specs.Configs.{ConfigData, VolumeData}
 use Rattle.mss_base.specs.Content.{SiteLog, content}
 use Rattle.mss_base.specs.declared.block.TheConstants.{BLOCK_BYTES}
 use Rattle.volume_table.specs.Row.{RowValue}
-use Rattle.volume_table.specs.Listed.{listed}
+use Rattle.volume_table.specs.Listed.{AreRows, listed}
 use Rattle.shown_volumes.specs.Shown.{RowsOf}
 use Rattle.mss_restart.specs.Opening.{missing, IsOpened, AreHeld}
 use Rattle.mss_restart.specs.Usable.{AreUsableFor}
@@ -27,7 +27,7 @@ use Rattle.mss_restart.specs.Answers.{CreatesCounted}
 use Rattle.core_restart.specs.declared.parts.Parts.{Parts}
 use Rattle.core_state.proofs.Begun.{begun, whole_begun}
 use Rattle.core_state.proofs.CountedFacts.{counted_begun}
-use Rattle.core_restart.specs.Owners.{AreRows, AreOwners}
+use Rattle.core_restart.specs.Owners.{AreOwners}
 use Rattle.core_restart.specs.Console.{creations_of, HaveRows, TellCreations}
 use Rattle.core_restart.specs.Parts.{AreParts, MayBegin}
 use Rattle.core_restart.specs.Begins.{Begins}
@@ -183,17 +183,13 @@ module _ {S C : Type 0} (site : S) (chooser kept : C) (parts : Parts) (rows : Li
       (vec_len parts.buffer) are.buffer_
 
 -- an opening that was answered is one to begin from
-pub may_begin : (tells : Type 0) (config : ConfigData) (old new : DevicesSeen) (opened : Opened) (rows : List (Option RowValue)) → rows ≡ opened.rows.items → AreRows rows → AreUsableFor config (listed opened.rows.items) → length opened.rows.items ≡ 32
-    → CreatesCounted config old.writes new.writes (listed opened.rows.items) opened.creations.items → (tells → IsOpened config (content old.told) (content new.told) opened.rows.items)
-    → MayBegin tells new.told new.writes config rows opened.creations.items
-may_begin tells config old new opened rows same are_rows usable places counted is =
-    let be : List (Option RowValue) → Type 0 = λ rs. AreRows rs → MayBegin tells new.told new.writes config rs opened.creations.items in
-    subst be (sym same)
-    (λ are. record {
-      rows_ = record { places = places; are_rows = are; below = usable.usable.frames_below; once = usable.usable.frames_once };
-      written = old.writes;
-      counted = counted;
-      from = content old.told;
-      opened = is;
-    })
-    are_rows
+pub may_begin : (tells : Type 0) (config : ConfigData) (old new : DevicesSeen) (opened : Opened) → length opened.rows ≡ 32 → AreRows opened.rows → AreUsableFor config (listed opened.rows)
+    → CreatesCounted config old.writes new.writes (listed opened.rows) opened.creations.items → (tells → IsOpened config (content old.told) (content new.told) opened.rows)
+    → MayBegin tells new.told new.writes config opened.rows opened.creations.items
+may_begin tells config old new opened places are_rows usable counted is = record {
+  rows_ = record { places = places; are_rows = are_rows; below = usable.usable.frames_below; once = usable.usable.frames_once };
+  written = old.writes;
+  counted = counted;
+  from = content old.told;
+  opened = is;
+}

@@ -1,5 +1,5 @@
 -- What restart makes of a site, and what it answers.
-use Rattle.std.specs.Prelude.{◌≡◌, ◌<◌, ℕ, length, Result, Ok, Err, IfOk, IfErr}
+use Rattle.std.specs.Prelude.{◌≡◌, ◌<◌, ℕ, Result, Ok, Err, IfOk, IfErr}
 use Rattle.mss_base.specs.Configs.{ConfigData}
 use Rattle.mss_base.specs.Content.{SiteLog, content, Writes}
 use Rattle.volume_table.specs.Listed.{listed}
@@ -23,7 +23,7 @@ site_of (Err refused) = refused.0
 -- the rows of the core, and the creations that its console tells; no room is told
 abbrev pub opened_in : {S C : Type 0} → CoreValue S C → Opened
 opened_in core = record {
-  rows = record { items = core.rows; spare = 0 };
+  rows = core.rows;
   creations = record { items = creations_of core.console; spare = 0 };
 }
 
@@ -54,8 +54,7 @@ pub record OpensTold (config : ConfigData) (old new : DevicesSeen) (answer : Res
 -- with rising counts of writes; what a refusal leaves, and which counts it keeps
 pub record OpensAny (config : ConfigData) (old new : DevicesSeen) (answer : Result Opened Refused)
     : Type 0 where
-  pub usable : IfOk answer (λ opened. AreUsableFor config (listed opened.rows.items))
-  pub places : IfOk answer (λ opened. length opened.rows.items ≡ 32)
+  pub usable : IfOk answer (λ opened. AreUsableFor config (listed opened.rows))
   pub counted : MakesCounted config old.writes new.writes answer
   pub refused : IfErr answer (RefusalLeaves old.writes new.writes old.faults new.faults)
   pub kept : KeepsOpening old.faults new.faults answer

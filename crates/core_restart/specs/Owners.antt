@@ -1,14 +1,10 @@
 -- Which page has each frame.
 use Rattle.std.specs.Prelude.{◌≡◌, ◌⊎◌, ◌↔◌, ◌<◌, ℕ, List, length, Option, Some}
-use Rattle.volume_table.specs.Row.{RowValue, IsRow}
-use Rattle.volume_table.specs.Listed.{listed}
+use Rattle.volume_table.specs.Row.{RowValue}
+use Rattle.volume_table.specs.Listed.{AreRows, listed}
 use Rattle.shown_volumes.specs.Shown.{RowsOf}
 use Rattle.shown_volumes.specs.Sound.{frame_in, HasFramesBelow, HasFramesOnce}
 use Rattle.core_state.specs.Pins.{owner_at}
-
--- what stands in the list for a volume is a row
-abbrev pub AreRows : List (Option RowValue) → Type 0
-AreRows rows = (volume : ℕ) (r : RowValue) → listed rows volume ≡ Some r → IsRow r
 
 -- the rows of the 32 volumes, whose pages have different frames, of the first so many
 pub record HaveFrames (frames : ℕ) (rows : List (Option RowValue)) : Type 0 where

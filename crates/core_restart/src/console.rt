@@ -7,7 +7,7 @@ ghost use Rattle.core_restart.specs.Console.{HaveRows, TellCreations, creations_
 use core_state::{Message, MessageList};
 use mss_base::VolumeNo;
 use mss_restart::Creation;
-use volume_table::{Change, VolumeRow};
+use volume_table::{Change, Rows, VolumeRow};
 
 /// Puts a message: that a volume got a row.
 fn tell(console: &mut MessageList, mark: u64, volume: VolumeNo, change: &Change)
@@ -36,8 +36,7 @@ fn creation_of(row: &VolumeRow) -> Change
 }
 
 /// Puts the message of a creation.
-fn tell_creation(console: &mut MessageList, rows: &[Option<VolumeRow>], creation: &Creation)
-    requires rows { length rows.now ≡ 32 }
+fn tell_creation(console: &mut MessageList, rows: &Rows, creation: &Creation)
     requires there { IsSome (listed rows.now creation.now.volume) }
     requires room { 1 ≤ console.old.spare }
     ensures tells { TellCreations (listed rows.now) console.old.items
@@ -46,15 +45,14 @@ fn tell_creation(console: &mut MessageList, rows: &[Option<VolumeRow>], creation
         ≡ creations_of console.old.items ++ creation.now ∷ [] }
     ensures room { console.new.spare + 1 ≡ console.old.spare }
 {
-    let Some(row) = &rows[creation.volume.get() as usize] else {
+    let Some(row) = rows.row(creation.volume) else {
         unreachable!()
     };
     tell(console, creation.writes, creation.volume, &creation_of(row));
 }
 
 /// Puts a message of each creation, in order, on a console that has none.
-pub fn tell_creations(console: &mut MessageList, rows: &[Option<VolumeRow>], creations: &[Creation])
-    requires rows { length rows.now ≡ 32 }
+pub fn tell_creations(console: &mut MessageList, rows: &Rows, creations: &[Creation])
     requires there { HaveRows (listed rows.now) creations.now }
     requires none { console.old.items ≡ [] }
     requires room { length creations.now ≤ console.old.spare }

@@ -13,7 +13,6 @@ pub mod law;
 mod owners;
 mod parts;
 mod restarting;
-mod rows;
 
 pub use mss_restart::Refused;
 pub use restarting::restart;

@@ -7,10 +7,10 @@ ghost use Rattle.core_restart.specs.Owners.{AreOwners, AreOwnersBefore, HaveFram
 use mss_base::{Page, VolumeNo, page_at, volume_at};
 use shown_volumes::frame_in;
 use staging_adapter::Frames;
-use volume_table::VolumeRow;
+use volume_table::Rows;
 
 /// Gives the frame of a page to it, where it has one.
-fn own_page(frames: &mut Frames, rows: &[Option<VolumeRow>], volume: VolumeNo, page: Page)
+fn own_page(frames: &mut Frames, rows: &Rows, volume: VolumeNo, page: Page)
     requires rows { HaveFrames (length frames.old.owners) rows.now }
     requires so_far { AreOwnersBefore (listed rows.now) frames.old.owners volume page }
     ensures so_far { AreOwnersBefore (listed rows.now) frames.new.owners volume (page + 1) }
@@ -23,7 +23,7 @@ fn own_page(frames: &mut Frames, rows: &[Option<VolumeRow>], volume: VolumeNo, p
 }
 
 /// Gives the frames of a volume's pages to them.
-fn own_pages(frames: &mut Frames, rows: &[Option<VolumeRow>], volume: VolumeNo)
+fn own_pages(frames: &mut Frames, rows: &Rows, volume: VolumeNo)
     requires rows { HaveFrames (length frames.old.owners) rows.now }
     requires so_far { AreOwnersBefore (listed rows.now) frames.old.owners volume 0 }
     ensures so_far { AreOwnersBefore (listed rows.now) frames.new.owners (volume + 1) 0 }
@@ -36,7 +36,7 @@ fn own_pages(frames: &mut Frames, rows: &[Option<VolumeRow>], volume: VolumeNo)
 }
 
 /// Gives each frame to the page that has it, where no page has one yet.
-pub fn own_frames(frames: &mut Frames, rows: &[Option<VolumeRow>])
+pub fn own_frames(frames: &mut Frames, rows: &Rows)
     requires rows { HaveFrames (length frames.old.owners) rows.now }
     requires free { frames.old ≡ free_frames (length frames.old.owners) }
     ensures owners { AreOwners (length frames.old.owners) (listed rows.now) frames.new.owners }

@@ -14,11 +14,10 @@ ghost use Rattle.core_state.specs.CoreValue.{seen_site};
 use crate::console::tell_creations;
 use crate::owners::own_frames;
 use crate::parts::Parts;
-use crate::rows::copies_of;
 use accessors::Rail;
 use core_state::{Core, MessageList, Rows, Session};
 use mss_base::{Config, Site};
-use mss_restart::{Creation, Refused, open_rows};
+use mss_restart::{Creation, Opened, Refused, open_rows};
 use std::alloc::Global;
 use victim_choice::{Choose, Chooser};
 
@@ -41,10 +40,10 @@ fn begin<S: Site, C: Choose>(
     requires able { C.can_choose chooser }
     requires parts { AreParts parts.config parts }
     requires opened { MayBegin S.tells (S.told site) (S.writes site)
-        parts.config rows.items creations.now }
+        parts.config rows creations.now }
     ensures begins { Begins parts.config chooser (S.writes site) (S.faults site) result }
     ensures site { result.site ≡ site }
-    ensures rows { result.rows ≡ rows.items }
+    ensures rows { result.rows ≡ rows }
     ensures creations { creations_of result.console ≡ creations.now }
 {
     let Parts {
@@ -91,7 +90,8 @@ fn begin<S: Site, C: Choose>(
 /// was written to its end. Where it refuses, it hands the site back. A stop at any moment, also within a call that fails,
 /// leaves a sound content sound; it then shows the volumes that it showed before, with a front of the new ones.
 ///
-/// The memory of the core is taken before anything is written, but for that of its rows.
+/// The memory of the core is taken before anything is written, but for that of the rows
+/// that it creates.
 pub fn restart<S: Site, C: Choose + Drop>(
     alloc: Global,
     site: S,
@@ -116,17 +116,10 @@ pub fn restart<S: Site, C: Choose + Drop>(
     match open_rows(alloc, site, config) {
         Err(refusal) => Err(refusal),
         Ok((site, opened)) => {
-            let Ok(rows) = copies_of(alloc, opened.rows.as_slice()) else {
-                return Err((site, Refused::Memory));
-            };
-            Ok(begin(
-                alloc,
-                site,
-                rows,
-                opened.creations.as_slice(),
-                parts,
-                chooser,
-            ))
+            let Opened { rows, creations } = opened;
+            rows.look();
+            let creations = creations.as_slice();
+            Ok(begin(alloc, site, rows, creations, parts, chooser))
         }
     }
 }

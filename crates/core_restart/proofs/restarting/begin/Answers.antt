@@ -12,20 +12,19 @@ use Rattle.core_restart.proofs.restarting.begin.Goals as goal
 pub tell_creations-requires-clause-there : goal.tell_creations-requires-clause-there
 tell_creations-requires-clause-there g c =
     let rising : AreRising c.args.parts.config.volumes = subst (λ (x : ConfigData). AreRising x.volumes) c.config.view_is c.config.invariant.rising in
-    subst (λ (rows : List (Option RowValue)). HaveRows (listed rows) c.args.creations.now) (sym c.deref-2.ensures.value)
-    (rows_made g.S.Site.tells (g.S.Site.told c.args.site) (g.S.Site.writes c.args.site) (g.S.Site.faults c.args.site) c.args.parts.config rising c.args.rows.items c.args.creations.now c.requires.opened)
+    rows_made g.S.Site.tells (g.S.Site.told c.args.site) (g.S.Site.writes c.args.site) (g.S.Site.faults c.args.site) c.args.parts.config rising c.args.rows c.args.creations.now c.requires.opened
 
 pub tell_creations-requires-clause-room : goal.tell_creations-requires-clause-room
 tell_creations-requires-clause-room g c =
     let rising : AreRising c.args.parts.config.volumes = subst (λ (x : ConfigData). AreRising x.volumes) c.config.view_is c.config.invariant.rising in
-    let few = few_made g.S.Site.tells (g.S.Site.told c.args.site) (g.S.Site.writes c.args.site) (g.S.Site.faults c.args.site) c.args.parts.config rising c.args.rows.items c.args.creations.now c.requires.opened in
+    let few = few_made g.S.Site.tells (g.S.Site.told c.args.site) (g.S.Site.writes c.args.site) (g.S.Site.faults c.args.site) c.args.parts.config rising c.args.rows c.args.creations.now c.requires.opened in
     let room = c.requires.parts.room in
     omega (arith, few, room)
 
 pub invariant_of-result : goal.invariant_of-result
 invariant_of-result g c =
-    kept_of c.args.site c.args.chooser c.new.result c.args.parts c.args.rows.items c.own_frames.new.frames c.start.result (session_data c.session_of-session.result) c.tell_creations.new.console.items (g.S.Site.writes c.args.site)
-    (g.S.Site.faults c.args.site) c.requires.parts c.new.ensures (subst (λ (rows : List (Option RowValue)). AreOwners (length c.args.parts.frames.owners) (listed rows) c.own_frames.new.frames.owners) c.deref.ensures.value c.own_frames.ensures.owners)
-    c.own_frames.ensures.moving c.start.ensures (subst (λ (rows : List (Option RowValue)). TellCreations (listed rows) c.tell_creations.new.console.items) c.deref-2.ensures.value c.tell_creations.ensures.tells)
+    kept_of c.args.site c.args.chooser c.new.result c.args.parts c.args.rows c.own_frames.new.frames c.start.result (session_data c.session_of-session.result) c.tell_creations.new.console.items (g.S.Site.writes c.args.site)
+    (g.S.Site.faults c.args.site) c.requires.parts c.new.ensures c.own_frames.ensures.owners
+    c.own_frames.ensures.moving c.start.ensures c.tell_creations.ensures.tells
     c.session_of-session.ensures g.S.Site.tells (g.S.Site.told c.args.site)
     (subst (λ (x : ConfigData). AreRising x.volumes) c.config.view_is c.config.invariant.rising) c.args.creations.now c.tell_creations.ensures.creations c.requires.opened (g.met.S.Site.counted c.args.site)
