@@ -65,8 +65,7 @@ fn create_volume<S: Site>(
         (listed rows.new) (volume, serial) made (S.told site.old) (S.told site.new)) }
     ensures others { S.tells →
         RepairsOthers ((volume, serial) ∷ []) (S.told site.old) (S.told site.new) }
-    ensures row { OnOk result
-        (HasNewRow volume serial (listed rows.old) (listed rows.new)) }
+    ensures row { OnOk result (HasNewRow volume serial (listed rows.old) (listed rows.new)) }
     ensures counted { IfOk result (λ made.
         (made.volume ≡ volume) × (made.writes ≡ S.writes site.new)) }
     ensures memory { result ≡ Err Memory → LeavesSite S.Site site.old site.new }

@@ -54,8 +54,7 @@ pub struct Opened {
 
 /// Surveys a site whose rows have to be told by all that was read of both copies.
 fn known_rows<S: Site>(alloc: Global, site: &mut S, config: &Config) -> Result<Rows, Refused>
-    ensures known { S.tells →
-        IfOk result (λ rows. RowsAre rows (content (S.told site.old))) }
+    ensures known { S.tells → IfOk result (λ rows. RowsAre rows (content (S.told site.old))) }
     ensures faultless { S.tells → OnOk result (first_fault config.now.frames
         (serial_in config.now.volumes) (content (S.told site.old)) ≡ None) }
     ensures usable { IfOk result (λ rows. AreUsable config.now.frames (serial_in config.now.volumes)

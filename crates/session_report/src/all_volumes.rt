@@ -1,5 +1,5 @@
 // The listing of all volumes.
-ghost use Rattle.std.specs.Prelude.{◌≡◌, ◌≤◌, ◌+◌, ◌++◌, IfOk, length};
+ghost use Rattle.std.specs.Prelude.{◌≡◌, ◌≤◌, ◌+◌, ◌++◌, IfOk};
 ghost use Rattle.std.specs.Option.{option_map};
 ghost use Rattle.mss_base.specs.Content.{content};
 ghost use Rattle.mss_base.specs.Sites.{OnlyReads};
@@ -21,14 +21,13 @@ use crate::reporting::{Last, put_ending};
 use mss_base::{NoMemory, Sink, Site, VolumeList, VolumeNo};
 use report_text::put_title;
 use std::alloc::Global;
-use volume_table::VolumeRow;
+use volume_table::Rows;
 
 /// How many volumes there may be.
 const VOLUMES: u8 = 32;
 
 /// Puts a volume last, with its serial, if it has a row.
-fn push_volume(volumes: &mut VolumeList, rows: &[Option<VolumeRow>], volume: VolumeNo)
-    requires rows { length rows.now ≡ 32 }
+fn push_volume(volumes: &mut VolumeList, rows: &Rows, volume: VolumeNo)
     requires room { 1 ≤ volumes.old.spare }
     ensures items { volumes.new.items ≡ volumes.old.items
         ++ heading_of volume (option_map (λ r. r.serial) (listed rows.now volume)) }
@@ -40,13 +39,12 @@ fn push_volume(volumes: &mut VolumeList, rows: &[Option<VolumeRow>], volume: Vol
 }
 
 /// The volumes that have a row, by number, each with its serial.
-fn listed_volumes(alloc: Global, rows: &[Option<VolumeRow>]) -> Result<VolumeList, NoMemory>
-    requires { length rows.now ≡ 32 }
+fn listed_volumes(alloc: Global, rows: &Rows) -> Result<VolumeList, NoMemory>
     ensures { IfOk result (λ volumes. volumes.items
         ≡ volumes_below 32 (λ volume. option_map (λ r. r.serial) (listed rows.now volume))) }
 {
     let mut volumes = VolumeList::new(alloc);
-    volumes.reserve(rows.len())?;
+    volumes.reserve(usize::from(VOLUMES))?;
     for number in 0..VOLUMES {
         let Some(volume) = VolumeNo::of(number) else {
             unreachable!()
@@ -59,14 +57,13 @@ fn listed_volumes(alloc: Global, rows: &[Option<VolumeRow>]) -> Result<VolumeLis
 /// Puts the listing of a site: every volume that has a row, as the rows show it over the devices.
 ///
 /// Where a read for a track fails, the listing ends before that track, with a line that tells the count of faults.
-/// The first line wants no memory, which may run out behind it. `rows` has 32 items.
+/// The first line wants no memory, which may run out behind it.
 pub fn listing<S: Site, O: Sink>(
     alloc: Global,
     site: &mut S,
-    rows: &[Option<VolumeRow>],
+    rows: &Rows,
     output: &mut O,
 ) -> Result<(), ReportFault>
-    requires rows { length rows.now ≡ 32 }
     ensures report { let shown = shown_by (listed rows.now) (content (S.told site.old)) in
         IsReported (listing_matter shown) (finished End) (site_between S.Site site.old site.new)
         (sink_between O.Sink output.old output.new) result }

@@ -1,19 +1,18 @@
 // Where the track lies that a row shows.
-ghost use Rattle.std.specs.Prelude.{◌≡◌, ◌==◌, ◌||◌, length};
+ghost use Rattle.std.specs.Prelude.{◌≡◌, ◌==◌, ◌||◌};
 ghost use Rattle.volume_table.specs.Listed.{listed};
 ghost use Rattle.volume_table.specs.Row.{state_of};
 ghost use Rattle.shown_volumes.specs.Shown.{in_page, source};
 
 use mss_base::{BlockPlace, Cylinder, Head, VolumeNo, frame_block};
 use shown_volumes::on_cartridge;
-use volume_table::{CylinderState, VolumeRow};
+use volume_table::{CylinderState, Rows, VolumeRow};
 
 /// The row of a volume, if the list has one.
-pub fn row_of(rows: &[Option<VolumeRow>], volume: VolumeNo) -> &Option<VolumeRow>
-    requires { length rows.now ≡ 32 }
+pub fn row_of(rows: &Rows, volume: VolumeNo) -> &Option<VolumeRow>
     ensures { result.now ≡ listed rows.now volume }
 {
-    &rows[usize::from(volume.get())]
+    rows.row(volume)
 }
 
 /// The place of a track in the frame of its page, if the page has one.

@@ -25,7 +25,7 @@ use core_state::Session;
 use mss_base::{BLOCK_BYTES, Bytes, Failed, NoMemory, Serial, Sink, Site, VolumeNo};
 use report_text::{ReportFault as PartFault, put_end, put_history, put_limit, put_stopped};
 use std::alloc::Global;
-use volume_table::VolumeRow;
+use volume_table::Rows;
 
 /// The last line of a report whose volumes are told.
 #[derive(Clone, Copy, Debug, PartialEq, Eq)]
@@ -66,13 +66,12 @@ fn put_opening<O: Sink>(
 fn put_to_end<S: Site, O: Sink>(
     site: &mut S,
     output: &mut O,
-    rows: &[Option<VolumeRow>],
+    rows: &Rows,
     volumes: &[(VolumeNo, Serial)],
     last: Last,
     block: &mut [u8],
     line: &mut Bytes,
 ) -> Result<(), VolumesFault>
-    requires rows { length rows.now ≡ 32 }
     requires block { length block.old ≡ BLOCK_BYTES }
     ensures bytes { let shown = shown_by (listed rows.now) (content (S.told site.old)) in
         PutsVolumes (S.tells × O.tells) (IsUnread S.Site site.old (listed rows.now) volumes.now)
@@ -105,12 +104,11 @@ fn block_room(alloc: Global) -> Result<Vec<u8>, NoMemory>
 pub fn put_ending<S: Site, O: Sink>(
     alloc: Global,
     site: &mut S,
-    rows: &[Option<VolumeRow>],
+    rows: &Rows,
     volumes: &[(VolumeNo, Serial)],
     last: Last,
     output: &mut O,
 ) -> Result<(), ReportFault>
-    requires rows { length rows.now ≡ 32 }
     ensures report { let shown = shown_by (listed rows.now) (content (S.told site.old)) in
         IsReported (untitled volumes.now shown) (finished last)
         (site_between S.Site site.old site.new) (sink_between O.Sink output.old output.new) result }
@@ -141,17 +139,16 @@ pub fn put_ending<S: Site, O: Sink>(
 ///
 /// A session that was stopped has no volumes, and its last line tells the fault. Where a read for a track fails, the
 /// report ends before that track, with a line that tells the count of faults. Of devices that don't tell what they
-/// hold, all but the volumes is known. Memory may run out behind the first line. `rows` has 32 items.
+/// hold, all but the volumes is known. Memory may run out behind the first line.
 pub fn report<S: Site, O: Sink>(
     alloc: Global,
     site: &mut S,
-    rows: &[Option<VolumeRow>],
+    rows: &Rows,
     volumes: &[(VolumeNo, Serial)],
     session: &Session,
     last: Last,
     output: &mut O,
 ) -> Result<(), ReportFault>
-    requires rows { length rows.now ≡ 32 }
     ensures report { let shown = shown_by (listed rows.now) (content (S.told site.old)) in
         IsReported (report_matter (session_data session.now) volumes.now shown)
         (ending_of session.now.stopped last) (site_between S.Site site.old site.new)

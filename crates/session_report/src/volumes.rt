@@ -17,7 +17,7 @@ use mss_base::{
     BLOCK_BYTES, Bytes, CYLINDERS, Cylinder, HEADS, Head, Serial, Sink, Site, VolumeNo,
 };
 use report_text::{put_heading, put_track};
-use volume_table::VolumeRow;
+use volume_table::{Rows, VolumeRow};
 
 /// Reads the block of a track that a row shows, and puts the track. A blank cylinder isn't read. Of a track that can't
 /// be read it puts nothing.
@@ -118,13 +118,12 @@ fn put_row<S: Site, O: Sink>(
 fn put_volume<S: Site, O: Sink>(
     site: &mut S,
     output: &mut O,
-    rows: &[Option<VolumeRow>],
+    rows: &Rows,
     volume: VolumeNo,
     serial: &Serial,
     block: &mut [u8],
     line: &mut Bytes,
 ) -> Result<(), VolumesFault>
-    requires rows { length rows.now ≡ 32 }
     requires block { length block.old ≡ BLOCK_BYTES }
     ensures bytes { PutsTracks (S.tells × O.tells)
         (λ n. MayFail S.Site site.old (block_of (listed rows.now volume) n))
@@ -147,12 +146,11 @@ fn put_volume<S: Site, O: Sink>(
 pub fn put_volumes<S: Site, O: Sink>(
     site: &mut S,
     output: &mut O,
-    rows: &[Option<VolumeRow>],
+    rows: &Rows,
     volumes: &[(VolumeNo, Serial)],
     block: &mut [u8],
     line: &mut Bytes,
 ) -> Result<(), VolumesFault>
-    requires rows { length rows.now ≡ 32 }
     requires block { length block.old ≡ BLOCK_BYTES }
     ensures bytes { let shown = shown_by (listed rows.now) (content (S.told site.old)) in
         PutsVolumes (S.tells × O.tells) (IsUnread S.Site site.old (listed rows.now) volumes.now)

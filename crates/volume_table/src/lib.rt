@@ -1,9 +1,12 @@
-//! The row of a volume: its serial, its two cartridges, which page has which frame, the state of each cylinder.
+//! The row of a volume: its serial, its two cartridges, which page has which frame, the state of each cylinder. And the
+//! rows of all volumes.
 //!
 //! `specs/Row.antt` says what a row is, `specs/Grammar.antt` how its 512 bytes spell it, `specs/Changes.antt` which
 //! changes are allowed and what each does. `decode_row`, `encode_row`, `is_allowed` and `apply` are exactly these
-//! definitions. The layers above rely on them, and on `law`. Proofs above may cite these files of proofs/: `RowFacts`
-//! (what a change does to each page and each cylinder) and `RowLemmas` (what keeps a row one).
+//! definitions. The layers above rely on them, and on `law`. `Rows` has a place for each of the 32 volumes; that there are
+//! so many, and that what stands in them are rows, is its invariant (`specs/Listed.antt`), which `look` tells. Proofs
+//! above may cite these files of proofs/: `RowFacts` (what a change does to each page and each cylinder) and `RowLemmas`
+//! (what keeps a row one).
 #![tactic(auto)]
 
 mod changes;
