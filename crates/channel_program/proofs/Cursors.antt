@@ -39,11 +39,10 @@ below_limit words w executed word (Some at) leads same few =
       call = rw (leads, lt-leb CHAIN_LIMIT executed few) refl;
     })
 
-pub next_command : (items slice : List Ccw) (at : Standing) (next : Option ℕ) (w executed word : ℕ)
-    → slice ≡ items → at ≡ record { word = next; executed = executed } → next ≡ Some w
-    → Some word ≡ option_map (λ (r : Reached). r.word) (reached (map ccw_of items) w) → executed < CHAIN_LIMIT
-    → IsNextCommand (map ccw_of items) at word (not (word + 1 == length slice))
-next_command items slice at next w executed word whole stands goes leads few =
-    let words = map ccw_of items in
-    let long : length words ≡ length slice = length-map items ccw_of ∙ ap length (sym whole) in
+pub next_command : (words : List CcwData) (slice : List Ccw) (at : Standing) (next : Option ℕ) (w executed word : ℕ)
+    → map ccw_of slice ≡ words → at ≡ record { word = next; executed = executed } → next ≡ Some w
+    → Some word ≡ option_map (λ (r : Reached). r.word) (reached words w) → executed < CHAIN_LIMIT
+    → IsNextCommand words at word (not (word + 1 == length slice))
+next_command words slice at next w executed word whole stands goes leads few =
+    let long : length words ≡ length slice = ap length (sym whole) ∙ length-map slice ccw_of in
     rw (stands, goes, ← long) (below_limit words w executed word (reached words w) refl leads few)

@@ -1,13 +1,14 @@
 //! The next call of a program, as a call that its caller owns.
-ghost use Rattle.std.specs.Prelude.{◌≡◌, ◌≤◌, IfOk, OnErr, length, map};
+ghost use Rattle.std.specs.Prelude.{◌≡◌, IfOk, OnErr};
 ghost use Rattle.std.specs.Option.{option_map};
 ghost use Rattle.channel_commands.specs.Data.{is_command};
-ghost use Rattle.channel_commands.specs.Views.{call_of, ccw_of, reply_of};
+ghost use Rattle.channel_commands.specs.Views.{call_of, reply_of};
 ghost use Rattle.channel_program.specs.Script.{Standing, next_call};
 ghost use Rattle.channel_program.specs.Views.{standing_of, HoldsCommand, IsNextCommand};
 ghost use Rattle.channel_program.specs.Calls.{GoesOn, NextIs};
 
-use crate::cursor::{Cursor, NextCall, Program, command_at, next};
+use crate::cursor::{Cursor, NextCall, command_at, next};
+use crate::program::Program;
 use channel_commands::{BreakCause, Call, DeviceCommand, Reply};
 use mss_base::{Bytes, NoMemory};
 use std::alloc::Global;
@@ -26,10 +27,9 @@ pub fn command_call(
     word: u8,
     chained: bool,
 ) -> Result<Call, NoMemory>
-    requires { HoldsCommand (map ccw_of program.now.items) word }
-    ensures { let words = map ccw_of program.now.items in
-        (at : Standing) → IsNextCommand words at word chained
-        → IfOk result (λ call. next_call words at ≡ Some (call_of call)) }
+    requires { HoldsCommand program.now word }
+    ensures { (at : Standing) → IsNextCommand program.now at word chained
+        → IfOk result (λ call. next_call program.now at ≡ Some (call_of call)) }
 {
     let (code, argument) = command_at(program, word);
     let argument = Bytes::of(alloc, argument)?;
@@ -50,15 +50,11 @@ pub fn next_call(
     cursor: &mut Cursor,
     last: Option<&Reply>,
 ) -> Result<Option<Call>, NoMemory>
-    requires some { 1 ≤ length program.now.items }
-    requires few { length program.now.items ≤ 256 }
-    ensures next { let words = map ccw_of program.now.items in
-        let reply = option_map (λ reply. reply_of reply.now) last.entry in
-        IfOk result (λ call.
-        NextIs words (standing_of words cursor.old reply) cursor.new (option_map call_of call)) }
-    ensures memory { let words = map ccw_of program.now.items in
-        let reply = option_map (λ reply. reply_of reply.now) last.entry in
-        OnErr result (GoesOn words (standing_of words cursor.old reply)) }
+    ensures next { let reply = option_map (λ reply. reply_of reply.now) last.entry in
+        let at = standing_of program.now cursor.old reply in
+        IfOk result (λ call. NextIs program.now at cursor.new (option_map call_of call)) }
+    ensures memory { let reply = option_map (λ reply. reply_of reply.now) last.entry in
+        OnErr result (GoesOn program.now (standing_of program.now cursor.old reply)) }
 {
     Ok(match next(program, cursor, last) {
         NextCall::Ended => None,

@@ -1,16 +1,13 @@
 //! The cursor of a channel program.
-ghost use Rattle.std.specs.Prelude.{◌≡◌, ◌≤◌, Bool, map, length, slice_get};
+ghost use Rattle.std.specs.Prelude.{◌≡◌, Bool, map, slice_get};
 ghost use Rattle.std.specs.Option.{option_map};
 ghost use Rattle.channel_commands.specs.Data.{device, command};
 ghost use Rattle.channel_commands.specs.Views.{ccw_of, reply_of};
 ghost use Rattle.channel_program.specs.Script.{Standing, next_call, reached, command_in, word_after};
 ghost use Rattle.channel_program.specs.Views.{standing_of, Says, Moves, HoldsCommand, IsNextCommand};
 
+use crate::program::Program;
 use channel_commands::{Ccw, Reply};
-use mss_base::Listed;
-
-/// A channel program: 1 to 256 words, counted from 0.
-pub type Program = Listed<Ccw>;
 
 /// The place of a program: the word of its last command, and how many commands it ran.
 #[derive(Clone, Copy, Debug, PartialEq, Eq)]
@@ -115,14 +112,11 @@ fn standing(words: &[Ccw], cursor: &Cursor, last: Option<&Reply>) -> (Option<usi
 /// breaks off with `ProgramCheck` where that word is outside, where a transfer leads to a transfer or outside, and where
 /// word 0 is a transfer; with `ChainLimit` where 2,048 commands were run.
 pub fn next(program: &Program, cursor: &mut Cursor, last: Option<&Reply>) -> NextCall
-    requires some { 1 ≤ length program.now.items }
-    requires few { length program.now.items ≤ 256 }
-    ensures call { let words = map ccw_of program.now.items in
-        let reply = option_map (λ reply. reply_of reply.now) last.entry in
-        Says words (standing_of words cursor.old reply) result }
-    ensures cursor { let words = map ccw_of program.now.items in
-        let reply = option_map (λ reply. reply_of reply.now) last.entry in
-        Moves words (standing_of words cursor.old reply) result cursor.old cursor.new }
+    ensures call { let reply = option_map (λ reply. reply_of reply.now) last.entry in
+        Says program.now (standing_of program.now cursor.old reply) result }
+    ensures cursor { let reply = option_map (λ reply. reply_of reply.now) last.entry in
+        let at = standing_of program.now cursor.old reply in
+        Moves program.now at result cursor.old cursor.new }
 {
     let words = program.as_slice();
     let (next, executed) = standing(words, cursor, last);
@@ -147,12 +141,10 @@ pub fn next(program: &Program, cursor: &mut Cursor, last: Option<&Reply>) -> Nex
 
 /// The code and the argument of a word that is a command, as each word is that `next` gives.
 pub fn command_at(program: &Program, word: u8) -> (u8, &[u8])
-    requires { HoldsCommand (map ccw_of program.now.items) word }
-    ensures word { let words = map ccw_of program.now.items in
-        slice_get words word ≡ Some (device result.0 result.1.now) }
-    ensures call { let words = map ccw_of program.now.items in
-        (at : Standing) (chained : Bool) → IsNextCommand words at word chained
-        → next_call words at ≡ Some (command result.0 result.1.now chained) }
+    requires { HoldsCommand program.now word }
+    ensures word { slice_get program.now word ≡ Some (device result.0 result.1.now) }
+    ensures call { (at : Standing) (chained : Bool) → IsNextCommand program.now at word chained
+        → next_call program.now at ≡ Some (command result.0 result.1.now chained) }
 {
     match &program.as_slice()[word as usize] {
         Ccw::Device { code, argument } => (*code, argument.as_slice()),

@@ -9,10 +9,12 @@
 mod calls;
 mod cursor;
 mod law;
+mod program;
 
 pub use calls::{command_call, is_command, next_call};
-pub use cursor::{Cursor, NextCall, Program, command_at, next};
+pub use cursor::{Cursor, NextCall, command_at, next};
 pub use law::{
     commands_are_few, finished_script_follows, program_finishes, program_goes_on, script_goes_on,
     script_is_left,
 };
+pub use program::{Program, WORD_LIMIT, Words};
