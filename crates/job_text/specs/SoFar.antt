@@ -1,6 +1,5 @@
 -- What a reading in progress stands for.
 use Rattle.std.specs.Prelude.{map}
-use Rattle.channel_commands.specs.Views.{ccw_of}
 use Rattle.job_text.specs.declared.reading.Reading.{Reading}
 use Rattle.job_text.specs.Grammar.{SoFar}
 use Rattle.job_text.specs.Views.{item_of}
@@ -14,6 +13,6 @@ so_far r = record {
   closed = r.closed.items;
   present = r.present;
   items = map item_of r.items.items;
-  words = map ccw_of r.words.items;
+  words = r.words;
   total = r.total;
 }

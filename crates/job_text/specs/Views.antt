@@ -1,6 +1,4 @@
 -- What lines, items and readings of the code stand for.
-use Rattle.std.specs.Prelude.{map}
-use Rattle.channel_commands.specs.Views.{ccw_of}
 use Rattle.channel_program.specs.Script.{ItemData, mounting, demounting, program as running}
 use Rattle.job_text.specs.declared.line.Line.{Line}
 use Rattle.job_text.specs.declared.line.Line.TheVariants as variant
@@ -23,4 +21,4 @@ said variant.End = end
 abbrev pub item_of : Item → ItemData
 item_of (items.Mount v bind) = mounting v bind
 item_of items.Demount = demounting
-item_of (items.Run words) = running (map ccw_of words.items)
+item_of (items.Run words) = running words

@@ -15,13 +15,10 @@ use crate::kind::{JobKind, Keyword, Place};
 use crate::line::{Line, LineFault, line_of};
 use crate::words::{cut_words, is_skipped, is_word};
 use channel_commands::Ccw;
-use channel_program::Program;
+use channel_program::{Program, WORD_LIMIT, Words};
 use mss_base::{Bytes, HostNo, Listed, NoMemory, Serial, VolumeList, VolumeNo};
 use std::alloc::Global;
 use std::mem;
-
-/// The most words of a program.
-const WORD_LIMIT: usize = 256;
 
 /// The most items of a host.
 const ITEM_LIMIT: usize = 1024;
@@ -90,7 +87,8 @@ pub struct Reading {
     pub closed: HostScripts,
     pub present: Option<HostNo>,
     pub items: ItemList,
-    pub words: Program,
+    /// The words of the open program.
+    pub words: Words,
     pub total: usize,
 }
 
@@ -144,7 +142,7 @@ impl Reading {
             closed: HostScripts::new(alloc),
             present: None,
             items: ItemList::new(alloc),
-            words: Program::new(alloc),
+            words: Words::new(alloc),
             total: 0,
         }
     }
@@ -256,7 +254,7 @@ impl Reading {
         if self.items.as_slice().len() >= ITEM_LIMIT {
             return Err(LineFault::Bad(JobKind::Count));
         }
-        self.words = Program::new(alloc);
+        self.words = Words::new(alloc);
         self.place = Place::Program;
         Ok(())
     }
@@ -266,7 +264,7 @@ impl Reading {
         ensures { Steps result (so_far self.new) (judged (so_far self.old) (ccw code argument.items)) }
     {
         let length = argument.as_slice().len();
-        if self.words.as_slice().len() >= WORD_LIMIT {
+        if self.words.len() >= WORD_LIMIT {
             return Err(LineFault::Bad(JobKind::Count));
         }
         if length > ARGUMENT_LIMIT {
@@ -275,8 +273,7 @@ impl Reading {
         if self.total > TOTAL_LIMIT - length {
             return Err(LineFault::Bad(JobKind::Count));
         }
-        self.words.reserve(1)?;
-        self.words.push(Ccw::Device { code, argument });
+        self.words.push(Ccw::Device { code, argument })?;
         self.total += length;
         Ok(())
     }
@@ -284,21 +281,21 @@ impl Reading {
     fn put_tic(&mut self, to: u8) -> Result<(), LineFault>
         ensures { Steps result (so_far self.new) (judged (so_far self.old) (tic to)) }
     {
-        if self.words.as_slice().len() >= WORD_LIMIT {
+        if self.words.len() >= WORD_LIMIT {
             return Err(LineFault::Bad(JobKind::Count));
         }
-        push(&mut self.words, Ccw::Transfer { to })?;
+        self.words.push(Ccw::Transfer { to })?;
         Ok(())
     }
 
     fn put_end(&mut self, alloc: Global) -> Result<(), LineFault>
         ensures { Steps result (so_far self.new) (judged (so_far self.old) end) }
     {
-        if self.words.as_slice().is_empty() {
+        if self.words.is_empty() {
             return Err(LineFault::Bad(JobKind::Count));
         }
-        let words = mem::replace(&mut self.words, Program::new(alloc));
-        push(&mut self.items, Item::Run(words))?;
+        let words = mem::replace(&mut self.words, Words::new(alloc));
+        push(&mut self.items, Item::Run(Program::of(words)))?;
         self.place = Place::Host;
         Ok(())
     }

@@ -13,6 +13,7 @@ use crate::numbered::volume_with;
 use crate::pairs::push_hex;
 use crate::reading::spelling;
 use channel_commands::Ccw;
+use channel_program::Program;
 use mss_base::{Bytes, Config, HostNo, NoMemory, Serial, VolumeNo};
 
 /// Puts a line: its keyword, and each word after one space.
@@ -119,11 +120,11 @@ fn push_mounting(
     }
 }
 
-fn push_program(out: &mut Bytes, words: &[Ccw]) -> Result<(), NoMemory>
-    ensures { OnOk result (out.new.items ≡ out.old.items ++ flat_map line_text (item_lines [] (running (map ccw_of words.now)))) }
+fn push_program(out: &mut Bytes, program: &Program) -> Result<(), NoMemory>
+    ensures { OnOk result (out.new.items ≡ out.old.items ++ flat_map line_text (item_lines [] (running program.now))) }
 {
     push_line(out, Keyword::Program, &[])?;
-    push_words(out, words)?;
+    push_words(out, program.as_slice())?;
     push_line(out, Keyword::End, &[])
 }
 
@@ -133,7 +134,7 @@ fn push_item(out: &mut Bytes, volumes: &[(VolumeNo, Serial)], item: &Item) -> Re
     match item {
         Item::Mount { volume, bind } => push_mounting(out, volumes, *volume, *bind),
         Item::Demount => push_line(out, Keyword::Demount, &[]),
-        Item::Run(program) => push_program(out, program.as_slice()),
+        Item::Run(program) => push_program(out, program),
     }
 }
 
