@@ -22,9 +22,9 @@ fn put_own(
         ≡ map item_of items.old.items ++ own_program host number drawn.0 drawn.1 drawn.2) }
 {
     if 1 + number % 4 == u32::from(host.get()) {
-        let words = program_of(alloc, drawn.0, drawn.1, drawn.2)?;
+        let program = program_of(alloc, drawn.0, drawn.1, drawn.2)?;
         items.reserve(1)?;
-        items.push(Item::Run(words));
+        items.push(Item::Run(program));
     }
     Ok(())
 }

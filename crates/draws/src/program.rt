@@ -1,10 +1,10 @@
 //! The channel program of three draws.
-ghost use Rattle.std.specs.Prelude.{◌≡◌, map, IfOk};
+ghost use Rattle.std.specs.Prelude.{◌≡◌, IfOk};
 ghost use Rattle.channel_commands.specs.Views.{ccw_of};
 ghost use Rattle.draws.specs.Load.{last_word, program_of, track_bytes};
 
 use channel_commands::Ccw;
-use channel_program::Program;
+use channel_program::{Program, Words};
 use mss_base::{Bytes, CYLINDERS, HEADS, NoMemory};
 use std::alloc::Global;
 
@@ -53,23 +53,22 @@ fn last_word(alloc: Global, track: &[u8; 4], choice: u32) -> Result<Ccw, NoMemor
 
 /// The program of three draws: a seek to a track, the search of its R0, and the last word.
 pub fn program_of(alloc: Global, place: u32, head: u32, choice: u32) -> Result<Program, NoMemory>
-    ensures { IfOk result (λ words. map ccw_of words.items ≡ program_of place head choice) }
+    ensures { IfOk result (λ program. program ≡ program_of place head choice) }
 {
     let track = track_bytes(place, head);
     let seek = Bytes::of(alloc, &[0, 0, track[0], track[1], track[2], track[3]])?;
     let search = Bytes::of(alloc, &[track[0], track[1], track[2], track[3], 0])?;
     let last = last_word(alloc, &track, choice)?;
-    let mut words = Program::new(alloc);
-    words.reserve(4)?;
+    let mut words = Words::new(alloc);
     words.push(Ccw::Device {
         code: SEEK,
         argument: seek,
-    });
+    })?;
     words.push(Ccw::Device {
         code: SEARCH_ID,
         argument: search,
-    });
-    words.push(Ccw::Transfer { to: 1 });
-    words.push(last);
-    Ok(words)
+    })?;
+    words.push(Ccw::Transfer { to: 1 })?;
+    words.push(last)?;
+    Ok(Program::of(words))
 }
