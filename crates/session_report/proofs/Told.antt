@@ -40,8 +40,8 @@ volume_put tells Unread heading track old mid new (Err (volumes_fault.Put fault)
     λ t. puts_after {T = Unit {0}} {E = Unit {0}} (Err tt) old mid new heading (tracks_text track 7676) (first t) (put t)
 
 -- ---- the volumes and a line behind them
-pub volumes_fail : (tells : Type 0) (Unread : ℕ → ℕ → Type 0) (shown : Volumes) (volumes : List Heading) (line old new : List ℕ) (e : VolumesFault) → PutsVolumes tells Unread shown volumes (volumes_text shown volumes) old new (Err e)
-    → PutsVolumes tells Unread shown volumes (volumes_text shown volumes ++ line) old new (Err e)
+pub volumes_fail : (tells : Type 0) (Unread : ℕ → ℕ → Type 0) (shown : Volumes) (volumes : List Heading) (line old new : List ℕ) (e : VolumesFault) → PutsVolumes tells Unread (untitled volumes shown) (volumes_text shown volumes) old new (Err e)
+    → PutsVolumes tells Unread (untitled volumes shown) (volumes_text shown volumes ++ line) old new (Err e)
 volumes_fail tells Unread shown volumes line old new (volumes_fault.Read fault) put = put
 volumes_fail tells Unread shown volumes line old new (volumes_fault.Put fault) put = λ t. puts_stops old new (volumes_text shown volumes) line (put t)
 
@@ -90,19 +90,19 @@ module _ (shown : Volumes) (volumes : List Heading) (site : Devices) (sink : Str
   pub told_fault : (Unread : ℕ → ℕ → Type 0) (e : VolumesFault) (fault : PartFault) → e ≡ volumes_fault.Put fault → answer ≡ Err (fault_of fault)
       → (◌≡◌ {A = Told} (Err e) (Err (volumes_fault.Put part.Output)) → Rises sink.faults_was sink.faults_now)
       → (◌≡◌ {A = Told} (Err e) (Err (volumes_fault.Put part.Memory)) → sink.faults_now ≡ sink.faults_was)
-      → PutsVolumes Both Unread shown volumes due sink.was sink.now (Err e) → Reported
+      → PutsVolumes Both Unread (untitled volumes shown) due sink.was sink.now (Err e) → Reported
   told_fault Unread e fault e_is is rose counted put =
       cut_by fault is (λ output. rose (ap (λ (x : VolumesFault). Err x) (e_is ∙ ap volumes_fault.Put output)))
       (λ memory. counted (ap (λ (x : VolumesFault). Err x) (e_is ∙ ap volumes_fault.Put memory)))
-      (subst (λ (x : VolumesFault). PutsVolumes Both Unread shown volumes due sink.was sink.now (Err x)) e_is put)
+      (subst (λ (x : VolumesFault). PutsVolumes Both Unread (untitled volumes shown) due sink.was sink.now (Err x)) e_is put)
 
   module _ (Unread : ℕ → ℕ → Type 0) (e : VolumesFault) (fault : ℕ) (mid : List ℕ) (e_is : e ≡ volumes_fault.Read fault) (counted : CountsReads site.faults_was site.faults_now (Err e))
-      (put : PutsVolumes Both Unread shown volumes due sink.was mid (Err e)) where
+      (put : PutsVolumes Both Unread (untitled volumes shown) due sink.was mid (Err e)) where
     since : IsFaultSince site.faults_was site.faults_now fault
     since = subst (λ (x : VolumesFault). CountsReads site.faults_was site.faults_now (Err x)) e_is counted
 
-    before : PutsVolumes Both Unread shown volumes due sink.was mid (Err (volumes_fault.Read fault))
-    before = subst (λ (x : VolumesFault). PutsVolumes Both Unread shown volumes due sink.was mid (Err x)) e_is put
+    before : PutsVolumes Both Unread (untitled volumes shown) due sink.was mid (Err (volumes_fault.Read fault))
+    before = subst (λ (x : VolumesFault). PutsVolumes Both Unread (untitled volumes shown) due sink.was mid (Err x)) e_is put
 
     -- the count of faults was put behind the volumes before the track that couldn't be read
     pub told_unread : answer ≡ Err (report_fault.Read fault) → (Both → sink.now ≡ mid ++ stopped_text fault) → Reported

@@ -16,7 +16,7 @@ use Rattle.report_text.specs.Texts.{tracks_text}
 use Rattle.report_text.specs.declared.report.ReportFault.TheVariants as part
 use Rattle.session_report.specs.declared.fault.VolumesFault.{VolumesFault}
 use Rattle.session_report.specs.declared.fault.VolumesFault.TheVariants as volumes_fault
-use Rattle.session_report.specs.Reports.{Heading, TRACKS_OF_VOLUME, front_text}
+use Rattle.session_report.specs.Reports.{Heading, Matter, TRACKS_OF_VOLUME, front_text}
 
 -- the tracks of a volume, by cylinder and head
 abbrev pub TracksOfVolume : Type 0
@@ -108,12 +108,12 @@ pub record PutsBefore (tells : Type 0) (Unread : ℕ → ℕ → Type 0) (shown 
 
 -- a text of the volumes was put, or what stands before a track that couldn't be read, or else a
 -- front
-abbrev pub PutsVolumes : Type 0 → (ℕ → ℕ → Type 0) → Volumes → List Heading → List ℕ → List ℕ
-    → List ℕ → Told → Type 0
-PutsVolumes tells Unread shown volumes text old new (Ok _) = tells → new ≡ old ++ text
-PutsVolumes tells Unread shown volumes text old new (Err (volumes_fault.Read fault)) =
-    PutsBefore tells Unread shown volumes old new
-PutsVolumes tells Unread shown volumes text old new (Err (volumes_fault.Put fault)) =
+abbrev pub PutsVolumes : Type 0 → (ℕ → ℕ → Type 0) → Matter → List ℕ → List ℕ → List ℕ → Told
+    → Type 0
+PutsVolumes tells Unread m text old new (Ok _) = tells → new ≡ old ++ text
+PutsVolumes tells Unread m text old new (Err (volumes_fault.Read fault)) =
+    PutsBefore tells Unread m.shown m.volumes old new
+PutsVolumes tells Unread m text old new (Err (volumes_fault.Put fault)) =
     tells → PutsFront old new text
 
 -- ---- causes

@@ -75,7 +75,7 @@ fn put_to_end<S: Site, O: Sink>(
     requires block { length block.old ≡ BLOCK_BYTES }
     ensures bytes { let shown = shown_by (listed rows.now) (content (S.told site.old)) in
         PutsVolumes (S.tells × O.tells) (IsUnread S.Site site.old (listed rows.now) volumes.now)
-        shown volumes.now (volumes_text shown volumes.now ++ last_text last)
+        (untitled volumes.now shown) (volumes_text shown volumes.now ++ last_text last)
         (O.told output.old) (O.told output.new) result }
     ensures grown { O.tells → Grows (O.told output.old) (O.told output.new) }
     ensures ended { O.tells → OnOk result

@@ -9,7 +9,7 @@ ghost use Rattle.session_report.specs.Parts.{row_tracks, PutsTrack, PutsTracks, 
 ghost use Rattle.session_report.specs.Parts.{CountsReads, CountsPuts, TellsNoRead};
 ghost use Rattle.session_report.specs.Parts.{CanReadRow, CanReadShown};
 ghost use Rattle.session_report.specs.Parts.{IsUnread, MayFail, block_of};
-ghost use Rattle.session_report.specs.Reports.{Grows, volumes_text};
+ghost use Rattle.session_report.specs.Reports.{Grows, untitled, volumes_text};
 
 use crate::fault::VolumesFault;
 use crate::place::{is_blank, row_of, shown_place};
@@ -154,7 +154,7 @@ pub fn put_volumes<S: Site, O: Sink>(
     requires block { length block.old ≡ BLOCK_BYTES }
     ensures bytes { let shown = shown_by (listed rows.now) (content (S.told site.old)) in
         PutsVolumes (S.tells × O.tells) (IsUnread S.Site site.old (listed rows.now) volumes.now)
-        shown volumes.now (volumes_text shown volumes.now)
+        (untitled volumes.now shown) (volumes_text shown volumes.now)
         (O.told output.old) (O.told output.new) result }
     ensures grown { O.tells → Grows (O.told output.old) (O.told output.new) }
     ensures counted { CountsReads (S.faults site.old) (S.faults site.new) result }
