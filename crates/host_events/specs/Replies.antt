@@ -40,9 +40,14 @@ pub record IsUpheld {S C : Type 0} (tells : Type 0) (site : SiteLog) (writes fau
   pub whole : IsWhole tells site v
   pub counted : IsCounted writes faults v.requests (data_of v)
 
+-- what a host is to be told: the reply, the fault that its entry keeps, and the host then
+pub record Given : Type 0 where
+  pub reply : ReplyData
+  pub fault : Option ℕ
+  pub host : HostState
+
 -- the reply, or want of memory
-abbrev pub RepliesOr : Type 0 → CoreData → ℕ → CallData → Option ℕ → ReplyData × HostState
-    → HostTold → CoreData → Type 0
-RepliesOr tells core h call fault answer no_memory core' = IsSame tells core core'
-RepliesOr tells core h call fault answer told core' =
-    Replies tells core h call fault answer told core'
+abbrev pub RepliesOr : Type 0 → CoreData → ℕ → CallData → Given → HostTold → CoreData → Type 0
+RepliesOr tells core h call given no_memory core' = IsSame tells core core'
+RepliesOr tells core h call given told core' =
+    Replies tells core h call given.fault (given.reply, given.host) told core'

@@ -59,8 +59,9 @@ pub fn reply<S: Site, C: Choose>(
     requires upheld { IsUpheld S.tells (S.told core.old.site) (S.writes core.old.site)
         (S.faults core.old.site) (after_answer core.old (S.writes core.old.site) host
         (call_of call.now) fault (reply_of reply, now.now)) }
-    ensures event { RepliesOr S.tells (seen S.Site core.old) host
-        (call_of call.now) fault (reply_of reply, now.now) (told_of result) (seen S.Site core.new) }
+    ensures event { RepliesOr S.tells (seen S.Site core.old) host (call_of call.now)
+        (record { reply = reply_of reply; fault = fault; host = now.now }) (told_of result)
+        (seen S.Site core.new) }
     ensures chooser { core.new.chooser ≡ core.old.chooser }
     ensures site { core.new.site ≡ core.old.site }
 {

@@ -36,6 +36,7 @@ use core_state::{Core, ENTRY_LIMIT, HostRule, Task};
 use fault_queue::{Request, RequestState};
 use mss_base::{FrameNo, HostNo, Site, VolumeNo};
 use victim_choice::Choose;
+use volume_table::CylinderState;
 
 /// A host's call, with the state of the host and its request.
 #[derive(Clone, Copy)]
@@ -236,7 +237,7 @@ fn fault_rule<S: Site, C: Choose>(
     requires { volume ≡ volume_of host.now }
     ensures { result ≡ fault_rule core.now host.now command }
 {
-    if state_under(core, host, volume) >= 2 {
+    if state_under(core, host, volume) >= CylinderState::StagedBlank.number() {
         return None;
     }
     if frame_under(core, host, volume).is_none() && has_no_space(core) {
@@ -255,7 +256,8 @@ fn mark_rule<S: Site, C: Choose>(
     requires { volume ≡ volume_of host.now }
     ensures { result ≡ mark_rule core.now host.now command }
 {
-    if matches!(command, Command::Write(_)) && state_under(core, host, volume) < 4 {
+    let state = state_under(core, host, volume);
+    if matches!(command, Command::Write(_)) && state < CylinderState::Changed.number() {
         let cylinder = host.cylinder;
         return Some(HostRule::Marks { volume, cylinder });
     }
