@@ -17,14 +17,14 @@ use fault_queue::{Queue, Request};
 use mss_base::{CartridgeNo, Cylinder, FrameNo, Page, Site, VolumeNo};
 use transfers::{Transfer, TransferKind};
 use victim_choice::Choose;
-use volume_table::Rows;
+use volume_table::{CylinderState, VolumeRow};
 
 /// The cylinder with this number, where it is changed.
 pub fn changed_at(rows: &Rows, volume: VolumeNo, number: u16) -> Option<Cylinder>
     ensures { result ≡ where_so (is_changed rows.now volume number) number }
 {
     let cylinder = Cylinder::of(number)?;
-    if state_in(rows, volume, cylinder) == 4 {
+    if state_in(rows, volume, cylinder) == CylinderState::Changed.number() {
         return Some(cylinder);
     }
     None
@@ -87,7 +87,8 @@ fn staging(rows: &Rows, frame: FrameNo, request: &Request) -> Option<Transfer>
     ensures { result ≡ staging rows.now frame request.now }
 {
     let _taken = frame_in(rows, request.volume, request.cylinder.page())?;
-    let kind = if state_in(rows, request.volume, request.cylinder) == 0 {
+    let state = state_in(rows, request.volume, request.cylinder);
+    let kind = if state == CylinderState::Blank.number() {
         TransferKind::StageBlank
     } else {
         TransferKind::StageCartridge
