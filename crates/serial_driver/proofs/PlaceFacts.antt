@@ -1,11 +1,12 @@
 -- A place in a script goes on.
 use Rattle.std.proofs.Common.{◌≡◌, ◌≢◌, ◌≤◌, ◌<◌, ℕ, zero, suc, ◌+◌, Bool, true, false, nat_lt, List, [], ◌∷◌, length, map, drop, get_or, Option, Some, None, refl, sym, ◌∙◌, ap, subst, arith}
 use Rattle.std.proofs.lemmas.Bool.{ltb-true, ltb-false, lt-ltb, le-ltb}
-use Rattle.std.specs.Prelude.{is_some, not, nat_le, cond, option_map, Result, Ok, Err, OnErr}
-use Rattle.std.specs.List.{AllByRecursion}
+use Rattle.std.specs.Prelude.{is_some, not, nat_le, cond, option_map, Result, Ok, Err, OnErr, IfSome}
 use Rattle.channel_commands.specs.declared.call.BreakCause.{BreakCause}
 use Rattle.channel_commands.specs.declared.call.BreakCause.TheVariants as cause
+use Rattle.channel_commands.specs.declared.call.Call.{Call}
 use Rattle.channel_commands.specs.Data.{command, break, ReplyData, CcwData}
+use Rattle.channel_commands.specs.Views.{call_of}
 use Rattle.channel_program.specs.Script.{ItemData, mounting, demounting, program, Standing, Reached, at_start, next_call, moved, call_for, reached, word_from, word_from_standing, word_after, is_last, CHAIN_LIMIT}
 use Rattle.channel_program.specs.Views.{standing_of, Says, Moves}
 use Rattle.channel_program.specs.declared.cursor.Cursor.{Cursor}
@@ -29,12 +30,6 @@ drop_at f (y ∷ ys) (suc n) x below is =
 pub found : {A B : Type 0} (f : A → B) (xs : List A) (i : ℕ) (x y : A) → true ≡ nat_lt i (length xs) → x ≡ get_or xs i x → x ≡ y → drop i (map f xs) ≡ f y ∷ drop (i + 1) (map f xs)
 found f xs i x y below at same = drop_at f xs i x (ltb-true i (length xs) (sym below)) at ∙ (λ k. f (same k) ∷ drop (i + 1) (map f xs))
 
-pub all_there : {A : Type 0} (P : A → Type 0) (xs : List A) (i : ℕ) (x : A) (more : List A) → AllByRecursion P xs → drop i xs ≡ x ∷ more → P x
-all_there P [] zero x more all is = absurd cc
-all_there P [] (suc n) x more all is = absurd cc
-all_there P (y ∷ ys) zero x more all is = let e : y ≡ x = cc in subst P e all.0
-all_there P (y ∷ ys) (suc n) x more all is = all_there P ys n x more all.1 is
-
 -- ---- a program's next call
 
 goes_on_of : (words : List CcwData) (at : Standing) (next : NextCall) (old new : Cursor) → Moves words at next old new → GoesOnFrom words at next new
@@ -52,7 +47,7 @@ never_ended words at next live says ended =
     absurd cc
 
 pub knows_next : (words : List CcwData) (at : Standing) (item : ℕ) (next : NextCall) (old new : Cursor) → is_some at.word ≡ true → Says words at next → Moves words at next old new
-    → KnowsNext words at (record { item = item; next = next; cursor = new })
+    → KnowsNext words at (record { item = item; next = next; cursor = new; call = None })
 knows_next words at item next old new live says moves = record { call = says; some = never_ended words at next live says; goes_on = goes_on_of words at next old new moves }
 
 pub holds_next : (words : List CcwData) (at : Standing) (next : NextCall) → Says words at next → HoldsNext words next
@@ -68,14 +63,40 @@ says_call words at Ended some says = absurd (some refl)
 says_call words at ProgramCheck some says = ap is_some says
 says_call words at ChainLimit some says = ap is_some says
 
+-- ---- the call that waits at a place
+
+-- none does at a place that was just come to
+pub none_waits : (left : Left) (p : Place) → p.call ≡ None → IfSome p.call (λ call. next_of left.items left.at ≡ Some (call_of call))
+none_waits left p fresh = subst (λ (o : Option Call). IfSome o (λ call. next_of left.items left.at ≡ Some (call_of call))) (sym fresh) tt
+
+knows_still : (items : List ItemData) (at : Standing) (p : Place) (call : Option Call) → KnowsItem items at p → KnowsItem items at (record p { call = call })
+knows_still [] at p call knows = tt
+knows_still (mounting volume bind ∷ more) at p call knows = tt
+knows_still (demounting ∷ more) at p call knows = tt
+knows_still (program words ∷ more) at p call knows = record { call = knows.call; some = knows.some; goes_on = knows.goes_on }
+
+module _ (script : List ItemData) (left : Left) (p : Place) (stands : StandsAt script left p) where
+  -- it was taken
+  pub stands_taken : StandsAt script left (record p { call = None })
+  stands_taken = record { within = stands.within; items = stands.items; knows = knows_still left.items left.at p None stands.knows; waits = tt }
+
+  -- another one waits
+  pub stands_waiting : (call : Call) → next_of left.items left.at ≡ Some (call_of call) → StandsAt script left (record p { call = Some call })
+  stands_waiting call next = record { within = stands.within; items = stands.items; knows = knows_still left.items left.at p (Some call) stands.knows; waits = next }
+
+  -- it comes next
+  pub waiting_next : (call : Call) → p.call ≡ Some call → Some (call_of call) ≡ next_of left.items left.at
+  waiting_next call is = sym (subst (λ (o : Option Call). IfSome o (λ call. next_of left.items left.at ≡ Some (call_of call))) is stands.waits)
+
 -- ---- at the start of an item
 
-module _ (script : List ItemData) (i : ℕ) (p : Place) (within : i ≤ length script) (item : p.item ≡ i) where
+module _ (script : List ItemData) (i : ℕ) (p : Place) (within : i ≤ length script) (item : p.item ≡ i) (fresh : p.call ≡ None) where
   stands_by : (l : List ItemData) → drop i script ≡ l → KnowsItem l at_start p → StandsAt script (not_begun (drop i script)) p
   stands_by l is knows = record {
     within = subst (λ (n : ℕ). n ≤ length script) (sym item) within;
     items = ap (λ (n : ℕ). drop n script) (sym item);
     knows = subst (λ (m : List ItemData). KnowsItem m at_start p) (sym is) knows;
+    waits = none_waits (not_begun (drop i script)) p fresh;
   }
 
   pub stands_begun : (words : List CcwData) (more : List ItemData) → drop i script ≡ program words ∷ more → KnowsNext words at_start p → StandsAt script (not_begun (drop i script)) p
@@ -122,10 +143,15 @@ module _ (script : List ItemData) (p : Place) (reply : ReplyData) (q : Place) wh
       (passes left.at rest (record { items = is; knows = subst (λ (l : List ItemData). KnowsItem l left.at p) (at ∙ is) knows }))
 
   -- nothing was left
-  pub passed_nothing : (left : Left) → drop p.item script ≡ [] → StandsAt script left p → StandsAt script (left_by left.items left.at reply) p
-  passed_nothing left is stands =
-      subst (λ (l : List ItemData). StandsAt script (left_by l left.at reply) p) (sym (stands.items ∙ is))
-      (record { within = stands.within; items = sym is; knows = tt })
+  pub passed_nothing : (left : Left) → drop p.item script ≡ [] → StandsAt script left p → q.item ≡ p.item → q.call ≡ None → StandsAt script (left_by left.items left.at reply) q
+  passed_nothing left is stands same fresh =
+      subst (λ (l : List ItemData). StandsAt script (left_by l left.at reply) q) (sym (stands.items ∙ is))
+      (record {
+        within = subst (λ (n : ℕ). n ≤ length script) (sym same) stands.within;
+        items = sym is ∙ ap (λ (n : ℕ). drop n script) (sym same);
+        knows = tt;
+        waits = none_waits (not_begun []) q fresh;
+      })
 
   module _ (words : List CcwData) (at : Standing) (more : List ItemData) (is : IsWithin script words at more p) where
     -- the program is finished
@@ -135,15 +161,16 @@ module _ (script : List ItemData) (p : Place) (reply : ReplyData) (q : Place) wh
         (stands_next (program words) more is.items stands)
 
     -- it goes on
-    pub passed_on : p.item ≤ length script → q.item ≡ p.item → (word : Option ℕ) → (moved words at reply).word ≡ word → is_some word ≡ true → KnowsNext words (moved words at reply) q
+    pub passed_on : p.item ≤ length script → q.item ≡ p.item → q.call ≡ None → (word : Option ℕ) → (moved words at reply).word ≡ word → is_some word ≡ true → KnowsNext words (moved words at reply) q
         → IsPassed script words at more reply q
-    passed_on within same None goes live knows = absurd (let e : false ≡ true = live in cc)
-    passed_on within same (Some word) goes live knows =
+    passed_on within same fresh None goes live knows = absurd (let e : false ≡ true = live in cc)
+    passed_on within same fresh (Some word) goes live knows =
         subst (λ (w : Option ℕ). StandsAt script (program_left words more (moved words at reply) w) q) (sym goes)
         (record {
           within = subst (λ (n : ℕ). n ≤ length script) (sym same) within;
           items = sym is.items ∙ ap (λ (n : ℕ). drop n script) (sym same);
           knows = knows;
+          waits = none_waits (record { items = program words ∷ more; at = moved words at reply }) q fresh;
         })
 
 -- ---- which call comes next

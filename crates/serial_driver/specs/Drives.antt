@@ -8,7 +8,6 @@ use Rattle.mss_base.specs.Counts.{IsFaultSince}
 use Rattle.mss_base.specs.declared.place.UnitNo.{UnitNo}
 use Rattle.mss_base.specs.declared.site.Site.{Ghosts}
 use Rattle.channel_commands.specs.Data.{CallData}
-use Rattle.channel_program.specs.Items.{AreRunnable}
 use Rattle.channel_program.specs.Script.{ItemData, program, FollowsToEnd}
 use Rattle.ckd_plain.specs.History.{EntryData}
 use Rattle.job_text.specs.Jobs.{ScriptData, JobData}
@@ -61,7 +60,6 @@ pub record IsUnused {S C : Type 0} (core : CoreValue S C) (job : JobData) : Type
 pub record IsScript (script : ScriptData) : Type 0 where
   pub low : 1 ≤ script.host
   pub high : script.host ≤ 8
-  pub runnable : AreRunnable script.items
 
 pub record AreScripts (scripts : List ScriptData) : Type 0 where
   pub differ : IsDistinct ◌==◌ (hosts_of scripts)

@@ -1,13 +1,14 @@
 -- A place in a script, as the code keeps it.
-use Rattle.std.specs.Prelude.{◌≡◌, ◌≢◌, ◌≤◌, List, ◌∷◌, length, drop, Some}
+use Rattle.std.specs.Prelude.{◌≡◌, ◌≢◌, ◌≤◌, List, ◌∷◌, length, drop, Some, IfSome}
 use Rattle.channel_commands.specs.Data.{ReplyData, CcwData}
+use Rattle.channel_commands.specs.Views.{call_of}
 use Rattle.channel_program.specs.Script.{ItemData, program, Standing, moved}
 use Rattle.channel_program.specs.Views.{standing_of, HoldsCommand, Says}
 use Rattle.channel_program.specs.declared.cursor.Cursor.{Cursor}
 use Rattle.channel_program.specs.declared.cursor.NextCall.{NextCall}
 use Rattle.channel_program.specs.declared.cursor.NextCall.TheVariants.{Ended, Command}
 use Rattle.serial_driver.specs.declared.place.Place.{Place}
-use Rattle.serial_driver.specs.Scripts.{Left, program_left}
+use Rattle.serial_driver.specs.Scripts.{Left, next_of, program_left}
 
 -- a command that comes next stands in the program
 abbrev pub HoldsNext : List CcwData → NextCall → Type 0
@@ -35,6 +36,8 @@ pub record StandsAt (script : List ItemData) (left : Left) (p : Place) : Type 0 
   pub within : p.item ≤ length script
   pub items : left.items ≡ drop p.item script
   pub knows : KnowsItem left.items left.at p
+  -- a call that waits there is the one that comes next
+  pub waits : IfSome p.call (λ call. next_of left.items left.at ≡ Some (call_of call))
 
 abbrev pub IsPlace : List ItemData → Place → Type 0
 IsPlace script p = (left : Left) × StandsAt script left p

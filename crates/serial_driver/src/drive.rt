@@ -1,12 +1,10 @@
 // A serial run: a core, and where each host of its job stands.
 ghost use Rattle.std.specs.Prelude.{◌≡◌, ◌<◌, ℕ, [], length, slice_index_or, is_some, None, IfOk, IfErr};
-ghost use Rattle.channel_program.specs.Items.{AreRunnable};
 ghost use Rattle.channel_program.specs.Script.{Follows, FollowsToEnd};
 ghost use Rattle.core_state.specs.CoreValue.{seen};
 ghost use Rattle.core_state.specs.WorkEvents.{WorkEvent};
 ghost use Rattle.core_progress.specs.Progress.{OwnersCall};
 ghost use Rattle.job_text.specs.Jobs.{ScriptData};
-ghost use Rattle.job_text.specs.Jobs.{AreRunnableScripts};
 ghost use Rattle.serial_driver.specs.Answers.{of_work};
 ghost use Rattle.std.specs.List.{AllByRecursion};
 ghost use Rattle.serial_driver.specs.Drives.{AllStand, IsNumberOf};
@@ -17,15 +15,15 @@ use crate::answer::DriveAnswer;
 use crate::host::{call_host, look};
 use crate::place::{Place, entered, has_call};
 use core_state::{Core, Event, WorkAnswer};
-use job_text::{HostScript, Job, programs_can_be_run};
-use mss_base::{HostNo, Listed, NoMemory, RecorderNo, Site};
+use job_text::{HostScript, Job};
+use mss_base::{HostNo, NoMemory, RecorderNo, Site};
 use std::alloc::Global;
 use std::marker::Model;
 use victim_choice::Choose;
 use work_events::work_event;
 
 /// Where the hosts of a job stand, script by script.
-type Places = Listed<Place>;
+type Places = Vec<Place>;
 
 /// A serial run of a job on a core.
 ///
@@ -53,7 +51,6 @@ impl<'a, S: Site, C: Choose> Model for Drive<'a, S, C> {
 
 /// The place at the start of a script.
 fn start_of(script: &HostScript) -> Place
-    requires runnable { AreRunnable script.now.items }
     ensures { StandsAt script.now.items (not_begun script.now.items) result }
 {
     entered(script.items.as_slice(), 0)
@@ -61,13 +58,11 @@ fn start_of(script: &HostScript) -> Place
 
 /// The places at the starts of scripts.
 fn places_of(alloc: Global, scripts: &[HostScript]) -> Result<Places, NoMemory>
-    requires runnable { AreRunnableScripts scripts.now }
     ensures { IfOk result (λ places. AllStand [] scripts.now places.items) }
 {
-    let mut places = Places::new(alloc);
+    let mut places = Vec::new(alloc);
     for script in scripts {
-        places.reserve(1)?;
-        places.push(start_of(script));
+        places.push(start_of(script))?;
     }
     Ok(places)
 }
@@ -109,7 +104,6 @@ impl<'a, S: Site, C: Choose> Drive<'a, S, C> {
             drive ≡ record { core = core; scripts = job.now.hosts }) }
         ensures memory { IfErr result (λ back. back.0 ≡ core) }
     {
-        programs_can_be_run();
         let alloc = core.alloc;
         let scripts = job.hosts.as_slice();
         match places_of(alloc, scripts) {
@@ -156,10 +150,8 @@ impl<'a, S: Site, C: Choose> Drive<'a, S, C> {
     {
         look(&self.core);
         let script = &self.scripts[number];
-        let mut place = self.places.as_slice()[number];
-        let answer = call_host(&mut self.core, self.alloc, script, &mut place);
-        self.places.set(number, place);
-        answer
+        let place = &mut self.places[number];
+        call_host(&mut self.core, self.alloc, script, place)
     }
 
     /// How many hosts the job has.
@@ -178,8 +170,8 @@ impl<'a, S: Site, C: Choose> Drive<'a, S, C> {
     {
         look(&self.core);
         let script = &self.scripts[number];
-        let place = self.places.as_slice()[number];
-        has_call(script.items.as_slice(), &place)
+        let place = &self.places[number];
+        has_call(script.items.as_slice(), place)
     }
 
     /// What the hosts of a run keep, for the proofs of callers: each that owns a volume has a call, and one that

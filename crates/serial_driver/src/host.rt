@@ -4,7 +4,6 @@ ghost use Rattle.mss_base.specs.Sites.{MayWrite};
 ghost use Rattle.mss_base.specs.declared.place.UnitNo.{UnitNo};
 ghost use Rattle.channel_commands.specs.Data.{CallData};
 ghost use Rattle.channel_commands.specs.Views.{call_of};
-ghost use Rattle.channel_program.specs.Items.{AreRunnable};
 ghost use Rattle.core_state.specs.CoreValue.{seen};
 ghost use Rattle.core_state.specs.IsCore.{IsCore};
 ghost use Rattle.host_events.specs.Answers.{told_of};
@@ -15,7 +14,7 @@ ghost use Rattle.serial_driver.specs.Places.{StandsAt, IsPlace};
 ghost use Rattle.serial_driver.specs.Scripts.{Left, left_behind, next_of};
 
 use crate::answer::DriveAnswer;
-use crate::place::{Place, next_call, passed};
+use crate::place::{Place, due_call, passed};
 use channel_commands::Call;
 use ckd_plain::Entry;
 use core_state::{Core, ENTRY_LIMIT};
@@ -40,31 +39,32 @@ fn answer_of(told: &HostAnswer) -> DriveAnswer
     }
 }
 
-/// The place behind the entry with a number, if there is one.
-fn moved_on(items: &[Item], place: &Place, history: &[Entry], number: usize) -> Place
-    requires runnable { AreRunnable (map item_of items.now) }
-    ensures { (left : Left) → StandsAt (map item_of items.now) left place.now
+/// Moves a place behind the entry with a number. Where there is none, its call waits there.
+fn move_on(items: &[Item], place: &mut Place, call: Call, history: &[Entry], number: usize)
+    ensures { (left : Left) → StandsAt (map item_of items.now) left place.old
+        → next_of left.items left.at ≡ Some (call_of call)
         → StandsAt (map item_of items.now) (left_behind left (slice_get history.now number))
-        result }
+        place.new }
 {
-    match history.get(number) {
-        Some(entry) => passed(items, place, &entry.reply),
-        None => *place,
-    }
+    let Some(entry) = history.get(number) else {
+        place.call = Some(call);
+        return;
+    };
+    *place = passed(items, place, &entry.reply);
 }
 
-/// Makes a call. Behind a reply the place in the script goes on.
+/// Makes a call. Behind a reply the place in the script goes on, and else the call waits there.
 fn make_call<S: Site, C: Choose>(
     core: &mut Core<S, C>,
     host: HostNo,
-    call: &Call,
+    call: Call,
     items: &[Item],
     place: &mut Place,
 ) -> DriveAnswer
-    requires runnable { AreRunnable (map item_of items.now) }
-    ensures event { HostTakes S.tells host (Some (call_of call.now)) (seen S.Site core.old) result
+    ensures event { HostTakes S.tells host (Some (call_of call)) (seen S.Site core.old) result
         (seen S.Site core.new) }
     ensures place { (left : Left) → StandsAt (map item_of items.now) left place.old
+        → next_of left.items left.at ≡ Some (call_of call)
         → StandsAt (map item_of items.now)
         (left_behind left (slice_get core.new.history (length core.old.history))) place.new }
     ensures chooser { core.new.chooser ≡ core.old.chooser }
@@ -73,8 +73,8 @@ fn make_call<S: Site, C: Choose>(
         → core.old.stopped ≡ None → IsUnstopped result }
 {
     let number = core.history().as_slice().len();
-    let told = host_event(core, host, call);
-    *place = moved_on(items, place, core.history().as_slice(), number);
+    let told = host_event(core, host, &call);
+    move_on(items, place, call, core.history().as_slice(), number);
     answer_of(&told)
 }
 
@@ -111,14 +111,13 @@ fn lacking<S: Site, C: Choose>(core: &Core<S, C>) -> DriveAnswer
     DriveAnswer::Memory
 }
 
-/// Makes a host's next call, if it has one, and goes on in its script.
+/// Tries a host's next call, if it has one, and behind its reply goes on in its script.
 pub fn call_host<S: Site, C: Choose>(
     core: &mut Core<S, C>,
     alloc: Global,
     script: &HostScript,
     place: &mut Place,
 ) -> DriveAnswer
-    requires runnable { AreRunnable script.now.items }
     requires stands { IsPlace script.now.items place.old }
     ensures event { (left : Left) → StandsAt script.now.items left place.old
         → HostTakes S.tells script.now.host (next_of left.items left.at)
@@ -132,8 +131,8 @@ pub fn call_host<S: Site, C: Choose>(
         → core.old.stopped ≡ None → IsUnstopped result }
 {
     let items = script.items.as_slice();
-    match next_call(alloc, items, place) {
-        Ok(Some(call)) => make_call(core, script.host, &call, items, place),
+    match due_call(alloc, items, place) {
+        Ok(Some(call)) => make_call(core, script.host, call, items, place),
         Ok(None) => DriveAnswer::Done,
         Err(_) => refused(core),
     }

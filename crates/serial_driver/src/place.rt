@@ -1,8 +1,7 @@
 //! Where a host stands in its script.
-ghost use Rattle.std.specs.Prelude.{◌≡◌, ◌≢◌, ◌≤◌, ◌<◌, List, IfOk, OnErr, length, map, drop, is_some, IsTrue};
+ghost use Rattle.std.specs.Prelude.{◌≡◌, ◌≢◌, ◌≤◌, ◌<◌, List, None, IfOk, OnErr, length, map, drop, is_some, IsTrue};
 ghost use Rattle.std.specs.Option.{option_map};
-ghost use Rattle.channel_commands.specs.Views.{call_of, ccw_of, reply_of};
-ghost use Rattle.channel_program.specs.Items.{AreRunnable};
+ghost use Rattle.channel_commands.specs.Views.{call_of, reply_of};
 ghost use Rattle.channel_program.specs.Script.{ItemData, Standing, at_start, next_call};
 ghost use Rattle.channel_program.specs.Views.{Says};
 ghost use Rattle.channel_program.specs.declared.cursor.NextCall.TheVariants.{Ended};
@@ -16,8 +15,8 @@ use job_text::Item;
 use mss_base::NoMemory;
 use std::alloc::Global;
 
-/// A place in a script: its item, and what comes next in it, if it is a program.
-#[derive(Clone, Copy, Debug, PartialEq, Eq)]
+/// A place in a script: its item, what comes next in it, if it is a program, and the call that waits there.
+#[derive(Drop)]
 pub struct Place {
     /// The number of the item. Behind the last one nothing is left.
     pub item: usize,
@@ -25,24 +24,27 @@ pub struct Place {
     pub next: NextCall,
     /// Where the program stands, once this call is made.
     pub cursor: Cursor,
+    /// The call that comes next, once it was made. It waits here for its reply, so that it isn't made anew at each try.
+    pub call: Option<Call>,
 }
 
 impl Place {
     /// At an item that is no program, or behind the last one.
     fn at(item: usize) -> Place
         ensures item { result.item ≡ item }
+        ensures fresh { result.call ≡ None }
     {
         Place {
             item,
             next: NextCall::Ended,
             cursor: Cursor::start(),
+            call: None,
         }
     }
 }
 
 /// The place at the start of an item, or behind the last one.
 pub fn entered(items: &[Item], item: usize) -> Place
-    requires runnable { AreRunnable (map item_of items.now) }
     requires within { item ≤ length items.now }
     ensures { StandsAt (map item_of items.now) (not_begun (drop item (map item_of items.now)))
         result }
@@ -57,19 +59,22 @@ pub fn entered(items: &[Item], item: usize) -> Place
 
 /// The place at the start of a program.
 fn begun(program: &Program, item: usize) -> Place
-    requires some { 1 ≤ length program.now.items }
-    requires few { length program.now.items ≤ 256 }
     ensures item { result.item ≡ item }
-    ensures knows { KnowsNext (map ccw_of program.now.items) at_start result }
+    ensures knows { KnowsNext program.now at_start result }
+    ensures fresh { result.call ≡ None }
 {
     let mut cursor = Cursor::start();
     let next = next(program, &mut cursor, None);
-    Place { item, next, cursor }
+    Place {
+        item,
+        next,
+        cursor,
+        call: None,
+    }
 }
 
 /// The place behind the reply to the call that came next.
 pub fn passed(items: &[Item], place: &Place, reply: &Reply) -> Place
-    requires runnable { AreRunnable (map item_of items.now) }
     ensures { let script = map item_of items.now in
         (left : Left) → StandsAt script left place.now
         → StandsAt script (left_by left.items left.at (reply_of reply.now)) result }
@@ -78,19 +83,16 @@ pub fn passed(items: &[Item], place: &Place, reply: &Reply) -> Place
         Some(Item::Run(program)) => passed_in(items, program, place, reply),
         Some(Item::Mount { .. }) => entered(items, place.item + 1),
         Some(Item::Demount) => entered(items, place.item + 1),
-        None => *place,
+        None => Place::at(place.item),
     }
 }
 
 /// The place within a program, or behind it, after the reply to its call.
 fn passed_in(items: &[Item], program: &Program, place: &Place, reply: &Reply) -> Place
-    requires runnable { AreRunnable (map item_of items.now) }
     requires within { place.now.item < length items.now }
-    requires some { 1 ≤ length program.now.items }
-    requires few { length program.now.items ≤ 256 }
     ensures { (at : Standing) (more : List ItemData)
-        → IsWithin (map item_of items.now) (map ccw_of program.now.items) at more place.now
-        → IsPassed (map item_of items.now) (map ccw_of program.now.items) at more
+        → IsWithin (map item_of items.now) program.now at more place.now
+        → IsPassed (map item_of items.now) program.now at more
         (reply_of reply.now) result }
 {
     match place.next {
@@ -103,14 +105,11 @@ fn passed_in(items: &[Item], program: &Program, place: &Place, reply: &Reply) ->
 
 /// The place within a program, or behind it, after the reply to its command.
 fn went_on(items: &[Item], program: &Program, place: &Place, reply: &Reply) -> Place
-    requires runnable { AreRunnable (map item_of items.now) }
     requires within { place.now.item < length items.now }
-    requires some { 1 ≤ length program.now.items }
-    requires few { length program.now.items ≤ 256 }
     ensures { (at : Standing) (more : List ItemData)
-        → IsWithin (map item_of items.now) (map ccw_of program.now.items) at more place.now
-        → IsAt (map ccw_of program.now.items) at place.now.cursor (reply_of reply.now)
-        → IsPassed (map item_of items.now) (map ccw_of program.now.items) at more
+        → IsWithin (map item_of items.now) program.now at more place.now
+        → IsAt program.now at place.now.cursor (reply_of reply.now)
+        → IsPassed (map item_of items.now) program.now at more
         (reply_of reply.now) result }
 {
     let mut cursor = place.cursor;
@@ -120,6 +119,7 @@ fn went_on(items: &[Item], program: &Program, place: &Place, reply: &Reply) -> P
             item: place.item,
             next,
             cursor,
+            call: None,
         },
     }
 }
@@ -127,10 +127,9 @@ fn went_on(items: &[Item], program: &Program, place: &Place, reply: &Reply) -> P
 /// The call that comes next in a program.
 fn program_call(alloc: Global, program: &Program, next: NextCall) -> Result<Call, NoMemory>
     requires some { next ≢ Ended }
-    requires held { HoldsNext (map ccw_of program.now.items) next }
-    ensures { let words = map ccw_of program.now.items in
-        (at : Standing) → Says words at next
-        → IfOk result (λ call. next_call words at ≡ Some (call_of call)) }
+    requires held { HoldsNext program.now next }
+    ensures { (at : Standing) → Says program.now at next
+        → IfOk result (λ call. next_call program.now at ≡ Some (call_of call)) }
 {
     match next {
         NextCall::Command { word, chained } => command_call(alloc, program, word, chained),
@@ -144,8 +143,8 @@ fn program_call(alloc: Global, program: &Program, next: NextCall) -> Result<Call
     }
 }
 
-/// The call that comes next in a script, if one does.
-pub fn next_call(alloc: Global, items: &[Item], place: &Place) -> Result<Option<Call>, NoMemory>
+/// Makes the call that comes next in a script, if one does.
+fn next_call(alloc: Global, items: &[Item], place: &Place) -> Result<Option<Call>, NoMemory>
     requires stands { IsPlace (map item_of items.now) place.now }
     ensures call { (left : Left) → StandsAt (map item_of items.now) left place.now
         → IfOk result (λ call. option_map call_of call ≡ next_of left.items left.at) }
@@ -160,6 +159,23 @@ pub fn next_call(alloc: Global, items: &[Item], place: &Place) -> Result<Option<
         Some(Item::Demount) => Ok(Some(Call::Demount)),
         Some(Item::Run(program)) => Ok(Some(program_call(alloc, program, place.next)?)),
         None => Ok(None),
+    }
+}
+
+/// The call that comes next in a script, if one does: the one that waits at the place, or else one that is made. It
+/// waits there no longer.
+pub fn due_call(alloc: Global, items: &[Item], place: &mut Place) -> Result<Option<Call>, NoMemory>
+    requires stands { IsPlace (map item_of items.now) place.old }
+    ensures call { (left : Left) → StandsAt (map item_of items.now) left place.old
+        → IfOk result (λ call. option_map call_of call ≡ next_of left.items left.at) }
+    ensures memory { (left : Left) → StandsAt (map item_of items.now) left place.old
+        → OnErr result (IsTrue (is_some (next_of left.items left.at))) }
+    ensures stays { (left : Left) → StandsAt (map item_of items.now) left place.old
+        → StandsAt (map item_of items.now) left place.new }
+{
+    match place.call.take() {
+        Some(call) => Ok(Some(call)),
+        None => next_call(alloc, items, place),
     }
 }
 

@@ -1,20 +1,7 @@
-use Rattle.std.proofs.lemmas.List.{length-map}
-use Rattle.std.proofs.Common.{map, arith}
-use Rattle.channel_commands.specs.Views.{ccw_of}
-use Rattle.channel_program.specs.Items.{IsRunnable}
+use Rattle.std.proofs.Common.{map}
 use Rattle.job_text.specs.Views.{item_of}
-use Rattle.serial_driver.proofs.PlaceFacts.{found, all_there, passed_program, passed_mount, passed_demount}
+use Rattle.serial_driver.proofs.PlaceFacts.{found, passed_program, passed_mount, passed_demount}
 use Rattle.serial_driver.proofs.place.passed.Goals as goal
-
-pub passed_in-requires-clause-some : goal.passed_in-requires-clause-some
-passed_in-requires-clause-some c =
-    let is = found item_of c.args.items.now c.args.place.now.item _ _ c.in-Some-Run.ensures.lookup.0 c.in-Some-Run.ensures.lookup.1 c.in-Some-Run.field-0-is in
-    omega (arith, (all_there IsRunnable (map item_of c.args.items.now) c.args.place.now.item _ _ c.requires.runnable is).0, length-map c.in-Some-Run.program.items ccw_of)
-
-pub passed_in-requires-clause-few : goal.passed_in-requires-clause-few
-passed_in-requires-clause-few c =
-    let is = found item_of c.args.items.now c.args.place.now.item _ _ c.in-Some-Run.ensures.lookup.0 c.in-Some-Run.ensures.lookup.1 c.in-Some-Run.field-0-is in
-    omega (arith, (all_there IsRunnable (map item_of c.args.items.now) c.args.place.now.item _ _ c.requires.runnable is).1, length-map c.in-Some-Run.program.items ccw_of)
 
 pub returns-in-Some-Run : goal.returns-in-Some-Run
 returns-in-Some-Run c = λ left stands.
