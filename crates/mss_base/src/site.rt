@@ -1,7 +1,7 @@
 // The devices: blocks of 16,384 bytes.
-ghost use Rattle.std.specs.Prelude.{◌≡◌, ℕ, ◌+◌, ◌≤◌, ◌++◌, [], ◌∷◌, List, length, Bool, false, IsOk, OnOk};
+ghost use Rattle.std.specs.Prelude.{◌≡◌, ℕ, ◌+◌, ◌≤◌, ◌++◌, [], ◌∷◌, List, length, Bool, false, IsOk, OnOk, OnErr};
 ghost use Rattle.mss_base.specs.Sound.{StaysSound};
-ghost use Rattle.mss_base.specs.Content.{SiteLog, content, AddsBytes};
+ghost use Rattle.mss_base.specs.Content.{SiteLog, content, AddsBytes, Got, synced, synced_all, unsynced};
 ghost use Rattle.mss_base.specs.Counts.{Rises, HasCause};
 ghost use Rattle.mss_base.specs.declared.place.UnitNo.{UnitNo};
 
@@ -17,16 +17,16 @@ pub trait Site {
     /// Whether clauses may speak of what the devices hold.
     ghost tells: { Type 0 };
 
-    /// What the devices held when the site was made, and the writes since.
+    /// What the devices held when the site was made, and the writes and syncs since.
     ghost told: { Self → SiteLog };
 
-    /// How many writes there is room for.
+    /// How many writes and syncs there is room for.
     ghost spare: { Self → ℕ };
 
-    /// How many writes were made.
+    /// How many writes and syncs were made.
     ghost writes: { Self → ℕ };
 
-    /// How many reads and writes failed.
+    /// How many reads, writes and syncs failed.
     ghost faults: { Self → ℕ };
 
     /// That from here on no call fails but reads of those units for which a test holds. A site that can't know it has no
@@ -36,7 +36,7 @@ pub trait Site {
     /// The bytes of the block that was brought last.
     ghost brought: { Self → List ℕ };
 
-    /// Makes room for so many writes. After want of memory all but the room is as it was.
+    /// Makes room for so many writes and syncs. After want of memory all but the room is as it was.
     fn reserve(&mut self, count: u32) -> Result<(), NoMemory>
         ensures room { OnOk result (count ≤ spare self.new) }
         ensures spare { spare self.old ≤ spare self.new }
@@ -81,7 +81,7 @@ pub trait Site {
         requires inside { offset + length bytes.now ≤ BLOCK_BYTES }
         ensures ok { tells → OnOk result
             (AddsBytes unit block offset bytes.now (told self.old) (told self.new)) }
-        // Whatever the outcome, the log got one write: of these bytes, or of others in their range.
+        // Whatever the outcome, the log got one write: of these bytes, or of others in their range. No sync came of it.
         ensures logged { tells → (left : List ℕ) × (length left ≡ length bytes.now)
             × AddsBytes unit block offset left (told self.old) (told self.new) }
         ensures spare { spare self.old ≤ spare self.new + 1 }
@@ -91,11 +91,38 @@ pub trait Site {
         ensures works { (but : UnitNo → Bool) → never_fails_but self.old but → IsOk result }
         ensures sound { StaysSound never_fails_but self.old self.new };
 
-    /// How many writes were made. The count stands at its last value rather than go back to 0.
+    /// Makes firm all that was written to a unit. After a failure nothing is firm that wasn't.
+    fn sync(&mut self, unit: UnitNo) -> Result<(), Failed>
+        requires room { 1 ≤ spare self.old }
+        ensures ok { tells
+            → OnOk result (Got (synced unit ∷ []) (told self.old) (told self.new)) }
+        ensures err { tells
+            → OnErr result (Got (unsynced ∷ []) (told self.old) (told self.new)) }
+        ensures spare { spare self.old ≤ spare self.new + 1 }
+        ensures writes { Rises (writes self.old) (writes self.new) }
+        ensures kept { writes self.old ≤ writes self.new }
+        ensures cause { HasCause (faults self.old) (faults self.new) result }
+        ensures works { (but : UnitNo → Bool) → never_fails_but self.old but → IsOk result }
+        ensures sound { StaysSound never_fails_but self.old self.new };
+
+    /// Makes firm all that was written. After a failure nothing is firm that wasn't.
+    fn sync_all(&mut self) -> Result<(), Failed>
+        requires room { 1 ≤ spare self.old }
+        ensures ok { tells → OnOk result (Got (synced_all ∷ []) (told self.old) (told self.new)) }
+        ensures err { tells
+            → OnErr result (Got (unsynced ∷ []) (told self.old) (told self.new)) }
+        ensures spare { spare self.old ≤ spare self.new + 1 }
+        ensures writes { Rises (writes self.old) (writes self.new) }
+        ensures kept { writes self.old ≤ writes self.new }
+        ensures cause { HasCause (faults self.old) (faults self.new) result }
+        ensures works { (but : UnitNo → Bool) → never_fails_but self.old but → IsOk result }
+        ensures sound { StaysSound never_fails_but self.old self.new };
+
+    /// How many writes and syncs were made. The count stands at its last value rather than go back to 0.
     fn writes(&self) -> u64
         ensures { result ≡ writes self.now };
 
-    /// How many reads and writes failed. The count stands at its last value rather than go back to 0.
+    /// How many reads, writes and syncs failed. The count stands at its last value rather than go back to 0.
     fn faults(&self) -> u64
         ensures { result ≡ faults self.now };
 
@@ -106,6 +133,6 @@ pub trait Site {
     /// What was brought is a whole block, whatever the site tells.
     ghost full: { (s : Self) → length (brought s) ≡ 16384 };
 
-    /// The count of writes is the length of the log.
+    /// The count of writes and syncs is the length of the log.
     ghost counted: { (s : Self) → tells → writes s ≡ length (told s).log };
 }
