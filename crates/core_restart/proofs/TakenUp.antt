@@ -6,7 +6,7 @@ use Rattle.std.specs.List.{AllByRecursion}
 use Rattle.std.proofs.lemmas.Bool.{cases_Bool, cond-true, cond-false, eq-eqb, eqb-true, ne_eqb}
 use Rattle.std.proofs.lemmas.List.{take_all}
 use Rattle.mss_base.specs.Configs.{ConfigData, VolumeData}
-use Rattle.mss_base.specs.Content.{Content, SiteLog, Write, content, after as written_after}
+use Rattle.mss_base.specs.Content.{Content, SiteLog, Item, IsTorn, content, after as written_after}
 use Rattle.mss_base.proofs.Moments.{moments_are_images}
 use Rattle.mss_base.specs.declared.site.Site.{Ghosts}
 use Rattle.ckd_track.specs.Data.{Volumes}
@@ -118,7 +118,7 @@ module _ {S C : Type 0} (config : ConfigData) (old new : DevicesSeen) where
     all_written : written_after new.told.start (take core.first_write new.told.log) ≡ content new.told
     all_written =
         ap (λ (n : ℕ). written_after new.told.start (take n new.told.log)) (is.first_write_ ∙ at_end)
-        ∙ ap (λ (ws : List Write). written_after new.told.start ws) (take_all (length new.told.log) new.told.log (omega arith))
+        ∙ ap (λ (xs : List Item). written_after new.told.start xs) (take_all (length new.told.log) new.told.log (omega arith))
 
     begins_with : BeginsWith config (shown_for config (content old.told)) new.told core
     begins_with = record {
@@ -298,8 +298,14 @@ module _ (decides : Decides) (config : ConfigData) (old new : DevicesSeen) (answ
   was : IsSound config.frames begun × HasSerialsAsked asked (rows_of begun)
   was = (decides config.frames asked begun).0 is.faultless
 
+  abbrev Fronts : Content → Type 0
+  Fronts = ShowsFront config.frames further (shown begun)
+
+  torn_stays : (c d : Content) → Fronts c → IsTorn old.told c d → Fronts d
+  torn_stays c d shows torn = subst Fronts (sym torn) shows
+
   front : ShowsFront config.frames further (shown begun) (left_by stop)
-  front = moments_are_images (ShowsFront config.frames further (shown begun)) old.told new.told (is.opens.moments config.frames was.0) stop.moment stop.since stop.until stop.tear
+  front = moments_are_images Fronts Fronts old.told new.told (is.opens.moments config.frames was.0) torn_stays stop.moment stop.since stop.until stop.tear
 
   made_asked : AreAsked asked front.made
   made_asked =

@@ -1,7 +1,7 @@
 -- What a restart takes up: content in which its configuration finds no fault, as a stop leaves it.
 use Rattle.std.specs.Prelude.{◌≡◌, ◌≤◌, ◌<◌, ℕ, List, [], ◌++◌, length, Option, Some, None, Result, Ok, Err, IfOk}
 use Rattle.mss_base.specs.Configs.{ConfigData, VolumeData, IsConfig}
-use Rattle.mss_base.specs.Content.{Content, SiteLog, Write, content, image}
+use Rattle.mss_base.specs.Content.{Content, SiteLog, Item, Tear, Got, content, image}
 use Rattle.ckd_track.specs.Data.{Volumes}
 use Rattle.ckd_plain.specs.Plain.{serial_in, start_of}
 use Rattle.shown_volumes.specs.declared.refused.Refused.{Refused}
@@ -82,7 +82,7 @@ pub record Stop (first : ℕ) (site : SiteLog) : Type 0 where
   pub moment : ℕ
   pub since : first ≤ moment
   pub until : moment ≤ length site.log
-  pub tear : Option (List ℕ)
+  pub tear : Tear
 
 -- what the devices hold after it
 abbrev pub left_by : {first : ℕ} {site : SiteLog} → Stop first site → Content
@@ -98,8 +98,8 @@ pub record IsLater {S C : Type 0} (old : SiteLog) (core : CoreValue S C) (new : 
     (left : CoreValue S C) : Type 0 where
   pub config_ : left.config ≡ core.config
   pub first_write_ : left.first_write ≡ core.first_write
-  pub items : List Write
-  pub grown : new ≡ record old { log = old.log ++ items }
+  pub items : List Item
+  pub grown : Got items old new
 
 -- what a stop within a session leaves: content without a fault, in which no volume is missing
 pub record LeavesAll (config : ConfigData) (c : Content) : Type 0 where

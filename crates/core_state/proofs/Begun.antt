@@ -3,7 +3,7 @@ use Rattle.std.proofs.Common.{◌≡◌, inl, inr, ℕ, zero, suc, ◌≤◌, Bo
 use Rattle.std.specs.Prelude.{replicate, slice_index_or}
 use Rattle.std.proofs.lemmas.Bool.{cases_lt, and_parts, false≢true}
 use Rattle.std.proofs.lemmas.List.{take_all, get_or-replicate, get_or_past, length-replicate}
-use Rattle.mss_base.specs.Content.{Content, SiteLog, content, image, after as written_after}
+use Rattle.mss_base.specs.Content.{Content, SiteLog, Tear, content, image, after as written_after}
 use Rattle.ckd_plain.specs.declared.host.HostState.{HostState}
 use Rattle.ckd_plain.specs.Plain.{fresh_host}
 use Rattle.volume_table.specs.Row.{RowValue}
@@ -28,7 +28,7 @@ use Rattle.victim_choice.specs.Order.{untouched}
 use Rattle.victim_choice.proofs.OrderFacts.{untouched_is_order}
 use Rattle.accessors.specs.Rails.{rail_start}
 use Rattle.core_state.proofs.Making.{make_whole}
-use Rattle.core_state.proofs.StopsLemmas.{last_image}
+use Rattle.mss_base.proofs.Moments.{last_torn}
 use Rattle.core_state.proofs.CoreWork.{AreOwned}
 
 nothing : {A : Type 0} (n i : ℕ) (a : A) → slice_index_or (replicate n a) i a ≡ a
@@ -129,8 +129,8 @@ module _ (S C : Type 0) (tells : Type 0) (s : SiteLog) (x : S) (chooser : C) (co
   handed : (tl : tells) → handed_rows (rows_of (written_after s.start (take first s.log))) console ≡ handed_rows (listed rows) console
   handed tl = ap (λ (c : Content). handed_rows (rows_of c) console) (front tl) ∙ ap (λ (r : RowsOf). handed_rows r console) (rows_are tl)
 
-  here : (tl : tells) (k : ℕ) → first ≤ k → k ≤ length s.log → (tear : Option (List ℕ)) → image s k tear ≡ content s
-  here tl k from to tear = last_image s k tear (let e = at_end tl in omega (arith, e))
+  here : (tl : tells) (k : ℕ) → first ≤ k → k ≤ length s.log → (tear : Tear) → image s k tear ≡ content s
+  here tl k from to tear = last_torn s k tear (let e = at_end tl in omega (arith, e))
 
   opens : (tl : tells) → shown (content s) ≡ shown (written_after s.start (take first s.log))
   opens tl = ap shown (sym (front tl))

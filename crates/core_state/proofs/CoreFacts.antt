@@ -1,11 +1,11 @@
 -- What follows of a core at once.
 use Rattle.std.proofs.Common.{◌≡◌, ℕ, length, Option, Some, None, refl, sym, ◌∙◌, ap, subst, arith}
-use Rattle.mss_base.specs.Content.{SiteLog, content}
+use Rattle.mss_base.specs.Content.{SiteLog, content, no_tear}
 use Rattle.shown_volumes.specs.Sound.{IsSound}
 use Rattle.core_state.specs.CoreValue.{CoreValue}
 use Rattle.volume_table.specs.Listed.{listed}
 use Rattle.core_state.specs.IsCore.{IsCore, IsTold}
-use Rattle.core_state.proofs.StopsLemmas.{last_image}
+use Rattle.mss_base.proofs.Moments.{last_image}
 use Rattle.core_state.proofs.Serving.{HasOnePage}
 
 -- no frame is of two pages
@@ -24,4 +24,4 @@ one_page S v core a b p q frame first second =
     page_page (Some x) = x.1
 
 pub sound_of : (S : Type 0) {C : Type 0} (s : SiteLog) (v : CoreValue S C) → IsTold s v → IsSound v.config.frames (content s)
-sound_of S s v told = subst (IsSound v.config.frames) (last_image s (length s.log) None refl) (told.stops.sound (length s.log) told.began (omega arith) None)
+sound_of S s v told = subst (IsSound v.config.frames) (last_image s (length s.log) refl) (told.stops.sound (length s.log) told.began (omega arith) no_tear)

@@ -4,7 +4,7 @@ use Rattle.std.specs.Prelude.{nat_le}
 use Rattle.std.proofs.lemmas.Bool.{cond-true}
 use Rattle.std.proofs.lemmas.Bool.Decides.{nat_tests}
 use Rattle.std.proofs.lemmas.List.{take-append-le}
-use Rattle.mss_base.specs.Content.{Content, Write, SiteLog, content, after as written_after}
+use Rattle.mss_base.specs.Content.{Content, Item, SiteLog, Got, content, after as written_after}
 use Rattle.mss_base.specs.declared.place.UnitNo.TheVariants.{TableA, TableB}
 use Rattle.ckd_plain.specs.declared.host.HostState.{HostState}
 use Rattle.ckd_plain.specs.Data.{State}
@@ -58,7 +58,7 @@ agree-push frames rows s (x ∷ es) (y ∷ ms) e m long all new = (all.0, agree-
 
 -- ---- what the session began with stays
 
-module _ (first : ℕ) (s t : SiteLog) (ws : List Write) (grown : t ≡ record s { log = s.log ++ ws }) (began : first ≤ length s.log) where
+module _ (first : ℕ) (s t : SiteLog) (ws : List Item) (grown : Got ws s t) (began : first ≤ length s.log) where
   pub start_same : written_after t.start (take first t.log) ≡ written_after s.start (take first s.log)
   start_same = ap (λ (x : SiteLog). written_after x.start (take first x.log)) grown ∙ ap (written_after s.start) (take-append-le first s.log ws began)
 

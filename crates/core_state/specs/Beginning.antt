@@ -1,6 +1,6 @@
 -- What every later moment of a session keeps: its beginning, and the writes before.
 use Rattle.std.specs.Prelude.{◌≡◌, ◌++◌, ℕ, List}
-use Rattle.mss_base.specs.Content.{SiteLog, Write}
+use Rattle.mss_base.specs.Content.{SiteLog, Item, Got}
 use Rattle.core_state.specs.Agrees.{has_created}
 use Rattle.core_state.specs.CoreValue.{CoreData}
 
@@ -14,7 +14,7 @@ pub record KeepsBeginning (core left : CoreData) : Type 0 where
 
 -- some writes were added to the log
 abbrev pub Continues : SiteLog → SiteLog → Type 0
-Continues old new = (items : List Write) × (new ≡ record old { log = old.log ++ items })
+Continues old new = (items : List Item) × Got items old new
 
 -- left is the core at a later moment
 pub record IsLater (tells : Type 0) (core left : CoreData) : Type 0 where

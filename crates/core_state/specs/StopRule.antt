@@ -1,7 +1,7 @@
 -- What a stop may leave of a session.
 use Rattle.std.specs.Prelude.{◌≡◌, ◌⊎◌, ◌≤◌, ℕ, ◌+◌, nat_le, Bool, true, false, ◌&&◌, if◌then◌else◌}
 use Rattle.std.specs.Prelude.{List, ◌∷◌, length, take, slice_get, Option, Some, None}
-use Rattle.mss_base.specs.Content.{SiteLog, image, after as written_after}
+use Rattle.mss_base.specs.Content.{SiteLog, Tear, no_tear, image, after as written_after}
 use Rattle.ckd_track.specs.Data.{Volumes}
 use Rattle.channel_commands.specs.Data.{ReplyData, stopped}
 use Rattle.ckd_plain.specs.Data.{State}
@@ -44,10 +44,10 @@ state_at s history marks k = after s (take (answered k history marks) history)
 -- answered entry, with no tear, those themselves
 pub record StopsWell (frames first : ℕ) (s : State) (history : List EntryData) (marks : List ℕ)
     (site : SiteLog) : Type 0 where
-  pub sound : (k : ℕ) → first ≤ k → k ≤ length site.log → (tear : Option (List ℕ))
+  pub sound : (k : ℕ) → first ≤ k → k ≤ length site.log → (tear : Tear)
       → IsSound frames (image site k tear)
-  pub shows : (k : ℕ) → first ≤ k → k ≤ length site.log → (tear : Option (List ℕ))
+  pub shows : (k : ℕ) → first ≤ k → k ≤ length site.log → (tear : Tear)
       → MayShow (state_at s history marks k) (slice_get history (answered k history marks))
       (shown (image site k tear))
   pub exact : (k : ℕ) → first ≤ k → k ≤ length site.log → (k ≡ first) ⊎ IsMark k history marks
-      → shown (image site k None) ≡ (state_at s history marks k).volumes
+      → shown (image site k no_tear) ≡ (state_at s history marks k).volumes

@@ -4,7 +4,7 @@ use Rattle.std.specs.Prelude.{IsTrue}
 use Rattle.std.specs.Option.{option_map}
 use Rattle.std.proofs.Math.Path.{fun_ext}
 use Rattle.std.proofs.lemmas.Bool.{cases_Bool, cond-true, cond-false, false≢true, and_parts, eqb-true}
-use Rattle.mss_base.specs.Content.{Content, SiteLog, content, Writes, ChangesBlock, same_unit}
+use Rattle.mss_base.specs.Content.{Content, SiteLog, content, no_tear, Writes, ChangesBlock, same_unit}
 use Rattle.mss_base.specs.Places.{frame_block}
 use Rattle.mss_base.specs.declared.place.UnitNo.{UnitNo}
 use Rattle.mss_base.specs.declared.place.UnitNo.TheVariants.{TableA, TableB, Staging, Cartridge}
@@ -52,7 +52,7 @@ use Rattle.core_state.specs.Served.{AreServed}
 use Rattle.core_state.specs.Steps.{entry_of}
 use Rattle.core_state.specs.Running.{IsStagedAt}
 use Rattle.core_state.specs.Tasks.{tasks_after}
-use Rattle.core_state.proofs.StopsLemmas.{last_image}
+use Rattle.mss_base.proofs.Moments.{last_image}
 use Rattle.host_events.proofs.ReplyFacts.{host_put}
 use Rattle.host_events.proofs.Staged.{unit_of, first_of, tracks_shown}
 use Rattle.host_events.proofs.HostServed.{served_written, served_alike, served_touched}
@@ -141,7 +141,7 @@ module _ (S : Type 0) {C : Type 0} (s t : SiteLog) (v : CoreValue S C) (told : I
   here = ap (λ (f : ℕ → HostState). f h) going.hosts_
 
   sound_now : IsSound v.config.frames (content s)
-  sound_now = subst (IsSound v.config.frames) (last_image s (length s.log) None refl) (told.stops.sound (length s.log) told.began (omega arith) None)
+  sound_now = subst (IsSound v.config.frames) (last_image s (length s.log) refl) (told.stops.sound (length s.log) told.began (omega arith) no_tear)
 
   row_is : rows_of (content s) volume ≡ Some r
   row_is = ap (λ (rows : RowsOf). rows volume) going.rows_ ∙ at.row

@@ -12,14 +12,14 @@ use Rattle.memory_devices.specs.declared.memory_site.MemorySite.{MemorySite}
 abbrev pub told_of : MemorySite → SiteLog
 told_of s = record { start = held s.start; log = s.log.items }
 
--- how many writes it has room for
+-- how many writes and syncs it has room for
 abbrev pub room_of : MemorySite → ℕ
 room_of s = min (vec_len s.room) (min (map_spare s.blocks) s.log.room)
 
 abbrev pub faults_of : MemorySite → ℕ
 faults_of s = s.faults
 
--- how many reads and writes were made since the last `fail`
+-- how many reads, writes and syncs were made since the last `fail`
 abbrev pub calls_of : MemorySite → ℕ
 calls_of s = s.calls
 
@@ -27,7 +27,7 @@ calls_of s = s.calls
 abbrev pub failing_of : MemorySite → List SiteFault
 failing_of s = s.failing.items
 
--- the next call fails, which reads this unit or writes
+-- the next call fails, which reads this unit, writes or syncs
 abbrev pub FailsNext : Option UnitNo → MemorySite → Type 0
 FailsNext read_of s = Any (λ fault. strikes (next_count s.calls) read_of fault ≡ true) s.failing.items
 

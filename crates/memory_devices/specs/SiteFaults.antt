@@ -5,7 +5,7 @@ use Rattle.mss_base.specs.declared.place.UnitNo.{UnitNo}
 use Rattle.memory_devices.specs.declared.memory_site.SiteFault.{SiteFault}
 use Rattle.memory_devices.specs.declared.memory_site.SiteFault.TheVariants.{Call, ReadsOf}
 
--- whether the fault strikes this call, which reads a unit or writes
+-- whether the fault strikes this call, which reads a unit, writes or syncs
 abbrev pub strikes : ℕ → Option UnitNo → SiteFault → Bool
 strikes call read_of (Call n) = n == call
 strikes call (Some unit) (ReadsOf of) = same_unit unit of

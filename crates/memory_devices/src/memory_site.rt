@@ -6,7 +6,7 @@ ghost use Rattle.mss_base.specs.Content.{after, content, image};
 ghost use Rattle.mss_base.specs.declared.place.UnitNo.{UnitNo};
 
 use crate::memory::{Blocks, block_of, read_block, reserve_blocks, write_block};
-use crate::write_log::WriteLog;
+use crate::write_log::{SyncKind, WriteLog};
 use indexmap::IndexMap;
 use mss_base::{BLOCK_BYTES, Block, BlockPlace, Failed, NoMemory, Site, UnitNo};
 use std::alloc::Global;
@@ -14,7 +14,7 @@ use std::alloc::Global;
 /// A failure to come.
 #[derive(Clone, Copy, Debug, PartialEq, Eq)]
 pub enum SiteFault {
-    /// The n-th read or write from now on, counted from 1.
+    /// The n-th read, write or sync from now on, counted from 1.
     Call(u64),
     /// Each read of a unit.
     ReadsOf(UnitNo),
@@ -23,7 +23,7 @@ pub enum SiteFault {
 /// Why there is no image of a stop.
 #[derive(Clone, Copy, Debug, PartialEq, Eq)]
 pub enum ImageFault {
-    /// So many writes were not made.
+    /// So many writes and syncs were not made.
     NoSuchMoment,
     /// Memory ran out.
     Memory,
@@ -53,7 +53,7 @@ pub struct MemorySite {
 impl SiteFault {
     ghost use Rattle.memory_devices.specs.SiteFaults.{strikes};
 
-    // Whether it strikes this call, which reads a unit or writes.
+    // Whether it strikes this call, which reads a unit, writes or syncs.
     fn strikes(&self, call: u64, read_of: Option<UnitNo>) -> bool
         ensures { result ≡ strikes call read_of self.now }
     {
@@ -121,10 +121,10 @@ impl MemorySite {
         Ok(())
     }
 
-    /// What a stop leaves: devices with the first `moment` writes, and of the next one, if there is one, the tear in its range, cut
-    /// or padded with zeros. It begins with no writes, and no call of it fails.
+    /// What a stop leaves: devices with the first `moment` items, and of the next one, if it is a write, the tear in its range,
+    /// cut or padded with zeros. It begins with no writes, and no call of it fails.
     ///
-    /// `NoSuchMoment` exactly where `moment` exceeds the count of the writes.
+    /// `NoSuchMoment` exactly where `moment` exceeds the count of the writes and syncs.
     pub fn image(&self, moment: u64, tear: Option<&[u8]>) -> Result<MemorySite, ImageFault>
         ensures within { OnOk result (moment ≤ length (told_of self.now).log) }
         ensures err { IfErr result (λ fault. (fault ≡ ImageFault.NoSuchMoment)
@@ -194,7 +194,7 @@ impl MemorySite {
 impl Site for MemorySite {
     ghost use Rattle.memory_devices.specs.MemorySite.{told_of, room_of, calls_of, faults_of, failing_of, FailsNext, FailsOnly};
     ghost use Rattle.memory_devices.specs.MemoryWhole.{length-told, length-brought, brought_of};
-    ghost use Rattle.mss_base.specs.Content.{AddsBytes};
+    ghost use Rattle.mss_base.specs.Content.{AddsBytes, Got, synced, synced_all, unsynced};
     ghost use Rattle.mss_base.specs.Counts.{HasCause, count_after, next_count};
     ghost use Rattle.std.specs.Prelude.{◌≡◌, is_err, IsErr};
     ghost use Rattle.std.proofs.Common.{refl};
@@ -300,6 +300,53 @@ impl Site for MemorySite {
         if self.fails(None) {
             return Err(Failed);
         }
+        Ok(())
+    }
+
+    /// Fails exactly where a failure strikes it.
+    fn sync(&mut self, unit: UnitNo) -> Result<(), Failed>
+        requires room { 1 ≤ room_of self.old }
+        ensures ok { OnOk result (Got (synced unit ∷ []) (told_of self.old) (told_of self.new)) }
+        ensures err { OnErr result (Got (unsynced ∷ []) (told_of self.old) (told_of self.new)) }
+        ensures spare { room_of self.old ≤ room_of self.new + 1 }
+        ensures cause { HasCause (faults_of self.old) (faults_of self.new) result }
+
+        ensures faults { faults_of self.new ≡ count_after (is_err result) (faults_of self.old) }
+        ensures fails { IsErr result ↔ FailsNext None self.old }
+        ensures calls { calls_of self.new ≡ next_count (calls_of self.old) }
+        ensures failing { failing_of self.new ≡ failing_of self.old }
+    {
+        let at = BlockPlace { unit, block: 0 };
+        if self.fails(None) {
+            self.log.push_sync(&at, SyncKind::Failed);
+            return Err(Failed);
+        }
+        self.log.push_sync(&at, SyncKind::OfUnit);
+        Ok(())
+    }
+
+    /// Fails exactly where a failure strikes it.
+    fn sync_all(&mut self) -> Result<(), Failed>
+        requires room { 1 ≤ room_of self.old }
+        ensures ok { OnOk result (Got (synced_all ∷ []) (told_of self.old) (told_of self.new)) }
+        ensures err { OnErr result (Got (unsynced ∷ []) (told_of self.old) (told_of self.new)) }
+        ensures spare { room_of self.old ≤ room_of self.new + 1 }
+        ensures cause { HasCause (faults_of self.old) (faults_of self.new) result }
+
+        ensures faults { faults_of self.new ≡ count_after (is_err result) (faults_of self.old) }
+        ensures fails { IsErr result ↔ FailsNext None self.old }
+        ensures calls { calls_of self.new ≡ next_count (calls_of self.old) }
+        ensures failing { failing_of self.new ≡ failing_of self.old }
+    {
+        let at = BlockPlace {
+            unit: UnitNo::TableA,
+            block: 0,
+        };
+        if self.fails(None) {
+            self.log.push_sync(&at, SyncKind::Failed);
+            return Err(Failed);
+        }
+        self.log.push_sync(&at, SyncKind::OfAll);
         Ok(())
     }
 

@@ -32,7 +32,7 @@ impl Model for SilentSite {
 }
 
 impl SilentSite {
-    /// A site that reads `filler`. `failing` are the reads and writes that will fail, counted from 1.
+    /// A site that reads `filler`. `failing` are the reads, writes and syncs that will fail, counted from 1.
     pub fn of(alloc: Global, filler: u8, failing: &[u64]) -> Result<Self, NoMemory>
         ensures { IfOk result (λ site. site ≡ record {
           filler = filler;
@@ -117,6 +117,38 @@ impl Site for SilentSite {
         _offset: u16,
         _bytes: &[u8],
     ) -> Result<(), Failed>
+        ensures fails { IsErr result ↔ FailsNext self.old.calls }
+        ensures after { self.new ≡ record self.old {
+          writes = next_count self.old.writes;
+          calls = after_call (is_err result) self.old.calls;
+        } }
+        ensures kept { self.old.writes ≤ self.new.writes }
+        ensures cause { HasCause self.old.calls.faults self.new.calls.faults result }
+    {
+        self.writes = self.writes.saturating_add(1);
+        if self.calls.next_fails() {
+            return Err(Failed);
+        }
+        Ok(())
+    }
+
+    fn sync(&mut self, _unit: UnitNo) -> Result<(), Failed>
+        ensures fails { IsErr result ↔ FailsNext self.old.calls }
+        ensures after { self.new ≡ record self.old {
+          writes = next_count self.old.writes;
+          calls = after_call (is_err result) self.old.calls;
+        } }
+        ensures kept { self.old.writes ≤ self.new.writes }
+        ensures cause { HasCause self.old.calls.faults self.new.calls.faults result }
+    {
+        self.writes = self.writes.saturating_add(1);
+        if self.calls.next_fails() {
+            return Err(Failed);
+        }
+        Ok(())
+    }
+
+    fn sync_all(&mut self) -> Result<(), Failed>
         ensures fails { IsErr result ↔ FailsNext self.old.calls }
         ensures after { self.new ≡ record self.old {
           writes = next_count self.old.writes;

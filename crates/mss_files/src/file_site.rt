@@ -194,6 +194,27 @@ impl<F: UnitFiles> Site for FileSite<F> {
         }
     }
 
+    /// Counts a sync. Nothing is left to be done: each write lasts when it is answered.
+    fn sync(&mut self, unit: UnitNo) -> Result<(), Failed>
+        ensures ok { IsOk result }
+        ensures writes { self.new ≡ record self.old { writes = next_count self.old.writes } }
+        ensures kept { self.old.writes ≤ self.new.writes }
+    {
+        let _unit = unit;
+        self.writes = self.writes.saturating_add(1);
+        Ok(())
+    }
+
+    /// Counts a sync. Nothing is left to be done: each write lasts when it is answered.
+    fn sync_all(&mut self) -> Result<(), Failed>
+        ensures ok { IsOk result }
+        ensures writes { self.new ≡ record self.old { writes = next_count self.old.writes } }
+        ensures kept { self.old.writes ≤ self.new.writes }
+    {
+        self.writes = self.writes.saturating_add(1);
+        Ok(())
+    }
+
     fn writes(&self) -> u64 {
         self.writes
     }

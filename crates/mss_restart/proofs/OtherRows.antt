@@ -4,7 +4,7 @@ use Rattle.std.specs.List.{AllByRecursion}
 use Rattle.std.proofs.lemmas.Bool.{cases_Bool, eqb-true, ne_eqb}
 use Rattle.std.proofs.lemmas.List.{append-nil}
 use Rattle.mss_base.specs.Configs.{VolumeData}
-use Rattle.mss_base.specs.Content.{Content, SiteLog, Write, content, Writes}
+use Rattle.mss_base.specs.Content.{Content, SiteLog, Item, content, Writes}
 use Rattle.mss_base.specs.declared.place.UnitNo.TheVariants.{TableA, TableB}
 use Rattle.mss_base.proofs.Moments.{started, then, weaker, ended_with}
 use Rattle.volume_table.specs.Row.{RowValue}
@@ -72,17 +72,17 @@ is_apart volume (w ∷ done) v behind all = is_apart volume done v behind all.1
 alone : (volume : ℕ) (s t : SiteLog) → Writes (KeepsMarks volume (content s)) s t → (NeedsNoRepair volume (content s) → t ≡ s) → Writes (IsRepairing volume (content s)) s t
 alone volume s t marks untouched = by marks.items refl
   where
-    by : (items : List Write) → marks.items ≡ items → Writes (IsRepairing volume (content s)) s t
+    by : (items : List Item) → marks.items ≡ items → Writes (IsRepairing volume (content s)) s t
     by [] none =
-        let same : t ≡ s = marks.grown ∙ (λ i. record { start = s.start; log = (ap (λ (more : List Write). s.log ++ more) none ∙ append-nil s.log) i }) in
+        let same : t ≡ s = marks.grown ∙ (λ i. record { start = s.start; log = (ap (λ (more : List Item). s.log ++ more) none ∙ append-nil s.log) i }) in
         subst (λ (u : SiteLog). Writes (IsRepairing volume (content s)) s u) (sym same) (started (IsRepairing volume (content s)) s (nothing_yet volume (content s)))
     by (w ∷ more) some = weaker (KeepsMarks volume (content s)) (IsRepairing volume (content s)) (λ d kept. record {
       marks = kept;
       equal = λ need. absurd (
           let same : s.log ++ marks.items ≡ s.log = sym (ap (λ (x : SiteLog). x.log) marks.grown) ∙ ap (λ (x : SiteLog). x.log) (untouched need) in
-          let long = ap (λ (l : List Write). length l) same in
+          let long = ap (λ (l : List Item). length l) same in
           let parts = length-append s.log marks.items in
-          let one = ap (λ (l : List Write). length l) some in
+          let one = ap (λ (l : List Item). length l) some in
           omega (arith, long, parts, one));
     }) s t marks
 

@@ -3,7 +3,7 @@ use Rattle.std.proofs.Common.{◌≡◌, ◌≤◌, ◌<◌, ◌↔◌, ℕ, suc
 use Rattle.std.specs.Prelude.{if◌then◌else◌}
 use Rattle.std.proofs.lemmas.List.{take_all, take-append-le, length-append}
 use Rattle.mss_base.specs.Configs.{ConfigData, VolumeData}
-use Rattle.mss_base.specs.Content.{Content, SiteLog, Write, content, image, after as written_after}
+use Rattle.mss_base.specs.Content.{Content, SiteLog, Item, Tear, Got, content, image, after as written_after}
 use Rattle.mss_base.proofs.ContentLemmas.{image_front}
 use Rattle.channel_commands.specs.Data.{CallData}
 use Rattle.ckd_track.specs.Data.{Volumes}
@@ -62,10 +62,10 @@ module _ (config : ConfigData) (was : DevicesSeen) (began : CoreData) (b : Began
       b.begins.created (missing_none (rows_of (content was.told)) config.volumes)
 
   module _ (tells : Type 0) (t : tells) (left : CoreData) (l : IsLater tells began left) (told : IsTold left.site.told left) where
-    abbrev items : List Write
+    abbrev items : List Item
     items = (l.grown t).0
 
-    grown : left.site.told ≡ record began.site.told { log = began.site.told.log ++ items }
+    grown : Got items began.site.told left.site.told
     grown = (l.grown t).1
 
     later : taking.IsLater began.site.told began left.site.told left
@@ -110,7 +110,7 @@ module _ (config : ConfigData) (was : DevicesSeen) (began : CoreData) (b : Began
       session : IsSession left.site.told left
       session = session_later began.site.told left.site.told began left (session_begun config (shown_for config (content was.told)) began.site.told began b.with_ b.begins.config_ b.told) later told
 
-      opening_stop : (k : ℕ) → length was.told.log ≤ k → k < left.first_write → (tear : Option (List ℕ)) → LeavesFront config (content was.told) (image left.site.told k tear)
+      opening_stop : (k : ℕ) → length was.told.log ≤ k → k < left.first_write → (tear : Tear) → LeavesFront config (content was.told) (image left.site.told k tear)
       opening_stop k since before tear =
           let within : suc k ≤ length began.site.told.log = omega (arith, before, first_is) in
           let same : image left.site.told k tear ≡ image began.site.told k tear =

@@ -1,7 +1,7 @@
 -- What a session promises, in plain volumes.
 use Rattle.std.specs.Prelude.{◌≡◌, ◌≤◌, ◌<◌, ℕ, List, length, Option, Ok, None}
 use Rattle.mss_base.specs.Configs.{ConfigData, IsConfig}
-use Rattle.mss_base.specs.Content.{Content, SiteLog, content, image}
+use Rattle.mss_base.specs.Content.{Content, SiteLog, Tear, content, image}
 use Rattle.ckd_track.specs.Data.{Volumes}
 use Rattle.ckd_plain.specs.Data.{State}
 use Rattle.ckd_plain.specs.Plain.{start_of}
@@ -58,7 +58,7 @@ pub record IsPlainSession (config : ConfigData) (was now : SiteLog) (s : Session
 -- before, with a front of the further ones. From then on: the plain volumes after the answered
 -- entries, or what the next one may have made of them. Of each a restart is no refusal.
 pub record StopsAnywhere (config : ConfigData) (was now : SiteLog) (s : SessionData) : Type 0 where
-  pub opening_ : (k : ℕ) → length was.log ≤ k → k < s.first_write → (tear : Option (List ℕ))
+  pub opening_ : (k : ℕ) → length was.log ≤ k → k < s.first_write → (tear : Tear)
       → LeavesFront config (content was) (image now k tear)
   pub session_ : StopsWell config.frames s.first_write (plain_start config (content was))
       s.history s.marks now

@@ -2,7 +2,7 @@
 use Rattle.std.proofs.Common.{◌≡◌, ◌⊎◌, inl, inr, ℕ, ◌+◌, ◌≤◌, ◌<◌, Bool, true, false, not, ◌==◌, List, [], ◌∷◌, length, get_or, refl, sym, ◌∙◌, ap, subst, arith, length-append}
 use Rattle.std.proofs.lemmas.Bool.{cases_Bool}
 use Rattle.mss_base.specs.declared.place.BlockPlace.{BlockPlace}
-use Rattle.mss_base.specs.Content.{Content, Write, Writes, SiteLog, content, splice, Adds}
+use Rattle.mss_base.specs.Content.{Content, Write, wrote, synced, unsynced, Writes, SiteLog, content, splice, Adds}
 use Rattle.mss_base.proofs.ContentLemmas.{get_or-splice_in, get_or-splice_above}
 use Rattle.mss_base.proofs.Moments.{block_write, block_written, block_then, block_weaker, block_started}
 use Rattle.table_pair.specs.Copies.{CopyView, copy_at, byte_on, copy_on, shut, marked, filled, IsFilling, IsRewriting, WritesCopy}
@@ -112,8 +112,10 @@ module _ (at : BlockPlace) (bytes : List ℕ) (s t : SiteLog) (old : WritesCopy 
     rewriting_filled second = copy_then at _ _ _ from_closing from_filling s t u old second
 
 -- a log with one more write, and with some
-pub adds_grow : (w : Write) (s t : SiteLog) → Adds w s t → length t.log ≡ length s.log + 1
-adds_grow w s t adds = ap (λ (l : SiteLog). length l.log) adds ∙ length-append s.log (w ∷ [])
+pub adds_grow : (w : Write) (s t : SiteLog) → Adds w s t → length s.log < length t.log
+adds_grow w s t (inl alone) = omega (arith, ap (λ (l : SiteLog). length l.log) alone ∙ length-append s.log (wrote w ∷ []))
+adds_grow w s t (inr (inl firm)) = omega (arith, ap (λ (l : SiteLog). length l.log) firm ∙ length-append s.log (wrote w ∷ synced w.unit ∷ []))
+adds_grow w s t (inr (inr loose)) = omega (arith, ap (λ (l : SiteLog). length l.log) loose ∙ length-append s.log (wrote w ∷ unsynced ∷ []))
 
 pub writes_grow : (P : Content → Type 0) (s t : SiteLog) → Writes P s t → length s.log ≤ length t.log
 writes_grow P s t w = omega (arith, ap (λ (l : SiteLog). length l.log) w.grown ∙ length-append s.log w.items)

@@ -6,8 +6,8 @@ use Rattle.mss_base.specs.declared.place.UnitNo.TheVariants as unit
 use Rattle.mss_base.specs.declared.place.BlockPlace.{BlockPlace}
 use Rattle.mss_base.specs.Content.{Content, SiteLog, Write, content, splice, same_unit, Adds, Writes, length-splice}
 use Rattle.mss_base.specs.Zeros.{length-zeros}
-use Rattle.mss_base.proofs.ContentLemmas.{after-append, written_elsewhere}
-use Rattle.mss_base.proofs.Moments.{block_write, block_written, block_started}
+use Rattle.mss_base.proofs.ContentLemmas.{written_elsewhere}
+use Rattle.mss_base.proofs.Moments.{content_then, block_write, block_written, block_started}
 use Rattle.table_pair.specs.Pair.{is_table}
 use Rattle.shown_volumes.specs.Shown.{block_at, SameTables}
 use Rattle.transfers.specs.declared.transfer.Transfer.{Transfer}
@@ -43,7 +43,7 @@ copied_there to bytes old new adds long = block_written to.unit to.block 0 bytes
 copied_elsewhere : (to : BlockPlace) (bytes : List ℕ) (old new : SiteLog) → Adds (copy_of to bytes) old new
     → (u : UnitNo) (b : ℕ) → (same_unit to.unit u && (to.block == b)) ≡ false → content new u b ≡ content old u b
 copied_elsewhere to bytes old new adds u b other =
-    ap (λ (c : Content). c u b) (ap content adds ∙ after-append old.start old.log (copy_of to bytes ∷ [])) ∙ written_elsewhere (content old) (copy_of to bytes) u b other
+    ap (λ (c : Content). c u b) (content_then (copy_of to bytes) old new adds) ∙ written_elsewhere (content old) (copy_of to bytes) u b other
 
 -- tracks are copied to no table
 no_table : (k : TransferKind) (t : Transfer) (head : ℕ) (u : UnitNo) (b : ℕ) → is_table u ≡ true

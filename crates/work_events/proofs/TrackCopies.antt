@@ -8,7 +8,8 @@ use Rattle.mss_base.specs.Places.{frame_block, cartridge_block}
 use Rattle.mss_base.specs.declared.place.UnitNo.{UnitNo}
 use Rattle.mss_base.specs.declared.place.UnitNo.TheVariants.{Cartridge}
 use Rattle.mss_base.specs.declared.place.BlockPlace.{BlockPlace}
-use Rattle.mss_base.proofs.ContentLemmas.{after-append, written_elsewhere}
+use Rattle.mss_base.proofs.ContentLemmas.{written_elsewhere}
+use Rattle.mss_base.proofs.Moments.{content_then}
 use Rattle.ckd_track.specs.Track.{reading}
 use Rattle.ckd_track.proofs.TrackFacts.{reading-zeros}
 use Rattle.volume_table.specs.Row.{RowValue, frame_of, state_of, cartridge_with}
@@ -45,7 +46,7 @@ SameBut place c d = (u : UnitNo) (b : ℕ) → (same_unit place.unit u && (place
 pub same_but : (place : BlockPlace) (s t : SiteLog) → AddsAtMost place s t → SameBut place (content s) (content t)
 same_but place s t (inl same) = λ u b other. ap (λ (x : SiteLog). content x u b) same
 same_but place s t (inr (left, long, adds)) = λ u b other.
-    ap (λ (c : Content). c u b) (ap content adds ∙ after-append s.start s.log (copy_of place left ∷ [])) ∙ written_elsewhere (content s) (copy_of place left) u b other
+    ap (λ (c : Content). c u b) (content_then (copy_of place left) s t adds) ∙ written_elsewhere (content s) (copy_of place left) u b other
 
 -- at each moment of the copy the content shows the same
 pub copy_shows : (frames : ℕ) (s n : SiteLog) (rows : RowsOf) → rows_of (content s) ≡ rows → IsSound frames (content s) → (frame : ℕ) (victim : Option (ℕ × ℕ)) (q : Request) (t : Transfer)

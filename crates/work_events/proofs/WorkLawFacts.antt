@@ -4,7 +4,7 @@ use Rattle.std.specs.Prelude.{slice_get, slice_set, is_some, IsSome}
 use Rattle.std.specs.Option.{option_map, option_and_then}
 use Rattle.std.proofs.lemmas.List.{append-nil, take_all}
 use Rattle.std.proofs.lemmas.Option.{slice_get_past}
-use Rattle.mss_base.specs.Content.{Write, Writes, content, image}
+use Rattle.mss_base.specs.Content.{Write, SiteLog, Adds, Writes, content, image}
 use Rattle.ckd_plain.specs.Data.{State}
 use Rattle.ckd_plain.specs.History.{EntryData, after, HasNoStop}
 use Rattle.ckd_track.specs.Data.{Volumes}
@@ -45,6 +45,12 @@ use Rattle.work_events.specs.WorkLaws.{IsRecorder, LeavesHosts, SameCartridges, 
 use Rattle.work_events.proofs.DueFacts.{is_due_destage, own}
 use Rattle.work_events.proofs.RuleFacts.{MayEnd, rule_stopped, rule_ends, rule_frees, rule_assigns_row, rule_transfer}
 use Rattle.work_events.proofs.Outcomes.{row_by, Destages, Answered, Outcome, outcome}
+
+-- a log that got a write, synced or not, goes on
+continues : (w : Write) (old new : SiteLog) → Adds w old new → Continues old new
+continues w old new (inl alone) = (_, alone)
+continues w old new (inr (inl firm)) = (_, firm)
+continues w old new (inr (inr loose)) = (_, loose)
 
 -- a request in a queue where one got another state
 restated : (requests : RequestsData) (h k : ℕ) (state : RequestState) (q : Request) → IsOnce requests → request_of (with_state h state requests) k ≡ Some q → (request_of requests k ≡ Some q) ⊎ (q.state ≡ state)
@@ -138,9 +144,9 @@ module _ (tells : Type 0) (may : List Candidate → ℕ → Type 0) (core : Core
 
         by : (Writes (SameCartridges (content core.site.told)) core.site.told left.site.told ⊎ Destages core n (work_rule core n) left) → Grows
         by (inl leaves) = (leaves.items, leaves.grown)
-        by (inr (t, rule, kind, inl adds)) = (_, adds.added)
+        by (inr (t, rule, kind, inl adds)) = continues _ core.site.told left.site.told adds.added
         by (inr (t, rule, kind, inr (inl same, ended))) = none_more same
-        by (inr (t, rule, kind, inr (inr adds, ended))) = (_, adds.2)
+        by (inr (t, rule, kind, inr (inr adds, ended))) = continues _ core.site.told left.site.told adds.2
 
     pub is_later : IsLater tells core left
     is_later = record { beginning = keeps_beginning; grown = grows }

@@ -1,7 +1,7 @@
 -- What every event of a recorder keeps, and what its answers say.
 use Rattle.std.specs.Prelude.{◌≡◌, ◌≢◌, ◌⊎◌, ◌<◌, ◌≤◌, ℕ, List, [], ◌∷◌, ◌++◌, length}
 use Rattle.std.specs.Prelude.{Option, Some, None}
-use Rattle.mss_base.specs.Content.{Content, SiteLog, Adds, Writes, content, image}
+use Rattle.mss_base.specs.Content.{Content, SiteLog, Adds, Writes, Tear, content, image}
 use Rattle.mss_base.specs.Counts.{IsFaultSince}
 use Rattle.mss_base.specs.declared.place.UnitNo.TheVariants.{Cartridge}
 use Rattle.shown_volumes.specs.Shown.{block_at, shown}
@@ -45,7 +45,7 @@ pub record NotesChange (core : CoreData) (recorder : ℕ) (left : CoreData) : Ty
 -- whatever a stop leaves since this core shows the volumes that its devices show
 abbrev pub ShowsTheSame : CoreData → CoreData → Type 0
 ShowsTheSame core left =
-    (k : ℕ) (tear : Option (List ℕ)) → length core.site.told.log ≤ k
+    (k : ℕ) (tear : Tear) → length core.site.told.log ≤ k
     → k ≤ length left.site.told.log
     → shown (image left.site.told k tear) ≡ shown (content core.site.told)
 

@@ -1,4 +1,4 @@
-use Rattle.std.proofs.Common.{ℕ, ◌-◌, ◌∙◌, ap, arith}
+use Rattle.std.proofs.Common.{ℕ, ◌-◌, ◌∙◌, ap, arith, inl}
 use Rattle.ckd_track.specs.Updating.{bytes_place}
 use Rattle.ckd_track.proofs.UpdateSteps.{put_inside, update_moments, update_done, update_stays}
 use Rattle.ckd_track.proofs.LogLemmas.{adds_one}
@@ -14,16 +14,16 @@ write-requires-clause-inside g c = omega (arith, (c.bytes_place-offset.ensures �
 pub returns-in_err-write-clause-moments : goal.returns-in_err-write-clause-moments
 returns-in_err-write-clause-moments g c = λ tells.
     let logged = c.in_err-write.ensures.logged tells in
-    update_moments (c.args.number - 1) c.args.block.now c.args.key_too c.args.bytes.now (omega arith) c.requires.long _ _ _ _ (c.requires.told tells) _ logged.0 (c.bytes_place-offset.ensures ∙ ap (λ (p : ℕ). bytes_place c.args.key_too p c.args.block.now) c.requires.found.behind) logged.1 logged.2
+    update_moments (c.args.number - 1) c.args.block.now c.args.key_too c.args.bytes.now (omega arith) c.requires.long _ _ _ _ (c.requires.told tells) _ logged.0 (c.bytes_place-offset.ensures ∙ ap (λ (p : ℕ). bytes_place c.args.key_too p c.args.block.now) c.requires.found.behind) logged.1 (inl logged.2)
 
 pub returns-clause-moments : goal.returns-clause-moments
 returns-clause-moments g c = λ tells.
     let logged = c.in_ok-write.ensures.logged tells in
-    update_moments (c.args.number - 1) c.args.block.now c.args.key_too c.args.bytes.now (omega arith) c.requires.long _ _ _ _ (c.requires.told tells) _ logged.0 (c.bytes_place-offset.ensures ∙ ap (λ (p : ℕ). bytes_place c.args.key_too p c.args.block.now) c.requires.found.behind) logged.1 logged.2
+    update_moments (c.args.number - 1) c.args.block.now c.args.key_too c.args.bytes.now (omega arith) c.requires.long _ _ _ _ (c.requires.told tells) _ logged.0 (c.bytes_place-offset.ensures ∙ ap (λ (p : ℕ). bytes_place c.args.key_too p c.args.block.now) c.requires.found.behind) logged.1 (inl logged.2)
 
 pub returns-clause-done : goal.returns-clause-done
 returns-clause-done g c = λ tells.
-    update_done (c.args.number - 1) c.args.block.now c.args.key_too c.args.bytes.now (omega arith) c.requires.long _ _ _ _ (c.requires.told tells) _ (c.bytes_place-offset.ensures ∙ ap (λ (p : ℕ). bytes_place c.args.key_too p c.args.block.now) c.requires.found.behind) (c.in_ok-write.ensures.ok tells)
+    update_done (c.args.number - 1) c.args.block.now c.args.key_too c.args.bytes.now (omega arith) c.requires.long _ _ _ _ (c.requires.told tells) _ (c.bytes_place-offset.ensures ∙ ap (λ (p : ℕ). bytes_place c.args.key_too p c.args.block.now) c.requires.found.behind) (inl (c.in_ok-write.ensures.ok tells))
 
 pub returns-in_err-write-clause-few : goal.returns-in_err-write-clause-few
 returns-in_err-write-clause-few g c = λ tells. adds_one _ _ _ (c.write.ensures.logged tells).2

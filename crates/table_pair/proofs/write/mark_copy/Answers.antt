@@ -1,4 +1,4 @@
-use Rattle.std.proofs.Common.{◌≡◌, ◌≢◌, ◌∷◌, [], ◌∙◌, ℕ, List, true, false, not, ◌==◌, get_or, sym, ap, subst, length, arith}
+use Rattle.std.proofs.Common.{◌≡◌, ◌≢◌, ◌∷◌, [], ◌∙◌, ℕ, List, true, false, not, ◌==◌, get_or, sym, ap, subst, length, arith, inl}
 use Rattle.std.proofs.lemmas.Bool.{ne_eqb}
 use Rattle.mss_base.specs.Content.{SiteLog, content, Adds}
 use Rattle.mss_base.specs.declared.place.BlockPlace.{BlockPlace}
@@ -21,7 +21,7 @@ returns-in_err-write-clause-moments g c = λ tells.
     let s = g.S.Site.told c.args.site.now in
     let w = c.write.ensures.logged tells in
     let block : c.read.new.into ≡ content s at.unit at.block = c.in_ok-read.ensures.block tells in
-    let adds = subst (λ (r : SiteLog). Adds (put_at at 511 w.0) r (g.S.Site.told c.write.new.self)) (c.read.ensures.told tells) w.2 in
+    let adds = subst (λ (r : SiteLog). Adds (put_at at 511 w.0) r (g.S.Site.told c.write.new.self)) (c.read.ensures.told tells) (inl w.2) in
     marking at s _ (g.met.S.Site.whole c.args.site.now at.unit at.block tells) w.0 w.1 (unmade at s c.read.new.into block c.if-block-eq0.true) adds
 
 pub returns-in_ok-write-clause-moments : goal.returns-in_ok-write-clause-moments
@@ -30,14 +30,14 @@ returns-in_ok-write-clause-moments g c = λ tells.
     let s = g.S.Site.told c.args.site.now in
     let w = c.write.ensures.logged tells in
     let block : c.read.new.into ≡ content s at.unit at.block = c.in_ok-read.ensures.block tells in
-    let adds = subst (λ (r : SiteLog). Adds (put_at at 511 w.0) r (g.S.Site.told c.write.new.self)) (c.read.ensures.told tells) w.2 in
+    let adds = subst (λ (r : SiteLog). Adds (put_at at 511 w.0) r (g.S.Site.told c.write.new.self)) (c.read.ensures.told tells) (inl w.2) in
     marking at s _ (g.met.S.Site.whole c.args.site.now at.unit at.block tells) w.0 w.1 (unmade at s c.read.new.into block c.if-block-eq0.true) adds
 
 pub returns-in_ok-write-clause-done : goal.returns-in_ok-write-clause-done
 returns-in_ok-write-clause-done g c = λ tells.
     let at = c.args.at.now in
     let s = g.S.Site.told c.args.site.now in
-    let adds = subst (λ (r : SiteLog). Adds (put_at at 511 (77 ∷ [])) r (g.S.Site.told c.write.new.self)) (c.read.ensures.told tells) (c.in_ok-write.ensures.ok tells) in
+    let adds = subst (λ (r : SiteLog). Adds (put_at at 511 (77 ∷ [])) r (g.S.Site.told c.write.new.self)) (c.read.ensures.told tells) (inl (c.in_ok-write.ensures.ok tells)) in
     mark_set at s _ (g.met.S.Site.whole c.args.site.now at.unit at.block tells) adds
 
 pub returns-else-block-eq0-clause-done : goal.returns-else-block-eq0-clause-done
@@ -52,5 +52,5 @@ returns-in_ok-write-clause-mark g c = λ tells _.
     let at = c.args.at.now in
     let s = g.S.Site.told c.args.site.now in
     let whole : length (content s at.unit at.block) ≡ 16384 = g.met.S.Site.whole c.args.site.now at.unit at.block tells in
-    let adds = subst (λ (r : SiteLog). Adds (put_at at 511 (77 ∷ [])) r (g.S.Site.told c.write.new.self)) (c.read.ensures.told tells) (c.in_ok-write.ensures.ok tells) in
+    let adds = subst (λ (r : SiteLog). Adds (put_at at 511 (77 ∷ [])) r (g.S.Site.told c.write.new.self)) (c.read.ensures.told tells) (inl (c.in_ok-write.ensures.ok tells)) in
     byte_put at 511 77 s _ (omega arith) adds

@@ -2,12 +2,12 @@ use Rattle.std.proofs.Common.{◌≡◌, ◌≤◌, length}
 use Rattle.std.specs.List.{AllByRecursion}
 use Rattle.mss_base.specs.Content.{after}
 use Rattle.memory_devices.specs.Memory.{held}
-use Rattle.memory_devices.specs.Logged.{IsInside, total_length, writes_of}
-use Rattle.memory_devices.proofs.write_log.write_all.Given as goal
+use Rattle.memory_devices.specs.Logged.{IsInside, total_length, items_of}
+use Rattle.memory_devices.proofs.write_log.redo_all.Given as goal
 
 abbrev pub invariant-loop-entries : goal.invariant-loop-entries
 invariant-loop-entries l = record {
-  made : after (held l.blocks) (writes_of l.entries l.rest) ≡ after (held l.fn.blocks) (writes_of l.fn.entries l.fn.bytes);
+  made : after (held l.blocks) (items_of l.entries l.rest) ≡ after (held l.fn.blocks) (items_of l.fn.entries l.fn.bytes);
   whole : total_length l.entries ≤ length l.rest;
   inside : AllByRecursion IsInside l.entries;
 }
