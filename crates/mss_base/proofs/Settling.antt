@@ -1,10 +1,10 @@
 -- What is loose behind items, and runs behind which nothing is. Layers above cite these lemmas.
-use Rattle.std.proofs.Common.{◌≡◌, ◌⊎◌, inl, inr, ℕ, Bool, true, false, ◌&&◌, ◌||◌, ◌==◌, List, [], ◌∷◌, ◌++◌, refl, sym, ◌∙◌, ap, append_assoc}
+use Rattle.std.proofs.Common.{◌≡◌, ◌⊎◌, inl, inr, ℕ, Bool, true, false, ◌&&◌, ◌==◌, List, [], ◌∷◌, ◌++◌, refl, sym, ◌∙◌, ap, append_assoc}
 use Rattle.std.specs.Prelude.{not}
 use Rattle.std.proofs.lemmas.List.{append-nil}
 use Rattle.std.proofs.lemmas.Bool.{and_from, and_parts, and_right, or_cases, or_left, or_right, false≢true}
 use Rattle.mss_base.specs.declared.place.UnitNo.{UnitNo}
-use Rattle.mss_base.specs.Content.{Write, Item, wrote, synced, synced_all, unsynced, SiteLog, Places, nowhere, in_range, same_unit, loose_with, loose_after, loose, NoLooser, Got, AreSettled, Settles}
+use Rattle.mss_base.specs.Content.{Write, Item, wrote, synced, synced_all, unsynced, SiteLog, Places, nowhere, in_range, same_unit, loose_with, loose_after, loose, NoLooser, Got, Settles}
 
 pub loose-append : (p : Places) (a b : List Item) → loose_after p (a ++ b) ≡ loose_after (loose_after p a) b
 loose-append p [] b = refl

@@ -1,9 +1,9 @@
-use Rattle.std.proofs.Common.{◌≡◌, ◌+◌, ◌∙◌, ℕ, List, subst, sym, ap, arith, length, ◌++◌, ◌∷◌, []}
+use Rattle.std.proofs.Common.{◌≡◌, ◌∙◌, ℕ, List, subst, sym, ap, arith, ◌++◌, ◌∷◌, []}
 use Rattle.std.proofs.lemmas.List.{append-nil}
 use Rattle.std.specs.List.{AllByRecursion}
 use Rattle.mss_base.specs.Content.{Item}
 use Rattle.mss_base.proofs.AllFacts.{all_push}
-use Rattle.memory_devices.specs.Logged.{LogValue, IsInside, items_of, span, item_of, sync_as, sync_of, total_length}
+use Rattle.memory_devices.specs.Logged.{LogValue, IsInside, items_of, span, sync_as, sync_of, total_length}
 use Rattle.memory_devices.specs.declared.write_log.LoggedItem.{LoggedItem}
 use Rattle.memory_devices.specs.declared.write_log.SyncKind.{SyncKind}
 use Rattle.memory_devices.proofs.LoggedLemmas.{items_of-push, total_length-push, span_of_sync, inside_of_sync, item_of_sync}
