@@ -338,15 +338,15 @@ impl Site for MemorySite {
         ensures calls { calls_of self.new ≡ next_count (calls_of self.old) }
         ensures failing { failing_of self.new ≡ failing_of self.old }
     {
-        let at = BlockPlace {
+        let anywhere = BlockPlace {
             unit: UnitNo::TableA,
             block: 0,
         };
         if self.fails(None) {
-            self.log.push_sync(&at, SyncKind::Failed);
+            self.log.push_sync(&anywhere, SyncKind::Failed);
             return Err(Failed);
         }
-        self.log.push_sync(&at, SyncKind::OfAll);
+        self.log.push_sync(&anywhere, SyncKind::OfAll);
         Ok(())
     }
 

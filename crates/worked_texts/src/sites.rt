@@ -20,7 +20,9 @@ fn write_site(site: &mut FolderSite) -> Result<(), Failed> {
     site.write(UnitNo::TableA, 31, 0, b"row")?;
     site.write(UnitNo::Staging(3), 1, 100, b"staged")?;
     site.write(cartridge(5)?, 0, 16_383, b"!")?;
-    site.write(cartridge(69)?, 0, 16_383, b"?")
+    site.write(cartridge(69)?, 0, 16_383, b"?")?;
+    site.sync(UnitNo::TableA)?;
+    site.sync_all()
 }
 
 /// Whether a block can be read and has these bytes at a place.
@@ -77,6 +79,7 @@ fn a_site_made_anew_shows_what_was_written(rt: HostRuntime) {
     let touched = fs::exists(&rt, FOLDER).expect(&rt, "a look");
     assert!(rt; !touched);
     assert_eq!(rt; write_site(&mut site), Ok(()));
+    assert_eq!(rt; site.writes(), 6);
 
     let mut second = FileSite::at(rt, FOLDER).expect(&rt, "a site");
     assert!(rt; !shows_staged(alloc, &mut second));

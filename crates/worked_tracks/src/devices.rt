@@ -80,17 +80,49 @@ fn a_stop_leaves_the_first_writes_and_a_tear(rt: HostRuntime) -> Result<(), Fail
     play_with_stops(&rt, rt.alloc(), &mut site, &faults, OVERLAPPING, LEFT)
 }
 
-/// Each byte is C1, whatever was written. The second call fails.
+/// A write, and syncs of its unit, of another one and of all; the second sync fails. What was written stays.
+const SYNCED: &str = "\
+w A 5 10 616263 ok
+s A 0 0 - ok
+s B 0 0 - !
+a A 0 0 - ok
+r A 5 10 616263 ok
+n A 4 1 -";
+
+/// A sync is an item of the log like a write, and no stop tears it.
+const LEFT_BY_SYNCS: &str = "\
+0 58595A
+r A 5 10 58595A ok
+
+1 58595A
+r A 5 10 616263 ok
+
+3 58595A
+r A 5 10 616263 ok
+
+5 -
+none";
+
+#[test]
+fn a_sync_is_counted_and_leaves_what_was_written(rt: HostRuntime) -> Result<(), Fail> {
+    let faults = [SiteFault::Call(3)];
+    let mut site = MemorySite::new(rt.alloc())?;
+    play_with_stops(&rt, rt.alloc(), &mut site, &faults, SYNCED, LEFT_BY_SYNCS)
+}
+
+/// Each byte is C1, whatever was written. The second call fails, and the last.
 const FORGOTTEN: &str = "\
 w 3 7599 0 616263 ok
 r 3 7599 0 - !
 r 3 7599 0 C1 ok
 b 3 7599 16383 C1 ok
-n A 1 1 -";
+s 3 0 0 - ok
+a 3 0 0 - !
+n A 3 2 -";
 
 #[test]
 fn a_silent_site_forgets(rt: HostRuntime) -> Result<(), Fail> {
-    let mut site = SilentSite::of(rt.alloc(), 193, &[2])?;
+    let mut site = SilentSite::of(rt.alloc(), 193, &[2, 6])?;
     play(&rt, rt.alloc(), &mut site, FORGOTTEN)
 }
 

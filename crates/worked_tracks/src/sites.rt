@@ -1,6 +1,7 @@
 //! Calls of a site as text. A line is a call: `w` writes the bytes, `r` reads them and `b` brings them, at an offset of a
-//! unit's block, and it's done (`ok`) or fails (`!`). `n` tells the counts of writes and faults, in place of block and
-//! offset; `t` how many records the block's track has, in place of the offset, and their data.
+//! unit's block, and it's done (`ok`) or fails (`!`). `s` syncs the unit and `a` all units. `n` tells the counts of items
+//! (writes and syncs) and of faults, in place of block and offset; `t` how many records the block's track has, in place of
+//! the offset, and their data.
 ghost use Rattle.std.specs.Prelude.{◌≡◌, length, vec_len, IfOk};
 
 use crate::words::{bytes_of, number_of};
@@ -93,7 +94,17 @@ fn bring<S: Site>(site: &mut S, row: &Row) -> bool {
     is_brought == row.is_ok && (!is_brought || row.stands_in(site.brought()))
 }
 
-/// Whether so many writes (`block`) and faults (`offset`) were counted.
+fn sync<S: Site>(site: &mut S, row: &Row) -> Result<bool, Fail> {
+    site.reserve(1)?;
+    Ok(site.sync(row.unit).is_ok() == row.is_ok)
+}
+
+fn sync_all<S: Site>(site: &mut S, row: &Row) -> Result<bool, Fail> {
+    site.reserve(1)?;
+    Ok(site.sync_all().is_ok() == row.is_ok)
+}
+
+/// Whether so many writes and syncs (`block`) and faults (`offset`) were counted.
 fn has_counted<S: Site>(site: &S, row: &Row) -> bool {
     site.writes() == u64::from(row.block) && site.faults() == u64::from(row.offset)
 }
@@ -125,6 +136,8 @@ fn is_so<S: Site>(alloc: Global, site: &mut S, line: &str) -> Result<bool, Fail>
         b'w' => write(site, &row),
         b'r' => read(alloc, site, &row),
         b'b' => Ok(bring(site, &row)),
+        b's' => sync(site, &row),
+        b'a' => sync_all(site, &row),
         b'n' => Ok(has_counted(site, &row)),
         b't' => has_records(alloc, site, &row),
         _ => Err("no such call".into()),

@@ -70,6 +70,14 @@ impl Site for Bench {
         self.site.write(unit, block, offset, bytes)
     }
 
+    fn sync(&mut self, unit: UnitNo) -> Result<(), Failed> {
+        self.site.sync(unit)
+    }
+
+    fn sync_all(&mut self) -> Result<(), Failed> {
+        self.site.sync_all()
+    }
+
     fn writes(&self) -> u64 {
         self.site.writes()
     }
