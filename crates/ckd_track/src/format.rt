@@ -10,6 +10,9 @@ ghost use Rattle.ckd_track.specs.Formatting.{block_of, WritesBlock, formatted, I
 use crate::layout::{FIRST_PLACE, GATES, GATES_END, TRACK_COST, record_length};
 use mss_base::{BLOCK_BYTES, BlockPlace, Failed, OPEN, Site};
 
+/// How many items of the log a format makes at most: four writes.
+pub const FORMAT_ITEMS: u32 = 4;
+
 /// Closes the gate of the record behind `before` others, where it is open.
 fn close_gate<S: Site>(
     site: &mut S,
@@ -202,7 +205,7 @@ pub fn format_record<S: Site>(
     requires record { IsRecord count_key_data.now }
     requires fits { cost (take (number - 1) (reading block.now).records)
         + cost_of (record_at 0 count_key_data.now) ≤ TRACK_COST }
-    requires room { 4 ≤ S.spare site.old }
+    requires room { FORMAT_ITEMS ≤ S.spare site.old }
 
     ensures moments { S.tells → WritesBlock at.now
         (λ b. IsFormatting (number - 1) (record_at 0 count_key_data.now) (reading block.now) (reading b))
@@ -212,8 +215,9 @@ pub fn format_record<S: Site>(
     ensures track { OnOk result
         (IsTrack (formatted (number - 1) (record_at 0 count_key_data.now) (reading block.now).records)) }
 
-    ensures devices { MayWrite S.Site 4 site.old site.new }
-    ensures few { S.tells → length (S.told site.new).log ≤ length (S.told site.old).log + 4 }
+    ensures devices { MayWrite S.Site FORMAT_ITEMS site.old site.new }
+    ensures few { S.tells → length (S.told site.new).log
+        ≤ length (S.told site.old).log + FORMAT_ITEMS }
     ensures cause { HasCause (S.faults site.old) (S.faults site.new) result }
     ensures counted { OnErr result (Rises (S.writes site.old) (S.writes site.new)) }
     ensures works { (but : UnitNo → Bool) → S.never_fails_but site.old but → IsOk result }

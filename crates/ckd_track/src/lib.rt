@@ -17,7 +17,7 @@ mod stored;
 mod track;
 mod update;
 
-pub use format::format_record;
+pub use format::{FORMAT_ITEMS, format_record};
 pub use in_place::{check_track, cost_of_front, find_place, is_blank, record_count};
 pub use layout::{TRACK_COST, cost_at, cost_of_lengths, record_length};
 pub use mss_base::BlockPlace;
@@ -25,4 +25,4 @@ pub use read::{ReadTrackFault, read_front, read_track};
 pub use record::{Record, Records, Track};
 pub use stored::{StoredRecord, StoredRecords, record_at, stored_records};
 pub use track::{BadRecord, TrackCause};
-pub use update::update_record;
+pub use update::{UPDATE_ITEMS, update_record};

@@ -10,6 +10,9 @@ ghost use Rattle.ckd_track.specs.Updating.{IsUpdating, updated_length, record_be
 use crate::layout::key_length;
 use mss_base::{BLOCK_BYTES, BlockPlace, Failed, Site};
 
+/// How many items of the log an update makes at most: one write.
+pub const UPDATE_ITEMS: u32 = 1;
+
 /// The place of the data, or of the key and data, of the record at a place.
 fn bytes_place(block: &[u8], place: u16, key_too: bool) -> u16
     requires whole { length block.now ≡ BLOCK_BYTES }
@@ -44,7 +47,7 @@ pub fn update_record<S: Site>(
     requires found { BeginsAt number place block.now }
     requires long { length bytes.now
         ≡ updated_length key_too (record_behind (number - 1) (reading block.now).records) }
-    requires room { 1 ≤ S.spare site.old }
+    requires room { UPDATE_ITEMS ≤ S.spare site.old }
 
     ensures moments { S.tells → WritesBlock at.now
         (λ b. IsUpdating key_too (number - 1) (reading block.now) (reading b))
@@ -55,8 +58,9 @@ pub fn update_record<S: Site>(
         }) }
 
     ensures untouched { bytes.now ≡ [] → site.new ≡ site.old }
-    ensures devices { MayWrite S.Site 1 site.old site.new }
-    ensures few { S.tells → length (S.told site.new).log ≤ length (S.told site.old).log + 1 }
+    ensures devices { MayWrite S.Site UPDATE_ITEMS site.old site.new }
+    ensures few { S.tells → length (S.told site.new).log
+        ≤ length (S.told site.old).log + UPDATE_ITEMS }
     ensures cause { HasCause (S.faults site.old) (S.faults site.new) result }
     ensures counted { OnErr result (Rises (S.writes site.old) (S.writes site.new)) }
     ensures works { (but : UnitNo → Bool) → S.never_fails_but site.old but → IsOk result }

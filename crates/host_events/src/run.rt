@@ -31,6 +31,7 @@ use crate::requests::end_request;
 use channel_commands::{Call, Command, Reply};
 use ckd_plain::steps::checked;
 use ckd_plain::{HostState, UnitCheck};
+use ckd_track::FORMAT_ITEMS;
 use core_state::looks::host_at;
 use core_state::{Core, TaskList, touch_all};
 use mss_base::{Bytes, CYLINDERS, FrameNo, HEADS, Head, HostNo, Page, Site, VolumeNo};
@@ -39,10 +40,6 @@ use std::alloc::Global;
 use track_engine::{CylinderPlace, EngineFault, run_command};
 use victim_choice::Choose;
 use volume_table::{Rows, VolumeRow};
-
-/// How many writes a command makes at most.
-const RUN_WRITES: u32 = 4;
-
 /// The state of a host, which stands on a track of a volume.
 fn standing(hosts: &[HostState], host: HostNo) -> HostState
     requires { length hosts.now ≡ 8 }
@@ -123,11 +120,11 @@ fn run_in<S: Site>(
     requires tracks { S.tells → AreTracks (content (S.told site.old))
         (frame_block frame host.old.cylinder 0).unit
         (frame_block frame host.old.cylinder 0).block }
-    requires room { RUN_WRITES ≤ S.spare site.old }
+    requires room { FORMAT_ITEMS ≤ S.spare site.old }
     ensures comes { Comes S.tells
         (run_by host.old (frame_block frame host.old.cylinder 0) command.now (call_of call.now))
         (seen_site S.Site site.old) (seen_site S.Site site.new) host.new result }
-    ensures site_ { MayWrite S.Site RUN_WRITES site.old site.new }
+    ensures site_ { MayWrite S.Site FORMAT_ITEMS site.old site.new }
     ensures room { IfErr result (λ fault. IsNoFailure fault
         → S.spare site.old ≤ S.spare site.new) }
     ensures works { (but : UnitNo → Bool) → S.never_fails_but site.old but
@@ -172,7 +169,7 @@ pub fn run<S: Site, C: Choose>(
     ensures event { HostStep S.Site core.old host call.now
         (Runs command.now volume frame) result core.new }
     ensures chooser { core.new.chooser ≡ core.old.chooser }
-    ensures devices { MayWrite S.Site RUN_WRITES core.old.site core.new.site }
+    ensures devices { MayWrite S.Site FORMAT_ITEMS core.old.site core.new.site }
     ensures room { IsUntold (told_of result) → S.spare core.old.site ≤ S.spare core.new.site }
     ensures works { (but : UnitNo → Bool) → S.never_fails_but core.old.site but
         → but (frame_block frame (host_at core.old.hosts host).cylinder 0).unit ≡ false
@@ -183,7 +180,7 @@ pub fn run<S: Site, C: Choose>(
     let at = usize::from(host.get()) - 1;
     let old = standing(core.hosts.as_slice(), host);
     let alloc = core.alloc;
-    let Ok(copy) = prepare(alloc, &mut core.session, &mut core.site, call, RUN_WRITES) else {
+    let Ok(copy) = prepare(alloc, &mut core.session, &mut core.site, call, FORMAT_ITEMS) else {
         return HostAnswer::Memory;
     };
     let index = core.session.history.as_slice().len() as u64;

@@ -33,7 +33,7 @@ use crate::cartridges::lowest_free;
 use mss_base::{Listed, Serial, Site, VolumeNo};
 use shown_volumes::Refused;
 use std::alloc::Global;
-use table_pair::create_row;
+use table_pair::{CHANGE_WRITES, create_row};
 use volume_table::{Rows, VolumeRow};
 
 /// A volume that was created, and how many writes the site counted behind the last one of its creation.
@@ -77,7 +77,7 @@ fn create_volume<S: Site>(
     let first = lowest_free(rows, None);
     let second = lowest_free(rows, Some(first));
     let row = VolumeRow::blank(alloc, serial, first, second)?;
-    site.reserve(6)?;
+    site.reserve(CHANGE_WRITES)?;
     if create_row(site, volume, &row).is_err() {
         return Err(Refused::Stopped {
             fault: site.faults(),

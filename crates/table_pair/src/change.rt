@@ -13,7 +13,7 @@ use crate::write::rewrite_copy;
 use mss_base::{Failed, Site, VolumeNo};
 use volume_table::{BODY, BODY_END, ROW_BYTES, VolumeRow, encode_row};
 
-/// How many writes a change makes at most.
+/// How many items of the log a change of a row, or its creation, makes at most: six writes.
 pub const CHANGE_WRITES: u32 = 6;
 
 /// Changes a row in both copies, first in copy A. Both copies are open with one row before, and with the new row after.

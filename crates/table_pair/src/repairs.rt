@@ -14,7 +14,7 @@ ghost use Rattle.table_pair.specs.Repairs.{NeedsNoRepair, IsStale, KeepsRow, Kee
 ghost use Rattle.table_pair.specs.declared.copy.RepairFault.TheVariants.{Memory};
 
 use crate::copy::{RepairFault, TableCopy, place_of};
-use crate::write::{GATE, rewrite_copy};
+use crate::write::{COPY_ITEMS, GATE, rewrite_copy};
 use mss_base::{BLOCK_BYTES, BlockPlace, Failed, OPEN, Site, VolumeNo};
 use std::alloc::Global;
 use volume_table::{BODY, BODY_END, ROW_BYTES, check_row};
@@ -70,7 +70,7 @@ fn follow<S: Site>(site: &mut S, volume: VolumeNo, a: &[u8], b: &[u8]) -> Result
     requires b { length b.now ≡ BLOCK_BYTES }
     requires told_a { S.tells → content (S.told site.old) TableA volume ≡ a.now }
     requires told_b { S.tells → content (S.told site.old) TableB volume ≡ b.now }
-    requires room { 3 ≤ S.spare site.old }
+    requires room { COPY_ITEMS ≤ S.spare site.old }
     ensures moments { S.tells → Writes
         (ChangesRow volume (KeepsRow volume (content (S.told site.old))) (content (S.told site.old)))
         (S.told site.old) (S.told site.new) }
@@ -81,7 +81,7 @@ fn follow<S: Site>(site: &mut S, volume: VolumeNo, a: &[u8], b: &[u8]) -> Result
     ensures settled { S.tells → OnOk result (NeedsNoRepair volume (content (S.told site.new))) }
     ensures untouched { S.tells → NeedsNoRepair volume (content (S.told site.old))
         → S.told site.new ≡ S.told site.old }
-    ensures devices { MayWrite S.Site 3 site.old site.new }
+    ensures devices { MayWrite S.Site COPY_ITEMS site.old site.new }
     ensures cause { HasCause (S.faults site.old) (S.faults site.new) result }
     ensures works { (but : UnitNo → Bool) → S.never_fails_but site.old but → IsOk result }
 {
@@ -139,12 +139,12 @@ pub fn repair<S: Site>(alloc: Global, site: &mut S, volume: VolumeNo) -> Result<
     ensures untouched { S.tells → NeedsNoRepair volume (content (S.told site.old))
         → S.told site.new ≡ S.told site.old }
     ensures memory { result ≡ Err Memory → LeavesSite S.Site site.old site.new }
-    ensures devices { MayWrite S.Site 3 site.old site.new }
+    ensures devices { MayWrite S.Site COPY_ITEMS site.old site.new }
     ensures kept { KeepsRepairFault (S.faults site.old) (S.faults site.new) result }
     ensures works { IsReadable S.Site site.old TableA
         → IsReadable S.Site site.old TableB → FailsNever result }
 {
-    site.reserve(3)?;
+    site.reserve(COPY_ITEMS)?;
     let mut a = vec![in alloc; 0u8; BLOCK_BYTES]?;
     let mut b = vec![in alloc; 0u8; BLOCK_BYTES]?;
     read_block(site, &place_of(TableCopy::A, volume), &mut a)?;

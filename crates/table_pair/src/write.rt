@@ -8,6 +8,9 @@ ghost use Rattle.table_pair.specs.Copies.{byte_on, copy_on, shut, marked, filled
 use mss_base::{BLOCK_BYTES, BlockPlace, Failed, OPEN, Site};
 use volume_table::{BODY, BODY_BYTES, BODY_END};
 
+/// How many items of the log the rewriting of a copy makes at most: three writes.
+pub const COPY_ITEMS: u32 = 3;
+
 /// Where a copy's gate stands.
 pub const GATE: u16 = 0;
 
@@ -74,14 +77,14 @@ pub fn rewrite_copy<S: Site>(
 ) -> Result<(), Failed>
     requires long { length body.now ≡ BODY_BYTES }
     requires told { S.tells → (copy_on (S.told site.old) at.now).is_open ≡ is_open }
-    requires room { 3 ≤ S.spare site.old }
+    requires room { COPY_ITEMS ≤ S.spare site.old }
     ensures moments { S.tells → WritesCopy at.now
         (IsRewriting body.now (copy_on (S.told site.old) at.now)) (S.told site.old) (S.told site.new) }
     ensures done { S.tells → OnOk result
         (copy_on (S.told site.new) at.now ≡ filled body.now (copy_on (S.told site.old) at.now)) }
     ensures grown { S.tells →
         OnOk result (length (S.told site.old).log < length (S.told site.new).log) }
-    ensures devices { MayWrite S.Site 3 site.old site.new }
+    ensures devices { MayWrite S.Site COPY_ITEMS site.old site.new }
     ensures cause { HasCause (S.faults site.old) (S.faults site.new) result }
     ensures counted { OnErr result (Rises (S.writes site.old) (S.writes site.new)) }
     ensures works { (but : UnitNo → Bool) → S.never_fails_but site.old but → IsOk result }

@@ -10,6 +10,7 @@ use Rattle.channel_commands.specs.declared.call.Reply.{Reply}
 use Rattle.channel_commands.specs.declared.command.Command.{Command}
 use Rattle.ckd_track.specs.Data.{RecordData}
 use Rattle.ckd_track.specs.Track.{reading, reading_of}
+use Rattle.ckd_track.specs.declared.format.TheConstants.{FORMAT_ITEMS}
 use Rattle.ckd_plain.specs.declared.host.HostState.{HostState}
 use Rattle.ckd_plain.specs.Effects.{prior_number}
 use Rattle.ckd_plain.specs.Plain.{Answer, opened, performed, IsDone, KeepsChain}
@@ -58,11 +59,11 @@ pub record LeavesHost (chained : Bool) (old new : HostState) (result : Result Re
   pub mounted_ : new.mounted ≡ old.mounted
   pub stays : OnErr result (new ≡ old)
 
--- What a command leaves of its devices, whatever the site tells. An update makes one write at most, a write of count, key and
--- data four; a command that is no write, or ends with unit check, reads at most.
+-- What a command leaves of its devices, whatever the site tells. An update makes `UPDATE_ITEMS` items of the log at most, a write of count,
+-- key and data `FORMAT_ITEMS`; a command that is no write, or ends with unit check, reads at most.
 -- The count of faults rises where a call failed, and the fault says which; where no call may fail, none did.
 pub record LeavesDevices {S : Type 0} (g : Ghosts S) (c : Command) (unit : UnitNo) (old new : S) (result : Result Reply EngineFault) : Type 0 where
-  pub devices : MayWrite g 4 old new
+  pub devices : MayWrite g FORMAT_ITEMS old new
   pub few : g.tells → length (g.told new).log ≤ length (g.told old).log + most_writes c
   pub looks : is_write c ≡ false → OnlyReads g old new
   pub unwritten : IfOk result (λ reply. HasUnitCheck (reply_of reply) → OnlyReads g old new)

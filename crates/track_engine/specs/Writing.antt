@@ -10,6 +10,8 @@ use Rattle.channel_commands.specs.declared.command.WriteKind.TheVariants as writ
 use Rattle.ckd_track.specs.Data.{RecordData}
 use Rattle.ckd_track.specs.Track.{Reading, reading, reading_of, record_at}
 use Rattle.ckd_track.specs.Formatting.{IsRecord}
+use Rattle.ckd_track.specs.declared.format.TheConstants.{FORMAT_ITEMS}
+use Rattle.ckd_track.specs.declared.update.TheConstants.{UPDATE_ITEMS}
 use Rattle.ckd_track.specs.Updating.{record_behind, updated, updated_length}
 use Rattle.ckd_plain.specs.declared.done.DoneCommand.{DoneCommand}
 use Rattle.ckd_plain.specs.declared.host.HostState.{HostState}
@@ -113,9 +115,9 @@ update_kind true = write.KeyData
 
 -- how many writes a command makes at most
 abbrev pub most_writes : Command → ℕ
-most_writes (command.Write write.Data) = 1
-most_writes (command.Write write.KeyData) = 1
-most_writes (command.Write write.CountKeyData) = 4
+most_writes (command.Write write.Data) = UPDATE_ITEMS
+most_writes (command.Write write.KeyData) = UPDATE_ITEMS
+most_writes (command.Write write.CountKeyData) = FORMAT_ITEMS
 most_writes _ = 0
 
 -- an update of a record k without bytes to update

@@ -20,6 +20,7 @@ use crate::write::{write_count_key_data, write_data};
 use channel_commands::{Command, Reply, SearchField, WriteKind};
 use ckd_plain::steps::{DoneCommand, cleared, finished, opened, refused};
 use ckd_plain::{HostState, Prior};
+use ckd_track::FORMAT_ITEMS;
 use mss_base::{BLOCK_BYTES, Site};
 use std::alloc::Global;
 
@@ -70,7 +71,7 @@ fn carry_out<S: Site>(
     requires permitted { IsTrue (is_prior_permitted left command) }
     requires data { is_data command ≡ true }
     requires tracks { S.tells → AreTracksOn (S.told site.old) place.now }
-    requires room { 4 ≤ S.spare site.old }
+    requires room { FORMAT_ITEMS ≤ S.spare site.old }
     ensures done { S.tells → CarriesOut
         (effect (tracks_on (S.told site.old) place.now) host.now left command argument.now)
         command (target_of (S.told site.old) place.now host.now left)
@@ -114,7 +115,7 @@ pub fn run_command<S: Site>(
     requires passes { Passes (opened host.old) command.now argument.now }
     requires data { is_data command.now ≡ true }
     requires tracks { S.tells → AreTracksOn (S.told site.old) place.now }
-    requires room { 4 ≤ S.spare site.old }
+    requires room { FORMAT_ITEMS ≤ S.spare site.old }
     ensures runs { S.tells → Runs
         (asked command.now argument.now chained host.old place.now)
         (S.told site.old) (S.told site.new) result host.new }

@@ -20,7 +20,10 @@ use crate::place::{CylinderPlace, EngineFault, NotDone};
 use channel_commands::{Command, WriteKind};
 use ckd_plain::steps::{DONE, DoneCommand, FoundRecord, written};
 use ckd_plain::{HostState, Prior, Refusal, UnitCheck};
-use ckd_track::{TRACK_COST, cost_at, cost_of_front, format_record, record_length, update_record};
+use ckd_track::{
+    FORMAT_ITEMS, TRACK_COST, UPDATE_ITEMS, cost_at, cost_of_front, format_record, record_length,
+    update_record,
+};
 use mss_base::{BLOCK_BYTES, BlockPlace, Bytes, Failed, NoMemory, Site};
 use std::alloc::Global;
 
@@ -102,13 +105,13 @@ fn format_behind<S: Site>(
     requires record { IsRecord bytes.now }
     requires fits { cost (take at.now.number (reading block.now).records)
         + cost_of (record_at 0 bytes.now) ≤ TRACK_COST }
-    requires room { 4 ≤ S.spare site.old }
+    requires room { FORMAT_ITEMS ≤ S.spare site.old }
     ensures done { S.tells → CarriesOut (Ok
         (formatted_behind (reading block.now).records (record_at 0 bytes.now) at.now))
         (Command.Write WriteKind.CountKeyData) (target_in to.now block.now at.now)
         (S.told site.old) (S.told site.new) result }
     ensures volume { KeepsVolume (λ done. done.host) at.now.host.mounted result }
-    ensures site_ { UsesDevices S.Site 4 true to.now.unit site.old site.new result }
+    ensures site_ { UsesDevices S.Site FORMAT_ITEMS true to.now.unit site.old site.new result }
     ensures works { (but : UnitNo → Bool) → S.never_fails_but site.old but
         → IfErr result HasNotFailed }
 {
@@ -134,7 +137,7 @@ pub fn write_count_key_data<S: Site>(
     requires buffer { length buffer.old ≡ BLOCK_BYTES }
     requires long { 8 ≤ length argument.now }
     requires tracks { S.tells → AreTracksOn (S.told site.old) place.now }
-    requires room { 4 ≤ S.spare site.old }
+    requires room { FORMAT_ITEMS ≤ S.spare site.old }
     ensures done { S.tells → CarriesOut
         (write_ (tracks_on (S.told site.old) place.now host.now.head)
         host.now left WriteKind.CountKeyData argument.now)
@@ -142,7 +145,7 @@ pub fn write_count_key_data<S: Site>(
         (target_of (S.told site.old) place.now host.now left)
         (S.told site.old) (S.told site.new) result }
     ensures volume { KeepsVolume (λ done. done.host) host.now.mounted result }
-    ensures site_ { UsesDevices S.Site 4 true place.now.unit site.old site.new result }
+    ensures site_ { UsesDevices S.Site FORMAT_ITEMS true place.now.unit site.old site.new result }
 {
     let to = place.block_of(host.head);
     let at = kept_record(site, place, buffer, host, left, argument)?;
@@ -183,14 +186,14 @@ fn update_at<S: Site>(
     requires there { StandsIn block.now at.now }
     requires long { length bytes.now ≡ updated_length key_too
         (record_behind (at.now.number - 1) (reading block.now).records) }
-    requires room { 1 ≤ S.spare site.old }
+    requires room { UPDATE_ITEMS ≤ S.spare site.old }
     ensures done { S.tells → CarriesOut (Ok
         (updated_at key_too (reading block.now).records bytes.now at.now))
         (Command.Write (update_kind key_too)) (target_in to.now block.now at.now)
         (S.told site.old) (S.told site.new) result }
     ensures volume { KeepsVolume (λ done. done.host) at.now.host.mounted result }
     ensures untouched { bytes.now ≡ [] → site.new ≡ site.old }
-    ensures site_ { UsesDevices S.Site 1 true to.now.unit site.old site.new result }
+    ensures site_ { UsesDevices S.Site UPDATE_ITEMS true to.now.unit site.old site.new result }
     ensures works { (but : UnitNo → Bool) → S.never_fails_but site.old but
         → IfErr result HasNotFailed }
 {
@@ -217,7 +220,7 @@ pub fn write_data<S: Site>(
     requires buffer { length buffer.old ≡ BLOCK_BYTES }
     requires first { 0 < prior_number left }
     requires tracks { S.tells → AreTracksOn (S.told site.old) place.now }
-    requires room { 1 ≤ S.spare site.old }
+    requires room { UPDATE_ITEMS ≤ S.spare site.old }
     ensures done { S.tells → CarriesOut
         (write_ (tracks_on (S.told site.old) place.now host.now.head)
         host.now left (update_kind key_too) argument.now)
@@ -228,7 +231,7 @@ pub fn write_data<S: Site>(
     ensures untouched { S.tells → updated_length key_too (record_behind (prior_number left - 1)
         (tracks_on (S.told site.old) place.now host.now.head)) ≡ 0
         → OnlyReads S.Site site.old site.new }
-    ensures site_ { UsesDevices S.Site 1 true place.now.unit site.old site.new result }
+    ensures site_ { UsesDevices S.Site UPDATE_ITEMS true place.now.unit site.old site.new result }
 {
     let to = place.block_of(host.head);
     copy_block(site, place, buffer, host.head)?;
