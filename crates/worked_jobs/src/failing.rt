@@ -1,4 +1,5 @@
 // Runs on blank devices of which calls fail, said by value.
+use crate::items::CREATE_ITEMS;
 use crate::running::{Failing, failing_site, left_by, shows};
 use mss_base::Site;
 use std::alloc::Global;
@@ -197,14 +198,17 @@ pub fn other_pair(alloc: Global, worked: &Worked, pairs: &[(u64, Ending)]) -> Op
 /// How many calls there are before the session on one volume, which isn't there where one of them fails. For the survey
 /// both copies of 32 rows are read, and again for repairs. Then each copy of the new row is read and marked, and each is
 /// filled by two writes.
-pub const CALLS_OF_RESTART: u64 = 136;
+pub const CALLS_OF_RESTART: u64 = CALLS_OF_A_LOOK + 2 + CREATE_ITEMS;
+
+/// The calls of a survey and of repairs.
+const CALLS_OF_A_LOOK: u64 = 128;
 
 /// How many writes are made up to one of these calls.
 fn writes_of_restart(call: u64) -> u64 {
-    if call < 130 {
+    if call < CALLS_OF_A_LOOK + 2 {
         return 0;
     }
-    (call - 130).max(1)
+    (call - CALLS_OF_A_LOOK - 2).max(1)
 }
 
 /// The line that is told of devices that aren't taken up, of which a call failed.

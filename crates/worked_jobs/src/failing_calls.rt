@@ -1,6 +1,22 @@
 // A record is written and read back, and each call of the devices fails once.
 use crate::failing::{CALLS_OF_RESTART, Ending, Worked, first_taken_up, other_ending, other_pair};
+use crate::items::{APPEND_ITEMS, CHANGE_ITEMS, TRACK_ITEMS};
 use crate::jobs::{ONE_VOLUME, WRITE_AND_READ};
+
+// The last call of each step.
+const ASSIGNED: u64 = CALLS_OF_RESTART + CHANGE_ITEMS;
+
+const COPIED: u64 = ASSIGNED + TRACK_ITEMS;
+
+const STAGED: u64 = COPIED + CHANGE_ITEMS;
+
+const SEARCHED: u64 = STAGED + 1;
+
+const CHANGED: u64 = SEARCHED + CHANGE_ITEMS;
+
+const LOOKED_AT: u64 = CHANGED + 1;
+
+const WRITTEN: u64 = LOOKED_AT + APPEND_ITEMS;
 
 /// The last line of a session that was stopped, and of a report of which a track can't be read.
 pub const STOPPED: &str = "STOPPED 1\n";
@@ -71,7 +87,7 @@ const CUT_BEHIND_THE_TRACK: &str = "volume 0 VOL001\n\
 /// the record is there.
 const ENDINGS: &[Ending] = &[
     Ending {
-        last: 142,
+        last: ASSIGNED,
         entries: 2,
         then: "",
         changes: 1,
@@ -79,7 +95,7 @@ const ENDINGS: &[Ending] = &[
         left: BLANK,
     },
     Ending {
-        last: 161,
+        last: COPIED,
         entries: 2,
         then: NOT_SOUGHT,
         changes: 2,
@@ -87,7 +103,7 @@ const ENDINGS: &[Ending] = &[
         left: BLANK,
     },
     Ending {
-        last: 167,
+        last: STAGED,
         entries: 2,
         then: "",
         changes: 2,
@@ -95,7 +111,7 @@ const ENDINGS: &[Ending] = &[
         left: BLANK,
     },
     Ending {
-        last: 168,
+        last: SEARCHED,
         entries: 2,
         then: NOT_SOUGHT,
         changes: 2,
@@ -103,7 +119,7 @@ const ENDINGS: &[Ending] = &[
         left: BLANK,
     },
     Ending {
-        last: 174,
+        last: CHANGED,
         entries: 3,
         then: WRITE_STOPPED,
         changes: 3,
@@ -111,7 +127,7 @@ const ENDINGS: &[Ending] = &[
         left: BLANK,
     },
     Ending {
-        last: 175,
+        last: LOOKED_AT,
         entries: 3,
         then: NOT_WRITTEN,
         changes: 4,
@@ -119,7 +135,7 @@ const ENDINGS: &[Ending] = &[
         left: BLANK,
     },
     Ending {
-        last: 176,
+        last: WRITTEN - 1,
         entries: 3,
         then: WRITE_STOPPED,
         changes: 4,
@@ -127,7 +143,7 @@ const ENDINGS: &[Ending] = &[
         left: BLANK,
     },
     Ending {
-        last: 177,
+        last: WRITTEN,
         entries: 3,
         then: WRITE_STOPPED,
         changes: 4,
@@ -137,7 +153,7 @@ const ENDINGS: &[Ending] = &[
     // The second search reads the track twice, and the read once. For the report each track of the cylinder is read; it ends
     // before the first that can't be.
     Ending {
-        last: 178,
+        last: WRITTEN + 1,
         entries: 5,
         then: "entry 6 host 1 ccw 31 equipment check fault 1\n",
         changes: 4,
@@ -145,7 +161,7 @@ const ENDINGS: &[Ending] = &[
         left: RECORD,
     },
     Ending {
-        last: 179,
+        last: WRITTEN + 2,
         entries: 6,
         then: "entry 7 host 1 ccw 31 equipment check fault 1\n",
         changes: 4,
@@ -153,7 +169,7 @@ const ENDINGS: &[Ending] = &[
         left: RECORD,
     },
     Ending {
-        last: 180,
+        last: WRITTEN + 3,
         entries: 7,
         then: "entry 8 host 1 ccw 06 equipment check fault 1\n",
         changes: 4,
@@ -161,7 +177,7 @@ const ENDINGS: &[Ending] = &[
         left: RECORD,
     },
     Ending {
-        last: 184,
+        last: WRITTEN + 7,
         entries: 8,
         then: "",
         changes: 4,
@@ -169,7 +185,7 @@ const ENDINGS: &[Ending] = &[
         left: RECORD,
     },
     Ending {
-        last: 199,
+        last: WRITTEN + 22,
         entries: 8,
         then: "",
         changes: 4,
@@ -202,9 +218,9 @@ const SEARCH_AND_STAGING: &str = "entry 3 host 1 ccw 31 equipment check fault 1\
 /// has all 19 staged, and the row that tells it isn't written. The read fails, and then the first track of the report.
 const PAIRS: &[(u64, Ending)] = &[
     (
-        168,
+        SEARCHED,
         Ending {
-            last: 169,
+            last: SEARCHED + 1,
             entries: 2,
             then: BOTH_SEARCHES,
             changes: 2,
@@ -213,9 +229,9 @@ const PAIRS: &[(u64, Ending)] = &[
         },
     ),
     (
-        161,
+        COPIED,
         Ending {
-            last: 181,
+            last: WRITTEN + 4,
             entries: 2,
             then: SEARCH_AND_STAGING,
             changes: 2,
@@ -224,9 +240,9 @@ const PAIRS: &[(u64, Ending)] = &[
         },
     ),
     (
-        180,
+        WRITTEN + 3,
         Ending {
-            last: 181,
+            last: WRITTEN + 4,
             entries: 7,
             then: "entry 8 host 1 ccw 06 equipment check fault 1\n",
             changes: 4,

@@ -1,7 +1,47 @@
 // A frame that goes from one page to another and back, and each call of the devices fails once.
 use crate::failing::{CALLS_OF_RESTART, Ending, Worked, other_ending};
 use crate::failing_calls::{BLANK, STOPPED};
+use crate::items::{APPEND_ITEMS, CHANGE_ITEMS, TRACK_ITEMS};
 use crate::jobs::{ONE_VOLUME, REPLACEMENT};
+
+// The last call of each step.
+const ASSIGNED: u64 = CALLS_OF_RESTART + CHANGE_ITEMS;
+
+const COPIED: u64 = ASSIGNED + TRACK_ITEMS;
+
+const STAGED: u64 = COPIED + CHANGE_ITEMS;
+
+const SEARCHED: u64 = STAGED + 1;
+
+const CHANGED: u64 = SEARCHED + CHANGE_ITEMS;
+
+const LOOKED_AT: u64 = CHANGED + 1;
+
+const WRITTEN: u64 = LOOKED_AT + APPEND_ITEMS;
+// Then the cylinder is destaged, its page gives the frame to another one, and that is staged and written.
+const COPIED_BACK: u64 = WRITTEN + 2 * TRACK_ITEMS;
+
+const DESTAGED: u64 = COPIED_BACK + CHANGE_ITEMS;
+
+const FREED: u64 = DESTAGED + CHANGE_ITEMS;
+
+const REASSIGNED: u64 = FREED + CHANGE_ITEMS;
+
+const RECOPIED: u64 = REASSIGNED + TRACK_ITEMS;
+
+const RESTAGED: u64 = RECOPIED + CHANGE_ITEMS;
+
+const RESEARCHED: u64 = RESTAGED + 1;
+
+const RECHANGED: u64 = RESEARCHED + CHANGE_ITEMS;
+
+const RELOOKED_AT: u64 = RECHANGED + 1;
+
+const REWRITTEN: u64 = RELOOKED_AT + APPEND_ITEMS;
+// And the frame goes back.
+const COPIED_BACK_AGAIN: u64 = REWRITTEN + 2 * TRACK_ITEMS;
+
+const RETURNED: u64 = COPIED_BACK_AGAIN + 2 * TRACK_ITEMS + 4 * CHANGE_ITEMS;
 
 const JOB: Worked = Worked {
     job: REPLACEMENT,
@@ -159,7 +199,7 @@ const ENDINGS: &[Ending] = &[
     // As for one record: 6 writes tell the frame, 19 stage the blank cylinder, 6 tell that; a read for the search; 6 writes
     // tell the changed cylinder; a read and two writes for the record.
     Ending {
-        last: 142,
+        last: ASSIGNED,
         entries: 2,
         then: "",
         changes: 1,
@@ -167,7 +207,7 @@ const ENDINGS: &[Ending] = &[
         left: BLANK,
     },
     Ending {
-        last: 161,
+        last: COPIED,
         entries: 2,
         then: NO_FIRST_SEARCH,
         changes: 2,
@@ -175,7 +215,7 @@ const ENDINGS: &[Ending] = &[
         left: SECOND,
     },
     Ending {
-        last: 167,
+        last: STAGED,
         entries: 2,
         then: "",
         changes: 2,
@@ -183,7 +223,7 @@ const ENDINGS: &[Ending] = &[
         left: BLANK,
     },
     Ending {
-        last: 168,
+        last: SEARCHED,
         entries: 2,
         then: NO_FIRST_SEARCH,
         changes: 3,
@@ -191,7 +231,7 @@ const ENDINGS: &[Ending] = &[
         left: SECOND,
     },
     Ending {
-        last: 174,
+        last: CHANGED,
         entries: 3,
         then: FIRST_WRITE_STOPPED,
         changes: 3,
@@ -199,7 +239,7 @@ const ENDINGS: &[Ending] = &[
         left: BLANK,
     },
     Ending {
-        last: 175,
+        last: LOOKED_AT,
         entries: 3,
         then: NO_FIRST_WRITE,
         changes: 13,
@@ -207,7 +247,7 @@ const ENDINGS: &[Ending] = &[
         left: SECOND,
     },
     Ending {
-        last: 176,
+        last: WRITTEN - 1,
         entries: 3,
         then: FIRST_WRITE_STOPPED,
         changes: 4,
@@ -215,7 +255,7 @@ const ENDINGS: &[Ending] = &[
         left: BLANK,
     },
     Ending {
-        last: 177,
+        last: WRITTEN,
         entries: 3,
         then: FIRST_WRITE_STOPPED,
         changes: 4,
@@ -225,7 +265,7 @@ const ENDINGS: &[Ending] = &[
     // The changed cylinder is copied to its cartridge by 19 reads and as many writes. Four changes of the row follow, with the
     // writes of 19 blank tracks before the last.
     Ending {
-        last: 215,
+        last: COPIED_BACK,
         entries: 5,
         then: NO_SECOND_SEARCH,
         changes: 4,
@@ -233,7 +273,7 @@ const ENDINGS: &[Ending] = &[
         left: FIRST,
     },
     Ending {
-        last: 221,
+        last: DESTAGED,
         entries: 5,
         then: "",
         changes: 4,
@@ -241,7 +281,7 @@ const ENDINGS: &[Ending] = &[
         left: FIRST,
     },
     Ending {
-        last: 227,
+        last: FREED,
         entries: 5,
         then: "",
         changes: 5,
@@ -249,7 +289,7 @@ const ENDINGS: &[Ending] = &[
         left: FIRST,
     },
     Ending {
-        last: 233,
+        last: REASSIGNED,
         entries: 5,
         then: "",
         changes: 6,
@@ -257,7 +297,7 @@ const ENDINGS: &[Ending] = &[
         left: FIRST,
     },
     Ending {
-        last: 252,
+        last: RECOPIED,
         entries: 5,
         then: NO_SECOND_SEARCH,
         changes: 7,
@@ -265,7 +305,7 @@ const ENDINGS: &[Ending] = &[
         left: FIRST,
     },
     Ending {
-        last: 258,
+        last: RESTAGED,
         entries: 5,
         then: "",
         changes: 7,
@@ -274,7 +314,7 @@ const ENDINGS: &[Ending] = &[
     },
     // A read for the search, 6 writes that tell the changed cylinder, a read and two writes for the record.
     Ending {
-        last: 259,
+        last: RESEARCHED,
         entries: 5,
         then: NO_SECOND_SEARCH,
         changes: 8,
@@ -282,7 +322,7 @@ const ENDINGS: &[Ending] = &[
         left: FIRST,
     },
     Ending {
-        last: 265,
+        last: RECHANGED,
         entries: 6,
         then: SECOND_WRITE_STOPPED,
         changes: 8,
@@ -290,7 +330,7 @@ const ENDINGS: &[Ending] = &[
         left: FIRST,
     },
     Ending {
-        last: 266,
+        last: RELOOKED_AT,
         entries: 6,
         then: NO_SECOND_WRITE,
         changes: 13,
@@ -298,7 +338,7 @@ const ENDINGS: &[Ending] = &[
         left: FIRST,
     },
     Ending {
-        last: 267,
+        last: REWRITTEN - 1,
         entries: 6,
         then: SECOND_WRITE_STOPPED,
         changes: 9,
@@ -306,7 +346,7 @@ const ENDINGS: &[Ending] = &[
         left: FIRST,
     },
     Ending {
-        last: 268,
+        last: REWRITTEN,
         entries: 6,
         then: SECOND_WRITE_STOPPED,
         changes: 9,
@@ -315,7 +355,7 @@ const ENDINGS: &[Ending] = &[
     },
     // The second record is copied to its cartridge, and the first comes back from there.
     Ending {
-        last: 306,
+        last: COPIED_BACK_AGAIN,
         entries: 8,
         then: NO_LAST_SEARCH,
         changes: 9,
@@ -323,7 +363,7 @@ const ENDINGS: &[Ending] = &[
         left: BOTH,
     },
     Ending {
-        last: 312,
+        last: COPIED_BACK_AGAIN + CHANGE_ITEMS,
         entries: 8,
         then: "",
         changes: 9,
@@ -331,7 +371,7 @@ const ENDINGS: &[Ending] = &[
         left: BOTH,
     },
     Ending {
-        last: 318,
+        last: COPIED_BACK_AGAIN + 2 * CHANGE_ITEMS,
         entries: 8,
         then: "",
         changes: 10,
@@ -339,7 +379,7 @@ const ENDINGS: &[Ending] = &[
         left: BOTH,
     },
     Ending {
-        last: 324,
+        last: COPIED_BACK_AGAIN + 3 * CHANGE_ITEMS,
         entries: 8,
         then: "",
         changes: 11,
@@ -347,7 +387,7 @@ const ENDINGS: &[Ending] = &[
         left: BOTH,
     },
     Ending {
-        last: 362,
+        last: RETURNED - CHANGE_ITEMS,
         entries: 8,
         then: NO_LAST_SEARCH,
         changes: 12,
@@ -355,7 +395,7 @@ const ENDINGS: &[Ending] = &[
         left: BOTH,
     },
     Ending {
-        last: 368,
+        last: RETURNED,
         entries: 8,
         then: "",
         changes: 12,
@@ -364,7 +404,7 @@ const ENDINGS: &[Ending] = &[
     },
     // Two reads of the track for the search, and one for the data. For the report the tracks of both cylinders are read.
     Ending {
-        last: 369,
+        last: RETURNED + 1,
         entries: 8,
         then: NO_LAST_SEARCH,
         changes: 13,
@@ -372,7 +412,7 @@ const ENDINGS: &[Ending] = &[
         left: BOTH,
     },
     Ending {
-        last: 370,
+        last: RETURNED + 2,
         entries: 9,
         then: "entry 10 host 1 ccw 31 equipment check fault 1\n",
         changes: 13,
@@ -380,7 +420,7 @@ const ENDINGS: &[Ending] = &[
         left: BOTH,
     },
     Ending {
-        last: 371,
+        last: RETURNED + 3,
         entries: 10,
         then: "entry 11 host 1 ccw 06 equipment check fault 1\n",
         changes: 13,
@@ -388,7 +428,7 @@ const ENDINGS: &[Ending] = &[
         left: BOTH,
     },
     Ending {
-        last: 372,
+        last: RETURNED + 4,
         entries: 11,
         then: "",
         changes: 13,
@@ -396,7 +436,7 @@ const ENDINGS: &[Ending] = &[
         left: BOTH,
     },
     Ending {
-        last: 391,
+        last: RETURNED + 23,
         entries: 11,
         then: "",
         changes: 13,
@@ -404,7 +444,7 @@ const ENDINGS: &[Ending] = &[
         left: BOTH,
     },
     Ending {
-        last: 409,
+        last: RETURNED + 41,
         entries: 11,
         then: "",
         changes: 13,

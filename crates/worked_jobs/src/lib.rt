@@ -23,6 +23,8 @@ mod failing_replacement;
 #[cfg(test)]
 mod failures;
 #[cfg(test)]
+mod items;
+#[cfg(test)]
 mod jobs;
 #[cfg(test)]
 mod lock;

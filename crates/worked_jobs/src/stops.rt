@@ -1,6 +1,9 @@
 // Stops within runs, and what the next job is told after them.
 ghost use Rattle.std.specs.Prelude.{◌≤◌};
 
+use crate::items::{
+    APPEND_ITEMS, CHANGE_ITEMS, CREATE_ITEMS, FORMAT_ITEMS, STAGE_ITEMS, TRACK_ITEMS, UPDATE_ITEMS,
+};
 use crate::jobs::{
     FOUR_VOLUMES, ONE_VOLUME, REPLACEMENT, THREE_HOSTS, THREE_HOSTS_LEFT, WRITE_AND_READ,
 };
@@ -10,6 +13,15 @@ use job_runs::Outcome;
 use memory_devices::MemorySite;
 use mss_base::{BLOCK_BYTES, Site};
 use std::alloc::Global;
+
+// The moments behind the steps of a session on one volume.
+const ASSIGNED: u64 = CREATE_ITEMS + CHANGE_ITEMS;
+
+const STAGED: u64 = CREATE_ITEMS + STAGE_ITEMS;
+
+const CHANGED: u64 = STAGED + CHANGE_ITEMS;
+
+const APPENDED: u64 = CHANGED + APPEND_ITEMS;
 
 /// Stops after so many writes, and how the report of a job begins and ends on what each of them leaves.
 #[derive(Clone, Copy)]
@@ -141,11 +153,10 @@ const UPDATE: &str = "mss 1 frames 1 recorders 1\n\
     end\n\
     done\n";
 
-/// The row was created with 6 writes, the frame assigned with 6, the cylinder staged with 19 and told with 6, told as
-/// changed with 6, and the record formatted with 2. So the update is the 46th write.
+/// The update is the write behind the appended record.
 const TORN_UPDATE: &[Stops] = &[Stops {
-    first: 45,
-    last: 45,
+    first: APPENDED,
+    last: APPENDED,
     job: ONE_VOLUME,
     begins: "MSS REPORT 1\nvolume 0 VOL001\n",
     ends: "\nvolume 0 VOL001\n\
@@ -155,8 +166,8 @@ const TORN_UPDATE: &[Stops] = &[Stops {
 }];
 
 const UPDATED: &[Stops] = &[Stops {
-    first: 46,
-    last: 46,
+    first: APPENDED + UPDATE_ITEMS,
+    last: APPENDED + UPDATE_ITEMS,
     job: ONE_VOLUME,
     begins: "MSS REPORT 1\nvolume 0 VOL001\n",
     ends: "\nvolume 0 VOL001\n\
@@ -184,7 +195,11 @@ fn other_update(alloc: Global, site: &MemorySite) -> Option<u64> {
 }
 
 fn other_updated(alloc: Global) -> Option<Option<u64>> {
-    let site = updated(alloc, failing_site(alloc, NONE_FAILS)?, 46)?;
+    let site = updated(
+        alloc,
+        failing_site(alloc, NONE_FAILS)?,
+        APPENDED + UPDATE_ITEMS,
+    )?;
     Some(other_update(alloc, &site))
 }
 
@@ -193,11 +208,11 @@ fn a_torn_update_leaves_other_data_of_that_record(rt: HostRuntime) {
     assert_eq!(rt; other_updated(rt.alloc()), Some(None));
 }
 
-/// The cylinder is told as changed with the writes 38 to 43: one copy of the row is closed, written and opened, and then
+/// The cylinder is told as changed: one copy of the row is closed, written and opened, and then
 /// the other. The record is written behind them.
 const ROW_CHANGE: &[Stops] = &[Stops {
-    first: 37,
-    last: 42,
+    first: STAGED,
+    last: CHANGED - 1,
     job: ONE_VOLUME,
     begins: "MSS REPORT 1\nvolume 0 VOL001\n",
     ends: "\nvolume 0 VOL001\n\
@@ -205,9 +220,18 @@ const ROW_CHANGE: &[Stops] = &[Stops {
 }];
 
 const WRITTEN: Marks = Marks {
-    writes: 45,
-    entries: &[6, 6, 37, 45, 45, 45, 45, 45],
-    changes: &[6, 12, 37, 43],
+    writes: APPENDED,
+    entries: &[
+        CREATE_ITEMS,
+        CREATE_ITEMS,
+        STAGED,
+        APPENDED,
+        APPENDED,
+        APPENDED,
+        APPENDED,
+        APPENDED,
+    ],
+    changes: &[CREATE_ITEMS, ASSIGNED, STAGED, CHANGED],
 };
 
 /// The first moment that leaves something else of this job.
@@ -232,6 +256,8 @@ fn a_stop_within_a_change_of_a_row_shows_the_same_volumes(rt: HostRuntime) {
     assert_eq!(rt; other, Some(None));
 }
 
+const THREE_APPENDED: u64 = CHANGED + 3 * APPEND_ITEMS;
+
 /// Three records on a track; then a new second one is written behind the first.
 const THREE_RECORDS: &str = "mss 1 frames 1 recorders 1\n\
     volume 0 VOL001\n\
@@ -251,19 +277,28 @@ const THREE_RECORDS: &str = "mss 1 frames 1 recorders 1\n\
     end\n\
     done\n";
 
-/// The records are written behind the 43 writes of all before, with two for each, and the new one with four.
+/// The three records, each behind the last, and the new one.
 const FORMATTING: Marks = Marks {
-    writes: 53,
-    entries: &[6, 37, 45, 47, 49, 49, 49, 53],
-    changes: &[6, 12, 37, 43],
+    writes: THREE_APPENDED + FORMAT_ITEMS,
+    entries: &[
+        CREATE_ITEMS,
+        STAGED,
+        APPENDED,
+        APPENDED + APPEND_ITEMS,
+        THREE_APPENDED,
+        THREE_APPENDED,
+        THREE_APPENDED,
+        THREE_APPENDED + FORMAT_ITEMS,
+    ],
+    changes: &[CREATE_ITEMS, ASSIGNED, STAGED, CHANGED],
 };
 
-/// 43 writes before the first record, and two for each. Then the gate of the second is closed, that of the third too,
+/// Behind the three records the gate of the second is closed, that of the third too,
 /// the new record is put, and its gate is opened.
 const FORMATTED: &[Stops] = &[
     Stops {
-        first: 49,
-        last: 49,
+        first: THREE_APPENDED,
+        last: THREE_APPENDED,
         job: ONE_VOLUME,
         begins: "MSS REPORT 1\nvolume 0 VOL001\n",
         ends: "\nvolume 0 VOL001\n\
@@ -274,8 +309,8 @@ const FORMATTED: &[Stops] = &[
             END\n",
     },
     Stops {
-        first: 50,
-        last: 52,
+        first: THREE_APPENDED + 1,
+        last: THREE_APPENDED + 3,
         job: ONE_VOLUME,
         begins: "MSS REPORT 1\nvolume 0 VOL001\n",
         ends: "\nvolume 0 VOL001\n\
@@ -284,8 +319,8 @@ const FORMATTED: &[Stops] = &[
             END\n",
     },
     Stops {
-        first: 53,
-        last: 53,
+        first: THREE_APPENDED + 4,
+        last: THREE_APPENDED + 4,
         job: ONE_VOLUME,
         begins: "MSS REPORT 1\nvolume 0 VOL001\n",
         ends: "\nvolume 0 VOL001\n\
@@ -334,27 +369,36 @@ const FIRST_LEFT: &str = "\nvolume 0 VOL001\n\
     record 0000000001 - 41\n\
     END\n";
 
-/// Created, assigned, staged, changed and written with 45 writes. Then the cylinder is destaged, its page gives the frame
-/// to the other one, which is staged, changed and written, with 70; and the frame goes back with 62.
+// A cylinder is destaged, its page freed, and another one staged in the frame.
+const REPLACE_ITEMS: u64 = TRACK_ITEMS + 2 * CHANGE_ITEMS + STAGE_ITEMS;
+
+const REPLACED_ONCE: u64 = APPENDED + REPLACE_ITEMS;
+
+const APPENDED_AGAIN: u64 = REPLACED_ONCE + CHANGE_ITEMS + APPEND_ITEMS;
+
+const RETURNED: u64 = APPENDED_AGAIN + REPLACE_ITEMS;
+
+/// The cylinder is written, destaged, and its page gives the frame to the other one, which is staged, changed and written;
+/// and the frame goes back.
 const REPLACED: &[Stops] = &[
     Stops {
         first: 0,
-        last: 44,
+        last: APPENDED - 1,
         job: ONE_VOLUME,
         begins: "MSS REPORT 1\n",
         ends: "\nvolume 0 VOL001\n\
             END\n",
     },
     Stops {
-        first: 45,
-        last: 114,
+        first: APPENDED,
+        last: APPENDED_AGAIN - 1,
         job: FIRST_READ,
         begins: FIRST_IS_READ,
         ends: FIRST_LEFT,
     },
     Stops {
-        first: 115,
-        last: 177,
+        first: APPENDED_AGAIN,
+        last: RETURNED,
         job: FIRST_READ,
         begins: FIRST_IS_READ,
         ends: "\nvolume 0 VOL001\n\
@@ -368,8 +412,8 @@ const REPLACED: &[Stops] = &[
 
 /// Destaged, freed, assigned and staged: 19 tracks twice, and four changes of a row with six writes each.
 const FIRST_REPLACED: &[Stops] = &[Stops {
-    first: 45,
-    last: 107,
+    first: APPENDED,
+    last: REPLACED_ONCE,
     job: FIRST_READ,
     begins: FIRST_IS_READ,
     ends: FIRST_LEFT,
@@ -383,9 +427,35 @@ fn filled(alloc: Global, byte: u8, count: usize) -> Option<Vec<u8>> {
 }
 
 const REPLACING: Marks = Marks {
-    writes: 177,
-    entries: &[6, 6, 37, 45, 45, 107, 115, 115, 177, 177, 177],
-    changes: &[6, 12, 37, 43, 70, 76, 82, 107, 113, 140, 146, 152, 177],
+    writes: RETURNED,
+    entries: &[
+        CREATE_ITEMS,
+        CREATE_ITEMS,
+        STAGED,
+        APPENDED,
+        APPENDED,
+        REPLACED_ONCE,
+        APPENDED_AGAIN,
+        APPENDED_AGAIN,
+        RETURNED,
+        RETURNED,
+        RETURNED,
+    ],
+    changes: &[
+        CREATE_ITEMS,
+        ASSIGNED,
+        STAGED,
+        CHANGED,
+        APPENDED + TRACK_ITEMS + CHANGE_ITEMS,
+        APPENDED + TRACK_ITEMS + 2 * CHANGE_ITEMS,
+        APPENDED + TRACK_ITEMS + 3 * CHANGE_ITEMS,
+        REPLACED_ONCE,
+        REPLACED_ONCE + CHANGE_ITEMS,
+        APPENDED_AGAIN + TRACK_ITEMS + CHANGE_ITEMS,
+        APPENDED_AGAIN + TRACK_ITEMS + 2 * CHANGE_ITEMS,
+        APPENDED_AGAIN + TRACK_ITEMS + 3 * CHANGE_ITEMS,
+        RETURNED,
+    ],
 };
 
 fn other_torn(alloc: Global, site: &MemorySite, whole: &[u8]) -> Option<u64> {
@@ -408,13 +478,30 @@ fn a_stop_at_each_write_of_replacements_leaves_what_was_answered(rt: HostRuntime
     assert_eq!(rt; other_replaced(rt.alloc()), Some(None));
 }
 
-/// Four rows are created with 24 writes. For each of three hosts a frame is assigned, a cylinder staged and told with 31;
-/// each has its cylinder told as changed with 6, and then each writes its record with 2. The first does all that once
-/// more.
+const FOUR_CREATED: u64 = 4 * CREATE_ITEMS;
+
+const THREE_STAGED: u64 = FOUR_CREATED + 3 * STAGE_ITEMS;
+
+const THREE_CHANGED: u64 = THREE_STAGED + 3 * CHANGE_ITEMS;
+
+const FIRST_WRITES: u64 = THREE_CHANGED + APPEND_ITEMS;
+
+const SECOND_WRITES: u64 = FIRST_WRITES + APPEND_ITEMS;
+
+const THIRD_WRITES: u64 = SECOND_WRITES + APPEND_ITEMS;
+
+const FOURTH_STAGED: u64 = THIRD_WRITES + STAGE_ITEMS;
+
+const FOURTH_CHANGED: u64 = FOURTH_STAGED + CHANGE_ITEMS;
+
+const ALL_WRITTEN: u64 = FOURTH_CHANGED + APPEND_ITEMS;
+
+/// Four rows are created. For each of three hosts a cylinder is staged, then told as changed, and then each writes its
+/// record. The first does all that once more.
 const THREE_HOSTS_SHOWN: &[Stops] = &[
     Stops {
         first: 0,
-        last: 136,
+        last: FIRST_WRITES - 1,
         job: FOUR_VOLUMES,
         begins: "MSS REPORT 1\n",
         ends: "\nvolume 0 VOL001\n\
@@ -424,8 +511,8 @@ const THREE_HOSTS_SHOWN: &[Stops] = &[
             END\n",
     },
     Stops {
-        first: 137,
-        last: 138,
+        first: FIRST_WRITES,
+        last: SECOND_WRITES - 1,
         job: FOUR_VOLUMES,
         begins: "MSS REPORT 1\n",
         ends: "\nvolume 0 VOL001\n\
@@ -437,8 +524,8 @@ const THREE_HOSTS_SHOWN: &[Stops] = &[
             END\n",
     },
     Stops {
-        first: 139,
-        last: 140,
+        first: SECOND_WRITES,
+        last: THIRD_WRITES - 1,
         job: FOUR_VOLUMES,
         begins: "MSS REPORT 1\n",
         ends: "\nvolume 0 VOL001\n\
@@ -452,8 +539,8 @@ const THREE_HOSTS_SHOWN: &[Stops] = &[
             END\n",
     },
     Stops {
-        first: 141,
-        last: 179,
+        first: THIRD_WRITES,
+        last: ALL_WRITTEN - 1,
         job: FOUR_VOLUMES,
         begins: "MSS REPORT 1\n",
         ends: "\nvolume 0 VOL001\n\
@@ -469,8 +556,8 @@ const THREE_HOSTS_SHOWN: &[Stops] = &[
             END\n",
     },
     Stops {
-        first: 180,
-        last: 180,
+        first: ALL_WRITTEN,
+        last: ALL_WRITTEN,
         job: FOUR_VOLUMES,
         begins: "MSS REPORT 1\n",
         ends: THREE_HOSTS_LEFT,
@@ -480,14 +567,69 @@ const THREE_HOSTS_SHOWN: &[Stops] = &[
 /// The searches of the three hosts are answered when all three cylinders are staged. Two recorders assign and stage side by
 /// side, and then one of them does for the third host.
 const TURNING: Marks = Marks {
-    writes: 180,
+    writes: ALL_WRITTEN,
     entries: &[
-        24, 24, 24, 24, 24, 24, 24, 24, 24, 24, 24, 24, 117, 117, 117, 137, 139, 141, 141, 141,
-        141, 141, 141, 141, 141, 141, 141, 141, 141, 141, 141, 141, 141, 141, 141, 141, 141, 141,
-        141, 141, 141, 172, 180,
+        FOUR_CREATED,
+        FOUR_CREATED,
+        FOUR_CREATED,
+        FOUR_CREATED,
+        FOUR_CREATED,
+        FOUR_CREATED,
+        FOUR_CREATED,
+        FOUR_CREATED,
+        FOUR_CREATED,
+        FOUR_CREATED,
+        FOUR_CREATED,
+        FOUR_CREATED,
+        THREE_STAGED,
+        THREE_STAGED,
+        THREE_STAGED,
+        FIRST_WRITES,
+        SECOND_WRITES,
+        THIRD_WRITES,
+        THIRD_WRITES,
+        THIRD_WRITES,
+        THIRD_WRITES,
+        THIRD_WRITES,
+        THIRD_WRITES,
+        THIRD_WRITES,
+        THIRD_WRITES,
+        THIRD_WRITES,
+        THIRD_WRITES,
+        THIRD_WRITES,
+        THIRD_WRITES,
+        THIRD_WRITES,
+        THIRD_WRITES,
+        THIRD_WRITES,
+        THIRD_WRITES,
+        THIRD_WRITES,
+        THIRD_WRITES,
+        THIRD_WRITES,
+        THIRD_WRITES,
+        THIRD_WRITES,
+        THIRD_WRITES,
+        THIRD_WRITES,
+        THIRD_WRITES,
+        FOURTH_STAGED,
+        ALL_WRITTEN,
     ],
     changes: &[
-        6, 12, 18, 24, 30, 36, 80, 86, 92, 117, 123, 129, 135, 147, 172, 178,
+        CREATE_ITEMS,
+        2 * CREATE_ITEMS,
+        3 * CREATE_ITEMS,
+        FOUR_CREATED,
+        FOUR_CREATED + CHANGE_ITEMS,
+        FOUR_CREATED + 2 * CHANGE_ITEMS,
+        FOUR_CREATED + 2 * TRACK_ITEMS + 3 * CHANGE_ITEMS,
+        FOUR_CREATED + 2 * STAGE_ITEMS,
+        FOUR_CREATED + 2 * STAGE_ITEMS + CHANGE_ITEMS,
+        THREE_STAGED,
+        THREE_STAGED + CHANGE_ITEMS,
+        THREE_STAGED + 2 * CHANGE_ITEMS,
+        THREE_CHANGED,
+        THIRD_WRITES + CHANGE_ITEMS,
+        FOURTH_STAGED,
+        FOURTH_CHANGED,
     ],
 };
 

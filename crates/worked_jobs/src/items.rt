@@ -1,0 +1,22 @@
+// How many items of a site's log the steps of a session make, so many calls of the devices as well.
+
+/// A row is created: each copy is marked, filled and opened.
+pub const CREATE_ITEMS: u64 = 6;
+
+/// A row is changed: each copy is rewritten.
+pub const CHANGE_ITEMS: u64 = 6;
+
+/// The tracks of a cylinder are written where they are copied to.
+pub const TRACK_ITEMS: u64 = 19;
+
+/// A frame is assigned, a blank cylinder is staged in it, and both are told in the row.
+pub const STAGE_ITEMS: u64 = CHANGE_ITEMS + TRACK_ITEMS + CHANGE_ITEMS;
+
+/// A record is formatted behind the last one of its track.
+pub const APPEND_ITEMS: u64 = 2;
+
+/// A record is formatted that has others behind it.
+pub const FORMAT_ITEMS: u64 = 4;
+
+/// A record is updated.
+pub const UPDATE_ITEMS: u64 = 1;
