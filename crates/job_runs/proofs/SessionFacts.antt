@@ -104,8 +104,8 @@ module _ {S C : Type 0} (g : Ghosts S) (may : List Candidate → ℕ → Type 0)
   }
 
 -- its rows
-pub rows_of_core : {S C : Type 0} (g : Ghosts S) (left : CoreValue S C) → length left.rows ≡ 32 → (g.tells → IsToldCore (g.told left.site) left) → AreRowsOf g.tells (g.told left.site) left.stopped left.rows
-rows_of_core g left count told_left = record { count = count; shown_ = λ t none. sym ((told_left t).going none).rows_ }
+pub rows_of_core : {S C : Type 0} (g : Ghosts S) (left : CoreValue S C) → (g.tells → IsToldCore (g.told left.site) left) → AreRowsOf g.tells (g.told left.site) left.stopped left.rows
+rows_of_core g left told_left = record { shown_ = λ t none. sym ((told_left t).going none).rows_ }
 
 -- ---- and its report
 

@@ -162,7 +162,6 @@ GoesUnstopped (Ran session end told) = (session_data session).stopped ≡ None
 -- the rows of a session's volumes; while it isn't stopped, just those that its devices show
 pub record AreRowsOf (tells : Type 0) (log : SiteLog) (stop : Option ℕ)
     (rows : List (Option RowValue)) : Type 0 where
-  pub count : length rows ≡ 32
   pub shown_ : tells → stop ≡ None → listed rows ≡ rows_of (content log)
 
 -- a session's report was put, over devices of which it was read at most

@@ -1,5 +1,5 @@
 // A job, run on a site.
-ghost use Rattle.std.specs.Prelude.{◌≡◌, Bool, Err, IfErr, IfOk, None, length};
+ghost use Rattle.std.specs.Prelude.{◌≡◌, Bool, Err, IfErr, IfOk, None};
 ghost use Rattle.mss_base.specs.Content.{SiteLog, content};
 ghost use Rattle.mss_base.specs.Sites.{OnlyReads};
 ghost use Rattle.mss_base.specs.declared.place.UnitNo.{UnitNo};
@@ -90,7 +90,6 @@ pub fn look<S: Site, C: Choose>(core: &Core<S, C>)
     ensures counted { IsCounted (S.writes core.now.site) (S.faults core.now.site)
         core.now.requests (data_of core.now) }
     ensures marked { IsMarked (data_of core.now) }
-    ensures rows { length core.now.rows ≡ 32 }
 {
     let _site = &core.site;
 }
@@ -104,8 +103,7 @@ fn play_on<S: Site, C: Choose + Drop>(core: Core<S, C>, job: &Job, turns: &[u32]
         → IsPlayed (C.may core.chooser) job.now turns.now
         (record { tells = S.tells; was = was; now = seen_site S.Site result.site })
         result.end (session_data result.session) }
-    ensures rows { AreRowsOf S.tells (S.told result.site) result.session.stopped
-        result.rows.items }
+    ensures rows { AreRowsOf S.tells (S.told result.site) result.session.stopped result.rows }
     ensures devices { WritesOn S.Site core.site result.site }
     ensures only_reads_fail { (but : UnitNo → Bool) → S.never_fails_but core.site but
         → result.session.stopped ≡ None }
@@ -140,8 +138,7 @@ pub fn play<S: Site, C: Choose + Drop>(
     requires turns { AreTurns job.now.hosts job.now.config turns.now }
     ensures played { IfOk result (λ p. IsPlayed (C.may chooser) job.now turns.now
         (devices S.Site site p.site) p.end (session_data p.session)) }
-    ensures rows { IfOk result (λ p.
-        AreRowsOf S.tells (S.told p.site) p.session.stopped p.rows.items) }
+    ensures rows { IfOk result (λ p. AreRowsOf S.tells (S.told p.site) p.session.stopped p.rows) }
     ensures devices { IfOk result (λ p. WritesOn S.Site site p.site) }
     ensures only_reads_fail { IfOk result (λ p. (but : UnitNo → Bool)
         → S.never_fails_but site but → p.session.stopped ≡ None) }
@@ -168,8 +165,7 @@ pub fn put_report<S: Site, O: Sink>(
     played: Played<S>,
     output: &mut O,
 ) -> JobEnd<S>
-    requires rows { AreRowsOf S.tells (S.told played.site) played.session.stopped
-        played.rows.items }
+    requires rows { AreRowsOf S.tells (S.told played.site) played.session.stopped played.rows }
     requires halts { IsHalted played.end played.session.stopped }
     ensures tells { (was : SiteLog) → (S.tells → IsPlainSession job.now.config was
         (S.told played.site) (session_data played.session))
@@ -179,7 +175,7 @@ pub fn put_report<S: Site, O: Sink>(
     ensures unread { (was : SiteLog) → (S.tells → IsPlainSession job.now.config was
         (S.told played.site) (session_data played.session))
         → OnUnread result.outcome (λ s. BreaksOff
-        (IsUnread S.Site played.site (listed played.rows.items) job.now.config.volumes)
+        (IsUnread S.Site played.site (listed played.rows) job.now.config.volumes)
         (matter_of job.now (content was) s) (seen_with (site_between S.Site played.site result.site)
         (sink_between O.Sink output.old output.new))) }
     ensures site { OnlyReads S.Site played.site result.site }

@@ -1,5 +1,5 @@
 // What is put of a session.
-ghost use Rattle.std.specs.Prelude.{◌≡◌, length};
+ghost use Rattle.std.specs.Prelude.{◌≡◌};
 ghost use Rattle.mss_base.specs.Content.{content};
 ghost use Rattle.mss_base.specs.Sites.{OnlyReads};
 ghost use Rattle.volume_table.specs.Listed.{listed};
@@ -16,7 +16,7 @@ use mss_base::{Serial, Sink, Site, VolumeNo};
 use serial_driver::DriveAnswer;
 use session_report::{Last, ReportFault, report};
 use std::alloc::Global;
-use volume_table::VolumeRow;
+use volume_table::Rows;
 
 /// The last line of what is told of a session that ended so, if anything is.
 pub fn last_of(end: DriveAnswer) -> Option<Last>
@@ -33,13 +33,12 @@ pub fn last_of(end: DriveAnswer) -> Option<Last>
 pub fn tell<S: Site, O: Sink>(
     alloc: Global,
     site: &mut S,
-    rows: &[Option<VolumeRow>],
+    rows: &Rows,
     volumes: &[(VolumeNo, Serial)],
     session: &Session,
     end: DriveAnswer,
     output: &mut O,
 ) -> Result<(), ReportFault>
-    requires rows { length rows.now ≡ 32 }
     requires halts { IsHalted end session.now.stopped }
     ensures told { let shown = shown_by (listed rows.now) (content (S.told site.old)) in
         IsTold (report_matter (session_data session.now) volumes.now shown) end

@@ -21,7 +21,7 @@ returns g c =
       devices = subst (λ (x : g.row.S.Denot). WritesOn g.S.Site c.args.core.site x) site
           (record { written = ran.ensures.leaves.written; later = ran.ensures.leaves.later; sound = ran.ensures.leaves.sound });
       rows = subst (λ (x : g.row.S.Denot × SessionData × List (Option RowValue)). AreRowsOf tells (told x.0) x.1.stopped x.2) (λ i. (site i, session i, sym ended.ensures.rows i))
-          (rows_of_core g.S.Site left c.look.ensures.rows c.look.ensures.told);
+          (rows_of_core g.S.Site left c.look.ensures.told);
       only_reads_fail = λ but none. ap (λ (x : SessionData). x.stopped) (sym session) ∙ ran.ensures.leaves.only_reads_fail but none c.requires.going;
       session = λ was begun.
           let law = c.sessions_are_plain.ensures in

@@ -11,9 +11,6 @@ use Rattle.job_runs.specs.Runs.{IsTold}
 use Rattle.job_runs.proofs.SessionFacts.{broken_of, report_of}
 use Rattle.job_runs.proofs.run.put_report.Goals as goal
 
-pub tell-told-requires-clause-rows : goal.tell-told-requires-clause-rows
-tell-told-requires-clause-rows g c = ap length c.deref.ensures.value ∙ c.requires.rows.count
-
 pub returns-clause-tells : goal.returns-clause-tells
 returns-clause-tells g c =
     let p = c.args.played in
@@ -23,16 +20,15 @@ returns-clause-tells g c =
     let sink : Stream = sink_between g.O.Sink c.args.output.now c.tell-told.new.output in
     let headings : c.as_slice-volumes.result.now ≡ c.args.job.now.config.volumes =
     search rules in
-    let rows : c.deref.result.now ≡ p.rows.items = c.deref.ensures.value in
-    let report : IsTold (report_matter (session_data p.session) c.args.job.now.config.volumes (shown_by (listed p.rows.items) (content (told p.site)))) p.end (site_between g.S.Site p.site site) sink c.tell-told.result =
-    subst (λ (x : List Heading × List (Option RowValue)). IsTold (report_matter (session_data p.session) x.0 (shown_by (listed x.1) (content (told p.site)))) p.end (site_between g.S.Site p.site site) sink c.tell-told.result)
-    (λ i. (headings i, rows i)) c.tell-told.ensures.told in
+    let report : IsTold (report_matter (session_data p.session) c.args.job.now.config.volumes (shown_by (listed p.rows) (content (told p.site)))) p.end (site_between g.S.Site p.site site) sink c.tell-told.result =
+    subst (λ (x : List Heading). IsTold (report_matter (session_data p.session) x (shown_by (listed p.rows) (content (told p.site)))) p.end (site_between g.S.Site p.site site) sink c.tell-told.result)
+    headings c.tell-told.ensures.told in
     λ was plain. (
       refl,
       refl,
-      report_of g.S.Site c.args.job.now was p.site site p.end (session_data p.session) p.rows.items
+      report_of g.S.Site c.args.job.now was p.site site p.end (session_data p.session) p.rows
           plain c.requires.halts c.requires.rows
-          (c.rows_of_a_content_show_its_volumes.ensures p.rows.items (content (told p.site))) sink c.tell-told.result c.tell-told.ensures.site report
+          (c.rows_of_a_content_show_its_volumes.ensures p.rows (content (told p.site))) sink c.tell-told.result c.tell-told.ensures.site report
           c.tell-told.ensures.framed c.tell-told.ensures.counted c.tell-told.ensures.output,
     )
 
@@ -44,13 +40,12 @@ returns-clause-unread g c =
     let sink : Stream = sink_between g.O.Sink c.args.output.now c.tell-told.new.output in
     let headings : c.as_slice-volumes.result.now ≡ c.args.job.now.config.volumes =
     search rules in
-    let rows : c.deref.result.now ≡ p.rows.items = c.deref.ensures.value in
-    let report : IsTold (report_matter (session_data p.session) c.args.job.now.config.volumes (shown_by (listed p.rows.items) (content (told p.site)))) p.end (site_between g.S.Site p.site site) sink c.tell-told.result =
-    subst (λ (x : List Heading × List (Option RowValue)). IsTold (report_matter (session_data p.session) x.0 (shown_by (listed x.1) (content (told p.site)))) p.end (site_between g.S.Site p.site site) sink c.tell-told.result)
-    (λ i. (headings i, rows i)) c.tell-told.ensures.told in
-    λ was plain. broken_of g.S.Site c.args.job.now was p.site site p.end (session_data p.session) p.rows.items
+    let report : IsTold (report_matter (session_data p.session) c.args.job.now.config.volumes (shown_by (listed p.rows) (content (told p.site)))) p.end (site_between g.S.Site p.site site) sink c.tell-told.result =
+    subst (λ (x : List Heading). IsTold (report_matter (session_data p.session) x (shown_by (listed p.rows) (content (told p.site)))) p.end (site_between g.S.Site p.site site) sink c.tell-told.result)
+    headings c.tell-told.ensures.told in
+    λ was plain. broken_of g.S.Site c.args.job.now was p.site site p.end (session_data p.session) p.rows
     plain c.requires.halts c.requires.rows
-    (c.rows_of_a_content_show_its_volumes.ensures p.rows.items (content (told p.site))) sink c.tell-told.result c.tell-told.ensures.site report
-    (subst (λ (x : List Heading × List (Option RowValue)). OnRead c.tell-told.result (BreaksOff (IsUnread g.S.Site p.site (listed x.1) x.0) (report_matter (session_data p.session) x.0 (shown_by (listed x.1) (content (told p.site))))
+    (c.rows_of_a_content_show_its_volumes.ensures p.rows (content (told p.site))) sink c.tell-told.result c.tell-told.ensures.site report
+    (subst (λ (x : List Heading). OnRead c.tell-told.result (BreaksOff (IsUnread g.S.Site p.site (listed p.rows) x) (report_matter (session_data p.session) x (shown_by (listed p.rows) (content (told p.site))))
     (seen_with (site_between g.S.Site p.site site) sink)))
-    (λ i. (headings i, rows i)) c.tell-told.ensures.unread)
+    headings c.tell-told.ensures.unread)

@@ -25,7 +25,7 @@ returns-in-Ok g c =
           (record { written = omega (arith, read.unwritten); later = read.later; sound = read.sound });
       ends = ends_of g.S.Site (g.C.Choose.may c.args.chooser) c.args.job.now c.args.turns.now (seen_site g.S.Site c.args.site) p.site put.result.site p.end (session_data p.session)
           c.in-Ok.ensures.played sink put.result.outcome tells_it;
-      unread = broke_off_of g.S.Site c.args.job.now c.args.site p.site put.result.site p.end (session_data p.session) p.rows.items
+      unread = broke_off_of g.S.Site c.args.job.now c.args.site p.site put.result.site p.end (session_data p.session) p.rows
           c.in-Ok.ensures.played.halts c.in-Ok.ensures.rows c.in-Ok.ensures.devices.sound read sink put.result.outcome tells_it
           (put.ensures.unread (told c.args.site) c.in-Ok.ensures.played.promised.plain);
     }
