@@ -7,10 +7,9 @@ use Rattle.std.proofs.lemmas.List.{map-append, take-append-drop}
 use Rattle.std.proofs.lemmas.List.Elements.{All-head, All-tail}
 use Rattle.std.proofs.lemmas.Map.Keys.{IsDistinct-head, IsDistinct-tail}
 use Rattle.channel_program.specs.Script.{ItemData, mounting, demounting, program, Exchange, Follows, at_start}
-use Rattle.channel_program.specs.Items.{AreRunnable, EndsScript}
-use Rattle.channel_program.proofs.ItemFacts.{all_at}
+use Rattle.channel_program.specs.Items.{EndsScript}
 use Rattle.ckd_plain.specs.History.{EntryData}
-use Rattle.job_text.specs.Jobs.{ScriptData, AreRunnableScripts}
+use Rattle.job_text.specs.Jobs.{ScriptData}
 use Rattle.seen_book.specs.Books.{PassData, Begins}
 use Rattle.seen_book.specs.Entries.{entries_of}
 use Rattle.mss_run.specs.Owns.{places_of, exchange, exchanges_of, asked_of, asked_by}
@@ -121,9 +120,6 @@ not_before (d ∷ before) h more distinct (suc k, below, is) =
 
 -- ---- one script after the other
 
-abbrev Runs : ScriptData → Type 0
-Runs s = AreRunnable s.items
-
 module _ (scripts : List ScriptData) (i : ℕ) (x : ScriptData) (below : i < length scripts) (is : x ≡ get_or scripts i x) where
   scripts_front : take (i + 1) scripts ≡ take i scripts ++ x ∷ []
   scripts_front =
@@ -145,6 +141,3 @@ module _ (scripts : List ScriptData) (i : ℕ) (x : ScriptData) (below : i < len
 
   pub next_starts : (ps : List PassData) (p : PassData) → AreStarts (take i scripts) ps → IsStart x p → AreStarts (take (i + 1) scripts) (ps ++ p ∷ [])
   next_starts ps p starts one = subst (λ (l : List ScriptData). AreStarts l (ps ++ p ∷ [])) (sym scripts_front) (starts_push (take i scripts) x ps p starts one)
-
-  pub next_runs : AreRunnableScripts scripts → AreRunnable x.items
-  next_runs all = subst Runs (sym is) (all_at Runs scripts i x all below)

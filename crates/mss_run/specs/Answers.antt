@@ -4,6 +4,7 @@ use mathlib.Core.List.{IsPrefix}
 use Rattle.channel_commands.specs.Data.{CallData, ReplyData, stopped}
 use Rattle.ckd_plain.specs.History.{EntryData, IsStopped}
 use Rattle.seen_book.specs.Books.{PassData}
+use Rattle.core_state.specs.declared.session.TheConstants.{ENTRY_LIMIT}
 use Rattle.core_state.specs.HostEvents.{HostTold, replied, marked, waits, halts, at_limit, no_memory}
 use Rattle.host_events.specs.Answers.{told_of}
 use Rattle.host_events.specs.declared.answer.HostAnswer.{HostAnswer}
@@ -25,12 +26,12 @@ pub record Stops (call : CallData) (fault : ℕ) (p q : PassData) : Type 0 where
   pub grows : Grows call stopped index p q
   pub fault_ : grows.entry.fault ≡ Some fault
 
--- the pass has seen a history of 4,096 entries
+-- the pass has seen a full history
 pub record IsFull (p q : PassData) : Type 0 where
   pub host_ : q.host ≡ p.host
   pub mine_ : q.mine ≡ p.mine
   pub seen_ : IsPrefix p.seen q.seen
-  pub length_ : length q.seen ≡ 4096
+  pub length_ : length q.seen ≡ ENTRY_LIMIT
 
 -- a reply is an entry that the pass has seen; a stop may be one, with the fault that is told; at the
 -- limit it has seen all; else it is as it was

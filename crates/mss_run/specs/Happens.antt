@@ -2,6 +2,7 @@
 use Rattle.std.specs.Prelude.{◌≡◌, ◌⊎◌, ℕ, ◌==◌, Bool, false, List, [], ◌∷◌, ◌++◌, length, Some}
 use Rattle.channel_commands.specs.Data.{CallData, ReplyData, stopped}
 use Rattle.ckd_plain.specs.History.{EntryData, IsStopped}
+use Rattle.core_state.specs.declared.session.TheConstants.{ENTRY_LIMIT}
 use Rattle.core_state.specs.HostEvents.{HostTold, replied, marked, waits, halts, at_limit, no_memory}
 
 -- one entry was added, of this host, call and reply, at this place
@@ -25,13 +26,13 @@ abbrev pub is_in_vain : HostTold → ℕ → ℕ → Bool
 is_in_vain (waits why) before after = after == before
 is_in_vain _ before after = false
 
--- a reply is the last entry; a stop may be one; at the limit there are 4,096; else nothing was added
+-- a reply is the last entry; a stop may be one; at the limit there is no room; else nothing was added
 abbrev pub Happens : ℕ → CallData → HostTold → List EntryData → List EntryData → Type 0
 Happens host call (replied index reply) old new =
     Enters host call reply index old new × (IsStopped reply → ⊥)
 Happens host call (halts fault) old new =
     (new ≡ old) ⊎ EntersStop host call fault old new
-Happens host call at_limit old new = (new ≡ old) × (length old ≡ 4096)
+Happens host call at_limit old new = (new ≡ old) × (length old ≡ ENTRY_LIMIT)
 Happens host call marked old new = new ≡ old
 Happens host call (waits why) old new = new ≡ old
 Happens host call no_memory old new = new ≡ old

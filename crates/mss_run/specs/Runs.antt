@@ -2,7 +2,8 @@
 use Rattle.std.specs.Prelude.{◌≡◌, ◌⊎◌, ℕ, ◌==◌, Bool, ◌&&◌, List, [], ◌∷◌, length, map, Option, Some, None, if◌then◌else◌}
 use Rattle.std.specs.List.{AllByRecursion, list_all}
 use Rattle.ckd_plain.specs.History.{EntryData}
-use Rattle.channel_program.specs.Items.{AreRunnable, EndsScript}
+use Rattle.core_state.specs.declared.session.TheConstants.{ENTRY_LIMIT}
+use Rattle.channel_program.specs.Items.{EndsScript}
 use Rattle.channel_program.specs.Script.{Follows}
 use Rattle.job_text.specs.Jobs.{ScriptData}
 use Rattle.seen_book.specs.Entries.{entries_of}
@@ -61,7 +62,6 @@ AreRuns _ _ _ = ⊥
 pub record IsStart (script : ScriptData) (p : PassData) : Type 0 where
   pub host_ : p.host ≡ script.host
   pub fresh : p.seen ≡ []
-  pub runnable : AreRunnable script.items
 
 abbrev pub AreStarts : List ScriptData → List PassData → Type 0
 AreStarts [] [] = Unit {0}
@@ -80,5 +80,5 @@ abbrev pub run_answer : Option ℕ → ℕ → ℕ → List EndData → RunAnswe
 run_answer (Some fault) entries hosts ends = answer.Stopped fault
 run_answer None entries hosts ends =
     if are_finished hosts ends then answer.Done
-    else (if (entries == 4096) && (length ends == hosts) then answer.CommandLimit
+    else (if (entries == ENTRY_LIMIT) && (length ends == hosts) then answer.CommandLimit
     else answer.Memory)

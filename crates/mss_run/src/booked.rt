@@ -6,6 +6,7 @@ ghost use Rattle.host_events.specs.Answers.{told_of};
 ghost use Rattle.core_state.specs.CoreValue.{seen};
 ghost use Rattle.core_state.specs.HostEvents.{IsSame};
 ghost use Rattle.core_state.specs.declared.rule.WorkAnswer.TheVariants.{Idle};
+ghost use Rattle.core_state.specs.declared.session.TheConstants.{ENTRY_LIMIT};
 ghost use Rattle.mss_run.specs.Answers.{Answered};
 ghost use Rattle.mss_run.specs.Beginning.{OpensWith};
 ghost use Rattle.mss_run.specs.Happens.{Happens};
@@ -64,7 +65,7 @@ fn told<N: Name>(
     requires happens { Happens pass.host (call_of call.now) (told_of answer.now)
         book.list history.now }
     requires legal { IsLegalFrom N.opening history.now }
-    requires few { length history.now ≤ 4096 }
+    requires few { length history.now ≤ ENTRY_LIMIT }
     ensures book { result.0 ≡ record { list = history.now; made = book.made } }
     ensures pass { Answered (call_of call.now) pass (told_of answer.now) result.1 }
 {

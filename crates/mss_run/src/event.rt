@@ -9,6 +9,7 @@ ghost use Rattle.core_state.specs.CoreValue.{seen};
 ghost use Rattle.core_state.specs.HostEvents.{IsSame};
 ghost use Rattle.core_state.specs.IsCore.{IsCore, opening_of};
 ghost use Rattle.core_state.specs.declared.rule.WorkAnswer.TheVariants.{Idle};
+ghost use Rattle.core_state.specs.declared.session.TheConstants.{ENTRY_LIMIT};
 ghost use Rattle.host_events.specs.Answers.{told_of};
 ghost use Rattle.mss_run.specs.Happens.{Happens, is_in_vain};
 
@@ -29,7 +30,7 @@ use work_events::work_event;
 /// How many entries the history has, 4,096 at most. It is legal.
 pub(crate) fn entries_of<S: Site, C: Choose>(core: &Core<S, C>) -> usize
     ensures count { result ≡ length core.now.history }
-    ensures few { length core.now.history ≤ 4096 }
+    ensures few { length core.now.history ≤ ENTRY_LIMIT }
     ensures kept { core.now.stopped ≡ None → IsCore core.now }
     ensures began { S.tells → core.now.first_write ≤ length (S.told core.now.site).log }
     ensures legal { S.tells

@@ -5,7 +5,6 @@ ghost use Rattle.std.specs.Thread.{IsSend, IsSync};
 ghost use Rattle.mss_base.specs.Sound.{StaysSound};
 ghost use Rattle.mss_base.specs.declared.place.UnitNo.{UnitNo};
 ghost use Rattle.ckd_plain.specs.History.{IsLegal};
-ghost use Rattle.job_text.specs.Jobs.{AreRunnableScripts};
 ghost use Rattle.seen_book.specs.Books.{AreOfThese};
 ghost use Rattle.core_state.specs.Beginning.{IsLater};
 ghost use Rattle.core_state.specs.CoreValue.{seen};
@@ -28,7 +27,7 @@ use crate::host::Running;
 use crate::setup::Setup;
 use crate::shared::Shared;
 use core_state::{Core, ENTRY_LIMIT};
-use job_text::{HostScript, Job, programs_can_be_run};
+use job_text::{HostScript, Job};
 use mss_base::{RecorderNo, Site};
 use seen_book::{Blank, Book, HostPass, Name, PassList, Word, host_pass, make, start_book};
 use std::alloc::Global;
@@ -211,7 +210,6 @@ fn make_passes<N: Name>(
     requires book { book ≡ record { list = []; made = [] } }
     requires hosts { N.hosts ≡ hosts_of scripts.now }
     requires differ { IsDistinct nat_eq N.hosts }
-    requires runnable { AreRunnableScripts scripts.now }
     requires empty { passes.items ≡ [] }
     requires room { length scripts.now ≤ passes.spare }
     ensures book { result.0.list ≡ [] }
@@ -295,7 +293,6 @@ fn run_named<
     ensures answer { result.answer ≡ run_answer result.core.stopped (length result.core.history)
         (length job.now.hosts) result.hosts.items }
 {
-    programs_can_be_run();
     let scripts = job.hosts.as_slice();
     let mut passes = PassList::new(alloc);
     let mut ends = HostEnds::new(alloc);

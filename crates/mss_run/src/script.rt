@@ -1,13 +1,7 @@
 // A host's script, call after call.
-ghost use Rattle.std.specs.Prelude.{◌≡◌, ◌≤◌, [], length, map, option_map};
-ghost use Rattle.channel_commands.specs.Views.{call_of, reply_of, ccw_of};
-ghost use Rattle.channel_program.specs.Items.{
-  AreRunnable,
-  Asks,
-  EndsScript,
-  GivesSince,
-  IsRunnable,
-};
+ghost use Rattle.std.specs.Prelude.{◌≡◌, [], map, option_map};
+ghost use Rattle.channel_commands.specs.Views.{call_of, reply_of};
+ghost use Rattle.channel_program.specs.Items.{Asks, EndsScript, GivesSince};
 ghost use Rattle.channel_program.specs.Script.{Follows, ItemData, program as running_program};
 ghost use Rattle.job_text.specs.Views.{item_of};
 ghost use Rattle.mss_run.specs.Owns.{AsksSince, asked_by, exchanges_by};
@@ -35,12 +29,9 @@ fn last_of(last: &Option<Reply>) -> Option<&Reply>
 impl<N: Setup, S: Site, C: Choose, G: Gate, R: Wait> Run<'_, N, S, C, G, R> {
     /// Runs a channel program, call after call. False where the run ended before the program.
     fn run_program(&self, mut running: Running<N>, program: &Program) -> (Running<N>, bool)
-        requires some { 1 ≤ length program.now.items }
-        requires few { length program.now.items ≤ 256 }
-        ensures gives { GivesSince (running_program (map ccw_of program.now.items))
+        ensures gives { GivesSince (running_program program.now)
             (exchanges_by running) (exchanges_by result.0) result.1 }
-        ensures asks { AsksSince (running_program (map ccw_of program.now.items))
-            running result.0 result.1 }
+        ensures asks { AsksSince (running_program program.now) running result.0 result.1 }
         ensures host { result.0.host ≡ running.host }
     {
         let mut cursor = Cursor::start();
@@ -85,7 +76,6 @@ impl<N: Setup, S: Site, C: Choose, G: Gate, R: Wait> Run<'_, N, S, C, G, R> {
 
     /// Does what the host's script has next: a mount, a demount, or a channel program to its end.
     fn run_item(&self, running: Running<N>, item: &Item) -> (Running<N>, bool)
-        requires { IsRunnable (item_of item.now) }
         ensures gives { GivesSince (item_of item.now)
             (exchanges_by running) (exchanges_by result.0) result.1 }
         ensures asks { AsksSince (item_of item.now) running result.0 result.1 }
@@ -106,7 +96,6 @@ impl<N: Setup, S: Site, C: Choose, G: Gate, R: Wait> Run<'_, N, S, C, G, R> {
 
     /// Runs a host's script from its first item. False where the run ended before the script.
     pub fn run_script(&self, mut running: Running<N>, items: &[Item]) -> (Running<N>, bool)
-        requires runnable { AreRunnable (map item_of items.now) }
         requires begins { exchanges_by running ≡ [] }
         requires unasked { asked_by running ≡ [] }
         ensures ends { EndsScript (map item_of items.now) (exchanges_by result.0) result.1 }

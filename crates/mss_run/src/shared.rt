@@ -4,6 +4,7 @@ ghost use Rattle.channel_commands.specs.Views.{call_of};
 ghost use Rattle.seen_book.specs.Books.{AreNested, AreOfThese, Begins, HaveOneEach};
 ghost use Rattle.seen_book.specs.Openings.{IsLegalFrom};
 ghost use Rattle.core_state.specs.CoreValue.{seen};
+ghost use Rattle.core_state.specs.declared.session.TheConstants.{ENTRY_LIMIT};
 ghost use Rattle.host_events.specs.Answers.{told_of};
 ghost use Rattle.mss_run.specs.Answers.{Answered};
 ghost use Rattle.mss_run.specs.Beginning.{OpensWith};
@@ -79,7 +80,7 @@ impl<N: Setup, S: Site, C: Choose> Shared<N, S, C> {
         ensures opening { OpensWith N.opening N.setup S.tells
             (S.never_fails_but result.site) (seen S.Site result) }
         ensures legal { IsLegalFrom N.opening result.history }
-        ensures few { length result.history ≤ 4096 }
+        ensures few { length result.history ≤ ENTRY_LIMIT }
         ensures hosts { AreOfThese N.hosts result.history }
         ensures passes { All (Begins result.history) passes.items }
         ensures nested { AreNested passes.items }

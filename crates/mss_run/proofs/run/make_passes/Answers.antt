@@ -3,7 +3,7 @@ use Rattle.std.specs.List.{IsDistinct}
 use Rattle.job_text.specs.Jobs.{ScriptData}
 use Rattle.seen_book.specs.Books.{BookData, PassData}
 use Rattle.mss_run.specs.Runs.{AreStarts, hosts_of}
-use Rattle.mss_run.proofs.RunFacts.{next_fresh, next_made, next_starts, next_runs}
+use Rattle.mss_run.proofs.RunFacts.{next_fresh, next_made, next_starts}
 use Rattle.mss_run.proofs.run.make_passes.Goals as goal
 
 pub host_pass-grown-requires-clause-fresh : goal.host_pass-grown-requires-clause-fresh
@@ -28,7 +28,6 @@ loop-script-preserved g c =
           (next_starts scripts i x c.loop-script-test.true c.script-item.is c.loop-script.passes.items c.host_pass-grown.result.1 inv.starts (record {
             host_ = ap (λ (p : PassData). p.host) c.host_pass-grown.ensures.pass ∙ host;
             fresh = ap (λ (p : PassData). p.seen) c.host_pass-grown.ensures.pass ∙ inv.list;
-            runnable = next_runs scripts i x c.loop-script-test.true c.script-item.is c.requires.runnable;
           }));
       count = ap length c.push.ensures.items ∙ length-append c.loop-script.passes.items (c.host_pass-grown.result.1 ∷ []) ∙ ap (λ (n : ℕ). n + 1) inv.count;
       room = (let spare = c.push.ensures.spare in let before = inv.room in omega (arith, spare, before));

@@ -1,18 +1,19 @@
-use Rattle.std.proofs.Common.{ℕ, List, inl, inr, sym, ◌∙◌, ap, subst}
+use Rattle.std.proofs.Common.{ℕ, List, nat_eq, inl, inr, sym, ◌∙◌, ap, subst}
+use Rattle.std.specs.List.{IsDistinct}
 use Rattle.core_state.specs.Beginning.{IsLater}
 use Rattle.core_state.specs.CoreValue.{CoreValue, CoreData, seen}
 use Rattle.core_state.proofs.Later.{later_none}
 use Rattle.mss_base.specs.Sound.{StaysSound}
-use Rattle.job_text.specs.Jobs.{ScriptData, JobData, AreRunnableScripts}
+use Rattle.job_text.specs.Jobs.{ScriptData, JobData}
 use Rattle.seen_book.specs.Books.{AreOfThese}
-use Rattle.mss_run.specs.Runs.{AreEndsIn, AskByScript}
+use Rattle.mss_run.specs.Runs.{AreEndsIn, AskByScript, hosts_of}
 use Rattle.mss_run.proofs.AnswerFacts.{legal_since}
 use Rattle.mss_run.proofs.RunFacts.{asks_nothing, asks_whole, ends_whole}
 use Rattle.mss_run.proofs.run.run_named.Goals as goal
 
-pub make_passes-book-requires-clause-runnable : goal.make_passes-book-requires-clause-runnable
-make_passes-book-requires-clause-runnable g c =
-    subst AreRunnableScripts (sym c.as_slice-scripts.ensures) (c.programs_can_be_run.ensures.job (record { config = c.job.inside.config; hosts = c.job.inside.hosts.items }) c.job.invariant)
+pub make_passes-book-requires-clause-differ : goal.make_passes-book-requires-clause-differ
+make_passes-book-requires-clause-differ g c =
+    subst (IsDistinct nat_eq) (ap (λ (j : JobData). hosts_of j.hosts) c.job.view_is ∙ sym c.requires.hosts) c.job.invariant.hosts_differ
 
 pub returns-clause-later : goal.returns-clause-later
 returns-clause-later g c =

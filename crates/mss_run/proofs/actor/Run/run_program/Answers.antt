@@ -1,8 +1,8 @@
-use Rattle.std.proofs.Common.{false, List, map, Option, Some, None, sym, ◌∙◌, ap, subst}
+use Rattle.std.proofs.Common.{false, List, Option, Some, None, sym, ◌∙◌, ap, subst}
 use Rattle.std.specs.Prelude.{option_map}
 use Rattle.channel_commands.specs.Data.{CallData, ReplyData, CcwData}
 use Rattle.channel_commands.specs.declared.call.Reply.{Reply}
-use Rattle.channel_commands.specs.Views.{call_of, ccw_of, reply_of}
+use Rattle.channel_commands.specs.Views.{call_of, reply_of}
 use Rattle.channel_program.specs.Calls.{NextIs, GoesOn}
 use Rattle.channel_program.specs.Script.{Exchange, Standing, moved}
 use Rattle.channel_program.specs.Views.{standing_of}
@@ -13,7 +13,7 @@ use Rattle.mss_run.proofs.actor.Run.run_program.Goals as goal
 
 pub returns-in_default-clause-gives : goal.returns-in_default-clause-gives
 returns-in_default-clause-gives g c =
-    let words : List CcwData = map ccw_of c.args.program.now.items in
+    let words : List CcwData = c.args.program.now in
     let begun : List Exchange = exchanges_by c.args.running in
     let now : List Exchange = exchanges_by c.loop.running in
     let at : Standing = standing_of words c.loop.cursor (option_map reply_of c.loop.last) in
@@ -22,7 +22,7 @@ returns-in_default-clause-gives g c =
 
 pub returns-then-not-goes_on-clause-gives : goal.returns-then-not-goes_on-clause-gives
 returns-then-not-goes_on-clause-gives g c =
-    let words : List CcwData = map ccw_of c.args.program.now.items in
+    let words : List CcwData = c.args.program.now in
     let begun : List Exchange = exchanges_by c.args.running in
     let now : List Exchange = exchanges_by c.loop.running in
     let new : List Exchange = exchanges_by c.make_call-now.result.0 in
@@ -41,7 +41,7 @@ returns-then-not-goes_on-clause-gives g c =
 
 pub loop-preserved-else-not-goes_on : goal.loop-preserved-else-not-goes_on
 loop-preserved-else-not-goes_on g c =
-    let words : List CcwData = map ccw_of c.args.program.now.items in
+    let words : List CcwData = c.args.program.now in
     let begun : List Exchange = exchanges_by c.args.running in
     let now : List Exchange = exchanges_by c.loop.running in
     let new : List Exchange = exchanges_by c.make_call-now.result.0 in
@@ -65,14 +65,14 @@ loop-preserved-else-not-goes_on g c =
 
 pub returns-in_default-clause-asks : goal.returns-in_default-clause-asks
 returns-in_default-clause-asks g c =
-    let words : List CcwData = map ccw_of c.args.program.now.items in
+    let words : List CcwData = c.args.program.now in
     let at : Standing = standing_of words c.loop.cursor (option_map reply_of c.loop.last) in
     let more : GoesOn words at = subst (λ (r : Option ReplyData). GoesOn words (standing_of words c.loop.cursor r)) c.last_of-before.ensures c.in_default.ensures.memory in
     (false, gives_part words at (asked_by c.args.running) (asked_by c.loop.running) c.loop.invariant.asks more)
 
 pub returns-then-not-goes_on-clause-asks : goal.returns-then-not-goes_on-clause-asks
 returns-then-not-goes_on-clause-asks g c =
-    let words : List CcwData = map ccw_of c.args.program.now.items in
+    let words : List CcwData = c.args.program.now in
     let begun : List Exchange = asked_by c.args.running in
     let now : List Exchange = asked_by c.loop.running in
     let new : List Exchange = asked_by c.make_call-now.result.0 in
@@ -91,7 +91,7 @@ returns-then-not-goes_on-clause-asks g c =
 
 pub returns-in_default-reply-clause-asks : goal.returns-in_default-reply-clause-asks
 returns-in_default-reply-clause-asks g c =
-    let words : List CcwData = map ccw_of c.args.program.now.items in
+    let words : List CcwData = c.args.program.now in
     let begun : List Exchange = asked_by c.args.running in
     let now : List Exchange = asked_by c.loop.running in
     let new : List Exchange = asked_by c.make_call-now.result.0 in

@@ -1,5 +1,5 @@
-use Rattle.std.proofs.Common.{◌≡◌, map, option_map}
-use Rattle.channel_commands.specs.Views.{ccw_of, reply_of}
+use Rattle.std.proofs.Common.{◌≡◌, option_map}
+use Rattle.channel_commands.specs.Views.{reply_of}
 use Rattle.channel_program.specs.Views.{standing_of}
 use Rattle.channel_program.proofs.ProgramFacts.{HasRun}
 use Rattle.mss_run.specs.Owns.{exchanges_by, asked_by}
@@ -7,7 +7,7 @@ use Rattle.mss_run.proofs.actor.Run.run_program.Given as goal
 
 abbrev pub invariant-loop : goal.invariant-loop
 invariant-loop g l = record {
-  run : HasRun (map ccw_of l.program.items) (exchanges_by l.initial.running) (exchanges_by l.running) (standing_of (map ccw_of l.program.items) l.cursor (option_map reply_of l.last));
-  asks : HasRun (map ccw_of l.program.items) (asked_by l.initial.running) (asked_by l.running) (standing_of (map ccw_of l.program.items) l.cursor (option_map reply_of l.last));
+  run : HasRun l.program (exchanges_by l.initial.running) (exchanges_by l.running) (standing_of l.program l.cursor (option_map reply_of l.last));
+  asks : HasRun l.program (asked_by l.initial.running) (asked_by l.running) (standing_of l.program l.cursor (option_map reply_of l.last));
   host : l.running.host ≡ l.initial.running.host;
 }

@@ -1,18 +1,12 @@
 use Rattle.std.proofs.Common.{◌<◌, ◌≤◌, Bool, false, List, length, map, sym, ◌∙◌, subst, arith}
 use Rattle.std.proofs.lemmas.List.{length-map, take_all}
-use Rattle.channel_program.specs.Items.{IsRunnable, GivesSince}
+use Rattle.channel_program.specs.Items.{GivesSince}
 use Rattle.channel_program.specs.Script.{FollowsToEnd, ItemData}
-use Rattle.channel_program.proofs.ItemFacts.{all_at, view_at, item_begun, item_done, item_left}
+use Rattle.channel_program.proofs.ItemFacts.{view_at, item_begun, item_done, item_left}
 use Rattle.channel_program.proofs.Scripts.{FollowsToEnd-follows}
 use Rattle.job_text.specs.Views.{item_of}
 use Rattle.mss_run.specs.Owns.{exchanges_by, asked_by, AsksSince}
 use Rattle.mss_run.proofs.actor.Run.run_script.Goals as goal
-
-pub run_item-now-requires : goal.run_item-now-requires
-run_item-now-requires g c =
-    let below : c.loop-item.item-index < length (map item_of c.args.items.now) = omega (arith, c.loop-item-test.true, length-map c.args.items.now item_of) in
-    subst IsRunnable (sym (view_at item_of c.args.items.now c.loop-item.item-index c.item-item.result c.loop-item-test.true c.item-item.is))
-    (all_at IsRunnable (map item_of c.args.items.now) c.loop-item.item-index (item_of c.item-item.result) c.requires.runnable below)
 
 pub returns-then-not-finished-clause-ends : goal.returns-then-not-finished-clause-ends
 returns-then-not-finished-clause-ends g c =
