@@ -1,6 +1,8 @@
 // Programs of the worked examples, and what comes of them.
 use channel_commands::{BreakCause, Call, Ccw, DeviceCommand, Reply};
-use channel_program::{Cursor, NextCall, Program, command_at, is_command, next, next_call};
+use channel_program::{
+    Cursor, NextCall, Program, WORD_LIMIT, Words, command_at, is_command, next, next_call,
+};
 use mss_base::{Bytes, NoMemory};
 use std::alloc::Global;
 use std::test::Fail;
@@ -55,33 +57,25 @@ fn word_of(alloc: Global, word: u8) -> Result<Ccw, NoMemory> {
     Ok(Ccw::Device { code, argument })
 }
 
-fn program_of(alloc: Global, words: &[u8]) -> Result<Program, NoMemory> {
-    let mut program = Program::new(alloc);
+/// The program of these words, unless there are none or too many.
+fn program_of(alloc: Global, words: &[u8]) -> Result<Option<Program>, NoMemory> {
+    let mut program = Words::new(alloc);
     for word in words {
-        let word = word_of(alloc, *word)?;
-        program.reserve(1)?;
-        program.push(word);
+        if program.len() >= WORD_LIMIT {
+            return Ok(None);
+        }
+        program.push(word_of(alloc, *word)?)?;
     }
-    Ok(program)
+    if program.is_empty() {
+        return Ok(None);
+    }
+    Ok(Some(Program::of(program)))
 }
 
-/// The next call of a program, behind a reply with a status; none of a program that is too short or too long.
+/// The next call of a program, behind a reply with a status.
 fn behind(alloc: Global, program: &Program, cursor: &mut Cursor, status: u8) -> NextCall {
-    let count = program.as_slice().len();
-    if count < 1 || count > 256 {
-        return NextCall::Ended;
-    }
     let bytes = Bytes::new(alloc);
     next(program, cursor, Some(&Reply::Done { status, bytes }))
-}
-
-/// The first call of a program.
-fn first(program: &Program, cursor: &mut Cursor) -> NextCall {
-    let count = program.as_slice().len();
-    if count < 1 || count > 256 {
-        return NextCall::Ended;
-    }
-    next(program, cursor, None)
 }
 
 /// Whether a program makes these calls, to which these statuses are the replies.
@@ -91,12 +85,14 @@ fn goes_on(
     statuses: &[u8],
     calls: &[NextCall],
 ) -> Result<bool, NoMemory> {
-    let program = program_of(alloc, words)?;
-    let mut cursor = Cursor::start();
     let Some((due, later)) = calls.split_first() else {
         return Ok(false);
     };
-    let mut is_so = later.len() == statuses.len() && first(&program, &mut cursor) == *due;
+    let Some(program) = program_of(alloc, words)? else {
+        return Ok(false);
+    };
+    let mut cursor = Cursor::start();
+    let mut is_so = later.len() == statuses.len() && next(&program, &mut cursor, None) == *due;
     for (status, due) in statuses.iter().zip(later) {
         is_so = is_so && behind(alloc, &program, &mut cursor, *status) == *due;
     }
@@ -113,9 +109,11 @@ fn programs_go_on(rt: HostRuntime) -> Result<(), Fail> {
 
 /// After how many commands a program that repeats its one word breaks off.
 fn endless(alloc: Global) -> Result<(u16, NextCall), NoMemory> {
-    let program = program_of(alloc, &[0x03, TIC])?;
     let mut cursor = Cursor::start();
-    let mut call = first(&program, &mut cursor);
+    let Some(program) = program_of(alloc, &[0x03, TIC])? else {
+        return Ok((0, NextCall::Ended));
+    };
+    let mut call = next(&program, &mut cursor, None);
     for count in 1..3000u16 {
         if call != WORD_0 {
             return Ok((count - 1, call));
@@ -131,23 +129,21 @@ fn endless_programs_end(rt: HostRuntime) -> Result<(), Fail> {
     Ok(())
 }
 
-/// Whether a program begins with the command 31 and the argument that each word has here.
-fn begins(program: &Program) -> bool {
-    let count = program.as_slice().len();
-    if count < 1 || count > 256 {
-        return false;
-    }
-    let NextCall::Command { word, .. } = next(program, &mut Cursor::start(), None) else {
-        return false;
+/// Whether the program of these words begins with the command 31 and the argument that each word has here.
+fn begins(alloc: Global, words: &[u8]) -> Result<bool, NoMemory> {
+    let Some(program) = program_of(alloc, words)? else {
+        return Ok(false);
     };
-    let (code, argument) = command_at(program, word);
-    code == 0x31 && argument == b"\x01\x02".as_slice()
+    let NextCall::Command { word, .. } = next(&program, &mut Cursor::start(), None) else {
+        return Ok(false);
+    };
+    let (code, argument) = command_at(&program, word);
+    Ok(code == 0x31 && argument == b"\x01\x02".as_slice())
 }
 
 #[test]
 fn a_command_has_its_argument(rt: HostRuntime) -> Result<(), Fail> {
-    let program = program_of(rt.alloc(), &[0x31])?;
-    assert!(rt; begins(&program));
+    assert!(rt; begins(rt.alloc(), &[0x31])?);
     Ok(())
 }
 
@@ -177,25 +173,23 @@ fn is_break(call: &Call) -> bool {
     }
 }
 
-/// Whether a program's first call is that command, and its next breaks the program off.
-fn breaks_off(alloc: Global, program: &Program) -> Result<bool, NoMemory> {
-    let count = program.as_slice().len();
-    if count < 1 || count > 256 {
+/// Whether the first call of the program of these words is that command, and its next breaks the program off.
+fn breaks_off(alloc: Global, words: &[u8]) -> Result<bool, NoMemory> {
+    let Some(program) = program_of(alloc, words)? else {
         return Ok(false);
-    }
+    };
     let mut cursor = Cursor::start();
-    let call = next_call(alloc, program, &mut cursor, None)?;
+    let call = next_call(alloc, &program, &mut cursor, None)?;
     let is_first = call.is_some_and(|call| is_first(&call));
     let bytes = Bytes::new(alloc);
     let status = STATUS;
     let done = Reply::Done { status, bytes };
-    let call = next_call(alloc, program, &mut cursor, Some(&done))?;
+    let call = next_call(alloc, &program, &mut cursor, Some(&done))?;
     Ok(is_first && call.is_some_and(|call| is_break(&call)))
 }
 
 #[test]
 fn calls_come_one_by_one(rt: HostRuntime) -> Result<(), Fail> {
-    let program = program_of(rt.alloc(), &[0x31, TIC + 3])?;
-    assert!(rt; breaks_off(rt.alloc(), &program)?);
+    assert!(rt; breaks_off(rt.alloc(), &[0x31, TIC + 3])?);
     Ok(())
 }
