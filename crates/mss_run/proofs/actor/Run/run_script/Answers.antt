@@ -1,4 +1,4 @@
-use Rattle.std.proofs.Common.{◌<◌, ◌≤◌, Bool, false, List, length, map, sym, ◌∙◌, subst, arith}
+use Rattle.std.proofs.Common.{◌<◌, ◌≤◌, Bool, false, List, length, map, ◌∙◌, subst, arith}
 use Rattle.std.proofs.lemmas.List.{length-map, take_all}
 use Rattle.channel_program.specs.Items.{GivesSince}
 use Rattle.channel_program.specs.Script.{FollowsToEnd, ItemData}
