@@ -5,3 +5,4 @@ pub mod PlaceFacts
 pub mod GrammarLemmas
 pub mod SpellingLemmas
 pub mod OneSpelling
+pub mod SlotFacts

@@ -1,6 +1,7 @@
 -- When a row may change, and what it is then.
 use Rattle.std.specs.Prelude.{◌≡◌, ◌≢◌, ◌⊎◌, ℕ, suc, ◌+◌, ◌<◌, ◌/◌, ◌==◌, if◌then◌else◌, List, [], ◌∷◌, slice_set, Some, None, IsSome}
 use Rattle.volume_table.specs.Row.{RowValue, frame_of, state_of, blank_row}
+use Rattle.mss_base.specs.declared.numbers.TheConstants.{CYLINDERS}
 use Rattle.volume_table.specs.declared.layout.TheConstants.{PAGES}
 use Rattle.volume_table.specs.declared.changes.Change.{Change}
 use Rattle.volume_table.specs.declared.changes.Change.TheVariants.{Create, Assign, Free, Staged, Changed, Destaged}
@@ -14,10 +15,14 @@ IsAllowed (Staged cylinder) r = (state_of r cylinder < 2) × IsSome (frame_of r 
 IsAllowed (Changed cylinder) r = (state_of r cylinder ≡ 2) ⊎ (state_of r cylinder ≡ 3)
 IsAllowed (Destaged cylinder) r = state_of r cylinder ≡ 4
 
--- a page that gets a frame is one of the 51, its frame one of the 200
+-- a page is one of the 51, a frame one of the 200, a cylinder one of the 404
 abbrev pub IsInRange : Change → Type 0
+IsInRange (Create serial first second) = Unit {0}
 IsInRange (Assign page frame) = (page < PAGES) × (frame < 200)
-IsInRange _ = Unit {0}
+IsInRange (Free page) = page < PAGES
+IsInRange (Staged cylinder) = cylinder < CYLINDERS
+IsInRange (Changed cylinder) = cylinder < CYLINDERS
+IsInRange (Destaged cylinder) = cylinder < CYLINDERS
 
 abbrev pub with_frame : ℕ → ℕ → RowValue → RowValue
 with_frame page frame r = record r { pages = slice_set r.pages page (Some frame) }

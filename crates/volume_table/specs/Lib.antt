@@ -4,3 +4,4 @@ pub mod RowInside
 pub mod Grammar
 pub mod Changes
 pub mod Listed
+pub mod Slots

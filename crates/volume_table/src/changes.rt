@@ -3,6 +3,7 @@ ghost use Rattle.std.specs.Prelude.{◌≡◌, ◌≢◌, ◌↔◌, ◌≤◌, 
 ghost use Rattle.volume_table.specs.States.{state_number};
 ghost use Rattle.volume_table.specs.Row.{frame_of, state_of};
 ghost use Rattle.volume_table.specs.Changes.{IsAllowed, effect, unstaged, unstaged_page, with_frame, with_state, without_frame};
+ghost use Rattle.volume_table.specs.Slots.{allows};
 
 use crate::layout::STATES;
 use crate::lists::StateList;
@@ -69,9 +70,8 @@ fn is_unchanged(row: &VolumeRow, page: Page) -> bool
     true
 }
 
-/// Whether a row may change so. That no other row has the frame of an `Assign` is for the caller to know. A row that is
-/// there can't be created.
-pub fn is_allowed(row: &VolumeRow, change: &Change) -> bool
+/// Whether a row may change so, as a fact.
+fn may_change(row: &VolumeRow, change: &Change) -> bool
     ensures { IsTrue result ↔ IsAllowed change.now row.now }
 {
     match change {
@@ -89,6 +89,15 @@ pub fn is_allowed(row: &VolumeRow, change: &Change) -> bool
         ),
         Change::Destaged { cylinder } => row.state(*cylinder) == CylinderState::Changed,
     }
+}
+
+/// Whether a row may change so. That no other row has the frame of an `Assign` is for the caller to know. A row that is
+/// there can't be created.
+pub fn is_allowed(row: &VolumeRow, change: &Change) -> bool
+    ensures allowed { IsTrue result ↔ IsAllowed change.now row.now }
+    ensures test { result ≡ allows change.now row.now }
+{
+    may_change(row, change)
 }
 
 fn put_frame(row: &mut VolumeRow, page: Page, frame: FrameNo)

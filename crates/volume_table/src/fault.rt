@@ -17,9 +17,12 @@ pub enum RowField {
     Spare(u8),
     /// The state of a cylinder.
     State(u16),
+    /// A slot, from 0: it spells no change, or one that isn't allowed after the slots before it.
+    Slot(u16),
 }
 
-/// A field that no row has so, and what it holds: its byte, or for a cartridge its two bytes as a number.
+/// A field that no row has so, and what it holds: its byte, for a cartridge its two bytes as a number, for a slot the byte
+/// of its kind.
 #[derive(Clone, Copy, Debug, PartialEq, Eq)]
 pub struct RowFault {
     pub field: RowField,

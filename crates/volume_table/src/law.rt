@@ -1,9 +1,10 @@
 //! Laws of rows and of their spelling. A function calls a law to have it in its proof.
-ghost use Rattle.std.specs.Prelude.{◌≡◌, ◌<◌, ℕ, List, length, slice_index, Ok};
+ghost use Rattle.std.specs.Prelude.{◌≡◌, ◌<◌, ℕ, List, [], ◌∷◌, ◌++◌, length, slice_index, Some, Ok};
 ghost use Rattle.volume_table.specs.Row.{RowValue, IsRow};
 ghost use Rattle.volume_table.specs.Changes.{IsAllowed, IsInRange, effect};
 ghost use Rattle.volume_table.specs.declared.changes.Change.{Change};
 ghost use Rattle.volume_table.specs.Grammar.{spelling, decode};
+ghost use Rattle.volume_table.specs.Slots.{change_of, slot_of, told_by};
 
 use crate::layout::BODY_BYTES;
 
@@ -28,4 +29,23 @@ pub fn one_spelling()
 pub fn changed_row_is_row()
     ensures { (change : Change) (r : RowValue) → IsRow r → IsAllowed change r → IsInRange change
         → IsRow (effect change r) }
+{}
+
+/// A change that a row allows is read back from its slot.
+pub fn slot_back()
+    ensures { (change : Change) (r : RowValue) → IsAllowed change r → IsInRange change
+        → change_of (slot_of change) ≡ Some change }
+{}
+
+/// What a body and its slots tell is a row.
+pub fn told_is_row()
+    ensures { (body : List ℕ) (slots : List (List ℕ)) (r : RowValue) → length body ≡ BODY_BYTES
+        → told_by body slots ≡ Ok r → IsRow r }
+{}
+
+/// One slot more, of a change that the row allows, is that change more.
+pub fn told_one_more()
+    ensures { (body : List ℕ) (slots : List (List ℕ)) (r : RowValue) (change : Change)
+        → told_by body slots ≡ Ok r → IsAllowed change r → IsInRange change
+        → told_by body (slots ++ slot_of change ∷ []) ≡ Ok (effect change r) }
 {}

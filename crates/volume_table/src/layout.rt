@@ -48,3 +48,9 @@ pub const SPARES: usize = 43;
 
 /// How many cylinders a volume has.
 pub const STATES: usize = CYLINDERS as usize;
+
+/// How many bytes a slot has: its gate, and the seven that spell a change.
+pub const SLOT_BYTES: usize = 8;
+
+/// How many bytes of a slot spell its change.
+pub const CHANGE_BYTES: usize = 7;
