@@ -18,6 +18,8 @@ mod refusals;
 #[cfg(test)]
 mod row_copies;
 #[cfg(test)]
+mod row_slots;
+#[cfg(test)]
 mod spelled_rows;
 #[cfg(test)]
 mod survey_tables;

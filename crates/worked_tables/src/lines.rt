@@ -8,4 +8,5 @@ pub mod numbers;
 pub mod restarts;
 pub mod rows;
 pub mod runs;
+pub mod slots;
 pub mod words;

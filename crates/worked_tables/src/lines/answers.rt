@@ -58,6 +58,7 @@ fn field_word(field: &RowField) -> u64 {
         RowField::Page(_) => code("page"),
         RowField::Spare(_) => code("spare"),
         RowField::State(_) => code("state"),
+        RowField::Slot(_) => code("slot"),
     }
 }
 
@@ -67,9 +68,15 @@ fn field_place(field: &RowField) -> u64 {
         RowField::Serial(place) | RowField::Page(place) | RowField::Spare(place) => {
             u64::from(*place)
         }
-        RowField::State(place) => u64::from(*place),
+        RowField::State(place) | RowField::Slot(place) => u64::from(*place),
         _ => 0,
     }
+}
+
+/// A field that no row has so: its kind, which of that kind, and what it holds.
+pub fn row_fault(alloc: Global, fault: &RowFault) -> Told {
+    let (field, place) = (field_word(&fault.field), field_place(&fault.field));
+    list(alloc, &[field, place, u64::from(fault.value)])
 }
 
 pub fn damaged(alloc: Global, volume: u8, copy: TableCopy, fault: &RowFault) -> Told {

@@ -2,6 +2,7 @@
 use crate::lines::answers::{Told, list, outcome};
 use crate::lines::devices::{open_copy, put, room};
 use crate::lines::numbers::{cartridge, cylinder, frame, is_word, page, serial, volume};
+use crate::lines::slots::{slot_told, slots_told};
 use crate::lines::words::code;
 use mss_base::{Site, UnitNo};
 use std::alloc::Global;
@@ -114,6 +115,12 @@ pub fn row_line<S: Site>(alloc: Global, site: &mut S, words: &[u64]) -> Told {
     }
     if is_word(words, 0, "apply") {
         return outcome(alloc, applied(site, &mut row, words)?);
+    }
+    if is_word(words, 0, "slot") {
+        return slot_told(alloc, &change_of(words)?);
+    }
+    if is_word(words, 0, "slots") {
+        return slots_told(alloc, &row, words);
     }
     None
 }
