@@ -1,6 +1,5 @@
 -- What restart hands on of what opening answers.
 use Rattle.std.proofs.Common.{◌≡◌, inl, List, [], Option, Ok, Err, refl, sym, subst}
-use Rattle.std.proofs.lemmas.List.{append-nil}
 use Rattle.mss_base.specs.Configs.{ConfigData}
 use Rattle.mss_base.specs.Content.{content}
 use Rattle.mss_base.proofs.Moments.{started}

@@ -57,7 +57,8 @@ fn create_volume<S: Site>(
     requires none { listed rows.old volume ≡ None }
     requires told { S.tells → RowsAre rows.old (content (S.told site.old)) }
     ensures moments { S.tells → (frames : ℕ) → IsSound frames (content (S.told site.old)) → Writes
-        (λ d. IsSound frames d × WithOrWithout volume serial (shown (content (S.told site.old))) (shown d))
+        (λ d. IsSound frames d
+        × WithOrWithout volume serial (shown (content (S.told site.old))) (shown d))
         (S.told site.old) (S.told site.new) }
     ensures created { S.tells → OnOk result (IsCreated volume serial
         (content (S.told site.old)) (content (S.told site.new)) rows.old rows.new) }

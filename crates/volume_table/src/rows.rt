@@ -96,7 +96,8 @@ impl Rows {
     pub fn change(&mut self, volume: VolumeNo, change: &Change)
         requires { HasRow self.old volume (λ r. IsAllowed change.now r) }
         ensures rows { self.new ≡ with_changed volume change.now self.old }
-        ensures row { listed self.new volume ≡ option_map (effect change.now) (listed self.old volume) }
+        ensures row { listed self.new volume
+            ≡ option_map (effect change.now) (listed self.old volume) }
     {
         let Some(row) = &mut self.places[usize::from(volume.get())] else {
             unreachable!()

@@ -1,4 +1,4 @@
-use Rattle.std.proofs.Common.{refl, sym, ◌∙◌, subst, arith}
+use Rattle.std.proofs.Common.{refl, sym, ◌∙◌, subst}
 use Rattle.volume_table.specs.Listed.{listed}
 use Rattle.core_restart.specs.Console.{TellCreations}
 use Rattle.core_restart.proofs.ConsoleFacts.{tell_push}

@@ -1,11 +1,7 @@
-use Rattle.std.proofs.Common.{List, Option, length, sym, subst, arith}
+use Rattle.std.proofs.Common.{subst, arith}
 use Rattle.mss_base.specs.Configs.{ConfigData}
-use Rattle.volume_table.specs.Row.{RowValue}
-use Rattle.volume_table.specs.Listed.{listed}
 use Rattle.core_state.specs.Sessions.{session_data}
 use Rattle.mss_restart.proofs.Creating.{AreRising}
-use Rattle.core_restart.specs.Owners.{AreOwners}
-use Rattle.core_restart.specs.Console.{HaveRows, TellCreations}
 use Rattle.core_restart.proofs.Beginning.{rows_made, few_made, kept_of}
 use Rattle.core_restart.proofs.restarting.begin.Goals as goal
 
