@@ -1,7 +1,6 @@
 -- What a look at the volumes promises.
 use Rattle.std.specs.Prelude.{◌≡◌, ◌≢◌, ◌⊎◌, ◌++◌, ℕ, List, Option, Some, None, Result, Ok, Err}
 use Rattle.mss_base.specs.Content.{Content, content}
-use Rattle.mss_base.specs.Listing.{Listing}
 use Rattle.mss_base.specs.declared.site.Site.{Ghosts}
 use Rattle.volume_table.specs.Row.{RowValue}
 use Rattle.volume_table.specs.Listed.{listed}
@@ -67,10 +66,6 @@ IsSurveyLine site _ = ⊥
 -- rows, or the line in their place
 abbrev pub Looked : Type 0
 Looked = Result (List (Option RowValue)) OneLine
-
-abbrev pub rows_in : Result (Listing (Option RowValue)) OneLine → Looked
-rows_in (Ok rows) = Ok rows.items
-rows_in (Err said) = Err said
 
 abbrev pub SurveysAny : Devices → Looked → Type 0
 SurveysAny site (Ok rows) = IsSurvey site (Ok rows)

@@ -1,5 +1,5 @@
 //! A look at the volumes of a site.
-ghost use Rattle.std.specs.Prelude.{◌≡◌, ◌≢◌, [], None, length, map, string_bytes, IfOk};
+ghost use Rattle.std.specs.Prelude.{◌≡◌, ◌≢◌, [], None, map, string_bytes};
 ghost use Rattle.mss_base.specs.Content.{content};
 ghost use Rattle.mss_base.specs.Sites.{OnlyReads};
 ghost use Rattle.session_report.specs.Parties.{sink_between};
@@ -9,18 +9,18 @@ ghost use Rattle.table_pair.specs.Reads.{CanReadTracks};
 ghost use Rattle.mss_top.specs.Showing.{AskToShow, EndsShown, FRAMES, IsShown, Lists, Looks};
 ghost use Rattle.mss_top.specs.Showing.{LooksByOneCopy, LooksExactly, LooksWell, SurveysAny};
 ghost use Rattle.mss_top.specs.Showing.{BrokeOff, LookBrokeOff};
-ghost use Rattle.mss_top.specs.Showing.{rows_in};
 ghost use Rattle.mss_top.specs.declared.status.Status.TheVariants.{Stopped};
 
 use crate::ending::{Ended, refusal_line, say, status_of};
 use crate::status::Status;
 use command_words::{Command, CommandFault, read_command};
 use mss_base::{Config, Sink, Site, VolumeList};
-use mss_restart::{Rows, survey};
+use mss_restart::survey;
 use report_text::OneLine;
 use serial_driver::DriveAnswer;
 use session_report::listing;
 use std::alloc::Global;
+use volume_table::Rows;
 
 /// As many frames as there may be: the devices may have a frame of any number.
 const FRAMES: u16 = 200;
@@ -39,11 +39,9 @@ fn any_config(alloc: Global) -> Config
 
 /// Surveys a site whatever its volumes are: its rows, or the line of its first fault.
 fn survey_any<S: Site>(alloc: Global, site: &mut S) -> Result<Rows, OneLine>
-    ensures survey { SurveysAny (devices S.Site site.old site.new) (rows_in result) }
+    ensures survey { SurveysAny (devices S.Site site.old site.new) result }
     ensures one_copy { S.tells → LosesOneTable S.Site site.old
-        → ArePaired (content (S.told site.old))
-        → LooksExactly (content (S.told site.old)) (rows_in result) }
-    ensures whole { IfOk result (λ rows. length rows.items ≡ 32) }
+        → ArePaired (content (S.told site.old)) → LooksExactly (content (S.told site.old)) result }
     ensures site { OnlyReads S.Site site.old site.new }
 {
     match survey(alloc, site, &any_config(alloc)) {
@@ -54,12 +52,10 @@ fn survey_any<S: Site>(alloc: Global, site: &mut S) -> Result<Rows, OneLine>
 
 /// The rows of a site, where the words ask for a look at it, or the line that says why there are none.
 fn look<S: Site>(alloc: Global, words: &[String], site: &mut S) -> Result<Rows, OneLine>
-    ensures looks { Looks (map string_bytes words.now)
-        (devices S.Site site.old site.new) (rows_in result) }
+    ensures looks { Looks (map string_bytes words.now) (devices S.Site site.old site.new) result }
     ensures one_copy { AskToShow (map string_bytes words.now) → S.tells
         → LosesOneTable S.Site site.old → ArePaired (content (S.told site.old))
-        → LooksExactly (content (S.told site.old)) (rows_in result) }
-    ensures whole { IfOk result (λ rows. length rows.items ≡ 32) }
+        → LooksExactly (content (S.told site.old)) result }
     ensures site { OnlyReads S.Site site.old site.new }
 {
     match read_command(alloc, words) {
@@ -71,16 +67,15 @@ fn look<S: Site>(alloc: Global, words: &[String], site: &mut S) -> Result<Rows, 
 
 /// Lists the volumes of the rows that a survey found, and answers with the status.
 fn list<S: Site, O: Sink>(alloc: Global, site: &mut S, rows: &Rows, output: &mut O) -> Status
-    requires whole { length rows.now.items ≡ 32 }
-    ensures lists { Lists rows.now.items (devices S.Site site.old site.new)
+    ensures lists { Lists rows.now (devices S.Site site.old site.new)
         (sink_between O.Sink output.old output.new) result }
     ensures works { CanReadTracks S.Site site.old → result ≢ Stopped }
     ensures unread { result ≡ Stopped
-        → BrokeOff S.Site site.old rows.now.items (devices S.Site site.old site.new)
+        → BrokeOff S.Site site.old rows.now (devices S.Site site.old site.new)
         (sink_between O.Sink output.old output.new) }
     ensures site { OnlyReads S.Site site.old site.new }
 {
-    let told = listing(alloc, site, rows.as_slice(), output);
+    let told = listing(alloc, site, rows, output);
     status_of(DriveAnswer::Done, told)
 }
 

@@ -94,7 +94,7 @@ fn play_on<S: Site + Send, C: Choose + Drop + Send, G: Gate + Sync, R: Threads +
         })
         result.played.end result.hosts.items (session_data result.played.session) }
     ensures rows { AreRowsOf S.tells (S.told result.played.site) result.played.session.stopped
-        result.played.rows.items }
+        result.played.rows }
     ensures devices { WritesOn S.Site core.site result.played.site }
     ensures only_reads_fail { (but : UnitNo → Bool) → S.never_fails_but core.site but
         → core.stopped ≡ None → result.played.session.stopped ≡ None }
@@ -141,7 +141,7 @@ pub fn play_at_once<
     ensures played { IfOk result (λ p. IsPlayedAtOnce job.now (devices S.Site site p.played.site)
         p.played.end p.hosts.items (session_data p.played.session)) }
     ensures rows { IfOk result (λ p.
-        AreRowsOf S.tells (S.told p.played.site) p.played.session.stopped p.played.rows.items) }
+        AreRowsOf S.tells (S.told p.played.site) p.played.session.stopped p.played.rows) }
     ensures devices { IfOk result (λ p. WritesOn S.Site site p.played.site) }
     ensures only_reads_fail { IfOk result (λ p. (but : UnitNo → Bool)
         → S.never_fails_but site but → p.played.session.stopped ≡ None) }

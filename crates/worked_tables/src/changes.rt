@@ -1,6 +1,5 @@
 // Changes of a row with their messages, over devices of which a call may fail, and what a session
 // is told.
-ghost use Rattle.std.specs.Prelude.{◌≡◌, length, IfSome};
 
 use crate::lines::answers::Told;
 use crate::lines::runs::assert_told;
@@ -18,14 +17,9 @@ fn row(alloc: Global) -> Option<VolumeRow> {
 }
 
 // Volume 7 alone has a row.
-fn rows_of(alloc: Global) -> Option<Rows>
-    ensures { IfSome result (λ rows. length rows.items ≡ 32) }
-{
-    let mut rows = Vec::new(alloc);
-    for _ in 0..32u8 {
-        rows.push(None).ok()?;
-    }
-    rows[7] = Some(row(alloc)?);
+fn rows_of(alloc: Global) -> Option<Rows> {
+    let mut rows = Rows::none(alloc).ok()?;
+    rows.put(VolumeNo::of(7)?, Some(row(alloc)?));
     Some(rows)
 }
 
@@ -46,13 +40,10 @@ fn is_done(
     rows: &mut Rows,
     session: &mut Session,
     change: &Change,
-) -> Option<bool>
-    requires { length rows.old.items ≡ 32 }
-    ensures { length rows.new.items ≡ 32 }
-{
+) -> Option<bool> {
     let volume = VolumeNo::of(7)?;
     session.reserve().ok()?;
-    let Some(row) = &rows[usize::from(volume.get())] else {
+    let Some(row) = rows.row(volume) else {
         return None;
     };
     if !is_allowed(row, change) {
@@ -68,14 +59,13 @@ fn push_change(
     rows: &mut Rows,
     session: &mut Session,
     change: &Change,
-) -> Option<()>
-    requires { length rows.old.items ≡ 32 }
-    ensures { length rows.new.items ≡ 32 }
-{
+) -> Option<()> {
     let good = is_done(site, rows, session, change)?;
     told.push(if good { code("done") } else { code("failed") })
         .ok()?;
-    let Some(row) = &rows[7] else { return None };
+    let Some(row) = rows.row(VolumeNo::of(7)?) else {
+        return None;
+    };
     told.push(frame_word(row.frame(Page::of(0)?))).ok()
 }
 
@@ -96,9 +86,7 @@ fn push_changes(
     rows: &mut Rows,
     session: &mut Session,
     both: bool,
-) -> Option<()>
-    requires { length rows.old.items ≡ 32 }
-{
+) -> Option<()> {
     let page = Page::of(0)?;
     let frame = FrameNo::of(3)?;
     push_change(told, site, rows, session, &Change::Assign { page, frame })?;
@@ -114,9 +102,7 @@ fn told_of(
     rows: &mut Rows,
     session: &mut Session,
     both: bool,
-) -> Told
-    requires { length rows.old.items ≡ 32 }
-{
+) -> Told {
     let mut told = Vec::new(alloc);
     push_changes(&mut told, site, rows, session, both)?;
     Some(told)

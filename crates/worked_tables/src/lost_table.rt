@@ -8,7 +8,7 @@ ghost use Rattle.memory_devices.specs.declared.memory_site.SiteFault.TheVariants
 ghost use Rattle.ckd_plain.specs.Plain.{serial_in};
 ghost use Rattle.table_pair.specs.Pair.{is_table};
 ghost use Rattle.mss_restart.specs.OneCopy.{ArePaired, LosesOneTable};
-ghost use Rattle.mss_restart.specs.Survey.{IsExact, rows_given};
+ghost use Rattle.mss_restart.specs.Survey.{IsExact};
 
 use crate::lines::answers::{Told, refused, volumes};
 use crate::lines::configs::asked;
@@ -17,8 +17,9 @@ use crate::lines::runs::assert_told;
 use crate::lines::words::words_of;
 use memory_devices::{MemorySite, SiteFault};
 use mss_base::{CartridgeNo, Config, NoMemory, Serial, Site, UnitNo};
-use mss_restart::{Refused, Rows, survey};
+use mss_restart::{Refused, survey};
 use std::alloc::Global;
+use volume_table::Rows;
 
 /// Devices in memory of which just the reads of one unit of the table are to fail have lost one copy of the table, as
 /// the survey has it: so its clause for a lost copy speaks of devices that there can be.
@@ -46,7 +47,7 @@ fn survey_without(
     requires { is_table lost ≡ true }
     ensures { IfOk result (λ answer. ArePaired (content (told_of site.old))
         → IsExact config.now.frames (serial_in config.now.volumes) (content (told_of site.old))
-        (rows_given answer)) }
+        answer) }
 {
     a_memory_site_may_lose_one_table();
     site.fail(&[SiteFault::ReadsOf(lost)])?;
@@ -55,7 +56,7 @@ fn survey_without(
 
 fn answer_told(alloc: Global, answer: &Result<Rows, Refused>) -> Told {
     match answer {
-        Ok(rows) => volumes(alloc, rows.as_slice()),
+        Ok(rows) => volumes(alloc, rows),
         Err(fault) => refused(alloc, fault),
     }
 }

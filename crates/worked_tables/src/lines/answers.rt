@@ -3,7 +3,7 @@ use crate::lines::words::{code, letters};
 use mss_restart::{Half, Refused};
 use std::alloc::Global;
 use table_pair::TableCopy;
-use volume_table::{RowFault, RowField, VolumeRow};
+use volume_table::{RowFault, RowField, Rows, VolumeRow};
 
 /// The words that a line tells. None where it can't be done, or memory runs out.
 pub type Told = Option<Vec<u64>>;
@@ -32,8 +32,8 @@ fn push_volume(told: &mut Vec<u64>, volume: usize, row: &Option<VolumeRow>) -> O
     push_row(told, row)
 }
 
-fn push_volumes(told: &mut Vec<u64>, rows: &[Option<VolumeRow>]) -> Option<()> {
-    for (volume, row) in rows.iter().enumerate() {
+fn push_volumes(told: &mut Vec<u64>, rows: &Rows) -> Option<()> {
+    for (volume, row) in rows.as_slice().iter().enumerate() {
         push_volume(told, volume, row)?;
     }
     if told.is_empty() {
@@ -43,7 +43,7 @@ fn push_volumes(told: &mut Vec<u64>, rows: &[Option<VolumeRow>]) -> Option<()> {
 }
 
 /// Each volume that has a row, with it.
-pub fn volumes(alloc: Global, rows: &[Option<VolumeRow>]) -> Told {
+pub fn volumes(alloc: Global, rows: &Rows) -> Told {
     let mut told = Vec::new(alloc);
     push_volumes(&mut told, rows)?;
     Some(told)

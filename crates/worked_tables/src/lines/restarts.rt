@@ -11,13 +11,13 @@ use mss_restart::{open_rows, survey};
 use std::alloc::Global;
 use transfers::{Transfer, TransferKind, copy_track};
 use victim_choice::Lru;
-use volume_table::{Change, VolumeRow};
+use volume_table::{Change, Rows};
 
 // `survey 0 VOL001`, `survey three`
 fn surveyed<S: Site>(alloc: Global, site: &mut S, words: &[u64]) -> Told {
     let config = asked(alloc, words)?;
     match survey(alloc, site, &config) {
-        Ok(rows) => volumes(alloc, rows.as_slice()),
+        Ok(rows) => volumes(alloc, &rows),
         Err(fault) => refused(alloc, &fault),
     }
 }
@@ -74,7 +74,7 @@ fn opened<S: Site + Drop>(alloc: Global, slot: &mut Option<S>, config: &Config) 
     match open_rows(alloc, slot.take()?, config) {
         Ok((site, opened)) => {
             *slot = Some(site);
-            volumes(alloc, opened.rows.as_slice())
+            volumes(alloc, &opened.rows)
         }
         Err((site, fault)) => {
             *slot = Some(site);
@@ -112,7 +112,7 @@ fn push_session(told: &mut Vec<u64>, session: &Session) -> Option<()> {
     Some(())
 }
 
-fn session_told(alloc: Global, rows: &[Option<VolumeRow>], session: &Session) -> Told {
+fn session_told(alloc: Global, rows: &Rows, session: &Session) -> Told {
     let mut told = volumes(alloc, rows)?;
     push_session(&mut told, session)?;
     Some(told)

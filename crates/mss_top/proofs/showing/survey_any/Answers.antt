@@ -11,7 +11,7 @@ use Rattle.mss_top.proofs.showing.survey_any.Goals as goal
 pub returns-in-Ok-clause-survey : goal.returns-in-Ok-clause-survey
 returns-in-Ok-clause-survey g c =
     let site : Devices = devices g.S.Site c.args.site.now c.survey-2.new.site in
-    survey_of site (Ok c.in-Ok.rows.items) _ _ c.any_config.ensures.frames c.any_config.ensures.volumes c.in-Ok.ensures.found c.in-Ok.ensures.exact c.in-Ok.ensures.kept
+    survey_of site (Ok c.in-Ok.rows) _ _ c.any_config.ensures.frames c.any_config.ensures.volumes c.in-Ok.ensures.found c.in-Ok.ensures.exact c.in-Ok.ensures.kept
 
 pub returns-clause-survey : goal.returns-clause-survey
 returns-clause-survey g c =
@@ -21,7 +21,7 @@ returns-clause-survey g c =
 
 pub returns-in-Ok-clause-one_copy : goal.returns-in-Ok-clause-one_copy
 returns-in-Ok-clause-one_copy g c = λ tells loses paired.
-    exactly_of (content (g.S.Site.told c.args.site.now)) (Ok c.in-Ok.rows.items) _ _ c.any_config.ensures.frames c.any_config.ensures.volumes (c.in-Ok.ensures.one_copy tells loses paired)
+    exactly_of (content (g.S.Site.told c.args.site.now)) (Ok c.in-Ok.rows) _ _ c.any_config.ensures.frames c.any_config.ensures.volumes (c.in-Ok.ensures.one_copy tells loses paired)
 
 pub returns-clause-one_copy : goal.returns-clause-one_copy
 returns-clause-one_copy g c = λ tells loses paired.

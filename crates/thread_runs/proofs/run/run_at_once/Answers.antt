@@ -28,7 +28,7 @@ returns-in-Ok-clause-unread g c =
     let put = c.put_report in
     let sink : Stream = sink_between g.O.Sink c.args.output.now put.new.output in
     let whole : Devices = devices g.S.Site c.args.site p.site in
-    broke_off_of g.S.Site c.args.job.now c.args.site p.site put.result.site p.end (session_data p.session) p.rows.items
+    broke_off_of g.S.Site c.args.job.now c.args.site p.site put.result.site p.end (session_data p.session) p.rows
     (played_halts c.args.job.now whole p.end c.in-Ok.done.hosts.items (session_data p.session) c.in-Ok.ensures.played) c.in-Ok.ensures.rows c.in-Ok.ensures.devices.sound put.ensures.site sink put.result.outcome
     (put.ensures.tells (told c.args.site) c.in-Ok.ensures.played.promised.plain) (put.ensures.unread (told c.args.site) c.in-Ok.ensures.played.promised.plain)
 
