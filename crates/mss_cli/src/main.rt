@@ -2,36 +2,27 @@
 #![tactic(auto)]
 
 mod arguments;
-mod ways;
 
-ghost use Rattle.std.specs.Prelude.{◌≡◌, ◌⊎◌, List, [], codes, map, string_bytes};
+ghost use Rattle.std.specs.Prelude.{◌≡◌, ◌⊎◌, [], codes, map, string_bytes};
 ghost use Rattle.std.specs.Prelude.{IfOk, OnErr};
+ghost use Rattle.command_words.specs.Words.{meaning};
 ghost use Rattle.job_runs.specs.Parties.{devices};
-ghost use Rattle.job_text.specs.Jobs.{JobData};
-ghost use Rattle.mss_base.specs.Content.{content};
 ghost use Rattle.mss_files.specs.Output.{AlwaysKnown, known};
-ghost use Rattle.mss_top.specs.Serial.{Ends, GoesWell, IsComplete};
-ghost use Rattle.mss_top.specs.Showing.{EndsShown, IsShown, LooksWell};
+ghost use Rattle.mss_top.specs.Obeying.{parties};
 ghost use Rattle.mss_top.specs.Status.{code_of};
-ghost use Rattle.mss_run.specs.Runs.{EndData};
-ghost use Rattle.mss_top.specs.Threads.{EndsThreads, GoesWellAtOnce};
-ghost use Rattle.mss_top.specs.declared.admission.Settings.{Settings};
 ghost use Rattle.mss_cli.specs.Runs.{IsDone, IsFlushed, input_of, output_of};
-ghost use Rattle.mss_cli.specs.Words.{way_of};
-ghost use Rattle.session_report.specs.Parties.{sink_between, source_between};
 
 use arguments::words;
-use mss_base::{NoMemory, Sink, Site, Source};
+use mss_base::{NoMemory, Site};
 use mss_files::{FileSite, Folder, StdSink, StdSource};
 use mss_run::OpenGate;
-use mss_top::{Ended, Status, serial, show, threads};
+use mss_top::{Ended, Status, obey};
 use std::io::{Read, Write};
 use std::process::ExitCode;
 use std::rt::{Stdin, Stdout};
 use std::sync::Wait;
 use std::thread::Threads;
-use victim_choice::{Choose, Lru};
-use ways::Way;
+use victim_choice::Lru;
 
 /// The folder of the site's files.
 const SITE: &str = "mss.site";
@@ -84,63 +75,8 @@ fn begin(rt: HostRuntime) -> Result<Begun, NoMemory>
     })
 }
 
-/// The call that the words ask for, by their first.
-fn way_of(words: &[String]) -> Way
-    ensures { result ≡ way_of (map string_bytes words.now) }
-{
-    match words {
-        [word, ..] if word.as_str() == "show" => Way::Show,
-        [word, ..] if word.as_str() == "threads" => Way::Threads,
-        _ => Way::Serial,
-    }
-}
-
-/// Makes the call that the words ask for: a look, or a run.
-fn call<
-    I: Source,
-    O: Sink,
-    S: Site + Send,
-    C: Choose + Drop + Send,
-    R: Threads + Wait + Sync + AllocGlobal,
->(rt: &R, words: &[String], input: &mut I, output: &mut O, site: S, chooser: C) -> Ended<S>
-    requires able { C.can_choose chooser }
-    ensures looks { way_of (map string_bytes words.now) ≡ Way.Show
-        → EndsShown (map string_bytes words.now) (devices S.Site site result.site)
-        (sink_between O.Sink output.old output.new) result.status }
-    ensures goes_at_once { way_of (map string_bytes words.now) ≡ Way.Threads
-        → (hosts : List EndData) × EndsThreads (map string_bytes words.now)
-        (source_between I.Source input.old input.new) (devices S.Site site result.site)
-        (sink_between O.Sink output.old output.new) result.status hosts result.session }
-    ensures runs { way_of (map string_bytes words.now) ≡ Way.Serial
-        → Ends (map string_bytes words.now) (C.may chooser)
-        (source_between I.Source input.old input.new) (devices S.Site site result.site)
-        (sink_between O.Sink output.old output.new) result.status result.session }
-    ensures looks_well { way_of (map string_bytes words.now) ≡ Way.Show
-        → LooksWell (map string_bytes words.now) (devices S.Site site result.site)
-        (sink_between O.Sink output.old output.new)
-        → IsShown (content (S.told site))
-        (sink_between O.Sink output.old output.new) result.status }
-    ensures goes_well_at_once { way_of (map string_bytes words.now) ≡ Way.Threads
-        → (job : JobData) → GoesWellAtOnce (map string_bytes words.now)
-        (source_between I.Source input.old input.new) (devices S.Site site result.site)
-        (sink_between O.Sink output.old output.new) job
-        → IsComplete result.status }
-    ensures goes_well { way_of (map string_bytes words.now) ≡ Way.Serial
-        → (settings : Settings) (job : JobData) → GoesWell (map string_bytes words.now)
-        (source_between I.Source input.old input.new) (devices S.Site site result.site)
-        (sink_between O.Sink output.old output.new) settings job
-        → IsComplete result.status }
-{
-    let alloc = rt.alloc();
-    match way_of(words) {
-        Way::Show => show(alloc, words, output, site),
-        Way::Threads => threads(rt, words, input, output, site, chooser, &OpenGate).run,
-        Way::Serial => serial(alloc, words, input, output, site, chooser),
-    }
-}
-
-/// Runs the command of these words on a site: makes the call that they ask for, and writes what it put. The whole
-/// output is written, or the status says that it isn't.
+/// Runs the command of these words on a site: does what they ask for, and writes what that put. The whole output is
+/// written, or the status says that it isn't.
 fn run<I: Read, W: Write + Drop, S: Site + Send, R: Threads + Wait + Sync + AllocGlobal>(
     rt: &R,
     words: &[String],
@@ -149,12 +85,12 @@ fn run<I: Read, W: Write + Drop, S: Site + Send, R: Threads + Wait + Sync + Allo
     site: S,
 ) -> Ended<S>
     ensures written { (result.status ≡ Status.OutputFault) ⊎ (output.new.waiting ≡ []) }
-    ensures does { IsDone (way_of (map string_bytes words.now)) (map string_bytes words.now)
-        (input_of I.remaining input.old input.new) (devices S.Site site result.site)
-        (output_of W.contents output.old output.new)
+    ensures does { IsDone (meaning (map string_bytes words.now))
+        (parties (input_of I.remaining input.old input.new) (devices S.Site site result.site)
+        (output_of W.contents output.old output.new))
         output.new.waiting result.status result.session }
 {
-    let ended = call(rt, words, input, output, site, Lru);
+    let ended = obey(rt, words, input, output, site, Lru, &OpenGate);
     let status = finish(output, ended.status);
     Ended { status, ..ended }
 }

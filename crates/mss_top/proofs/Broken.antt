@@ -18,7 +18,7 @@ use Rattle.session_report.proofs.SiteReads.{unread_since}
 use Rattle.core_state.specs.SessionData.{SessionData}
 use Rattle.core_state.specs.Sessions.{session_data}
 use Rattle.core_state.specs.declared.session.Session.{Session}
-use Rattle.command_words.specs.Options.{Text}
+use Rattle.command_words.specs.declared.command.Command.{Command}
 use Rattle.job_text.specs.Jobs.{JobData}
 use Rattle.job_runs.specs.Parties.{Devices, devices}
 use Rattle.job_runs.specs.Runs.{IsHalted, IsSummed, LoadEnds, OnUnread, ReportBrokeOff}
@@ -147,11 +147,11 @@ module _ {S : Type 0} (g : Ghosts S) (s : S) where
         whole_broken mid session found.1.fault found.0 found.1.is
 
   -- of a run that was admitted
-  module _ (words : List Text) (input : Stream) (site : Devices) (sink : Stream) where
-    pub run_broken : (run : Admitted) (session : Option Session) → IsAdmitted words input run → OnUnstopped session (JobBrokeOff g s run.job site sink) → OnUnstopped session (RunBrokeOff g s words input site sink)
+  module _ (asked : Option Command) (input : Stream) (site : Devices) (sink : Stream) where
+    pub run_broken : (run : Admitted) (session : Option Session) → IsAdmitted asked input run → OnUnstopped session (JobBrokeOff g s run.job site sink) → OnUnstopped session (RunBrokeOff g s asked input site sink)
     run_broken run None admitted broke = tt
     run_broken run (Some session) admitted broke = λ none. record { run = run; admitted = admitted; broke = broke none }
 
-    pub threads_broken : (job : JobData) (session : Option Session) → IsThreadsJob words input job → OnUnstopped session (JobBrokeOff g s job site sink) → OnUnstopped session (ThreadsBrokeOff g s words input site sink)
+    pub threads_broken : (job : JobData) (session : Option Session) → IsThreadsJob asked input job → OnUnstopped session (JobBrokeOff g s job site sink) → OnUnstopped session (ThreadsBrokeOff g s asked input site sink)
     threads_broken job None admitted broke = tt
     threads_broken job (Some session) admitted broke = λ none. record { job = job; admitted = admitted; broke = broke none }

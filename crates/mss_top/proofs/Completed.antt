@@ -21,8 +21,8 @@ use Rattle.mss_top.specs.declared.status.Status.{Status}
 use Rattle.mss_top.proofs.Fair.{line_complete, no_job_complete, reported_complete, sink_none, summed_complete, untaken_complete}
 
 -- words ask for one run
-same_settings : (words : List (List ℕ)) (a b : Settings) → AskToRun words a → AskToRun words b → a ≡ b
-same_settings words a b one other =
+same_settings : (asked : Option Command) (a b : Settings) → AskToRun asked a → AskToRun asked b → a ≡ b
+same_settings asked a b one other =
     let both : ◌≡◌ {A = Option Command} (Some (command_of a)) (Some (command_of b)) = sym one ∙ other in
     let order : a.order ≡ b.order = cc in
     let turns : a.turns ≡ b.turns = cc in
@@ -33,21 +33,21 @@ one_job : (load : Option ℕ) (order : ℕ) (input : Stream) (a b : JobData) →
 one_job (Some programs) order input a b is asks = is.0 ∙ sym asks
 one_job None order input a b is asks = let both : ◌≡◌ {A = Result JobData BadLine} (Ok a) (Ok b) = sym (is.text_ asks.0) ∙ asks.1 in cc
 
-module _ (words : List (List ℕ)) (input : Stream) (site : Devices) (sink : Stream) (settings : Settings) (job : JobData) (well : GoesWell words input site sink settings job) where
-  asks_at : (other : Settings) → AskToRun words other → AsksJob other.load other.order input job
-  asks_at other command = subst (λ (s : Settings). AsksJob s.load s.order input job) (same_settings words settings other well.command command) well.asks
+module _ (asked : Option Command) (input : Stream) (site : Devices) (sink : Stream) (settings : Settings) (job : JobData) (well : GoesWell asked input site sink settings job) where
+  asks_at : (other : Settings) → AskToRun asked other → AsksJob other.load other.order input job
+  asks_at other command = subst (λ (s : Settings). AsksJob s.load s.order input job) (same_settings asked settings other well.command command) well.asks
 
-  same_job : (run : Admitted) → IsAdmitted words input run → run.job ≡ job
+  same_job : (run : Admitted) → IsAdmitted asked input run → run.job ≡ job
   same_job run is = one_job run.settings.load run.settings.order input run.job job is.job_ (asks_at run.settings is.command)
 
   jobless_complete : (load : Option ℕ) (order : ℕ) (said : OneLine) → AsksJob load order input job → IsJobless load input said → IsComplete (line_status said)
   jobless_complete (Some programs) order said asks is = subst (λ (l : OneLine). IsComplete (line_status l)) (sym is.0) tt
   jobless_complete None order said asks is = no_job_complete job input site sink well.fair said asks.0 asks.1 is
 
-  vain_complete : (said : OneLine) → AskInVain words input said → IsComplete (line_status said)
+  vain_complete : (said : OneLine) → AskInVain asked input said → IsComplete (line_status said)
   vain_complete said is = jobless_complete is.settings.load is.settings.order said (asks_at is.settings is.command) is.jobless
 
-  unread_complete : (said : OneLine) → IsUnread words input said → IsComplete (line_status said)
+  unread_complete : (said : OneLine) → IsUnread asked input said → IsComplete (line_status said)
   unread_complete line.WordsRefused cause = absurd (cause.0 settings well.command)
   unread_complete line.WantOfMemory cause = tt
   unread_complete line.InputFault cause = vain_complete line.InputFault cause
@@ -56,7 +56,7 @@ module _ (words : List (List ℕ)) (input : Stream) (site : Devices) (sink : Str
 
   -- ---- a run without a session, and one with it
   module _ (told : Status) where
-    refused_complete : IsRefused words input site sink told → IsComplete told
+    refused_complete : IsRefused asked input site sink told → IsComplete told
     refused_complete is = line_complete is.said sink told (sink_none job input site sink well.fair) (elim is.cause [
       | inl unadmitted ↦ unread_complete is.said unadmitted.unread
       | inr late ↦ untaken_complete job input site sink well.fair is.said (subst (λ (j : JobData). IsUntaken j site is.said) (same_job late.run late.admitted) late.untaken)
@@ -73,6 +73,6 @@ module _ (words : List (List ℕ)) (input : Stream) (site : Devices) (sink : Str
     run_done may run s same is = session_complete may run.settings.load run.turns.items is.mid is.end is.answer s is.closes
         (subst (λ (j : JobData). IsToldOf may run.settings.load j run.turns.items site (until sink is.mid) is.end is.answer s) same is.session)
 
-    pub run_complete : (may : Chooses) (left : Option Session) → Ends words may input site sink told left → IsComplete told
+    pub run_complete : (may : Chooses) (left : Option Session) → Ends asked may input site sink told left → IsComplete told
     run_complete may None is = refused_complete is
     run_complete may (Some session) is = run_done may is.run (session_data session) (same_job is.run is.admitted) is.done

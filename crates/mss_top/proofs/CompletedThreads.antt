@@ -1,5 +1,6 @@
 -- A run in threads without a fault of a device is complete.
-use Rattle.std.proofs.Common.{◌≡◌, inl, inr, ℕ, List, Option, Some, None, Result, Ok, sym, ◌∙◌, subst}
+use Rattle.std.proofs.Common.{◌≡◌, inl, inr, List, Option, Some, None, Result, Ok, sym, ◌∙◌, subst}
+use Rattle.command_words.specs.declared.command.Command.{Command}
 use Rattle.job_text.specs.Grammar.{BadLine}
 use Rattle.job_text.specs.Jobs.{JobData}
 use Rattle.report_text.specs.declared.one_line.OneLine.{OneLine}
@@ -17,12 +18,12 @@ use Rattle.mss_top.specs.Threads.{BeganNone, EndsThreads, GoesWellAtOnce, IsThre
 use Rattle.mss_top.specs.declared.status.Status.{Status}
 use Rattle.mss_top.proofs.Fair.{line_complete, no_job_complete, reported_complete, sink_none, untaken_complete}
 
-module _ (words : List (List ℕ)) (input : Stream) (site : Devices) (sink : Stream) (job : JobData) (well : GoesWellAtOnce words input site sink job) where
+module _ (asked : Option Command) (input : Stream) (site : Devices) (sink : Stream) (job : JobData) (well : GoesWellAtOnce asked input site sink job) where
   -- the input has one job
-  same_job : (other : JobData) → IsThreadsJob words input other → other ≡ job
+  same_job : (other : JobData) → IsThreadsJob asked input other → other ≡ job
   same_job other is = let both : ◌≡◌ {A = Result JobData BadLine} (Ok other) (Ok job) = sym (is.text.text_ well.can_read) ∙ well.text in cc
 
-  threadless_complete : (said : OneLine) → IsThreadless words input said → IsComplete (line_status said)
+  threadless_complete : (said : OneLine) → IsThreadless asked input said → IsComplete (line_status said)
   threadless_complete line.WordsRefused cause = absurd (cause.0 well.command)
   threadless_complete line.WantOfMemory cause = tt
   threadless_complete line.InputFault cause = no_job_complete job input site sink well.fair line.InputFault well.can_read well.text cause.1
@@ -30,7 +31,7 @@ module _ (words : List (List ℕ)) (input : Stream) (site : Devices) (sink : Str
   threadless_complete (line.RestartRefused why) cause = no_job_complete job input site sink well.fair (line.RestartRefused why) well.can_read well.text cause.1
 
   module _ (told : Status) (hosts : List EndData) where
-    none_complete : BeganNone words input site sink told hosts → IsComplete told
+    none_complete : BeganNone asked input site sink told hosts → IsComplete told
     none_complete is = line_complete is.says.said sink told (sink_none job input site sink well.fair) (elim is.says.cause [
       | inl out ↦ threadless_complete is.says.said out.threadless
       | inr back ↦ untaken_complete job input site sink well.fair is.says.said (subst (λ (j : JobData). IsUntaken j site is.says.said) (same_job back.job back.admitted) back.untaken)
@@ -40,7 +41,7 @@ module _ (words : List (List ℕ)) (input : Stream) (site : Devices) (sink : Str
     done_complete s is =
         reported_complete job input site sink well.fair told is.mid is.end is.answer s (played_halts job _ is.end hosts s is.session.played) is.closes is.session.mid is.session.played.promised is.session.report
 
-    pub threads_complete : (left : Option Session) → EndsThreads words input site sink told hosts left → IsComplete told
+    pub threads_complete : (left : Option Session) → EndsThreads asked input site sink told hosts left → IsComplete told
     threads_complete None is = none_complete is
     threads_complete (Some session) is = done_complete (session_data session)
         (subst (λ (j : JobData). IsThreadsRunOf j site sink told hosts (session_data session)) (same_job is.job is.admitted) is.done)

@@ -10,3 +10,4 @@ pub mod CompletedThreads
 pub mod Looked
 pub mod OneLook
 pub mod Broken
+pub mod Obeyed

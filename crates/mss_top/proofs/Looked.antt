@@ -6,6 +6,7 @@ use Rattle.mss_base.specs.Configs.{IsConfig, VolumeData}
 use Rattle.mss_base.specs.Content.{Content, SiteLog, content}
 use Rattle.mss_base.specs.Counts.{Rises}
 use Rattle.ckd_plain.specs.Plain.{serial_in}
+use Rattle.command_words.specs.declared.command.Command.{Command}
 use Rattle.volume_table.specs.Row.{RowValue}
 use Rattle.volume_table.specs.Listed.{listed}
 use Rattle.report_text.specs.OneLines.{one_line_text}
@@ -94,8 +95,8 @@ module _ (c : Content) (sink : Stream) (faultless : fault_shown c ≡ None) (sin
       subst (λ (p : RowsOf × Content). IsReported (listing_matter (shown_by p.0 p.1)) (finished End) (reported site) sink lists.answer) (λ i. (same i, holds i)) lists.listing in
       subst (λ (s : Status). IsShown c sink s) (sym lists.ends) (telling_shown (reported site) lists.answer tells read is.telling is.reason is.put)
 
-module _ (words : List (List ℕ)) (site : Devices) (sink : Stream) (well : LooksWell words site sink) (told : Status) where
-  line_shown : (said : OneLine) → IsUnlisted words site said → IsLinePut said sink told → IsShown (content site.was.told) sink told
+module _ (asked : Option Command) (site : Devices) (sink : Stream) (well : LooksWell asked site sink) (told : Status) where
+  line_shown : (said : OneLine) → IsUnlisted asked site said → IsLinePut said sink told → IsShown (content site.was.told) sink told
   line_shown said cause (line_broken is rose front) = absurd (none_rises _ _ well.sink_none rose)
   line_shown line.WordsRefused cause (line_whole is counted bytes) = absurd (cause.0 well.command)
   line_shown line.WantOfMemory cause (line_whole is counted bytes) = subst (λ (s : Status). IsShown (content site.was.told) sink s) (sym is) tt
@@ -104,13 +105,13 @@ module _ (words : List (List ℕ)) (site : Devices) (sink : Stream) (well : Look
   line_shown line.InputFault cause (line_whole is counted bytes) = absurd cause.1
   line_shown (line.JobRefused n kind) cause (line_whole is counted bytes) = absurd cause.1
 
-  listing_shown : IsListed words site sink told → IsShown (content site.was.told) sink told
+  listing_shown : IsListed asked site sink told → IsShown (content site.was.told) sink told
   listing_shown is =
       let same : is.mid.faults ≡ site.was.faults = same_between _ _ _ is.lists.answer well.site_none is.survey.kept is.lists.counted in
       let exact : IsExact FRAMES none_asked (content site.was.told) (Ok is.rows) = is.survey.exact well.can_see (record { same = same; could_rise = well.site_none.could_rise }) in
       lists_shown (content site.was.told) sink exact.1 (none_rises _ _ well.sink_none) is.rows (since site is.mid) told well.can_see
       (ap (λ (log : SiteLog). content log) (is.unwritten well.can_see)) exact.0 is.lists (none_unread _ _ is.lists.answer (record { same = well.site_none.same ∙ sym same; could_rise = omega (arith, same, well.site_none.could_rise) }) is.lists.counted)
 
-  pub look_complete : EndsShown words site sink told → IsShown (content site.was.told) sink told
+  pub look_complete : EndsShown asked site sink told → IsShown (content site.was.told) sink told
   look_complete (inl says) = line_shown says.said says.cause says.put
   look_complete (inr listed) = listing_shown listed

@@ -1,6 +1,7 @@
 -- What doing a run leaves, of a job and of a load; and the line of a site that isn't taken up.
 use Rattle.std.proofs.Common.{◌≡◌, inr, ℕ, List, Option, Some, None, sym, subst}
 use Rattle.core_state.specs.declared.session.Session.{Session}
+use Rattle.command_words.specs.declared.command.Command.{Command}
 use Rattle.job_text.specs.Jobs.{JobData}
 use Rattle.report_text.specs.declared.one_line.OneLine.{OneLine}
 use Rattle.shown_volumes.specs.declared.refused.Refused.{Refused}
@@ -39,8 +40,8 @@ pub says_untaken : (job : JobData) (site : Devices) (sink : Stream) (mid : Outpu
 says_untaken job site sink mid told said why line is put = record { said = said; cause = record { why = why; opens = is.opens; line_ = line }; put = put_since said sink mid told is.unput put }
 
 -- the end of a run that was admitted
-pub ends_run : (words : List (List ℕ)) (may : Chooses) (input : Stream) (site : Devices) (sink : Stream) (told : Status) (run : Admitted) (session : Option Session) → IsAdmitted words input run → EndsRun may run site sink told session
-    → Ends words may input site sink told session
-ends_run words may input site sink told run None admitted is =
+pub ends_run : (asked : Option Command) (may : Chooses) (input : Stream) (site : Devices) (sink : Stream) (told : Status) (run : Admitted) (session : Option Session) → IsAdmitted asked input run → EndsRun may run site sink told session
+    → Ends asked may input site sink told session
+ends_run asked may input site sink told run None admitted is =
     record { said = is.said; cause = inr (record { run = run; admitted = admitted; untaken = is.cause }); put = is.put }
-ends_run words may input site sink told run (Some session) admitted is = record { run = run; admitted = admitted; done = is }
+ends_run asked may input site sink told run (Some session) admitted is = record { run = run; admitted = admitted; done = is }

@@ -1,31 +1,40 @@
 -- What a run in threads leaves: its job, the line of a site that isn't taken up, and the whole run.
-use Rattle.std.proofs.Common.{◌≡◌, inl, inr, List, [], ℕ, Option, Some, None, Result, Ok, Err, sym, subst}
+use Rattle.std.proofs.Common.{◌≡◌, inl, inr, List, [], Option, Some, None, Err, sym, ◌∙◌, subst}
+use Rattle.command_words.specs.declared.command.Command.{Command}
+use Rattle.command_words.specs.declared.command.Command.TheVariants as command
 use Rattle.core_state.specs.declared.session.Session.{Session}
 use Rattle.job_text.specs.Jobs.{JobData}
 use Rattle.report_text.specs.declared.one_line.OneLine.{OneLine}
 use Rattle.report_text.specs.declared.one_line.OneLine.TheVariants as line
 use Rattle.shown_volumes.specs.declared.refused.Refused.{Refused}
 use Rattle.mss_run.specs.Runs.{EndData}
-use Rattle.session_report.specs.Parties.{Stream}
+use Rattle.session_report.specs.Parties.{Stream, IsUntouched}
 use Rattle.job_runs.specs.Parties.{Devices}
 use Rattle.job_runs.specs.declared.run.Outcome.TheVariants as outcome
 use Rattle.thread_runs.specs.Runs.{Ends as EndsAtOnce}
-use Rattle.mss_top.specs.Admission.{TakesText}
+use Rattle.mss_top.specs.Admission.{Asks, IsNoJob}
 use Rattle.mss_top.specs.Ending.{line_of}
 use Rattle.mss_top.specs.Serial.{Output, since, until}
 use Rattle.mss_top.specs.Status.{IsLinePut}
-use Rattle.mss_top.specs.Threads.{AdmitsThreads, AskForThreads, EndsJob, EndsThreads, IsThreadless, IsThreadsJob}
+use Rattle.mss_top.specs.Threads.{AskForThreads, EndsJob, EndsThreads, IsThreadless, IsThreadsJob}
 use Rattle.mss_top.specs.declared.status.Status.{Status}
 use Rattle.mss_top.proofs.Running.{says_untaken}
 
--- the words ask for threads, and the input was read for them
-pub admits_text : (words : List (List ℕ)) (input : Stream) (r : Result JobData OneLine) → AskForThreads words → TakesText input r → AdmitsThreads words input r
-admits_text words input (Ok job) asks is = record { command = asks; text = is }
-admits_text words input (Err line.InputFault) asks is = (asks, is)
-admits_text words input (Err (line.JobRefused n kind)) asks is = (asks, is)
-admits_text words input (Err line.WantOfMemory) asks is = inr asks
-admits_text words input (Err line.WordsRefused) asks is = absurd is
-admits_text words input (Err (line.RestartRefused why)) asks is = absurd is
+-- the words ask for nothing
+pub refused_threads : (asked : Option Command) (input : Stream) (said : OneLine) → Asks asked (Err said) → IsUntouched input → IsThreadless asked input said
+refused_threads asked input line.WordsRefused is untouched = (λ asks. let e : ◌≡◌ {A = Option Command} None (Some command.Threads) = sym is ∙ asks in cc, untouched)
+refused_threads asked input line.WantOfMemory is untouched = inl untouched
+refused_threads asked input line.InputFault is untouched = absurd is
+refused_threads asked input (line.JobRefused n kind) is untouched = absurd is
+refused_threads asked input (line.RestartRefused why) is untouched = absurd is
+
+-- they ask for threads, and the input has no job
+pub jobless_threads : (asked : Option Command) (input : Stream) (said : OneLine) → AskForThreads asked → IsNoJob input said → IsThreadless asked input said
+jobless_threads asked input line.InputFault asks is = (asks, is)
+jobless_threads asked input (line.JobRefused n kind) asks is = (asks, is)
+jobless_threads asked input line.WantOfMemory asks is = inr asks
+jobless_threads asked input line.WordsRefused asks is = absurd is
+jobless_threads asked input (line.RestartRefused why) asks is = absurd is
 
 -- the line of a site that isn't taken up
 pub ends_untaken : (job : JobData) (site : Devices) (sink : Stream) (mid : Output) (told : Status) (hosts : List EndData) (said : OneLine) (why : Refused) (left : Option Session)
@@ -34,15 +43,15 @@ ends_untaken job site sink mid told hosts said why left none line is put =
     subst (λ (l : Option Session). EndsJob job site sink told hosts l) (sym none) (says_untaken job site sink mid told said why line is.0 put, is.1)
 
 -- the end of a run that has its job
-pub ends_threads : (words : List (List ℕ)) (input : Stream) (site : Devices) (sink : Stream) (told : Status) (hosts : List EndData) (job : JobData) (left : Option Session)
-    → IsThreadsJob words input job → EndsJob job site sink told hosts left → EndsThreads words input site sink told hosts left
-ends_threads words input site sink told hosts job None admitted is =
+pub ends_threads : (asked : Option Command) (input : Stream) (site : Devices) (sink : Stream) (told : Status) (hosts : List EndData) (job : JobData) (left : Option Session)
+    → IsThreadsJob asked input job → EndsJob job site sink told hosts left → EndsThreads asked input site sink told hosts left
+ends_threads asked input site sink told hosts job None admitted is =
     record { says = record { said = is.0.said; cause = inr (record { job = job; admitted = admitted; untaken = is.0.cause }); put = is.0.put }; none = is.1 }
-ends_threads words input site sink told hosts job (Some session) admitted is = record { job = job; admitted = admitted; done = is }
+ends_threads asked input site sink told hosts job (Some session) admitted is = record { job = job; admitted = admitted; done = is }
 
 -- the end of a run that wasn't admitted
-pub ends_kept_out : (words : List (List ℕ)) (input : Stream) (site : Devices) (sink : Stream) (told : Status) (hosts : List EndData) (said : OneLine) (left : Option Session)
-    → left ≡ None → hosts ≡ [] → IsThreadless words input said → site.now ≡ site.was → IsLinePut said sink told → EndsThreads words input site sink told hosts left
-ends_kept_out words input site sink told hosts said left no_session no_hosts threadless same put =
-    subst (λ (l : Option Session). EndsThreads words input site sink told hosts l) (sym no_session)
+pub ends_kept_out : (asked : Option Command) (input : Stream) (site : Devices) (sink : Stream) (told : Status) (hosts : List EndData) (said : OneLine) (left : Option Session)
+    → left ≡ None → hosts ≡ [] → IsThreadless asked input said → site.now ≡ site.was → IsLinePut said sink told → EndsThreads asked input site sink told hosts left
+ends_kept_out asked input site sink told hosts said left no_session no_hosts threadless same put =
+    subst (λ (l : Option Session). EndsThreads asked input site sink told hosts l) (sym no_session)
     (record { says = record { said = said; cause = inl (record { threadless = threadless; devices_ = same }); put = put }; none = no_hosts })

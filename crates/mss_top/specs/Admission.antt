@@ -1,12 +1,10 @@
--- Which run is admitted: the words, the job, and the turns that are drawn.
+-- Which run is admitted: what the words ask for, the job, and the turns that are drawn.
 use Rattle.std.specs.Prelude.{◌≡◌, ◌≢◌, ◌⊎◌, ◌≤◌, ◌+◌, ℕ, List, drop, length, Option, Some, None}
 use Rattle.std.specs.Prelude.{IfSome, Result, Ok, Err}
 use Rattle.mss_base.specs.Counts.{Rises}
 use Rattle.job_text.specs.declared.kind.JobKind.{JobKind}
 use Rattle.job_text.specs.Grammar.{job_of}
 use Rattle.job_text.specs.Jobs.{JobData}
-use Rattle.command_words.specs.Options.{Text}
-use Rattle.command_words.specs.Words.{meaning}
 use Rattle.command_words.specs.declared.command.Command.{Command}
 use Rattle.command_words.specs.declared.command.Command.TheVariants.{Serial}
 use Rattle.draws.specs.Draws.{schedule}
@@ -17,26 +15,26 @@ use Rattle.session_report.specs.Parties.{Stream, IsUntouched}
 use Rattle.mss_top.specs.declared.admission.Admitted.{Admitted}
 use Rattle.mss_top.specs.declared.admission.Settings.{Settings}
 
--- ---- the words
+-- ---- what the words ask for
 
 -- the command with these settings
 abbrev pub command_of : Settings → Command
 command_of s = Serial s.order s.turns s.load
 
 -- the words ask for a run with these settings
-abbrev pub AskToRun : List Text → Settings → Type 0
-AskToRun words settings = meaning words ≡ Some (command_of settings)
+abbrev pub AskToRun : Option Command → Settings → Type 0
+AskToRun asked settings = asked ≡ Some (command_of settings)
+
+-- they ask for this, or are refused by this line; of want of memory nothing is said
+abbrev pub Asks : Option Command → Result Command OneLine → Type 0
+Asks asked (Ok command) = asked ≡ Some command
+Asks asked (Err line.WordsRefused) = asked ≡ None
+Asks asked (Err line.WantOfMemory) = Unit {0}
+Asks asked (Err _) = ⊥
 
 -- they ask for none
-abbrev pub AskForNoRun : List Text → Type 0
-AskForNoRun words = (settings : Settings) → meaning words ≢ Some (command_of settings)
-
--- the settings, or the line that refuses the words; of want of memory nothing is said
-abbrev pub Asks : List Text → Result Settings OneLine → Type 0
-Asks words (Ok settings) = AskToRun words settings
-Asks words (Err line.WordsRefused) = AskForNoRun words
-Asks words (Err line.WantOfMemory) = Unit {0}
-Asks words (Err _) = ⊥
+abbrev pub AskForNoRun : Option Command → Type 0
+AskForNoRun asked = (settings : Settings) → asked ≢ Some (command_of settings)
 
 -- a load has 1 to 1,000 programs
 abbrev pub IsLoad : Option ℕ → Type 0
@@ -114,31 +112,31 @@ IsDrawn settings job turns = turns ≡ schedule settings.order settings.turns (a
 -- ---- the run
 
 -- the run is admitted
-pub record IsAdmitted (words : List Text) (input : Stream) (run : Admitted) : Type 0 where
-  pub command : AskToRun words run.settings
+pub record IsAdmitted (asked : Option Command) (input : Stream) (run : Admitted) : Type 0 where
+  pub command : AskToRun asked run.settings
   pub job_ : IsJobOf run.settings.load run.settings.order input run.job
   pub drawn : IsDrawn run.settings run.job run.turns.items
 
 -- the words ask for a run that has no job
-pub record AskInVain (words : List Text) (input : Stream) (said : OneLine) : Type 0 where
+pub record AskInVain (asked : Option Command) (input : Stream) (said : OneLine) : Type 0 where
   pub settings : Settings
-  pub command : AskToRun words settings
+  pub command : AskToRun asked settings
   pub jobless : IsJobless settings.load input said
 
 -- the words ask for a run of the job that the input has
-pub record AskForInput (words : List Text) : Type 0 where
+pub record AskForInput (asked : Option Command) : Type 0 where
   pub settings : Settings
-  pub command : AskToRun words settings
+  pub command : AskToRun asked settings
   pub unloaded : settings.load ≡ None
 
 -- Why no run is admitted: the words, or the job. Of want of memory no cause is said, but that the
 -- input is untouched, unless the words ask for its job.
-abbrev pub IsUnread : List Text → Stream → OneLine → Type 0
-IsUnread words input line.WordsRefused = AskForNoRun words × IsUntouched input
-IsUnread words input line.WantOfMemory = IsUntouched input ⊎ AskForInput words
-IsUnread words input said = AskInVain words input said
+abbrev pub IsUnread : Option Command → Stream → OneLine → Type 0
+IsUnread asked input line.WordsRefused = AskForNoRun asked × IsUntouched input
+IsUnread asked input line.WantOfMemory = IsUntouched input ⊎ AskForInput asked
+IsUnread asked input said = AskInVain asked input said
 
 -- a run is admitted, or the line says why not
-abbrev pub Admits : List Text → Stream → Result Admitted OneLine → Type 0
-Admits words input (Ok run) = IsAdmitted words input run
-Admits words input (Err said) = IsUnread words input said
+abbrev pub Admits : Option Command → Stream → Result Admitted OneLine → Type 0
+Admits asked input (Ok run) = IsAdmitted asked input run
+Admits asked input (Err said) = IsUnread asked input said

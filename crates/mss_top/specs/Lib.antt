@@ -5,3 +5,4 @@ pub mod Ending
 pub mod Showing
 pub mod Serial
 pub mod Threads
+pub mod Obeying

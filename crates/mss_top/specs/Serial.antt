@@ -3,7 +3,7 @@ use Rattle.std.specs.Prelude.{◌≡◌, ◌⊎◌, ℕ, List, Option, Some, Non
 use Rattle.mss_base.specs.Content.{content}
 use Rattle.mss_base.specs.declared.site.Site.{Ghosts}
 use Rattle.victim_choice.specs.declared.choose.Candidate.{Candidate}
-use Rattle.command_words.specs.Options.{Text}
+use Rattle.command_words.specs.declared.command.Command.{Command}
 use Rattle.draws.specs.Load.{load_job}
 use Rattle.job_text.specs.Jobs.{JobData}
 use Rattle.report_text.specs.declared.one_line.OneLine.{OneLine}
@@ -37,9 +37,9 @@ Chooses = List Candidate → ℕ → Type 0
 -- ---- no session
 
 -- no run is admitted, and the devices are untouched
-pub record IsUnadmitted (words : List Text) (input : Stream) (site : Devices) (said : OneLine)
-    : Type 0 where
-  pub unread : IsUnread words input said
+pub record IsUnadmitted (asked : Option Command) (input : Stream) (site : Devices)
+    (said : OneLine) : Type 0 where
+  pub unread : IsUnread asked input said
   pub devices_ : site.now ≡ site.was
 
 -- the restart for a job doesn't take up the devices
@@ -48,16 +48,16 @@ pub record IsUntaken (job : JobData) (site : Devices) (said : OneLine) : Type 0 
   pub opens : Opens job.config site (Err why)
   pub line_ : said ≡ line_of why
 
-pub record IsRefusedLate (words : List Text) (input : Stream) (site : Devices) (said : OneLine)
-    : Type 0 where
+pub record IsRefusedLate (asked : Option Command) (input : Stream) (site : Devices)
+    (said : OneLine) : Type 0 where
   pub run : Admitted
-  pub admitted : IsAdmitted words input run
+  pub admitted : IsAdmitted asked input run
   pub untaken : IsUntaken run.job site said
 
 -- no session began
-abbrev pub IsRefused : List Text → Stream → Devices → Stream → Status → Type 0
-IsRefused words input site sink told =
-    SaysWhy (λ said. IsUnadmitted words input site said ⊎ IsRefusedLate words input site said)
+abbrev pub IsRefused : Option Command → Stream → Devices → Stream → Status → Type 0
+IsRefused asked input site sink told =
+    SaysWhy (λ said. IsUnadmitted asked input site said ⊎ IsRefusedLate asked input site said)
     sink told
 
 -- ---- a session
@@ -100,10 +100,10 @@ pub record IsRunOf (may : Chooses) (run : Admitted) (site : Devices) (sink : Str
   pub closes : Closes end answer (since sink mid) told
 
 -- a run was admitted and done
-pub record IsRun (may : Chooses) (words : List Text) (input : Stream) (site : Devices)
+pub record IsRun (may : Chooses) (asked : Option Command) (input : Stream) (site : Devices)
     (sink : Stream) (told : Status) (s : SessionData) : Type 0 where
   pub run : Admitted
-  pub admitted : IsAdmitted words input run
+  pub admitted : IsAdmitted asked input run
   pub done : IsRunOf may run site sink told s
 
 -- ---- a run
@@ -118,10 +118,10 @@ abbrev pub EndsRun : Chooses → Admitted → Devices → Stream → Status → 
 EndsRun may run site sink told session =
     EndsAs (SaysWhy (IsUntaken run.job site) sink told) (IsRunOf may run site sink told) session
 
-abbrev pub Ends : List Text → Chooses → Stream → Devices → Stream → Status → Option Session
-    → Type 0
-Ends words may input site sink told session =
-    EndsAs (IsRefused words input site sink told) (IsRun may words input site sink told) session
+abbrev pub Ends : Option Command → Chooses → Stream → Devices → Stream → Status
+    → Option Session → Type 0
+Ends asked may input site sink told session =
+    EndsAs (IsRefused asked input site sink told) (IsRun may asked input site sink told) session
 
 -- what running it leaves, told or not
 abbrev pub Runs : Chooses → Option ℕ → JobData → List ℕ → Devices → Stream → Outcome → Type 0
@@ -145,10 +145,10 @@ pub record JobBrokeOff {S : Type 0} (g : Ghosts S) (s : S) (job : JobData)
 
 -- that of an admitted run
 pub record RunBrokeOff {S : Type 0} (g : Ghosts S) (s : S)
-    (words : List Text) (input : Stream) (site : Devices) (sink : Stream) (session : SessionData)
-    : Type 0 where
+    (asked : Option Command) (input : Stream) (site : Devices) (sink : Stream)
+    (session : SessionData) : Type 0 where
   pub run : Admitted
-  pub admitted : IsAdmitted words input run
+  pub admitted : IsAdmitted asked input run
   pub broke : JobBrokeOff g s run.job site sink session
 
 -- ---- completeness
@@ -168,9 +168,9 @@ pub record NothingFails (job : JobData) (input : Stream) (site : Devices) (sink 
   pub sink_none : NoneFailed sink.faults_was sink.faults_now
 
 -- the words ask for a run, this is its job, and nothing fails
-pub record GoesWell (words : List Text) (input : Stream) (site : Devices) (sink : Stream)
+pub record GoesWell (asked : Option Command) (input : Stream) (site : Devices) (sink : Stream)
     (settings : Settings) (job : JobData) : Type 0 where
-  pub command : AskToRun words settings
+  pub command : AskToRun asked settings
   pub asks : AsksJob settings.load settings.order input job
   pub fair : NothingFails job input site sink
 

@@ -4,8 +4,7 @@ use Rattle.mss_base.specs.Content.{Content, content}
 use Rattle.mss_base.specs.declared.site.Site.{Ghosts}
 use Rattle.volume_table.specs.Row.{RowValue}
 use Rattle.volume_table.specs.Listed.{listed}
-use Rattle.command_words.specs.Options.{Text}
-use Rattle.command_words.specs.Words.{meaning}
+use Rattle.command_words.specs.declared.command.Command.{Command}
 use Rattle.command_words.specs.declared.command.Command.TheVariants.{Show}
 use Rattle.report_text.specs.OneLines.{one_line_text}
 use Rattle.report_text.specs.Texts.{listing_title}
@@ -33,8 +32,8 @@ use Rattle.mss_top.specs.declared.status.Status.{Status}
 use Rattle.mss_top.specs.declared.status.Status.TheVariants as status
 
 -- the words ask for a look
-abbrev pub AskToShow : List Text → Type 0
-AskToShow words = meaning words ≡ Some Show
+abbrev pub AskToShow : Option Command → Type 0
+AskToShow asked = asked ≡ Some Show
 
 -- ---- the survey
 
@@ -71,15 +70,11 @@ abbrev pub SurveysAny : Devices → Looked → Type 0
 SurveysAny site (Ok rows) = IsSurvey site (Ok rows)
 SurveysAny site (Err said) = IsSurveyLine site said
 
--- Why nothing is listed: the words, or what the survey found.
-abbrev pub IsUnlisted : List Text → Devices → OneLine → Type 0
-IsUnlisted words site line.WordsRefused = (meaning words ≢ Some Show) × (site.now ≡ site.was)
-IsUnlisted words site line.WantOfMemory = Unit {0}
-IsUnlisted words site said = AskToShow words × IsSurveyLine site said
-
-abbrev pub Looks : List Text → Devices → Looked → Type 0
-Looks words site (Ok rows) = AskToShow words × IsSurvey site (Ok rows)
-Looks words site (Err said) = IsUnlisted words site said
+-- why nothing is listed: the words, or what the survey found
+abbrev pub IsUnlisted : Option Command → Devices → OneLine → Type 0
+IsUnlisted asked site line.WordsRefused = (asked ≢ Some Show) × (site.now ≡ site.was)
+IsUnlisted asked site line.WantOfMemory = Unit {0}
+IsUnlisted asked site said = AskToShow asked × IsSurveyLine site said
 
 -- ---- the listing
 
@@ -99,9 +94,9 @@ pub record Lists (rows : List (Option RowValue)) (site : Devices) (sink : Stream
   pub ends : told ≡ status_of ended.Done answer
 
 -- the devices were surveyed, and the volumes of the rows that were found were listed
-pub record IsListed (words : List Text) (site : Devices) (sink : Stream) (told : Status)
+pub record IsListed (asked : Option Command) (site : Devices) (sink : Stream) (told : Status)
     : Type 0 where
-  pub command : AskToShow words
+  pub command : AskToShow asked
   -- the devices behind the survey
   pub mid : DevicesSeen
   pub unwritten : site.tells → mid.told ≡ site.was.told
@@ -126,15 +121,15 @@ pub record LookBrokeOff {S : Type 0} (g : Ghosts S) (s : S) (site : Devices)
   pub broke : BrokeOff g s rows site sink
 
 -- a look ended: with one line, which says why nothing is listed, or with a listing
-abbrev pub EndsShown : List Text → Devices → Stream → Status → Type 0
-EndsShown words site sink told =
-    SaysWhy (IsUnlisted words site) sink told ⊎ IsListed words site sink told
+abbrev pub EndsShown : Option Command → Devices → Stream → Status → Type 0
+EndsShown asked site sink told =
+    SaysWhy (IsUnlisted asked site) sink told ⊎ IsListed asked site sink told
 
 -- ---- completeness
 
 -- the words ask for a look, the devices tell their content, and no call fails
-pub record LooksWell (words : List Text) (site : Devices) (sink : Stream) : Type 0 where
-  pub command : AskToShow words
+pub record LooksWell (asked : Option Command) (site : Devices) (sink : Stream) : Type 0 where
+  pub command : AskToShow asked
   pub can_see : site.tells
   pub site_none : NoneFailed site.was.faults site.now.faults
   pub sink_none : NoneFailed sink.faults_was sink.faults_now
@@ -168,9 +163,9 @@ IsShown c sink _ = ⊥
 
 -- The words ask for a look, the devices tell their content, in which each copy tells its row alone,
 -- reads of one unit of the table may fail, and no other call does.
-pub record LooksByOneCopy {S : Type 0} (words : List Text) (g : Ghosts S)
-    (site : S) (sink : Stream) : Type 0 where
-  pub command : AskToShow words
+pub record LooksByOneCopy {S : Type 0} (asked : Option Command) (g : Ghosts S) (site : S)
+    (sink : Stream) : Type 0 where
+  pub command : AskToShow asked
   pub can_see : g.tells
   pub paired : ArePaired (content (g.told site))
   pub loses : LosesOneTable g site

@@ -1,8 +1,7 @@
 -- What a run of `threads` promises.
-use Rattle.std.specs.Prelude.{◌≡◌, ◌≢◌, ◌⊎◌, List, [], Option, Some, Result, Ok, Err}
+use Rattle.std.specs.Prelude.{◌≡◌, ◌≢◌, ◌⊎◌, List, [], Option, Some}
 use Rattle.mss_base.specs.declared.site.Site.{Ghosts}
-use Rattle.command_words.specs.Options.{Text}
-use Rattle.command_words.specs.Words.{meaning}
+use Rattle.command_words.specs.declared.command.Command.{Command}
 use Rattle.command_words.specs.declared.command.Command.TheVariants as command
 use Rattle.job_text.specs.Jobs.{JobData}
 use Rattle.report_text.specs.declared.one_line.OneLine.{OneLine}
@@ -24,46 +23,41 @@ use Rattle.mss_top.specs.declared.status.Status.{Status}
 -- ---- which run is admitted
 
 -- the words ask for a run in threads
-abbrev pub AskForThreads : List Text → Type 0
-AskForThreads words = meaning words ≡ Some command.Threads
+abbrev pub AskForThreads : Option Command → Type 0
+AskForThreads asked = asked ≡ Some command.Threads
 
 -- and the input has this job
-pub record IsThreadsJob (words : List Text) (input : Stream) (job : JobData) : Type 0 where
-  pub command : AskForThreads words
+pub record IsThreadsJob (asked : Option Command) (input : Stream) (job : JobData) : Type 0 where
+  pub command : AskForThreads asked
   pub text : Reads input (λ text. IsJobText text job)
 
 -- Why no run in threads is admitted: the words, or the input. Of want of memory no cause is said,
 -- but that the input is untouched, unless the words ask for its job.
-abbrev pub IsThreadless : List Text → Stream → OneLine → Type 0
-IsThreadless words input line.WordsRefused =
-    (meaning words ≢ Some command.Threads) × IsUntouched input
-IsThreadless words input line.WantOfMemory = IsUntouched input ⊎ AskForThreads words
-IsThreadless words input said = AskForThreads words × IsNoJob input said
-
-abbrev pub AdmitsThreads : List Text → Stream → Result JobData OneLine → Type 0
-AdmitsThreads words input (Ok job) = IsThreadsJob words input job
-AdmitsThreads words input (Err said) = IsThreadless words input said
+abbrev pub IsThreadless : Option Command → Stream → OneLine → Type 0
+IsThreadless asked input line.WordsRefused = (asked ≢ Some command.Threads) × IsUntouched input
+IsThreadless asked input line.WantOfMemory = IsUntouched input ⊎ AskForThreads asked
+IsThreadless asked input said = AskForThreads asked × IsNoJob input said
 
 -- ---- a run without a session
 
 -- no run is admitted, and the devices are untouched
-pub record IsKeptOut (words : List Text) (input : Stream) (site : Devices) (said : OneLine)
+pub record IsKeptOut (asked : Option Command) (input : Stream) (site : Devices) (said : OneLine)
     : Type 0 where
-  pub threadless : IsThreadless words input said
+  pub threadless : IsThreadless asked input said
   pub devices_ : site.now ≡ site.was
 
 -- the restart for the job doesn't take up the devices
-pub record IsTurnedBack (words : List Text) (input : Stream) (site : Devices) (said : OneLine)
+pub record IsTurnedBack (asked : Option Command) (input : Stream) (site : Devices) (said : OneLine)
     : Type 0 where
   pub job : JobData
-  pub admitted : IsThreadsJob words input job
+  pub admitted : IsThreadsJob asked input job
   pub untaken : IsUntaken job site said
 
 -- no session began, and so no host came to an end
-pub record BeganNone (words : List Text) (input : Stream) (site : Devices) (sink : Stream)
+pub record BeganNone (asked : Option Command) (input : Stream) (site : Devices) (sink : Stream)
     (told : Status) (hosts : List EndData) : Type 0 where
   pub says : SaysWhy
-      (λ said. IsKeptOut words input site said ⊎ IsTurnedBack words input site said) sink told
+      (λ said. IsKeptOut asked input site said ⊎ IsTurnedBack asked input site said) sink told
   pub none : hosts ≡ []
 
 -- ---- a run with one
@@ -79,10 +73,10 @@ pub record IsThreadsRunOf (job : JobData) (site : Devices) (sink : Stream) (told
   pub closes : Closes end answer (since sink mid) told
 
 -- a run in threads was admitted and done
-pub record IsThreadsRun (words : List Text) (input : Stream) (site : Devices) (sink : Stream)
+pub record IsThreadsRun (asked : Option Command) (input : Stream) (site : Devices) (sink : Stream)
     (told : Status) (hosts : List EndData) (s : SessionData) : Type 0 where
   pub job : JobData
-  pub admitted : IsThreadsJob words input job
+  pub admitted : IsThreadsJob asked input job
   pub done : IsThreadsRunOf job site sink told hosts s
 
 -- ---- a run
@@ -93,26 +87,26 @@ EndsJob job site sink told hosts session =
     EndsAs (SaysWhy (IsUntaken job site) sink told × (hosts ≡ []))
     (IsThreadsRunOf job site sink told hosts) session
 
-abbrev pub EndsThreads : List Text → Stream → Devices → Stream → Status → List EndData
+abbrev pub EndsThreads : Option Command → Stream → Devices → Stream → Status → List EndData
     → Option Session → Type 0
-EndsThreads words input site sink told hosts session =
-    EndsAs (BeganNone words input site sink told hosts)
-    (IsThreadsRun words input site sink told hosts) session
+EndsThreads asked input site sink told hosts session =
+    EndsAs (BeganNone asked input site sink told hosts)
+    (IsThreadsRun asked input site sink told hosts) session
 
 -- the report of an admitted run in threads broke off
 pub record ThreadsBrokeOff {S : Type 0} (g : Ghosts S) (s : S)
-    (words : List Text) (input : Stream) (site : Devices) (sink : Stream) (session : SessionData)
-    : Type 0 where
+    (asked : Option Command) (input : Stream) (site : Devices) (sink : Stream)
+    (session : SessionData) : Type 0 where
   pub job : JobData
-  pub admitted : IsThreadsJob words input job
+  pub admitted : IsThreadsJob asked input job
   pub broke : JobBrokeOff g s job site sink session
 
 -- ---- completeness
 
 -- the words ask for a run in threads, the input has this job, and nothing fails
-pub record GoesWellAtOnce (words : List Text) (input : Stream) (site : Devices) (sink : Stream)
+pub record GoesWellAtOnce (asked : Option Command) (input : Stream) (site : Devices) (sink : Stream)
     (job : JobData) : Type 0 where
-  pub command : AskForThreads words
+  pub command : AskForThreads asked
   pub can_read : input.tells
   pub text : IsJobText input.was job
   pub fair : NothingFails job input site sink

@@ -1,11 +1,12 @@
-//! What is run: the settings that the words give, the job, and the turns that are drawn.
-ghost use Rattle.std.specs.Prelude.{◌≡◌, ◌≤◌, length, map, string_bytes, IfErr, IfOk};
+//! What the words ask for, and what is run: the settings, the job, and the turns that are drawn.
+ghost use Rattle.std.specs.Prelude.{◌≡◌, ◌≤◌, Some, length, map, string_bytes, IfErr, IfOk};
+ghost use Rattle.command_words.specs.Words.{IsWithin, meaning};
 ghost use Rattle.draws.specs.Load.{load_job};
 ghost use Rattle.report_text.specs.declared.one_line.OneLine.TheVariants.{WantOfMemory};
 ghost use Rattle.serial_driver.specs.Drives.{AreTurns};
 ghost use Rattle.session_report.specs.Parties.{source_between};
 ghost use Rattle.mss_top.specs.Admission.{Admits, Asks, GivesJob, IsDrawn, IsLoad, IsTaken};
-ghost use Rattle.mss_top.specs.Admission.{TakesText, actors};
+ghost use Rattle.mss_top.specs.Admission.{TakesText, actors, command_of};
 
 use crate::input::{InputFault, read_input};
 use command_words::{Command, CommandFault, read_command};
@@ -38,14 +39,14 @@ pub struct Admitted {
     pub turns: Vec<u32>,
 }
 
-/// The settings of the run that the words ask for, or the line that refuses them.
-fn settings_of(alloc: Global, words: &[String]) -> Result<Settings, OneLine>
-    ensures asks { Asks (map string_bytes words.now) result }
-    ensures load { IfOk result (λ settings. IsLoad settings.load) }
+/// The command that the words ask for, or the line that refuses them.
+pub fn command_in(alloc: Global, words: &[String]) -> Result<Command, OneLine>
+    ensures asks { Asks (meaning (map string_bytes words.now)) result }
+    ensures within { IfOk result IsWithin }
 {
     match read_command(alloc, words) {
-        Ok(Command::Serial { order, turns, load }) => Ok(Settings { order, turns, load }),
-        Ok(_) | Err(CommandFault::Refused) => Err(OneLine::WordsRefused),
+        Ok(command) => Ok(command),
+        Err(CommandFault::Refused) => Err(OneLine::WordsRefused),
         Err(CommandFault::Memory) => Err(OneLine::WantOfMemory),
     }
 }
@@ -125,13 +126,17 @@ fn turns_for(alloc: Global, settings: Settings, job: &Job) -> Result<Vec<u32>, O
     }
 }
 
-/// The run that the words ask for, or the line that says why there is none.
-pub fn admit<I: Source>(alloc: Global, words: &[String], input: &mut I) -> Result<Admitted, OneLine>
-    ensures admits { Admits (map string_bytes words.now)
+/// The run of these settings, or the line that says why there is none.
+pub fn admit<I: Source>(
+    alloc: Global,
+    settings: Settings,
+    input: &mut I,
+) -> Result<Admitted, OneLine>
+    requires load { IsLoad settings.load }
+    ensures admits { Admits (Some (command_of settings))
         (source_between I.Source input.old input.new) result }
     ensures turns { IfOk result (λ run. AreTurns run.job.hosts run.job.config run.turns.items) }
 {
-    let settings = settings_of(alloc, words)?;
     let job = job_for(alloc, settings, input)?;
     let turns = turns_for(alloc, settings, &job)?;
     Ok(Admitted {

@@ -1,20 +1,23 @@
 //! A run in threads: words, input, job, session, report.
-ghost use Rattle.std.specs.Prelude.{◌≡◌, Bool, IfSome, None, map, string_bytes};
+ghost use Rattle.std.specs.Prelude.{◌≡◌, [], Bool, IfSome, None, Some, map, string_bytes};
 ghost use Rattle.mss_base.specs.declared.place.UnitNo.{UnitNo};
+ghost use Rattle.command_words.specs.Words.{meaning};
+ghost use Rattle.command_words.specs.declared.command.Command.TheVariants as command;
 ghost use Rattle.core_state.specs.Sessions.{session_data};
 ghost use Rattle.job_text.specs.Jobs.{JobData};
 ghost use Rattle.mss_restart.specs.Creations.{WritesOn};
 ghost use Rattle.session_report.specs.Parties.{sink_between, source_between};
 ghost use Rattle.job_runs.specs.Parties.{devices};
 ghost use Rattle.mss_top.specs.Serial.{IsComplete, JobBrokeOff, OnUnstopped};
-ghost use Rattle.mss_top.specs.Threads.{AdmitsThreads, EndsJob, EndsThreads, GoesWellAtOnce};
+ghost use Rattle.mss_top.specs.Threads.{EndsJob, EndsThreads, GoesWellAtOnce};
 ghost use Rattle.mss_top.specs.Threads.{ThreadsBrokeOff};
+ghost use Rattle.mss_top.specs.Status.{IsLinePut};
 ghost use Rattle.mss_top.specs.declared.status.Status.TheVariants.{Stopped};
 
-use crate::admission::job_of_input;
+use crate::admission::{command_in, job_of_input};
 use crate::ending::{Ended, refusal_line, refuse};
 use crate::run::close;
-use command_words::{Command, CommandFault, read_command};
+use command_words::Command;
 use job_runs::{JobEnd, Outcome};
 use job_text::Job;
 use mss_base::{Sink, Site, Source};
@@ -32,18 +35,6 @@ pub struct EndedAtOnce<S> {
     pub run: Ended<S>,
     /// How the hosts of the job ended, in its order; none where no session began.
     pub hosts: HostEnds,
-}
-
-/// The job of a run in threads, or the line that says why there is none.
-fn admit_threads<I: Source>(alloc: Global, words: &[String], input: &mut I) -> Result<Job, OneLine>
-    ensures admits { AdmitsThreads (map string_bytes words.now)
-        (source_between I.Source input.old input.new) result }
-{
-    match read_command(alloc, words) {
-        Ok(Command::Threads) => job_of_input(alloc, input),
-        Ok(_) | Err(CommandFault::Refused) => Err(OneLine::WordsRefused),
-        Err(CommandFault::Memory) => Err(OneLine::WantOfMemory),
-    }
 }
 
 /// Runs the job in threads on the site, or puts the line that says why the site isn't taken up.
@@ -83,6 +74,52 @@ fn run_job_at_once<
     }
 }
 
+/// The end of a run in threads that has no session: its one line is put.
+fn refuse_threads<O: Sink, S: Site>(
+    alloc: Global,
+    output: &mut O,
+    site: S,
+    line: OneLine,
+) -> EndedAtOnce<S>
+    ensures put { IsLinePut line (sink_between O.Sink output.old output.new) result.run.status }
+    ensures hosts { result.hosts.items ≡ [] }
+    ensures site { result.run.site ≡ site }
+    ensures session { result.run.session ≡ None }
+{
+    EndedAtOnce {
+        run: refuse(output, site, line),
+        hosts: HostEnds::new(alloc),
+    }
+}
+
+/// Does a run in threads on the site, of the job that the input has, or puts the line that says why there is none.
+pub fn run_threads<
+    I: Source,
+    O: Sink,
+    S: Site + Send,
+    C: Choose + Drop + Send,
+    G: Gate + Sync,
+    R: Threads + Wait + Sync + AllocGlobal,
+>(rt: &R, input: &mut I, output: &mut O, site: S, chooser: C, gate: &G) -> EndedAtOnce<S>
+    requires able { C.can_choose chooser }
+    ensures ended { EndsThreads (Some command.Threads)
+        (source_between I.Source input.old input.new) (devices S.Site site result.run.site)
+        (sink_between O.Sink output.old output.new)
+        result.run.status result.hosts.items result.run.session }
+    ensures unread { result.run.status ≡ Stopped → OnUnstopped result.run.session
+        (ThreadsBrokeOff S.Site site (Some command.Threads)
+        (source_between I.Source input.old input.new) (devices S.Site site result.run.site)
+        (sink_between O.Sink output.old output.new)) }
+    ensures only_reads_fail { (but : UnitNo → Bool) → S.never_fails_but site but
+        → IfSome result.run.session (λ s. (session_data s).stopped ≡ None) }
+    ensures devices { WritesOn S.Site site result.run.site }
+{
+    match job_of_input(rt.alloc(), input) {
+        Ok(job) => run_job_at_once(rt, &job, output, site, chooser, gate),
+        Err(line) => refuse_threads(rt.alloc(), output, site, line),
+    }
+}
+
 /// Does the run in threads that the words ask for on the site, with its report: each host of the job and each recorder
 /// goes in a thread of its own.
 ///
@@ -108,15 +145,15 @@ pub fn threads<
     gate: &G,
 ) -> EndedAtOnce<S>
     requires able { C.can_choose chooser }
-    ensures ended { EndsThreads (map string_bytes words.now)
+    ensures ended { EndsThreads (meaning (map string_bytes words.now))
         (source_between I.Source input.old input.new) (devices S.Site site result.run.site)
         (sink_between O.Sink output.old output.new)
         result.run.status result.hosts.items result.run.session }
     ensures unread { result.run.status ≡ Stopped → OnUnstopped result.run.session
-        (ThreadsBrokeOff S.Site site (map string_bytes words.now)
+        (ThreadsBrokeOff S.Site site (meaning (map string_bytes words.now))
         (source_between I.Source input.old input.new) (devices S.Site site result.run.site)
         (sink_between O.Sink output.old output.new)) }
-    ensures complete { (job : JobData) → GoesWellAtOnce (map string_bytes words.now)
+    ensures complete { (job : JobData) → GoesWellAtOnce (meaning (map string_bytes words.now))
         (source_between I.Source input.old input.new) (devices S.Site site result.run.site)
         (sink_between O.Sink output.old output.new) job
         → IsComplete result.run.status }
@@ -124,11 +161,9 @@ pub fn threads<
         → IfSome result.run.session (λ s. (session_data s).stopped ≡ None) }
     ensures devices { WritesOn S.Site site result.run.site }
 {
-    match admit_threads(rt.alloc(), words, input) {
-        Ok(job) => run_job_at_once(rt, &job, output, site, chooser, gate),
-        Err(line) => EndedAtOnce {
-            run: refuse(output, site, line),
-            hosts: HostEnds::new(rt.alloc()),
-        },
+    match command_in(rt.alloc(), words) {
+        Ok(Command::Threads) => run_threads(rt, input, output, site, chooser, gate),
+        Ok(_) => refuse_threads(rt.alloc(), output, site, OneLine::WordsRefused),
+        Err(line) => refuse_threads(rt.alloc(), output, site, line),
     }
 }

@@ -3,14 +3,15 @@
 //! `serial` does a run; its clause `ended` (`specs/Serial.antt`) is the promise of this repository. It reads the
 //! words, the job and draws the turns (`admission.rt`), and runs the job on the site by `job_runs`. `threads` does one
 //! with a thread for each host and each recorder, by `thread_runs` (`specs/Threads.antt`). `show` lists the volumes of
-//! a site (`specs/Showing.antt`). Contracts speak of input, devices and output as parties: what each told before and
-//! after, and its counts of faults.
+//! a site (`specs/Showing.antt`). `obey` does whichever of the three the words ask for (`specs/Obeying.antt`). Contracts
+//! speak of input, devices and output as parties: what each told before and after, and its counts of faults.
 #![tactic(auto)]
 
 mod admission;
 mod at_once;
 mod ending;
 mod input;
+mod obeying;
 mod run;
 mod showing;
 mod status;
@@ -18,6 +19,7 @@ mod status;
 pub use at_once::{EndedAtOnce, threads};
 pub use ending::Ended;
 pub use input::{InputFault, read_input};
+pub use obeying::obey;
 pub use run::serial;
 pub use showing::show;
 pub use status::Status;

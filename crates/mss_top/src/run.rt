@@ -1,21 +1,24 @@
 //! A whole run: words, input, job, session, report.
-ghost use Rattle.std.specs.Prelude.{◌≡◌, Bool, IfSome, None, map, string_bytes};
+ghost use Rattle.std.specs.Prelude.{◌≡◌, Bool, IfSome, None, Some, map, string_bytes};
 ghost use Rattle.mss_base.specs.declared.place.UnitNo.{UnitNo};
 ghost use Rattle.core_state.specs.Sessions.{session_data};
+ghost use Rattle.command_words.specs.Words.{meaning};
 ghost use Rattle.job_text.specs.Jobs.{JobData};
 ghost use Rattle.mss_restart.specs.Creations.{WritesOn};
 ghost use Rattle.serial_driver.specs.Drives.{AreTurns};
 ghost use Rattle.session_report.specs.Parties.{sink_between, source_between};
 ghost use Rattle.job_runs.specs.Parties.{devices};
 ghost use Rattle.job_runs.specs.Runs.{GoesUnstopped, OnUnread, ReportBrokeOff};
+ghost use Rattle.mss_top.specs.Admission.{IsLoad, command_of};
 ghost use Rattle.mss_top.specs.Serial.{Closes, Ends, EndsRun, GoesWell, IsComplete, Runs};
 ghost use Rattle.mss_top.specs.Serial.{JobBrokeOff, OnUnstopped, RunBrokeOff};
 ghost use Rattle.mss_top.specs.declared.admission.Settings.{Settings};
 ghost use Rattle.mss_top.specs.declared.status.Status.TheVariants.{Stopped};
 
-use crate::admission::{Admitted, admit};
+use crate::admission::{Admitted, Settings, admit, command_in};
 use crate::ending::{Ended, refusal_line, refuse, say, status_of};
 use crate::status::Status;
+use command_words::Command;
 use job_runs::{JobEnd, Outcome, run_job, run_load};
 use mss_base::{Sink, Site, Source};
 use report_text::OneLine;
@@ -90,6 +93,33 @@ fn run_admitted<S: Site, C: Choose + Drop, O: Sink>(
     }
 }
 
+/// Does the run of these settings on the site, or puts the line that says why there is none.
+pub fn run_with<I: Source, O: Sink, S: Site, C: Choose + Drop>(
+    alloc: Global,
+    settings: Settings,
+    input: &mut I,
+    output: &mut O,
+    site: S,
+    chooser: C,
+) -> Ended<S>
+    requires able { C.can_choose chooser }
+    requires load { IsLoad settings.load }
+    ensures ended { Ends (Some (command_of settings)) (C.may chooser)
+        (source_between I.Source input.old input.new) (devices S.Site site result.site)
+        (sink_between O.Sink output.old output.new) result.status result.session }
+    ensures unread { result.status ≡ Stopped → OnUnstopped result.session (RunBrokeOff
+        S.Site site (Some (command_of settings)) (source_between I.Source input.old input.new)
+        (devices S.Site site result.site) (sink_between O.Sink output.old output.new)) }
+    ensures only_reads_fail { (but : UnitNo → Bool) → S.never_fails_but site but
+        → IfSome result.session (λ s. (session_data s).stopped ≡ None) }
+    ensures devices { WritesOn S.Site site result.site }
+{
+    match admit(alloc, settings, input) {
+        Ok(run) => run_admitted(alloc, &run, site, chooser, output),
+        Err(line) => refuse(output, site, line),
+    }
+}
+
 /// Does the run that the words ask for on the site: of the job that the input has, with its report, or of a load,
 /// with its summary.
 ///
@@ -108,13 +138,15 @@ pub fn serial<I: Source, O: Sink, S: Site, C: Choose + Drop>(
     chooser: C,
 ) -> Ended<S>
     requires able { C.can_choose chooser }
-    ensures ended { Ends (map string_bytes words.now) (C.may chooser)
+    ensures ended { Ends (meaning (map string_bytes words.now)) (C.may chooser)
         (source_between I.Source input.old input.new) (devices S.Site site result.site)
         (sink_between O.Sink output.old output.new) result.status result.session }
     ensures unread { result.status ≡ Stopped → OnUnstopped result.session (RunBrokeOff
-        S.Site site (map string_bytes words.now) (source_between I.Source input.old input.new)
-        (devices S.Site site result.site) (sink_between O.Sink output.old output.new)) }
-    ensures complete { (settings : Settings) (job : JobData) → GoesWell (map string_bytes words.now)
+        S.Site site (meaning (map string_bytes words.now))
+        (source_between I.Source input.old input.new) (devices S.Site site result.site)
+        (sink_between O.Sink output.old output.new)) }
+    ensures complete { (settings : Settings) (job : JobData)
+        → GoesWell (meaning (map string_bytes words.now))
         (source_between I.Source input.old input.new) (devices S.Site site result.site)
         (sink_between O.Sink output.old output.new) settings job
         → IsComplete result.status }
@@ -122,8 +154,12 @@ pub fn serial<I: Source, O: Sink, S: Site, C: Choose + Drop>(
         → IfSome result.session (λ s. (session_data s).stopped ≡ None) }
     ensures devices { WritesOn S.Site site result.site }
 {
-    match admit(alloc, words, input) {
-        Ok(run) => run_admitted(alloc, &run, site, chooser, output),
+    match command_in(alloc, words) {
+        Ok(Command::Serial { order, turns, load }) => {
+            let settings = Settings { order, turns, load };
+            run_with(alloc, settings, input, output, site, chooser)
+        }
+        Ok(_) => refuse(output, site, OneLine::WordsRefused),
         Err(line) => refuse(output, site, line),
     }
 }

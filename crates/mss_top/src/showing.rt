@@ -1,19 +1,22 @@
 //! A look at the volumes of a site.
-ghost use Rattle.std.specs.Prelude.{◌≡◌, ◌≢◌, [], None, map, string_bytes};
+ghost use Rattle.std.specs.Prelude.{◌≡◌, ◌≢◌, [], None, Some, length, map, string_bytes, IfOk};
+ghost use Rattle.command_words.specs.Words.{meaning};
+ghost use Rattle.command_words.specs.declared.command.Command.TheVariants.{Show};
 ghost use Rattle.mss_base.specs.Content.{content};
 ghost use Rattle.mss_base.specs.Sites.{OnlyReads};
 ghost use Rattle.session_report.specs.Parties.{sink_between};
 ghost use Rattle.job_runs.specs.Parties.{devices};
 ghost use Rattle.mss_restart.specs.OneCopy.{ArePaired, LosesOneTable};
 ghost use Rattle.table_pair.specs.Reads.{CanReadTracks};
-ghost use Rattle.mss_top.specs.Showing.{AskToShow, EndsShown, FRAMES, IsShown, Lists, Looks};
+ghost use Rattle.mss_top.specs.Showing.{EndsShown, FRAMES, IsShown, Lists};
 ghost use Rattle.mss_top.specs.Showing.{LooksByOneCopy, LooksExactly, LooksWell, SurveysAny};
 ghost use Rattle.mss_top.specs.Showing.{BrokeOff, LookBrokeOff};
 ghost use Rattle.mss_top.specs.declared.status.Status.TheVariants.{Stopped};
 
-use crate::ending::{Ended, refusal_line, say, status_of};
+use crate::admission::command_in;
+use crate::ending::{Ended, refusal_line, refuse, say, status_of};
 use crate::status::Status;
-use command_words::{Command, CommandFault, read_command};
+use command_words::Command;
 use mss_base::{Config, Sink, Site, VolumeList};
 use mss_restart::survey;
 use report_text::OneLine;
@@ -50,21 +53,6 @@ fn survey_any<S: Site>(alloc: Global, site: &mut S) -> Result<Rows, OneLine>
     }
 }
 
-/// The rows of a site, where the words ask for a look at it, or the line that says why there are none.
-fn look<S: Site>(alloc: Global, words: &[String], site: &mut S) -> Result<Rows, OneLine>
-    ensures looks { Looks (map string_bytes words.now) (devices S.Site site.old site.new) result }
-    ensures one_copy { AskToShow (map string_bytes words.now) → S.tells
-        → LosesOneTable S.Site site.old → ArePaired (content (S.told site.old))
-        → LooksExactly (content (S.told site.old)) result }
-    ensures site { OnlyReads S.Site site.old site.new }
-{
-    match read_command(alloc, words) {
-        Ok(Command::Show) => survey_any(alloc, site),
-        Ok(_) | Err(CommandFault::Refused) => Err(OneLine::WordsRefused),
-        Err(CommandFault::Memory) => Err(OneLine::WantOfMemory),
-    }
-}
-
 /// Lists the volumes of the rows that a survey found, and answers with the status.
 fn list<S: Site, O: Sink>(alloc: Global, site: &mut S, rows: &Rows, output: &mut O) -> Status
     ensures lists { Lists rows.now (devices S.Site site.old site.new)
@@ -80,24 +68,40 @@ fn list<S: Site, O: Sink>(alloc: Global, site: &mut S, rows: &Rows, output: &mut
 }
 
 /// Looks at a site that is lent, and answers with the status.
-fn show_lent<S: Site, O: Sink>(
-    alloc: Global,
-    words: &[String],
-    output: &mut O,
-    site: &mut S,
-) -> Status
-    ensures ended { EndsShown (map string_bytes words.now) (devices S.Site site.old site.new)
+fn look_at<S: Site, O: Sink>(alloc: Global, output: &mut O, site: &mut S) -> Status
+    ensures ended { EndsShown (Some Show) (devices S.Site site.old site.new)
         (sink_between O.Sink output.old output.new) result }
     ensures unread { result ≡ Stopped → LookBrokeOff S.Site site.old
         (devices S.Site site.old site.new) (sink_between O.Sink output.old output.new) }
-    ensures one_copy { LooksByOneCopy (map string_bytes words.now) S.Site site.old
+    ensures one_copy { LooksByOneCopy (Some Show) S.Site site.old
         (sink_between O.Sink output.old output.new)
         → IsShown (content (S.told site.old)) (sink_between O.Sink output.old output.new) result }
     ensures site { OnlyReads S.Site site.old site.new }
 {
-    match look(alloc, words, site) {
+    match survey_any(alloc, site) {
         Ok(rows) => list(alloc, site, &rows, output),
         Err(line) => say(output, line),
+    }
+}
+
+/// Looks at a site, and puts the listing, or the line of its first fault.
+pub fn look<S: Site, O: Sink>(alloc: Global, output: &mut O, mut site: S) -> Ended<S>
+    ensures ended { EndsShown (Some Show) (devices S.Site site result.site)
+        (sink_between O.Sink output.old output.new) result.status }
+    ensures unread { result.status ≡ Stopped → LookBrokeOff S.Site site
+        (devices S.Site site result.site) (sink_between O.Sink output.old output.new) }
+    ensures one_copy { LooksByOneCopy (Some Show) S.Site site
+        (sink_between O.Sink output.old output.new)
+        → IsShown (content (S.told site))
+        (sink_between O.Sink output.old output.new) result.status }
+    ensures site { OnlyReads S.Site site result.site }
+    ensures session { result.session ≡ None }
+{
+    let status = look_at(alloc, output, &mut site);
+    Ended {
+        status,
+        site,
+        session: None,
     }
 }
 
@@ -107,31 +111,26 @@ fn show_lent<S: Site, O: Sink>(
 /// line; which frames and recorders a run would have, and which volumes its job asks for, doesn't matter. Where one
 /// unit of the table can't be read, and each copy tells its row alone, that changes nothing. Where a read for a track
 /// fails, the listing ends before that track.
-pub fn show<S: Site, O: Sink>(
-    alloc: Global,
-    words: &[String],
-    output: &mut O,
-    mut site: S,
-) -> Ended<S>
-    ensures ended { EndsShown (map string_bytes words.now) (devices S.Site site result.site)
+pub fn show<S: Site, O: Sink>(alloc: Global, words: &[String], output: &mut O, site: S) -> Ended<S>
+    ensures ended { EndsShown (meaning (map string_bytes words.now))
+        (devices S.Site site result.site)
         (sink_between O.Sink output.old output.new) result.status }
     ensures unread { result.status ≡ Stopped → LookBrokeOff S.Site site
         (devices S.Site site result.site) (sink_between O.Sink output.old output.new) }
-    ensures complete { LooksWell (map string_bytes words.now) (devices S.Site site result.site)
-        (sink_between O.Sink output.old output.new)
+    ensures complete { LooksWell (meaning (map string_bytes words.now))
+        (devices S.Site site result.site) (sink_between O.Sink output.old output.new)
         → IsShown (content (S.told site))
         (sink_between O.Sink output.old output.new) result.status }
-    ensures one_copy { LooksByOneCopy (map string_bytes words.now) S.Site site
+    ensures one_copy { LooksByOneCopy (meaning (map string_bytes words.now)) S.Site site
         (sink_between O.Sink output.old output.new)
         → IsShown (content (S.told site))
         (sink_between O.Sink output.old output.new) result.status }
     ensures site { OnlyReads S.Site site result.site }
     ensures session { result.session ≡ None }
 {
-    let status = show_lent(alloc, words, output, &mut site);
-    Ended {
-        status,
-        site,
-        session: None,
+    match command_in(alloc, words) {
+        Ok(Command::Show) => look(alloc, output, site),
+        Ok(_) => refuse(output, site, OneLine::WordsRefused),
+        Err(line) => refuse(output, site, line),
     }
 }

@@ -1,0 +1,57 @@
+use Rattle.std.proofs.Common.{◌≡◌, Option, Some, sym, ◌∙◌, ap, subst, arith}
+use Rattle.command_words.specs.declared.command.Command.{Command}
+use Rattle.command_words.specs.declared.command.Command.TheVariants.{Show, Threads}
+use Rattle.job_runs.specs.Parties.{devices}
+use Rattle.session_report.specs.Parties.{sink_between, source_between}
+use Rattle.mss_top.specs.Obeying.{Does, OutputBrokeOff, Parties, parties}
+use Rattle.mss_top.specs.Showing.{LooksByOneCopy}
+use Rattle.mss_top.proofs.obeying.carry_out.Goals as goal
+
+pub returns-in-Serial-clause-does : goal.returns-in-Serial-clause-does
+returns-in-Serial-clause-does g c =
+    let p : Parties = parties (source_between g.I.Source c.args.input.now c.run_with.new.input) (devices g.S.Site c.args.site c.run_with.result.site) (sink_between g.O.Sink c.args.output.now c.run_with.new.output) in
+    subst (λ (k : Command). Does (Some k) (g.C.Choose.may c.args.chooser) p c.run_with.result.status c.run_with.result.session) (sym c.in-Serial.is) c.run_with.ensures.ended
+
+pub returns-in-Serial-clause-unread : goal.returns-in-Serial-clause-unread
+returns-in-Serial-clause-unread g c = λ stop.
+    let p : Parties = parties (source_between g.I.Source c.args.input.now c.run_with.new.input) (devices g.S.Site c.args.site c.run_with.result.site) (sink_between g.O.Sink c.args.output.now c.run_with.new.output) in
+    subst (λ (k : Command). OutputBrokeOff g.S.Site c.args.site (Some k) p c.run_with.result.session) (sym c.in-Serial.is) (c.run_with.ensures.unread stop)
+
+pub returns-in-Serial-clause-one_copy : goal.returns-in-Serial-clause-one_copy
+returns-in-Serial-clause-one_copy g c = λ looks. absurd (let e : ◌≡◌ {A = Option Command} (Some _) (Some Show) = sym (ap (λ (k : Command). Some k) c.in-Serial.is) ∙ looks.command in cc)
+
+pub returns-in-Threads-clause-does : goal.returns-in-Threads-clause-does
+returns-in-Threads-clause-does g c =
+    let ran = c.run_threads in
+    let p : Parties = parties (source_between g.I.Source c.args.input.now ran.new.input) (devices g.S.Site c.args.site ran.result.run.site) (sink_between g.O.Sink c.args.output.now ran.new.output) in
+    subst (λ (k : Command). Does (Some k) (g.C.Choose.may c.args.chooser) p ran.result.run.status ran.result.run.session) (sym c.in-Threads.is) (ran.result.hosts.items, ran.ensures.ended)
+
+pub returns-in-Threads-clause-unread : goal.returns-in-Threads-clause-unread
+returns-in-Threads-clause-unread g c = λ stop.
+    let ran = c.run_threads in
+    let p : Parties = parties (source_between g.I.Source c.args.input.now ran.new.input) (devices g.S.Site c.args.site ran.result.run.site) (sink_between g.O.Sink c.args.output.now ran.new.output) in
+    subst (λ (k : Command). OutputBrokeOff g.S.Site c.args.site (Some k) p ran.result.run.session) (sym c.in-Threads.is) (ran.ensures.unread stop)
+
+pub returns-in-Threads-clause-one_copy : goal.returns-in-Threads-clause-one_copy
+returns-in-Threads-clause-one_copy g c = λ looks. absurd (let e : ◌≡◌ {A = Option Command} (Some Threads) (Some Show) = sym (ap (λ (k : Command). Some k) c.in-Threads.is) ∙ looks.command in cc)
+
+pub returns-in-Show-clause-does : goal.returns-in-Show-clause-does
+returns-in-Show-clause-does g c =
+    let p : Parties = parties (source_between g.I.Source c.args.input.now c.args.input.now) (devices g.S.Site c.args.site c.look.result.site) (sink_between g.O.Sink c.args.output.now c.look.new.output) in
+    subst (λ (k : Command). Does (Some k) (g.C.Choose.may c.args.chooser) p c.look.result.status c.look.result.session) (sym c.in-Show.is) c.look.ensures.ended
+
+pub returns-in-Show-clause-unread : goal.returns-in-Show-clause-unread
+returns-in-Show-clause-unread g c = λ stop.
+    let p : Parties = parties (source_between g.I.Source c.args.input.now c.args.input.now) (devices g.S.Site c.args.site c.look.result.site) (sink_between g.O.Sink c.args.output.now c.look.new.output) in
+    subst (λ (k : Command). OutputBrokeOff g.S.Site c.args.site (Some k) p c.look.result.session) (sym c.in-Show.is) (c.look.ensures.unread stop)
+
+pub returns-in-Show-clause-one_copy : goal.returns-in-Show-clause-one_copy
+returns-in-Show-clause-one_copy g c = λ looks.
+    c.look.ensures.one_copy (subst (λ (k : Command). LooksByOneCopy (Some k) g.S.Site c.args.site (sink_between g.O.Sink c.args.output.now c.look.new.output)) c.in-Show.is looks)
+
+pub returns-in-Show-clause-devices : goal.returns-in-Show-clause-devices
+returns-in-Show-clause-devices g c = record {
+  written = omega (arith, c.look.ensures.site.unwritten);
+  later = c.look.ensures.site.later;
+  sound = c.look.ensures.site.sound;
+}

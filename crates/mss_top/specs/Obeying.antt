@@ -1,0 +1,69 @@
+-- What doing as the words ask promises, whatever they ask for.
+use Rattle.std.specs.Prelude.{◌≡◌, ◌⊎◌, List, Option, Some, None}
+use Rattle.mss_base.specs.Content.{content}
+use Rattle.mss_base.specs.declared.site.Site.{Ghosts}
+use Rattle.command_words.specs.declared.command.Command.{Command}
+use Rattle.command_words.specs.declared.command.Command.TheVariants.{Serial, Threads, Show}
+use Rattle.job_text.specs.Jobs.{JobData}
+use Rattle.report_text.specs.declared.one_line.OneLine.{OneLine}
+use Rattle.report_text.specs.declared.one_line.OneLine.TheVariants as line
+use Rattle.core_state.specs.declared.session.Session.{Session}
+use Rattle.mss_run.specs.Runs.{EndData}
+use Rattle.session_report.specs.Parties.{Stream, IsUntouched}
+use Rattle.job_runs.specs.Parties.{Devices}
+use Rattle.mss_top.specs.Ending.{SaysWhy}
+use Rattle.mss_top.specs.Serial.{Chooses, Ends, GoesWell, IsComplete, OnUnstopped, RunBrokeOff}
+use Rattle.mss_top.specs.Showing.{EndsShown, IsShown, LookBrokeOff, LooksWell}
+use Rattle.mss_top.specs.Threads.{EndsThreads, GoesWellAtOnce, ThreadsBrokeOff}
+use Rattle.mss_top.specs.declared.admission.Settings.{Settings}
+use Rattle.mss_top.specs.declared.status.Status.{Status}
+
+-- the parties of a call: input, devices and output, each from before it to behind it
+pub record Parties : Type 1 where
+  pub input : Stream
+  pub site : Devices
+  pub sink : Stream
+
+abbrev pub parties : Stream → Devices → Stream → Parties
+parties input site sink = record { input = input; site = site; sink = sink }
+
+-- the line of words that ask for nothing, or that memory ran out
+abbrev pub IsRefusalLine : OneLine → Type 0
+IsRefusalLine said = (said ≡ line.WordsRefused) ⊎ (said ≡ line.WantOfMemory)
+
+-- one line refuses the words, and that is all that is done
+pub record IsRefusal (p : Parties) (told : Status) (session : Option Session) : Type 0 where
+  pub says : SaysWhy IsRefusalLine p.sink told
+  pub unread : IsUntouched p.input
+  pub devices_ : p.site.now ≡ p.site.was
+  pub none : session ≡ None
+
+-- what the words ask for is done: a look, a run in threads or a run; or they are refused
+abbrev pub Does : Option Command → Chooses → Parties → Status → Option Session → Type 0
+Does None may p told session = IsRefusal p told session
+Does (Some Show) may p told session = EndsShown (Some Show) p.site p.sink told
+Does (Some Threads) may p told session =
+    (hosts : List EndData) × EndsThreads (Some Threads) p.input p.site p.sink told hosts session
+Does (Some (Serial order turns load)) may p told session =
+    Ends (Some (Serial order turns load)) may p.input p.site p.sink told session
+
+-- and what is answered where nothing fails
+abbrev pub IsWhole : Option Command → Parties → Status → Type 0
+IsWhole None p told = Unit {0}
+IsWhole (Some Show) p told =
+    LooksWell (Some Show) p.site p.sink → IsShown (content p.site.was.told) p.sink told
+IsWhole (Some Threads) p told =
+    (job : JobData) → GoesWellAtOnce (Some Threads) p.input p.site p.sink job → IsComplete told
+IsWhole (Some (Serial order turns load)) p told = (settings : Settings) (job : JobData)
+    → GoesWell (Some (Serial order turns load)) p.input p.site p.sink settings job
+    → IsComplete told
+
+-- what was put broke off before a track of which a read may fail; of words that are refused none is
+abbrev pub OutputBrokeOff : {S : Type 0} → Ghosts S → S → Option Command → Parties → Option Session
+    → Type 0
+OutputBrokeOff g s None p session = ⊥
+OutputBrokeOff g s (Some Show) p session = LookBrokeOff g s p.site p.sink
+OutputBrokeOff g s (Some Threads) p session =
+    OnUnstopped session (ThreadsBrokeOff g s (Some Threads) p.input p.site p.sink)
+OutputBrokeOff g s (Some (Serial order turns load)) p session = OnUnstopped session
+    (RunBrokeOff g s (Some (Serial order turns load)) p.input p.site p.sink)

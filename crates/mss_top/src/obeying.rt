@@ -1,0 +1,117 @@
+//! What the words ask for is done.
+ghost use Rattle.std.specs.Prelude.{◌≡◌, Bool, IfSome, None, Some, map, string_bytes};
+ghost use Rattle.mss_base.specs.Content.{content};
+ghost use Rattle.mss_base.specs.Sites.{OnlyReads};
+ghost use Rattle.mss_base.specs.declared.place.UnitNo.{UnitNo};
+ghost use Rattle.command_words.specs.Words.{IsWithin, meaning};
+ghost use Rattle.command_words.specs.declared.command.Command.TheVariants.{Show};
+ghost use Rattle.core_state.specs.Sessions.{session_data};
+ghost use Rattle.mss_restart.specs.Creations.{WritesOn};
+ghost use Rattle.session_report.specs.Parties.{sink_between, source_between};
+ghost use Rattle.job_runs.specs.Parties.{devices};
+ghost use Rattle.mss_top.specs.Obeying.{OutputBrokeOff, Does, IsWhole, parties};
+ghost use Rattle.mss_top.specs.Showing.{IsShown, LooksByOneCopy};
+ghost use Rattle.mss_top.specs.declared.status.Status.TheVariants.{Stopped};
+
+use crate::admission::{Settings, command_in};
+use crate::at_once::run_threads;
+use crate::ending::{Ended, refuse};
+use crate::run::run_with;
+use crate::showing::look;
+use command_words::Command;
+use mss_base::{Sink, Site, Source};
+use mss_run::Gate;
+use std::sync::Wait;
+use std::thread::Threads;
+use victim_choice::Choose;
+
+/// Does what was asked for.
+fn carry_out<
+    I: Source,
+    O: Sink,
+    S: Site + Send,
+    C: Choose + Drop + Send,
+    G: Gate + Sync,
+    R: Threads + Wait + Sync + AllocGlobal,
+>(
+    rt: &R,
+    command: Command,
+    input: &mut I,
+    output: &mut O,
+    site: S,
+    chooser: C,
+    gate: &G,
+) -> Ended<S>
+    requires able { C.can_choose chooser }
+    requires within { IsWithin command }
+    ensures does { Does (Some command) (C.may chooser)
+        (parties (source_between I.Source input.old input.new) (devices S.Site site result.site)
+        (sink_between O.Sink output.old output.new)) result.status result.session }
+    ensures unread { result.status ≡ Stopped → OutputBrokeOff S.Site site (Some command)
+        (parties (source_between I.Source input.old input.new) (devices S.Site site result.site)
+        (sink_between O.Sink output.old output.new)) result.session }
+    ensures one_copy { LooksByOneCopy (Some command) S.Site site
+        (sink_between O.Sink output.old output.new)
+        → IsShown (content (S.told site))
+        (sink_between O.Sink output.old output.new) result.status }
+    ensures only_reads_fail { (but : UnitNo → Bool) → S.never_fails_but site but
+        → IfSome result.session (λ s. (session_data s).stopped ≡ None) }
+    ensures looks { command ≡ Show → OnlyReads S.Site site result.site }
+    ensures devices { WritesOn S.Site site result.site }
+{
+    match command {
+        Command::Serial { order, turns, load } => {
+            let settings = Settings { order, turns, load };
+            run_with(rt.alloc(), settings, input, output, site, chooser)
+        }
+        Command::Threads => run_threads(rt, input, output, site, chooser, gate).run,
+        Command::Show => look(rt.alloc(), output, site),
+    }
+}
+
+/// Does what the words ask for on the site: the run of `serial`, that of `threads`, or the look of `show`.
+///
+/// The words are read once. What each of the three says holds here of its command. Words that ask for nothing are refused
+/// by one line, before the input is read and the site is looked at.
+pub fn obey<
+    I: Source,
+    O: Sink,
+    S: Site + Send,
+    C: Choose + Drop + Send,
+    G: Gate + Sync,
+    R: Threads + Wait + Sync + AllocGlobal,
+>(
+    rt: &R,
+    words: &[String],
+    input: &mut I,
+    output: &mut O,
+    site: S,
+    chooser: C,
+    gate: &G,
+) -> Ended<S>
+    requires able { C.can_choose chooser }
+    ensures does { Does (meaning (map string_bytes words.now)) (C.may chooser)
+        (parties (source_between I.Source input.old input.new) (devices S.Site site result.site)
+        (sink_between O.Sink output.old output.new)) result.status result.session }
+    ensures whole { IsWhole (meaning (map string_bytes words.now))
+        (parties (source_between I.Source input.old input.new) (devices S.Site site result.site)
+        (sink_between O.Sink output.old output.new)) result.status }
+    ensures unread { result.status ≡ Stopped
+        → OutputBrokeOff S.Site site (meaning (map string_bytes words.now))
+        (parties (source_between I.Source input.old input.new) (devices S.Site site result.site)
+        (sink_between O.Sink output.old output.new)) result.session }
+    ensures one_copy { LooksByOneCopy (meaning (map string_bytes words.now)) S.Site site
+        (sink_between O.Sink output.old output.new)
+        → IsShown (content (S.told site))
+        (sink_between O.Sink output.old output.new) result.status }
+    ensures only_reads_fail { (but : UnitNo → Bool) → S.never_fails_but site but
+        → IfSome result.session (λ s. (session_data s).stopped ≡ None) }
+    ensures looks { meaning (map string_bytes words.now) ≡ Some Show
+        → OnlyReads S.Site site result.site }
+    ensures devices { WritesOn S.Site site result.site }
+{
+    match command_in(rt.alloc(), words) {
+        Ok(command) => carry_out(rt, command, input, output, site, chooser, gate),
+        Err(line) => refuse(output, site, line),
+    }
+}
