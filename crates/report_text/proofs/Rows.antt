@@ -75,6 +75,11 @@ damaged_line : refused_line (refused.RowDamaged 0 A (record { field = field.Stat
 unfolding digits one_line_text refusal_text refused_line
 damaged_line = refl
 
+-- a slot of a kind that there isn't
+slot_line : refused_line (refused.RowDamaged 0 A (record { field = field.Slot 2; value = 7 })) ≡ codes "restart refused volume 0 copy A row slot 2 value 7\n"
+unfolding digits one_line_text refusal_text refused_line
+slot_line = refl
+
 frame_line : refused_line (refused.FrameTwice 7 (0, 0) (1, 3)) ≡ codes "restart refused frame 7 twice volume 0 page 0 volume 1 page 3\n"
 unfolding digits one_line_text refusal_text refused_line
 frame_line = refl

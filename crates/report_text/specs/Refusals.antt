@@ -23,6 +23,7 @@ row_field_text field.Second = codes "second"
 row_field_text (field.Page page) = codes "page " ++ decimal page
 row_field_text (field.Spare place) = codes "spare " ++ decimal place
 row_field_text (field.State cylinder) = codes "state " ++ decimal cylinder
+row_field_text (field.Slot number) = codes "slot " ++ decimal number
 
 -- a copy of the table
 abbrev pub copy_name : TableCopy → List ℕ

@@ -55,6 +55,7 @@ fn field_name(field: RowField) -> (&'static str, Option<u16>)
         RowField::Page(page) => ("page ", Some(u16::from(page))),
         RowField::Spare(place) => ("spare ", Some(u16::from(place))),
         RowField::State(cylinder) => ("state ", Some(cylinder)),
+        RowField::Slot(number) => ("slot ", Some(number)),
     }
 }
 
