@@ -220,3 +220,19 @@ pub told_one_more : (body : List ℕ) (slots : List (List ℕ)) (r : RowValue) (
 told_one_more body slots r c told allowed range =
     let after = after_change (slot_of c) c r (slot_back c r allowed range) (allowed_so c r allowed) in
     with_one_more slots (slot_of c) (decode body) ∙ ap (and_slot (length slots) (slot_of c)) told ∙ ap (goes_on (length slots) (slot_of c) (λ next. changed_by (suc (length slots)) next [])) after
+
+-- a body without slots tells what it spells
+pub told_by-none : (body : List ℕ) → told_by body [] ≡ decode body
+told_by-none body = told_none (decode body)
+  where
+    told_none : (read : Result RowValue RowFault) → with_slots [] read ≡ read
+    told_none (Ok r) = refl
+    told_none (Err f) = refl
+
+pub length-slot_of : (c : Change) → length (slot_of c) ≡ 7
+length-slot_of (Create serial first second) = refl
+length-slot_of (Assign page frame) = refl
+length-slot_of (Free page) = refl
+length-slot_of (Staged cylinder) = refl
+length-slot_of (Changed cylinder) = refl
+length-slot_of (Destaged cylinder) = refl

@@ -31,5 +31,5 @@ pub use layout::{BODY, BODY_BYTES, BODY_END, CHANGE_BYTES, ROW_BYTES, SLOT_BYTES
 pub use lists::{PageList, StateList};
 pub use row::VolumeRow;
 pub use rows::Rows;
-pub use slots::{apply_slot, apply_slots, decode_slot, decode_told, encode_slot};
+pub use slots::{apply_slot, decode_slot, decode_told, encode_slot};
 pub use state::CylinderState;

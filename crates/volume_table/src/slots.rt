@@ -139,7 +139,7 @@ pub fn apply_slot(row: &mut VolumeRow, number: u16, bytes: &[u8]) -> Result<(), 
 /// Changes a row as so many slots say, one after another, up to the first that is at fault. It takes no memory.
 ///
 /// The slots stand in the bytes one behind another. Their gates aren't looked at.
-pub fn apply_slots(row: &mut VolumeRow, count: u16, bytes: &[u8]) -> Result<(), RowFault>
+fn apply_slots(row: &mut VolumeRow, count: u16, bytes: &[u8]) -> Result<(), RowFault>
     requires { SLOT_BYTES * count ≤ length bytes.now }
     ensures ok { OnOk result (changed_by 0 row.old (slots_from count 0 bytes.now) ≡ Ok row.new) }
     ensures err { IfErr result (λ f. changed_by 0 row.old (slots_from count 0 bytes.now) ≡ Err f) }
