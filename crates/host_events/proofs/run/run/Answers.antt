@@ -1,9 +1,8 @@
 -- What comes of the command is the event, and keeps the core.
-use Rattle.std.proofs.Common.{rules, ◌≡◌, length, refl, None, Some, ◌∙◌, sym, ap, subst}
-use Rattle.std.specs.Prelude.{◌-◌, slice_set, Err, List, Option, IsSome}
+use Rattle.std.proofs.Common.{rules, ◌≡◌, length, refl, None, Some, ◌∙◌, ap, subst}
+use Rattle.std.specs.Prelude.{◌-◌, slice_set, Err}
 use Rattle.std.specs.Vec.{vec_len}
 use Rattle.volume_table.specs.Listed.{listed}
-use Rattle.volume_table.specs.Row.{RowValue}
 use Rattle.channel_commands.specs.Data.{equipment_check, stopped}
 use Rattle.channel_commands.specs.Views.{call_of, reply_of}
 use Rattle.mss_base.specs.Places.{frame_block}

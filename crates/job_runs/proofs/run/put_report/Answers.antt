@@ -1,7 +1,6 @@
-use Rattle.std.proofs.Common.{rules, ◌≡◌, List, length, Option, refl, ◌∙◌, ap, subst}
+use Rattle.std.proofs.Common.{rules, ◌≡◌, List, refl, subst}
 use Rattle.mss_base.specs.Content.{content}
 use Rattle.volume_table.specs.Listed.{listed}
-use Rattle.volume_table.specs.Row.{RowValue}
 use Rattle.shown_volumes.specs.Shown.{shown_by}
 use Rattle.core_state.specs.Sessions.{session_data}
 use Rattle.session_report.specs.Parties.{Stream, seen_with, site_between, sink_between}
