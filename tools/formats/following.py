@@ -88,6 +88,13 @@ def followed(job, report):
     return sources, following
 
 
+def unfinished(report, following):
+    """The first host that hasn't come to the end of its script, where the report's last line says that each has."""
+    if report.last != "END":
+        return None
+    return next((host for host, way in sorted(following.items()) if not way.is_done()), None)
+
+
 def sources_of(job, report):
     """The source of each entry, up to the first that doesn't follow from the job."""
     return followed(job, report)[0]

@@ -1,6 +1,6 @@
 """Whether a report is one that plain volumes give: each reply, each change of the table, and the volumes at the end."""
 
-from .following import sources_of
+from .following import followed, unfinished
 from .plain import EQUIPMENT_CHECK, NO_SPACE, Machine
 
 CARTRIDGES = 2
@@ -14,13 +14,16 @@ class Differs(Exception):
 def replay(job, report):
     """Goes through a report of a job. What plain volumes don't give is told as Differs."""
     machine = Machine(job.volumes)
-    sources = sources_of(job, report)
+    sources, following = followed(job, report)
     if len(sources) < len(report.entries):
         raise Differs(f"entry {len(sources) + 1} doesn't follow from the job")
     for entry, source in zip(report.entries, sources):
         due = reply(machine, entry, source)
         if due != entry.text:
             raise Differs(f"entry {entry.number} is {entry.text}, and plain volumes give {due}")
+    host = unfinished(report, following)
+    if host is not None:
+        raise Differs(f"host {host} has more to do behind END")
     replay_changes(job, report)
     if report.last in ("END", "LIMIT"):
         compare_volumes(job, machine, report)
@@ -83,6 +86,8 @@ def is_allowed(job, change, frames, staged, created):
 
 
 def compare_volumes(job, machine, report):
+    if len(report.volumes) != len(job.volumes):
+        raise Differs(f"it has {len(report.volumes)} volumes, and the job {len(job.volumes)}")
     for (number, serial), volume in zip(sorted(job.volumes.items()), report.volumes, strict=True):
         if (volume.number, volume.serial) != (number, serial):
             raise Differs(f"volume {volume.number} {volume.serial} isn't of the job")
