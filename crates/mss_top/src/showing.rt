@@ -1,5 +1,5 @@
 //! A look at the volumes of a site.
-ghost use Rattle.std.specs.Prelude.{◌≡◌, ◌≢◌, [], None, Some, length, map, string_bytes, IfOk};
+ghost use Rattle.std.specs.Prelude.{◌≡◌, ◌≢◌, [], None, Some, map, string_bytes};
 ghost use Rattle.command_words.specs.Words.{meaning};
 ghost use Rattle.command_words.specs.declared.command.Command.TheVariants.{Show};
 ghost use Rattle.mss_base.specs.Content.{content};

@@ -17,7 +17,7 @@ use fault_queue::{Queue, Request};
 use mss_base::{CartridgeNo, Cylinder, FrameNo, Page, Site, VolumeNo};
 use transfers::{Transfer, TransferKind};
 use victim_choice::Choose;
-use volume_table::{CylinderState, VolumeRow};
+use volume_table::{CylinderState, Rows};
 
 /// The cylinder with this number, where it is changed.
 pub fn changed_at(rows: &Rows, volume: VolumeNo, number: u16) -> Option<Cylinder>

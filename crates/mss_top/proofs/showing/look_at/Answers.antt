@@ -9,7 +9,7 @@ use Rattle.mss_top.proofs.showing.look_at.Goals as goal
 
 pub returns-in-Ok-clause-one_copy : goal.returns-in-Ok-clause-one_copy
 returns-in-Ok-clause-one_copy g c = λ looks.
-    listing_by_one (content (g.S.Site.told c.args.site.now)) (sink_between g.O.Sink c.args.output.now c.list.new.output) looks.sink_none c.in-Ok.rows.items
+    listing_by_one (content (g.S.Site.told c.args.site.now)) (sink_between g.O.Sink c.args.output.now c.list.new.output) looks.sink_none c.in-Ok.rows
     (devices g.S.Site c.survey_any.new.site c.list.new.site) c.list.result looks.can_see (ap (λ (log : SiteLog). content log) (c.in-Ok.ensures.site.log looks.can_see))
     (c.in-Ok.ensures.one_copy looks.can_see looks.loses looks.paired) c.list.ensures.lists
     (c.list.ensures.works (reads_tracks g.S.Site c.survey_any.new.site (loses_on g.S.Site c.args.site.now c.survey_any.new.site c.in-Ok.ensures.site.sound looks.loses)))
@@ -21,7 +21,7 @@ returns-in-Err-clause-one_copy g c = λ looks.
 
 pub returns-in-Ok-clause-unread : goal.returns-in-Ok-clause-unread
 returns-in-Ok-clause-unread g c = λ stop.
-    look_broken g.S.Site c.args.site.now c.survey_any.new.site c.list.new.site c.in-Ok.rows.items
+    look_broken g.S.Site c.args.site.now c.survey_any.new.site c.list.new.site c.in-Ok.rows
     (sink_between g.O.Sink c.args.output.now c.list.new.output) c.in-Ok.ensures.site c.in-Ok.ensures.survey (c.list.ensures.unread stop)
 
 pub returns-in-Err-clause-unread : goal.returns-in-Err-clause-unread
