@@ -98,13 +98,6 @@ closing n a left few long opened one = elim (cases_Bool (get_or left 0 0 == 193)
   | inr shut ↦ inr (shut_after n a left few long one shut)
 ]
 
--- a write behind a closed gate
-pub behind : (n at : ℕ) (left a b : List ℕ) → 129 + n < at → (at + length left ≤ 256) ⊎ (place_after n 256 a ≤ at) → n ≤ 97 → EndsAfter n a b → EndsAfter n a (splice at left b)
-behind n at left a b beyond where_at few ends = record {
-  front = front_write n at left a b (omega arith) where_at (omega arith) ends.front;
-  closed = gate_below (n + 1) at left b (omega arith) ∙ ends.closed;
-}
-
 -- the same bytes at two places
 pub moved_part : (from to n : ℕ) (a b : List ℕ) → from + n ≤ length a → to + n ≤ length b → ((j : ℕ) → j < n → get_or b (to + j) 0 ≡ get_or a (from + j) 0) → take n (drop to b) ≡ take n (drop from a)
 moved_part from to n a b in_a in_b same =

@@ -7,3 +7,4 @@ pub mod UpdateLemmas
 pub mod UpdateSteps
 pub mod PlaceLemmas
 pub mod LogLemmas
+pub mod BehindLemmas

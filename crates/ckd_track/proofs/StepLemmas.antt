@@ -2,13 +2,13 @@
 use Rattle.std.proofs.Common.{◌≡◌, ◌⊎◌, inl, inr, ℕ, ◌+◌, ◌-◌, ◌≤◌, ◌<◌, false, ◌==◌, List, [], ◌∷◌, length, take, get_or, refl, sym, ◌∙◌, ap, subst, arith}
 use Rattle.std.proofs.lemmas.Bool.{ne_eqb, true≢false}
 use Rattle.mss_base.specs.declared.place.UnitNo.{UnitNo}
-use Rattle.mss_base.specs.Content.{SiteLog, content, splice, Adds, Writes, ChangesBlock}
+use Rattle.mss_base.specs.Content.{SiteLog, content, splice, Adds, Settles, Writes, ChangesBlock}
 use Rattle.mss_base.proofs.ContentLemmas.{get_or-splice_above, get_or-splice_in}
 use Rattle.mss_base.proofs.Moments.{block_write, block_written, block_then, block_weaker}
 use Rattle.ckd_track.specs.Data.{cost, cost_of}
-use Rattle.ckd_track.specs.Track.{Reading, reading, reading_of, record_at, is_open, place_after}
-use Rattle.ckd_track.specs.Formatting.{formatted, IsRecord, IsFormatting, as_it_was, cut_short, completed, SameBytes, EndsAfter, Holds}
-use Rattle.ckd_track.proofs.FormatLemmas.{ends_after, shut_after, closing, behind, opening, holds_written, gate_below, gate_written}
+use Rattle.ckd_track.specs.Track.{Reading, reading, reading_of, record_at, is_open}
+use Rattle.ckd_track.specs.Formatting.{formatted, IsRecord, IsFormatting, as_it_was, cut_short, completed, EndsAfter, EndsBefore, StandsShut, Holds}
+use Rattle.ckd_track.proofs.FormatLemmas.{ends_after, shut_after, closing, opening, holds_written, gate_below, gate_written}
 
 module _ (unit : UnitNo) (block : ℕ) (s t : SiteLog) where
   pub close_moments : (n : ℕ) (a bytes : List ℕ) → n ≤ 96 → length a ≡ 16384 → content s unit block ≡ a → get_or a (129 + n) 0 ≡ 193 → length bytes ≡ 1
@@ -19,21 +19,13 @@ module _ (unit : UnitNo) (block : ℕ) (s t : SiteLog) where
       (λ left long_left. subst (λ (d : List ℕ). P (splice (129 + n) left d)) (sym told) (closing n a left (omega arith) long is (long_left ∙ one)))
 
   pub closed_by : (n : ℕ) (a : List ℕ) → n ≤ 96 → length a ≡ 16384 → content s unit block ≡ a
-      → Adds (record { unit = unit; block = block; offset = 129 + n; bytes = 0 ∷ [] }) s t → EndsAfter n a (content t unit block) × SameBytes (130 + n) 227 a (content t unit block)
+      → Adds (record { unit = unit; block = block; offset = 129 + n; bytes = 0 ∷ [] }) s t → EndsBefore n a (content t unit block)
   closed_by n a few long told adds =
       let now : content t unit block ≡ splice (129 + n) (0 ∷ []) a = block_written unit block (129 + n) (0 ∷ []) s t adds ∙ ap (λ (d : List ℕ). splice (129 + n) (0 ∷ []) d) told in
-      (subst (EndsAfter n a) (sym now) (shut_after n a (0 ∷ []) (omega arith) long refl refl), λ i from to. ap (λ (d : List ℕ). get_or d i 0) now ∙ get_or-splice_above (129 + n) (0 ∷ []) a i (omega arith))
-
-  -- a write behind the closed gate
-  pub behind_moments : (n at : ℕ) (a bytes : List ℕ) → n ≤ 96 → 129 + n < at → (at + length bytes ≤ 256) ⊎ (place_after n 256 a ≤ at) → EndsAfter n a (content s unit block)
-      → Adds (record { unit = unit; block = block; offset = at; bytes = bytes }) s t → Writes (ChangesBlock unit block (EndsAfter n a) (content s)) s t
-  behind_moments n at a bytes few beyond where_at ends adds =
-      block_write unit block at bytes (EndsAfter n a) s t adds ends (λ left long. behind n at left a (content s unit block) beyond (subst (λ (m : ℕ). (at + m ≤ 256) ⊎ (place_after n 256 a ≤ at)) (sym long) where_at) (omega arith) ends)
-
-  pub behind_done : (n at : ℕ) (a bytes : List ℕ) → n ≤ 96 → 129 + n < at → (at + length bytes ≤ 256) ⊎ (place_after n 256 a ≤ at) → EndsAfter n a (content s unit block)
-      → Adds (record { unit = unit; block = block; offset = at; bytes = bytes }) s t → EndsAfter n a (content t unit block)
-  behind_done n at a bytes few beyond where_at ends adds =
-      subst (EndsAfter n a) (sym (block_written unit block at bytes s t adds)) (behind n at bytes a (content s unit block) beyond where_at (omega arith) ends)
+      record {
+        ends = subst (EndsAfter n a) (sym now) (shut_after n a (0 ∷ []) (omega arith) long refl refl);
+        later = λ i from to. ap (λ (d : List ℕ). get_or d i 0) now ∙ get_or-splice_above (129 + n) (0 ∷ []) a i (omega arith);
+      }
 
   -- what a write behind leaves of the next gate
   pub next_stays : (n at : ℕ) (bytes : List ℕ) → 130 + n < at → is_open (n + 2) (content s unit block) ≡ false
@@ -53,21 +45,20 @@ module _ (unit : UnitNo) (block : ℕ) (s t : SiteLog) where
       ap (λ (d : List ℕ). is_open (n + 2) d) (block_written unit block (130 + n) bytes s t adds)
       ∙ ap (λ (x : ℕ). x == 193) (get_or-splice_in (130 + n) bytes (content s unit block) (128 + (n + 2)) 0 (omega arith) (omega arith) (omega arith) ∙ zero_first)
 
-  module _ (n : ℕ) (a bytes : List ℕ) (few : n ≤ 96) (long : length a ≡ 16384) (there : n ≤ length (reading a).records) (ends : EndsAfter n a (content s unit block))
-      (next : is_open (n + 2) (content s unit block) ≡ false) (is : IsRecord bytes) (holds : Holds (place_after n 256 a) bytes (content s unit block))
-      (cheap : cost (take n (reading a).records) + cost_of (record_at 0 bytes) ≤ 13165) where
+  module _ (n : ℕ) (a bytes : List ℕ) (few : n ≤ 96) (long : length a ≡ 16384) (there : n ≤ length (reading a).records)
+      (stands : StandsShut n bytes a (content s unit block)) (is : IsRecord bytes) (cheap : cost (take n (reading a).records) + cost_of (record_at 0 bytes) ≤ 13165) where
     abbrev Opened : List ℕ → Type 0
     Opened b = EndsAfter n a b ⊎ (reading b ≡ reading_of (formatted n (record_at 0 bytes) (reading a).records))
 
     open_any : (left : List ℕ) → length left ≡ 1 → Opened (splice (129 + n) left (content s unit block))
-    open_any left one = opening n (97 - n) bytes a (content s unit block) left (omega arith) there long ends next is holds cheap one
+    open_any left one = opening n (97 - n) bytes a (content s unit block) left (omega arith) there long stands.ends stands.next is stands.holds cheap one
 
     pub open_moments : (left : List ℕ) → length left ≡ 1 → Adds (record { unit = unit; block = block; offset = 129 + n; bytes = left }) s t → Writes (ChangesBlock unit block Opened (content s)) s t
-    open_moments left one adds = block_write unit block (129 + n) left Opened s t adds (inl ends) (λ other long_other. open_any other (long_other ∙ one))
+    open_moments left one adds = block_write unit block (129 + n) left Opened s t adds (inl stands.ends) (λ other long_other. open_any other (long_other ∙ one))
 
     pub open_done : Adds (record { unit = unit; block = block; offset = 129 + n; bytes = 193 ∷ [] }) s t → reading (content t unit block) ≡ reading_of (formatted n (record_at 0 bytes) (reading a).records)
     open_done adds = ap reading (block_written unit block (129 + n) (193 ∷ []) s t adds) ∙ elim (open_any (193 ∷ []) refl) [
-      | inl shut ↦ absurd (true≢false (sym (gate_written n (193 ∷ []) (content s unit block) refl (omega (arith, ends.front.long))) ∙ shut.closed))
+      | inl shut ↦ absurd (true≢false (sym (gate_written n (193 ∷ []) (content s unit block) refl (omega (arith, stands.ends.front.long))) ∙ shut.closed))
       | inr done ↦ done
     ]
 
@@ -77,7 +68,7 @@ next_shut n a b same shut =
     let there : 128 + (n + 2) ≡ 130 + n = omega arith in
     ne_eqb (get_or b (128 + (n + 2)) 0) 193 (λ is. shut (sym same ∙ ap (λ (k : ℕ). get_or b k 0) (sym there) ∙ is))
 
--- the four writes, one after another
+-- the three steps, one after another
 module _ (unit : UnitNo) (block n : ℕ) (a bytes : List ℕ) (few : n ≤ 96) (there : n ≤ length (reading a).records) where
   abbrev Closing : List ℕ → Type 0
   Closing b = (b ≡ a) ⊎ EndsAfter n a b
@@ -110,11 +101,12 @@ module _ (unit : UnitNo) (block n : ℕ) (a bytes : List ℕ) (few : n ≤ 96) (
   pub after_one : (s t : SiteLog) → Run Closing s t → Run Formats s t
   after_one s t one = block_weaker unit block Closing Formats from_closing s t one
 
-  pub after_two : (s t u : SiteLog) → Run Closing s t → Run (EndsAfter n a) t u → Run Formats s u
-  after_two s t u one two = block_then unit block Formats (EndsAfter n a) Formats (λ b has. has) from_ends s t u (after_one s t one) two
+  -- a step behind others of which nothing is loose
+  step : (P : List ℕ → Type 0) → ((b : List ℕ) → P b → Formats b) → (s t u : SiteLog) → Settles s t → Run Formats s t → Run P t u → Run Formats s u
+  step P from_P s t u firm before next = block_then unit block Formats P Formats (λ b has. has) from_P s t u before next
 
-  pub after_three : (s t u v : SiteLog) → Run Closing s t → Run (EndsAfter n a) t u → Run (EndsAfter n a) u v → Run Formats s v
-  after_three s t u v one two three = block_then unit block Formats (EndsAfter n a) Formats (λ b has. has) from_ends s u v (after_two s t u one two) three
+  pub after_two : (s t u : SiteLog) → Settles s t → Run Closing s t → Run (EndsAfter n a) t u → Run Formats s u
+  after_two s t u firm one two = step (EndsAfter n a) from_ends s t u firm (after_one s t one) two
 
-  pub after_four : (s t u v w : SiteLog) → Run Closing s t → Run (EndsAfter n a) t u → Run (EndsAfter n a) u v → Run Opening v w → Run Formats s w
-  after_four s t u v w one two three four = block_then unit block Formats Opening Formats (λ b has. has) from_opening s v w (after_three s t u v one two three) four
+  pub after_three : (s t u v : SiteLog) → Settles s t → Settles s u → Run Closing s t → Run (EndsAfter n a) t u → Run Opening u v → Run Formats s v
+  after_three s t u v firm firm_too one two three = step Opening from_opening s u v firm_too (after_two s t u firm one two) three

@@ -1,9 +1,10 @@
 -- What formatting a record makes of a track.
-use Rattle.std.specs.Prelude.{◌≡◌, ◌≤◌, ◌<◌, ℕ, ◌+◌, false, List, [], ◌∷◌, ◌++◌, length, take, slice_index, None}
+use Rattle.std.specs.Prelude.{◌≡◌, ◌≤◌, ◌<◌, nat_lt, ℕ, ◌+◌, ◌-◌, Bool, false, not, ◌&&◌, ◌||◌, List, [], ◌∷◌, ◌++◌, length, take, slice_index, None}
 use Rattle.mss_base.specs.declared.place.BlockPlace.{BlockPlace}
-use Rattle.mss_base.specs.Content.{SiteLog, content, Writes, ChangesBlock}
-use Rattle.ckd_track.specs.Data.{RecordData}
-use Rattle.ckd_track.specs.Track.{Reading, reading_of, record_length, is_open, place_after}
+use Rattle.mss_base.specs.Content.{SiteLog, Item, content, Got, Writes, ChangesBlock, AreWithin}
+use Rattle.ckd_track.specs.Data.{RecordData, cost, cost_of}
+use Rattle.ckd_track.specs.Track.{Reading, reading, reading_of, record_length, record_at, is_open, place_after}
+use Rattle.ckd_track.specs.declared.layout.TheConstants.{TRACK_COST}
 
 -- the bytes of a block
 abbrev pub block_of : SiteLog → BlockPlace → List ℕ
@@ -17,6 +18,13 @@ WritesBlock at P old new = Writes (ChangesBlock at.unit at.block P (content old)
 pub record IsRecord (bytes : List ℕ) : Type 0 where
   pub count : 8 ≤ length bytes
   pub whole : record_length 0 bytes ≡ length bytes
+
+-- a record of these bytes has room as the one of this number, behind those before it
+pub record MayFormat (number : ℕ) (bytes block : List ℕ) : Type 0 where
+  pub first : 1 ≤ number
+  pub there : number ≤ length (reading block).records + 1
+  pub whole : IsRecord bytes
+  pub fits : cost (take (number - 1) (reading block).records) + cost_of (record_at 0 bytes) ≤ TRACK_COST
 
 -- the first n records, and this one as the last
 abbrev pub formatted : ℕ → RecordData → List RecordData → List RecordData
@@ -53,3 +61,24 @@ pub record EndsAfter (n : ℕ) (a b : List ℕ) : Type 0 where
 -- these bytes stand at a place
 abbrev pub Holds : ℕ → List ℕ → List ℕ → Type 0
 Holds place bytes b = (j : ℕ) → j < length bytes → slice_index b (place + j) ≡ slice_index bytes j
+
+-- and the later gates are as they were
+pub record EndsBefore (n : ℕ) (a b : List ℕ) : Type 0 where
+  pub ends : EndsAfter n a b
+  pub later : SameBytes (130 + n) 227 a b
+
+-- the record of these bytes stands in its place behind the closed gate, and the gate behind its own is closed too
+pub record StandsShut (n : ℕ) (bytes a b : List ℕ) : Type 0 where
+  pub ends : EndsAfter n a b
+  pub next : is_open (n + 2) b ≡ false
+  pub holds : Holds (place_after n 256 a) bytes b
+
+-- the places behind the gate after n records: the later gates, and all from the next record's place on
+abbrev pub is_behind : ℕ → List ℕ → ℕ → Bool
+is_behind n a i = nat_lt (129 + n) i && (nat_lt i 256 || not (nat_lt i (place_after n 256 a)))
+
+-- the log got items that write behind that gate alone, if they write
+pub record WritesBehind (n : ℕ) (a : List ℕ) (at : BlockPlace) (old new : SiteLog) : Type 0 where
+  pub items : List Item
+  pub grown : Got items old new
+  pub within : AreWithin at.unit at.block (is_behind n a) items

@@ -1,7 +1,7 @@
 -- What updating a record makes of a track.
-use Rattle.std.specs.Prelude.{◌≡◌, ℕ, ◌+◌, Bool, true, false, List, length, take, drop, slice_set, slice_index_or}
+use Rattle.std.specs.Prelude.{◌≡◌, ◌≤◌, ℕ, ◌+◌, ◌-◌, Bool, true, false, List, length, take, drop, slice_set, slice_index_or}
 use Rattle.ckd_track.specs.Data.{RecordData, blank_record}
-use Rattle.ckd_track.specs.Track.{Reading, key_length}
+use Rattle.ckd_track.specs.Track.{Reading, reading, key_length, BeginsAt}
 
 -- how many bytes an update of a record writes: its data, or its key and data
 abbrev pub updated_length : Bool → RecordData → ℕ
@@ -16,6 +16,13 @@ with_bytes true bytes r = record r { key = take (length r.key) bytes; body = dro
 -- the record behind the first n
 abbrev pub record_behind : ℕ → List RecordData → RecordData
 record_behind n records = slice_index_or records n blank_record
+
+-- the record of this number begins at this place, and is as long as these bytes for its data, or its key and data
+pub record MayUpdate (number place : ℕ) (key_too : Bool) (bytes block : List ℕ) : Type 0 where
+  pub first : 1 ≤ number
+  pub there : number ≤ length (reading block).records
+  pub found : BeginsAt number place block
+  pub long : length bytes ≡ updated_length key_too (record_behind (number - 1) (reading block).records)
 
 -- the same records, but the one behind the first n has these bytes
 abbrev pub updated : Bool → ℕ → List ℕ → List RecordData → List RecordData

@@ -1,17 +1,16 @@
-// Updating a record: one write, such that a stop at any moment changes that record's bytes alone.
-ghost use Rattle.std.specs.Prelude.{◌≡◌, ◌≤◌, ◌<◌, ◌+◌, ◌-◌, [], length, Bool, IsOk, OnOk, OnErr};
-ghost use Rattle.mss_base.specs.Counts.{HasCause, Rises};
-ghost use Rattle.mss_base.specs.Sites.{MayWrite};
-ghost use Rattle.mss_base.specs.declared.place.UnitNo.{UnitNo};
-ghost use Rattle.ckd_track.specs.Track.{reading, record_length, BeginsAt};
+// Updating a record: one write and a sync, such that a stop at any moment changes that record's bytes alone.
+ghost use Rattle.std.specs.Prelude.{◌≡◌, ◌≤◌, ◌<◌, ◌+◌, ◌-◌, [], length, OnOk};
+ghost use Rattle.mss_base.specs.Content.{Settles};
+ghost use Rattle.mss_base.specs.Sites.{WritesAtMost};
+ghost use Rattle.ckd_track.specs.Track.{reading, record_length};
 ghost use Rattle.ckd_track.specs.Formatting.{block_of, WritesBlock};
-ghost use Rattle.ckd_track.specs.Updating.{IsUpdating, updated_length, record_behind, updated, bytes_place};
+ghost use Rattle.ckd_track.specs.Updating.{IsUpdating, MayUpdate, updated, bytes_place};
 
 use crate::layout::key_length;
-use mss_base::{BLOCK_BYTES, BlockPlace, Failed, Site};
+use mss_base::{BLOCK_BYTES, BlockPlace, FIRM_ITEMS, Failed, Site, write_firm};
 
-/// How many items of the log an update makes at most: one write.
-pub const UPDATE_ITEMS: u32 = 1;
+/// How many items of the log an update makes at most: one write, and a sync.
+pub const UPDATE_ITEMS: u32 = FIRM_ITEMS;
 
 /// The place of the data, or of the key and data, of the record at a place.
 fn bytes_place(block: &[u8], place: u16, key_too: bool) -> u16
@@ -29,8 +28,9 @@ fn bytes_place(block: &[u8], place: u16, key_too: bool) -> u16
 /// Updates record `number` with bytes for its data, or with `key_too` for its key and data.
 ///
 /// `block` is what stands there, `place` is where the record begins in it (`find_place`), and `bytes` are as
-/// many as the record has. It makes one write, or none of no bytes. At any moment the track is the old one
-/// with some bytes of that length in the record. Where it fails, the site's count of faults has risen.
+/// many as the record has. It makes one write and a sync, or nothing of no bytes, and at Ok what it wrote is firm.
+/// At any moment the track is the old one with some bytes of that length in the record. Where it fails, the site's
+/// count of faults has risen.
 pub fn update_record<S: Site>(
     site: &mut S,
     at: &BlockPlace,
@@ -42,11 +42,7 @@ pub fn update_record<S: Site>(
 ) -> Result<(), Failed>
     requires whole { length block.now ≡ BLOCK_BYTES }
     requires told { S.tells → block_of (S.told site.old) at.now ≡ block.now }
-    requires first { 1 ≤ number }
-    requires there { number ≤ length (reading block.now).records }
-    requires found { BeginsAt number place block.now }
-    requires long { length bytes.now
-        ≡ updated_length key_too (record_behind (number - 1) (reading block.now).records) }
+    requires found { MayUpdate number place key_too bytes.now block.now }
     requires room { UPDATE_ITEMS ≤ S.spare site.old }
 
     ensures moments { S.tells → WritesBlock at.now
@@ -56,19 +52,13 @@ pub fn update_record<S: Site>(
         ≡ record (reading block.now) {
           records = updated key_too (number - 1) bytes.now (reading block.now).records;
         }) }
-
     ensures untouched { bytes.now ≡ [] → site.new ≡ site.old }
-    ensures devices { MayWrite S.Site UPDATE_ITEMS site.old site.new }
-    ensures few { S.tells → length (S.told site.new).log
-        ≤ length (S.told site.old).log + UPDATE_ITEMS }
-    ensures cause { HasCause (S.faults site.old) (S.faults site.new) result }
-    ensures counted { OnErr result (Rises (S.writes site.old) (S.writes site.new)) }
-    ensures works { (but : UnitNo → Bool) → S.never_fails_but site.old but → IsOk result }
+    ensures firm { S.tells → OnOk result (Settles (S.told site.old) (S.told site.new)) }
+    ensures site_ { WritesAtMost S.Site UPDATE_ITEMS site.old site.new result }
 {
     let offset = bytes_place(block, place, key_too);
     if bytes.is_empty() {
         return Ok(());
     }
-    site.write(at.unit, at.block, offset, bytes)?;
-    Ok(())
+    write_firm(site, at, offset, bytes)
 }
