@@ -13,6 +13,7 @@ use Rattle.channel_commands.specs.Codes.{is_write}
 use Rattle.channel_commands.specs.Views.{reply_of}
 use Rattle.ckd_track.specs.Data.{RecordData}
 use Rattle.ckd_track.specs.Track.{reading}
+use Rattle.ckd_track.specs.declared.format.TheConstants.{FORMAT_ITEMS}
 use Rattle.ckd_plain.specs.declared.done.DoneCommand.{DoneCommand}
 use Rattle.ckd_plain.specs.declared.host.HostState.{HostState}
 use Rattle.ckd_plain.specs.declared.unit_check.Refusal.{Refusal}
@@ -28,7 +29,7 @@ use Rattle.channel_commands.specs.Data.{ReplyData, done}
 use Rattle.track_engine.specs.Faults.{HasUnitCheck, UsesDevices}
 use Rattle.track_engine.specs.Answers.{Asked, AsksNothing, ran_for, Runs, LeavesDevices}
 use Rattle.track_engine.specs.Tracks.{tracks_on, AreTracksOn}
-use Rattle.track_engine.proofs.Steps.{tracks_stay}
+use Rattle.track_engine.proofs.Steps.{nothing_loose, tracks_stay}
 use Rattle.track_engine.specs.Writing.{HoldsWritten, IsOfNothing, WritesTrack, CarriesOut, target_of, most_writes, written_of}
 use Rattle.track_engine.proofs.Unwritten.{performed_written}
 
@@ -89,6 +90,9 @@ module _ (a : Asked) (old new : SiteLog) (from ready : HostState) (from_is : fro
   refuses : (e : NotDone) (refusal : Refusal) → e ≡ Refused refusal → Carried (Err e) → given ≡ Err refusal
   refuses e refusal is carried = (carried_for (Err (Refused refusal)) (subst (λ (e : NotDone). Carried (Err e)) is carried)).outcome
 
+  unwritten_by : (e : NotDone) (refusal : Refusal) → e ≡ Refused refusal → Carried (Err e) → new ≡ old
+  unwritten_by e refusal is carried = (carried_for (Err (Refused refusal)) (subst (λ (e : NotDone). Carried (Err e)) is carried)).log
+
   pub runs_done : (d : DoneCommand) (reply : Reply) (left : HostState) → Carried (Ok d) → reply_of reply ≡ (finished a.command a.chained (effect_of d)).reply → left ≡ (finished a.command a.chained (effect_of d)).host
       → AreTracksOn old a.place → Runs a old new (Ok reply) left
   runs_done d reply left carried replies leaves are = record {
@@ -97,6 +101,7 @@ module _ (a : Asked) (old new : SiteLog) (from ready : HostState) (from_is : fro
     exact = λ track is.
         ap (λ (head : ℕ). reading (block head)) (sym (head-opened a.host))
         ∙ subst (λ (w : Option (List RecordData)). HoldsWritten w (reading (block (opened a.host).head))) (sym written_is ∙ is) (carried_for (Ok d) carried).exact;
+    firm = (carried_for (Ok d) carried).firm;
     still_tracks = still_tracks (Ok d) carried are;
   }
 
@@ -108,11 +113,12 @@ module _ (a : Asked) (old new : SiteLog) (from ready : HostState) (from_is : fro
     exact = λ track is.
         let none : None ≡ Some track = sym (ap written_of (refuses e refusal ends carried)) ∙ sym written_is ∙ is in
         absurd cc;
+    firm = nothing_loose old new (unwritten_by e refusal ends carried);
     still_tracks = still_tracks (Err e) carried are;
   }
 
   pub runs_failed : (e : NotDone) (fault : EngineFault) (left : HostState) → Carried (Err e) → AreTracksOn old a.place → Runs a old new (Err fault) left
-  runs_failed e fault left carried are = record { answer = tt; writes = writes (Err e) carried; exact = tt; still_tracks = still_tracks (Err e) carried are }
+  runs_failed e fault left carried are = record { answer = tt; writes = writes (Err e) carried; exact = tt; firm = tt; still_tracks = still_tracks (Err e) carried are }
 
 -- a command that ended otherwise is not told a unit check
 pub has_no_unit_check : (status : ℕ) (bytes : List ℕ) (reply : ReplyData) → is_ending status ≡ true → reply ≡ done status bytes → HasUnitCheck reply → ⊥
@@ -124,15 +130,15 @@ has_no_unit_check status bytes reply ends is checked =
 
 -- ---- what is left of the devices
 
-most_is_four : (c : Command) → most_writes c ≤ 4
-most_is_four (command.Write write.Data) = omega arith
-most_is_four (command.Write write.KeyData) = omega arith
-most_is_four (command.Write write.CountKeyData) = omega arith
-most_is_four _ = omega arith
+most_fits : (c : Command) → most_writes c ≤ FORMAT_ITEMS
+most_fits (command.Write write.Data) = omega arith
+most_fits (command.Write write.KeyData) = omega arith
+most_fits (command.Write write.CountKeyData) = omega arith
+most_fits _ = omega arith
 
 module _ {S : Type 0} (g : Ghosts S) (c : Command) (unit : UnitNo) (old new : S) where
-  may_write : MayWrite g (most_writes c) old new → MayWrite g 4 old new
-  may_write w = record { room = let few = most_is_four c in omega (arith, w.room, few); written = w.written; later = w.later; sound = w.sound }
+  may_write : MayWrite g (most_writes c) old new → MayWrite g FORMAT_ITEMS old new
+  may_write w = record { room = let few = most_fits c in omega (arith, w.room, few); written = w.written; later = w.later; sound = w.sound }
 
   abbrev Uses : Result DoneCommand NotDone → Type 0
   Uses result = UsesDevices g (most_writes c) (is_write c) unit old new result

@@ -3,8 +3,9 @@ use Rattle.std.proofs.Common.{◌≡◌, inl, inr, ℕ, ◌+◌, ◌-◌, List, 
 use Rattle.std.specs.Prelude.{◌&&◌, ◌==◌}
 use Rattle.mss_base.specs.declared.place.UnitNo.{UnitNo}
 use Rattle.mss_base.specs.declared.place.BlockPlace.{BlockPlace}
-use Rattle.mss_base.specs.Content.{SiteLog, content, same_unit, Writes, ChangesBlock}
+use Rattle.mss_base.specs.Content.{SiteLog, content, same_unit, Settles, Writes, ChangesBlock}
 use Rattle.mss_base.proofs.Moments.{block_weaker, ended_with}
+use Rattle.mss_base.proofs.Settling.{settles_none}
 use Rattle.std.proofs.lemmas.Bool.{cases_Bool, and_parts, eqb-true}
 use Rattle.channel_commands.specs.declared.command.Command.{Command}
 use Rattle.channel_commands.specs.declared.command.Command.TheVariants as command
@@ -62,19 +63,23 @@ module _ (to : BlockPlace) (s t : SiteLog) (at : RecordPlace) (r : RecordData) (
         (subst (λ (n : ℕ). Writes (ChangesBlock to.unit to.block (λ b. IsFormatting n r (reading a) (reading b)) (content s)) s t) before_is moments)
 
     pub format_carried_out : (d : DoneCommand) → effect_of d ≡ effect_with DONE [] (record at.host { position = position.Done number; prior = prior.Wrote number })
-        → reading (content t to.unit to.block) ≡ reading_of (take (number - 1) (reading a).records ++ r ∷ [])
+        → reading (content t to.unit to.block) ≡ reading_of (take (number - 1) (reading a).records ++ r ∷ []) → Settles s t
         → CarriesOut (Ok (formatted_behind (reading a).records r at)) format_command (target_in to a at) s t (Ok d)
-    format_carried_out d does holds = record {
+    format_carried_out d does holds firm = record {
       outcome = ap (λ (n : ℕ). writes_too new_track (effect_with DONE [] (record at.host { position = position.Done n; prior = prior.Wrote n }))) (sym behind) ∙ ap (writes_too new_track) (sym does);
       moments = steps;
       exact = holds ∙ ap (λ (n : ℕ). reading_of (take n (reading a).records ++ r ∷ [])) before_is;
+      firm = firm;
       log = tt;
     }
 
     pub format_failed : (fault : ℕ) → CarriesOut (Ok (formatted_behind (reading a).records r at)) format_command (target_in to a at) s t (Err (Fault (WriteFailed fault)))
-    format_failed fault = record { outcome = tt; moments = steps; exact = tt; log = tt }
+    format_failed fault = record { outcome = tt; moments = steps; exact = tt; firm = tt; log = tt }
 
 -- ---- a command that wrote nothing
+
+pub nothing_loose : (old new : SiteLog) → new ≡ old → Settles old new
+nothing_loose old new same = subst (λ (s : SiteLog). Settles old s) (sym same) (settles_none old)
 
 -- a search or a read, whatever kept it from being done
 module _ (given : Outcome) (c : Command) (to : Target) (old new : SiteLog) (unwritten : written_of given ≡ None) (same : new ≡ old) where
@@ -86,15 +91,19 @@ module _ (given : Outcome) (c : Command) (to : Target) (old new : SiteLog) (unwr
   leaves (WriteFailed fault) = tt
   leaves Memory = same
 
+  settled : Settles old new
+  settled = nothing_loose old new same
+
   pub read_carried_out : (result : Result DoneCommand NotDone) → GivesBut effect_of result given → CarriesOut given c to old new result
   read_carried_out (Ok d) gives = record {
     outcome = gives ∙ ap (λ (written : Option (List RecordData)). done_with written d) (sym unwritten);
     moments = moments_of;
     exact = subst (λ (written : Option (List RecordData)). HoldsWritten written (reading (content new to.block.unit to.block.block))) (sym unwritten) tt;
+    firm = settled;
     log = tt;
   }
-  read_carried_out (Err (Refused refusal)) gives = record { outcome = gives; moments = moments_of; exact = tt; log = same }
-  read_carried_out (Err (Fault fault)) gives = record { outcome = tt; moments = moments_of; exact = tt; log = leaves fault }
+  read_carried_out (Err (Refused refusal)) gives = record { outcome = gives; moments = moments_of; exact = tt; firm = tt; log = same }
+  read_carried_out (Err (Fault fault)) gives = record { outcome = tt; moments = moments_of; exact = tt; firm = tt; log = leaves fault }
 
 -- ---- the tracks of a cylinder
 

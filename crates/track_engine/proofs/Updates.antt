@@ -4,7 +4,7 @@ use Rattle.std.specs.Prelude.{slice_index_or, replicate}
 use Rattle.std.proofs.lemmas.List.{length-take-le}
 use Rattle.std.proofs.lemmas.Option.{slice_get-get_or}
 use Rattle.mss_base.specs.declared.place.BlockPlace.{BlockPlace}
-use Rattle.mss_base.specs.Content.{SiteLog, content, Writes, ChangesBlock}
+use Rattle.mss_base.specs.Content.{SiteLog, content, Settles, Writes, ChangesBlock}
 use Rattle.mss_base.proofs.Moments.{block_weaker}
 use Rattle.channel_commands.specs.declared.command.Command.TheVariants as command
 use Rattle.ckd_track.specs.Data.{RecordData, blank_record}
@@ -140,14 +140,15 @@ module _ (to : BlockPlace) (s t : SiteLog) (at : RecordPlace) (key_too : Bool) (
 
     pub update_carried_out : (d : DoneCommand) (status : ℕ) → status ≡ status_of (record_behind (at.number - 1) records)
         → effect_of d ≡ effect_with status [] (record at.host { position = position.Done at.number })
-        → reading (content t to.unit to.block) ≡ record (reading a) { records = new_track }
+        → reading (content t to.unit to.block) ≡ record (reading a) { records = new_track } → Settles s t
         → CarriesOut (Ok (updated_at key_too records bytes at)) (command.Write (update_kind key_too)) (target_in to a at) s t (Ok d)
-    update_carried_out d status status_is does holds = record {
+    update_carried_out d status status_is does holds firm = record {
       outcome = ap (λ (n : ℕ). writes_too (effect_with n [] (record at.host { position = position.Done at.number }))) (sym status_is) ∙ ap writes_too (sym does);
       moments = steps;
       exact = holds ∙ (λ i. record { records = new_track; bad = good i });
+      firm = firm;
       log = tt;
     }
 
     pub update_failed : (fault : ℕ) → CarriesOut (Ok (updated_at key_too records bytes at)) (command.Write (update_kind key_too)) (target_in to a at) s t (Err (Fault (WriteFailed fault)))
-    update_failed fault = record { outcome = tt; moments = steps; exact = tt; log = tt }
+    update_failed fault = record { outcome = tt; moments = steps; exact = tt; firm = tt; log = tt }

@@ -1,6 +1,6 @@
 -- What a command is answered.
 use Rattle.std.specs.Prelude.{◌≡◌, ◌≤◌, ℕ, ◌+◌, Bool, false, List, length, Some, Result, IfOk, IfErr, OnOk, OnErr}
-use Rattle.mss_base.specs.Content.{Content, SiteLog, content}
+use Rattle.mss_base.specs.Content.{Content, SiteLog, content, Settles}
 use Rattle.mss_base.specs.Sites.{OnlyReads, MayWrite}
 use Rattle.mss_base.specs.declared.place.UnitNo.{UnitNo}
 use Rattle.mss_base.specs.declared.site.Site.{Ghosts}
@@ -45,11 +45,13 @@ AsksNothing a s = IsOfNothing a.command (prior_number (opened a.host).prior) (tr
 
 -- What a command on a cylinder's blocks does, by the log of its site: the reply and the host that is left are the plain machine's;
 -- whatever the outcome, only the block of the host's head was written, in steps that a stop may leave, and in the end it is the new track.
+-- When the reply comes, all that was written is firm.
 pub record Runs (a : Asked) (old new : SiteLog) (result : Result Reply EngineFault) (left : HostState) : Type 0 where
   pub answer : IfOk result (Responds (ran_for a old) left)
   pub writes : WritesTrack a.command (opened a.host) a.place.unit a.place.first_block old new (ran_for a old).written
   pub exact : OnOk result ((track : List RecordData) → (ran_for a old).written ≡ Some track
       → reading (content new a.place.unit (a.place.first_block + a.host.head)) ≡ reading_of track)
+  pub firm : OnOk result (Settles old new)
   pub still_tracks : AreTracksOn new a.place
 
 -- what a command leaves of its host, whatever the site tells

@@ -87,7 +87,7 @@ abbrev pub IsUndone : {S : Type 0} → Ghosts S → Bool → S → S → NotDone
 IsUndone g by_write old new (Refused refusal) = Untroubled g old new
 IsUndone g by_write old new (Fault fault) = FailsBy g by_write old new fault
 
--- What a command leaves of its devices, done or not, whatever the site tells: it makes so many writes at most, and one that is no write
+-- What a command leaves of its devices, done or not, whatever the site tells: it makes so many items of the log at most, and one that is no write
 -- reads at most. The count of faults rises where a call failed, and the fault says which; where none on this unit may fail, none did, and
 -- where only reads may, no write failed.
 pub record UsesDevices {S : Type 0} (g : Ghosts S) (most : ℕ) (by_write : Bool) (unit : UnitNo) (old new : S) (result : Result DoneCommand NotDone) : Type 0 where

@@ -1,6 +1,6 @@
 -- What a command does on the blocks of a cylinder, and what a stop within it may leave.
 use Rattle.std.specs.Prelude.{◌≡◌, ◌⊎◌, ℕ, ◌+◌, ◌-◌, Bool, true, false, List, [], ◌∷◌, ◌++◌, take, Option, Some, None, Result, Ok, Err, OnOk, IfErr}
-use Rattle.mss_base.specs.Content.{SiteLog, content, Writes, ChangesBlock}
+use Rattle.mss_base.specs.Content.{SiteLog, content, Settles, Writes, ChangesBlock}
 use Rattle.mss_base.specs.declared.place.BlockPlace.{BlockPlace}
 use Rattle.mss_base.specs.declared.place.UnitNo.{UnitNo}
 use Rattle.channel_commands.specs.declared.command.Command.{Command}
@@ -87,11 +87,13 @@ abbrev pub HoldsWritten : Option (List RecordData) → Reading → Type 0
 HoldsWritten None block = Unit {0}
 HoldsWritten (Some track) block = block ≡ reading_of track
 
--- what a function did on a site that tells is what the definition gives: its outcome, its writes, whatever kept it from the others
+-- What a function did on a site that tells is what the definition gives: its outcome, and its writes, whatever kept it from the others. Once it is
+-- done, all that it wrote is firm.
 pub record CarriesOut (given : Outcome) (c : Command) (to : Target) (old new : SiteLog) (result : Result DoneCommand NotDone) : Type 0 where
   pub outcome : GivesBut (effect_as (written_of given)) result given
   pub moments : WritesBlock c to old new (written_of given)
   pub exact : OnOk result (HoldsWritten (written_of given) (reading (content new to.block.unit to.block.block)))
+  pub firm : OnOk result (Settles old new)
   pub log : IfErr result (LeavesLog old new)
 
 -- the bytes are a count, a key and data: those that an argument spells
@@ -113,7 +115,7 @@ abbrev pub update_kind : Bool → WriteKind
 update_kind false = write.Data
 update_kind true = write.KeyData
 
--- how many writes a command makes at most
+-- how many items of the log a command makes at most, writes and syncs
 abbrev pub most_writes : Command → ℕ
 most_writes (command.Write write.Data) = UPDATE_ITEMS
 most_writes (command.Write write.KeyData) = UPDATE_ITEMS

@@ -99,8 +99,8 @@ fn carry_out<S: Site>(
 
 /// A search, read or write that passed its checks, on the blocks of the host's cylinder.
 ///
-/// `buffer` is room for one block, which a write alone uses. After a fault the host is as it was. An update makes one
-/// write at most, and of no bytes none.
+/// `buffer` is room for one block, which a write alone uses. After a fault the host is as it was. When the reply comes,
+/// all that was written is firm. An update makes one write at most and a sync, and of no bytes nothing.
 pub fn run_command<S: Site>(
     alloc: Global,
     site: &mut S,
