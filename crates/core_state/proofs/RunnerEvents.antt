@@ -134,6 +134,7 @@ ran_on core h code argument chained c volume frame host' mounted (done status by
     looks = λ _. refl;
     refused = λ _. refl;
     untouched = λ tl. absurd tl;
+    firm = λ tl. absurd tl;
     sound = refl;
   },
   refl,

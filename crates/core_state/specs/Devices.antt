@@ -1,6 +1,6 @@
 -- What an event does to the devices, of which only so much is seen.
 use Rattle.std.specs.Prelude.{◌≡◌, ◌≤◌, ◌<◌, ℕ, ◌+◌, Bool, true, false, List, length}
-use Rattle.mss_base.specs.Content.{Content, SiteLog, content}
+use Rattle.mss_base.specs.Content.{Content, SiteLog, Settles, content}
 use Rattle.mss_base.specs.Counts.{Rises, IsFaultSince}
 use Rattle.mss_base.specs.declared.place.BlockPlace.{BlockPlace}
 use Rattle.ckd_track.specs.Track.{reading}
@@ -92,7 +92,7 @@ UpdatesNothing r c =
     (tracks_at c r.at.unit r.at.block r.host.head)
 
 -- it is replied this, and leaves this host; no call failed, and only a write without unit check has
--- written, so often at most, and an update only if it has bytes
+-- written, so many items at most, and an update only if it has bytes; what was written is firm
 pub record RunOn (tells : Type 0) (r : Run) (old new : DevicesSeen) (answer : ReplyData × HostState)
     : Type 0 where
   pub done_ : IsDone answer.0
@@ -103,6 +103,7 @@ pub record RunOn (tells : Type 0) (r : Run) (old new : DevicesSeen) (answer : Re
   pub moments : tells → WritesFor r old.told new.told
   pub exact : tells → HoldsWritten (answer_on r (content old.told)).written
       (reading (track_under r (content new.told)))
+  pub firm : tells → Settles old.told new.told
   pub later : old.writes ≤ new.writes
   pub few : tells → length new.told.log ≤ length old.told.log + most_writes r.command
   pub looks : is_write r.command ≡ false → new.writes ≡ old.writes

@@ -93,6 +93,7 @@ module _ {S : Type 0} (g : Ghosts S) (c : Command) (call : CallData)
     host_ = λ tl. there (λ a l u b. left ≡ (ran (content (g.told old)) u b host c a l).host) (runs tl).answer.host_;
     moments = λ tl. there (λ a l u b. WritesTrack c (opened host) u b (g.told old) (g.told new) (ran (content (g.told old)) u b host c a l).written) (runs tl).writes;
     exact = λ tl. there (λ a l u b. HoldsWritten (ran (content (g.told old)) u b host c a l).written (reading (content (g.told new) u (b + host.head)))) (holds_written _ _ (runs tl).exact);
+    firm = λ tl. (runs tl).firm;
     later = site.devices.written;
     few = site.few;
     looks = λ reads. (site.looks reads).unwritten;

@@ -1,6 +1,6 @@
 -- What comes of a command that is run is what the event of its rule says.
 use Rattle.std.proofs.Common.{◌≡◌, ℕ, ◌+◌, ◌≤◌, Bool, false, List, length, Option, None, sym, ◌∙◌, subst}
-use Rattle.mss_base.specs.Content.{SiteLog, content}
+use Rattle.mss_base.specs.Content.{SiteLog, Settles, content}
 use Rattle.mss_base.specs.Counts.{Rises}
 use Rattle.channel_commands.specs.Codes.{is_write}
 use Rattle.channel_commands.specs.Data.{CallData, command as ask, ReplyData, done, mounted, demounted, already_mounted, not_mounted, no_volume, in_chain, program_check, chain_limit, equipment_check, no_space, stopped}
@@ -46,6 +46,7 @@ module _ (tells : Type 0) (old mid new : DevicesSeen) (told : tells → mid.told
     host_ = λ tl. seen_from (λ d. answer.1 ≡ (answer_on r (content d.told)).host) tl (ran.host_ tl);
     moments = λ tl. seen_from (λ d. WritesFor r d.told new.told) tl (ran.moments tl);
     exact = λ tl. seen_from (λ d. HoldsWritten (answer_on r (content d.told)).written (reading (track_under r (content new.told)))) tl (ran.exact tl);
+    firm = λ tl. seen_from (λ d. Settles d.told new.told) tl (ran.firm tl);
     later = subst (λ (n : ℕ). n ≤ new.writes) unwritten ran.later;
     few = λ tl. seen_from (λ d. length new.told.log ≤ length d.told.log + most_writes r.command) tl (ran.few tl);
     looks = λ reads. ran.looks reads ∙ unwritten;

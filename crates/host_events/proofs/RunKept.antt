@@ -14,6 +14,7 @@ use Rattle.ckd_plain.specs.declared.unit_check.UnitCheck.TheVariants as check
 use Rattle.ckd_plain.specs.Checks.{Passes}
 use Rattle.ckd_plain.specs.Effects.{is_data}
 use Rattle.ckd_plain.specs.Plain.{opened, checked}
+use Rattle.ckd_track.specs.declared.format.TheConstants.{FORMAT_ITEMS}
 use Rattle.track_engine.specs.Tracks.{AreTracks}
 use Rattle.fault_queue.specs.Requests.{RequestsData, without_request}
 use Rattle.core_state.specs.declared.rule.HostRule.TheVariants.{Runs}
@@ -103,7 +104,7 @@ module _ (S : Type 0) {C : Type 0} (g : Ghosts S) {u : CoreValue S C} (v : CoreV
     up : IsUpheld g.tells (g.told u.site) (g.writes u.site) (g.faults u.site) u
     up = record { whole = kept.whole; counted = kept.counted }
 
-    module _ (x : S) (may : MayWrite g 4 mid x) (counts : g.tells → g.writes x ≡ length (g.told x).log) where
+    module _ (x : S) (may : MayWrite g FORMAT_ITEMS mid x) (counts : g.tells → g.writes x ≡ length (g.told x).log) where
       abbrev new : DevicesSeen
       new = seen_site g x
 

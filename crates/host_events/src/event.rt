@@ -21,10 +21,13 @@ use crate::rule::host_rule;
 use crate::run::run;
 use crate::wait::{ask, hold};
 use channel_commands::Call;
+use ckd_track::FORMAT_ITEMS;
 use core_state::{Core, HostRule, Waiting};
 use mss_base::{HostNo, Site};
-use table_pair::CHANGE_WRITES;
 use victim_choice::Choose;
+
+/// How many items of the log a host's event makes at most: those of a format. A change of a row makes fewer.
+pub const EVENT_ITEMS: u32 = FORMAT_ITEMS;
 
 /// Does what the first rule that a host's call meets says, and answers the host.
 ///
@@ -41,7 +44,7 @@ pub fn host_event<S: Site, C: Choose>(
     ensures event { HostEvent S.tells (seen S.Site core.old) host
         (call_of call.now) (told_of result) (seen S.Site core.new) }
     ensures chooser { core.new.chooser ≡ core.old.chooser }
-    ensures devices { MayWrite S.Site CHANGE_WRITES core.old.site core.new.site }
+    ensures devices { MayWrite S.Site EVENT_ITEMS core.old.site core.new.site }
     ensures room { IsUntold (told_of result) → S.spare core.old.site ≤ S.spare core.new.site }
     ensures only_reads_fail { (but : UnitNo → Bool) → S.never_fails_but core.old.site but
         → core.old.stopped ≡ None → GoesOn (told_of result) }

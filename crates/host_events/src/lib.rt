@@ -23,5 +23,5 @@ mod run;
 mod wait;
 
 pub use answer::HostAnswer;
-pub use event::host_event;
+pub use event::{EVENT_ITEMS, host_event};
 pub use rule::host_rule;

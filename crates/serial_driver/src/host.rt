@@ -18,11 +18,10 @@ use crate::place::{Place, due_call, passed};
 use channel_commands::Call;
 use ckd_plain::Entry;
 use core_state::{Core, ENTRY_LIMIT};
-use host_events::{HostAnswer, host_event};
+use host_events::{EVENT_ITEMS, HostAnswer, host_event};
 use job_text::{HostScript, Item};
 use mss_base::{HostNo, Site};
 use std::alloc::Global;
-use table_pair::CHANGE_WRITES;
 use victim_choice::Choose;
 
 /// How a host's event ended.
@@ -68,7 +67,7 @@ fn make_call<S: Site, C: Choose>(
         → StandsAt (map item_of items.now)
         (left_behind left (slice_get core.new.history (length core.old.history))) place.new }
     ensures chooser { core.new.chooser ≡ core.old.chooser }
-    ensures devices { MayWrite S.Site CHANGE_WRITES core.old.site core.new.site }
+    ensures devices { MayWrite S.Site EVENT_ITEMS core.old.site core.new.site }
     ensures only_reads_fail { (but : UnitNo → Bool) → S.never_fails_but core.old.site but
         → core.old.stopped ≡ None → IsUnstopped result }
 {
@@ -126,7 +125,7 @@ pub fn call_host<S: Site, C: Choose>(
         → StandsAt script.now.items
         (left_behind left (slice_get core.new.history (length core.old.history))) place.new }
     ensures chooser { core.new.chooser ≡ core.old.chooser }
-    ensures devices { MayWrite S.Site CHANGE_WRITES core.old.site core.new.site }
+    ensures devices { MayWrite S.Site EVENT_ITEMS core.old.site core.new.site }
     ensures only_reads_fail { (but : UnitNo → Bool) → S.never_fails_but core.old.site but
         → core.old.stopped ≡ None → IsUnstopped result }
 {
