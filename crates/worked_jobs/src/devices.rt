@@ -1,7 +1,10 @@
 // Devices that fail below an event.
 use crate::events::{Course, other_answer};
+use crate::failing::CALLS_OF_RESTART;
+use crate::items::{APPEND_ITEMS, CHANGE_ITEMS, CREATE_ITEMS, STAGE_ITEMS, TRACK_ITEMS};
 use crate::steps::{Row, Step, Told};
 use core_state::WorkKind;
+use std::alloc::Global;
 
 const ONE_VOLUME: &str = "mss 1 frames 1 recorders 1\nvolume 0 VOL001\ndone\n";
 
@@ -97,9 +100,22 @@ fn a_failed_copy_is_an_equipment_check_of_its_host(rt: HostRuntime) {
 
 const TWO_VOLUMES: &str = "mss 1 frames 1 recorders 1\nvolume 0 VOL001\nvolume 1 VOL002\ndone\n";
 
-/// The restart makes 144 calls, and all up to the first copy to the cartridge 41. That copy can't read the frame, so the
-/// host that waits for it is told; at its next try it gets it: 38 calls copy the cylinder, 6 tell each of four changes, 19
-/// stage the other one, and its search reads a track. Two changes later the cartridge can't be read.
+/// The restart creates one volume more; then a cylinder is staged, searched, told as changed, read and written. The first
+/// copy to the cartridge can't read the frame.
+const FRAME_UNREAD: u64 = CALLS_OF_RESTART
+    + (CREATE_ITEMS + 2)
+    + (STAGE_ITEMS + 1)
+    + (CHANGE_ITEMS + 1 + APPEND_ITEMS)
+    + 1;
+
+/// The host that waits for that copy is told. At its next try it gets the frame: the cylinder is copied, the row changes
+/// four times, the other one is staged, and its search reads a track. Two changes later the cartridge can't be read.
+const CARTRIDGE_UNREAD: u64 = FRAME_UNREAD
+    + 2 * TRACK_ITEMS
+    + (4 * CHANGE_ITEMS + TRACK_ITEMS + 1)
+    + 2 * CHANGE_ITEMS
+    + 1;
+
 const BOTH_FAIL: &[Row] = &[
     (1, Step::Mount(1, 0), Told::Mounted),
     (1, Step::Mount(2, 1), Told::Mounted),
@@ -140,7 +156,11 @@ const FAILED_BOTH: Course = Course {
     state: None,
 };
 
+fn other_unread(alloc: Global) -> Option<usize> {
+    other_answer(alloc, [FRAME_UNREAD, CARTRIDGE_UNREAD], &FAILED_BOTH)
+}
+
 #[test]
 fn a_frame_and_a_cartridge_that_fail_once_are_told_once(rt: HostRuntime) {
-    assert_eq!(rt; other_answer(rt.alloc(), [186, 281], &FAILED_BOTH), None);
+    assert_eq!(rt; other_unread(rt.alloc()), None);
 }

@@ -83,8 +83,8 @@ const CUT_BEHIND_THE_TRACK: &str = "volume 0 VOL001\n\
 /// The frame is told in the row by 6 writes, blank tracks are written into it by 19, and the staged cylinder is told by
 /// 6. A write of a row stops the session where it fails; a write of a track fails the search that waits for it. The
 /// search reads the track. Before the record is written, the changed cylinder is told by 6 writes and the track is
-/// read; the record takes a write, and its gate another. A write that fails was made all the same, so behind the gate's
-/// the record is there.
+/// read; the record takes a write and a sync, and its gate too. A write that fails was made all the same, so behind the
+/// gate's, also where its sync fails, the record is there.
 const ENDINGS: &[Ending] = &[
     Ending {
         last: ASSIGNED,
@@ -135,7 +135,7 @@ const ENDINGS: &[Ending] = &[
         left: BLANK,
     },
     Ending {
-        last: WRITTEN - 1,
+        last: WRITTEN - 2,
         entries: 3,
         then: WRITE_STOPPED,
         changes: 4,

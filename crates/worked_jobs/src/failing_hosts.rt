@@ -425,9 +425,9 @@ fn fails_well<S: Site + Drop>(alloc: Global, site: S) -> bool {
 
 /// Each of the calls fails once: 128 reads of the rows, and 8 calls for each of the four that are created. Then of each
 /// volume a frame is told by 6 writes, a cylinder staged by 19 and told by 6, the track read for the search, the changed
-/// cylinder told by 6 writes, and the track read and twice written for the record; three of them are read back. The four
-/// staged cylinders are read for the report, and there is no further call.
-const CALLS: u64 = 409;
+/// cylinder told by 6 writes, and for the record the track read, and twice written and synced; three of them are read
+/// back. The four staged cylinders are read for the report, and there is no further call.
+const CALLS: u64 = 417;
 
 /// Whether the run of which this call fails ends in one of the ways.
 fn call_fails_well(alloc: Global, call: u64) -> bool {

@@ -197,7 +197,7 @@ const CUT_BEHIND_BOTH: &str = "volume 0 VOL001\n\
 
 const ENDINGS: &[Ending] = &[
     // As for one record: 6 writes tell the frame, 19 stage the blank cylinder, 6 tell that; a read for the search; 6 writes
-    // tell the changed cylinder; a read and two writes for the record.
+    // tell the changed cylinder; a read, and two writes with a sync each, for the record.
     Ending {
         last: ASSIGNED,
         entries: 2,
@@ -247,7 +247,7 @@ const ENDINGS: &[Ending] = &[
         left: SECOND,
     },
     Ending {
-        last: WRITTEN - 1,
+        last: WRITTEN - 2,
         entries: 3,
         then: FIRST_WRITE_STOPPED,
         changes: 4,
@@ -312,7 +312,8 @@ const ENDINGS: &[Ending] = &[
         rest: STOPPED,
         left: FIRST,
     },
-    // A read for the search, 6 writes that tell the changed cylinder, a read and two writes for the record.
+    // A read for the search, 6 writes that tell the changed cylinder; a read, and two writes with a sync each, for the
+    // record.
     Ending {
         last: RESEARCHED,
         entries: 5,
@@ -338,7 +339,7 @@ const ENDINGS: &[Ending] = &[
         left: FIRST,
     },
     Ending {
-        last: REWRITTEN - 1,
+        last: REWRITTEN - 2,
         entries: 6,
         then: SECOND_WRITE_STOPPED,
         changes: 9,

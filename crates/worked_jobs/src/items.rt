@@ -12,11 +12,11 @@ pub const TRACK_ITEMS: u64 = 19;
 /// A frame is assigned, a blank cylinder is staged in it, and both are told in the row.
 pub const STAGE_ITEMS: u64 = CHANGE_ITEMS + TRACK_ITEMS + CHANGE_ITEMS;
 
-/// A record is formatted behind the last one of its track.
-pub const APPEND_ITEMS: u64 = 2;
+/// A record is formatted behind the last one of its track: it is written and synced, its gate is opened and synced.
+pub const APPEND_ITEMS: u64 = 4;
 
-/// A record is formatted that has others behind it.
-pub const FORMAT_ITEMS: u64 = 4;
+/// A record is formatted that has others behind it: its gate is closed and synced before, and theirs are closed.
+pub const FORMAT_ITEMS: u64 = 7;
 
-/// A record is updated.
-pub const UPDATE_ITEMS: u64 = 1;
+/// A record is updated: its bytes are written and synced.
+pub const UPDATE_ITEMS: u64 = 2;

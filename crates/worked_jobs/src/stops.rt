@@ -14,7 +14,7 @@ use memory_devices::MemorySite;
 use mss_base::{BLOCK_BYTES, Site};
 use std::alloc::Global;
 
-// The moments behind the steps of a session on one volume.
+// The moments behind the steps of a session on one volume. A record is there once its gate was opened, before the sync.
 const ASSIGNED: u64 = CREATE_ITEMS + CHANGE_ITEMS;
 
 const STAGED: u64 = CREATE_ITEMS + STAGE_ITEMS;
@@ -22,6 +22,8 @@ const STAGED: u64 = CREATE_ITEMS + STAGE_ITEMS;
 const CHANGED: u64 = STAGED + CHANGE_ITEMS;
 
 const APPENDED: u64 = CHANGED + APPEND_ITEMS;
+
+const SHOWN: u64 = APPENDED - 1;
 
 /// Stops after so many writes, and how the report of a job begins and ends on what each of them leaves.
 #[derive(Clone, Copy)]
@@ -62,7 +64,7 @@ fn each_tear_leaves(
     true
 }
 
-/// The first moment that leaves something else, of those that are so far apart.
+/// The first moment that leaves something else, of the last one and those that are so far apart.
 fn other_in(
     alloc: Global,
     site: &MemorySite,
@@ -73,15 +75,16 @@ fn other_in(
     requires { 1 ≤ apart }
 {
     for moment in stops.first..=stops.last {
-        if moment % apart == 0 && !each_tear_leaves(alloc, site, moment, tears, stops) {
+        let is_tried = moment % apart == 0 || moment == stops.last;
+        if is_tried && !each_tear_leaves(alloc, site, moment, tears, stops) {
             return Some(moment);
         }
     }
     None
 }
 
-/// A stop at each of the moments that are so far apart leaves what the table says, within the next write by each of these
-/// tears. Gives the first moment that leaves something else.
+/// A stop at each of the moments that are so far apart, and at the last of each row, leaves what the table says, within the
+/// next write by each of these tears. Gives the first moment that leaves something else.
 fn other_stop(
     alloc: Global,
     site: &MemorySite,
@@ -153,7 +156,7 @@ const UPDATE: &str = "mss 1 frames 1 recorders 1\n\
     end\n\
     done\n";
 
-/// The update is the write behind the appended record.
+/// The update is the write behind the appended record, and a sync.
 const TORN_UPDATE: &[Stops] = &[Stops {
     first: APPENDED,
     last: APPENDED,
@@ -166,7 +169,7 @@ const TORN_UPDATE: &[Stops] = &[Stops {
 }];
 
 const UPDATED: &[Stops] = &[Stops {
-    first: APPENDED + UPDATE_ITEMS,
+    first: APPENDED + 1,
     last: APPENDED + UPDATE_ITEMS,
     job: ONE_VOLUME,
     begins: "MSS REPORT 1\nvolume 0 VOL001\n",
@@ -293,8 +296,8 @@ const FORMATTING: Marks = Marks {
     changes: &[CREATE_ITEMS, ASSIGNED, STAGED, CHANGED],
 };
 
-/// Behind the three records the gate of the second is closed, that of the third too,
-/// the new record is put, and its gate is opened.
+/// Behind the three records the gate of the second is closed and synced; that of the third is closed, the new record is
+/// put, and both are synced; its gate is opened and synced.
 const FORMATTED: &[Stops] = &[
     Stops {
         first: THREE_APPENDED,
@@ -310,7 +313,7 @@ const FORMATTED: &[Stops] = &[
     },
     Stops {
         first: THREE_APPENDED + 1,
-        last: THREE_APPENDED + 3,
+        last: THREE_APPENDED + 5,
         job: ONE_VOLUME,
         begins: "MSS REPORT 1\nvolume 0 VOL001\n",
         ends: "\nvolume 0 VOL001\n\
@@ -319,8 +322,8 @@ const FORMATTED: &[Stops] = &[
             END\n",
     },
     Stops {
-        first: THREE_APPENDED + 4,
-        last: THREE_APPENDED + 4,
+        first: THREE_APPENDED + 6,
+        last: THREE_APPENDED + FORMAT_ITEMS,
         job: ONE_VOLUME,
         begins: "MSS REPORT 1\nvolume 0 VOL001\n",
         ends: "\nvolume 0 VOL001\n\
@@ -376,6 +379,8 @@ const REPLACED_ONCE: u64 = APPENDED + REPLACE_ITEMS;
 
 const APPENDED_AGAIN: u64 = REPLACED_ONCE + CHANGE_ITEMS + APPEND_ITEMS;
 
+const SHOWN_AGAIN: u64 = APPENDED_AGAIN - 1;
+
 const RETURNED: u64 = APPENDED_AGAIN + REPLACE_ITEMS;
 
 /// The cylinder is written, destaged, and its page gives the frame to the other one, which is staged, changed and written;
@@ -383,21 +388,21 @@ const RETURNED: u64 = APPENDED_AGAIN + REPLACE_ITEMS;
 const REPLACED: &[Stops] = &[
     Stops {
         first: 0,
-        last: APPENDED - 1,
+        last: SHOWN - 1,
         job: ONE_VOLUME,
         begins: "MSS REPORT 1\n",
         ends: "\nvolume 0 VOL001\n\
             END\n",
     },
     Stops {
-        first: APPENDED,
-        last: APPENDED_AGAIN - 1,
+        first: SHOWN,
+        last: SHOWN_AGAIN - 1,
         job: FIRST_READ,
         begins: FIRST_IS_READ,
         ends: FIRST_LEFT,
     },
     Stops {
-        first: APPENDED_AGAIN,
+        first: SHOWN_AGAIN,
         last: RETURNED,
         job: FIRST_READ,
         begins: FIRST_IS_READ,
@@ -497,11 +502,11 @@ const FOURTH_CHANGED: u64 = FOURTH_STAGED + CHANGE_ITEMS;
 const ALL_WRITTEN: u64 = FOURTH_CHANGED + APPEND_ITEMS;
 
 /// Four rows are created. For each of three hosts a cylinder is staged, then told as changed, and then each writes its
-/// record. The first does all that once more.
+/// record, which is there before its last sync. The first does all that once more.
 const THREE_HOSTS_SHOWN: &[Stops] = &[
     Stops {
         first: 0,
-        last: FIRST_WRITES - 1,
+        last: FIRST_WRITES - 2,
         job: FOUR_VOLUMES,
         begins: "MSS REPORT 1\n",
         ends: "\nvolume 0 VOL001\n\
@@ -511,8 +516,8 @@ const THREE_HOSTS_SHOWN: &[Stops] = &[
             END\n",
     },
     Stops {
-        first: FIRST_WRITES,
-        last: SECOND_WRITES - 1,
+        first: FIRST_WRITES - 1,
+        last: SECOND_WRITES - 2,
         job: FOUR_VOLUMES,
         begins: "MSS REPORT 1\n",
         ends: "\nvolume 0 VOL001\n\
@@ -524,8 +529,8 @@ const THREE_HOSTS_SHOWN: &[Stops] = &[
             END\n",
     },
     Stops {
-        first: SECOND_WRITES,
-        last: THIRD_WRITES - 1,
+        first: SECOND_WRITES - 1,
+        last: THIRD_WRITES - 2,
         job: FOUR_VOLUMES,
         begins: "MSS REPORT 1\n",
         ends: "\nvolume 0 VOL001\n\
@@ -539,8 +544,8 @@ const THREE_HOSTS_SHOWN: &[Stops] = &[
             END\n",
     },
     Stops {
-        first: THIRD_WRITES,
-        last: ALL_WRITTEN - 1,
+        first: THIRD_WRITES - 1,
+        last: ALL_WRITTEN - 2,
         job: FOUR_VOLUMES,
         begins: "MSS REPORT 1\n",
         ends: "\nvolume 0 VOL001\n\
@@ -556,7 +561,7 @@ const THREE_HOSTS_SHOWN: &[Stops] = &[
             END\n",
     },
     Stops {
-        first: ALL_WRITTEN,
+        first: ALL_WRITTEN - 1,
         last: ALL_WRITTEN,
         job: FOUR_VOLUMES,
         begins: "MSS REPORT 1\n",

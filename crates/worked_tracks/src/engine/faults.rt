@@ -54,42 +54,83 @@ A9 4B35 0C
 04 - 0C 10..";
 
 /// Writes at R1 of head 3, which four records stand on. Behind `@` stands a call of the site, which tells what is there
-/// then. A format closes the gates of R2, and of R3 and R4, first; a write that fails has put its bytes all the same.
+/// then. A format closes the gate of R2 and syncs it; it closes those of R3 and R4, puts the record and syncs both; it opens
+/// the gate and syncs that. A write that fails has put its bytes all the same.
 const WRITES: &str = "\
-# a format fails at its first write
+# a format fails at the write that closes its gate
 07 000000050003 0C
 31 0005000301 0C
 31 0005000301 4C
 1D 000500030200000158 0C ! 02 W 01
 @ t 0 98 1 414243 ok
 
-# at its second
+# at the sync of that
 07 000000050003 0C
 31 0005000301 0C
 31 0005000301 4C
 1D 000500030200000158 0C ! 03 W 01
 @ t 0 98 1 414243 ok
 
-# at its third
+# at the write that closes the later gates
 07 000000050003 0C
 31 0005000301 0C
 31 0005000301 4C
 1D 000500030200000158 0C ! 04 W 01
 @ t 0 98 1 414243 ok
 
-# at its fourth
+# at that of the record
 07 000000050003 0C
 31 0005000301 0C
 31 0005000301 4C
 1D 000500030200000158 0C ! 05 W 01
+@ t 0 98 1 414243 ok
+
+# at the sync of both
+07 000000050003 0C
+31 0005000301 0C
+31 0005000301 4C
+1D 000500030200000158 0C ! 06 W 01
+@ t 0 98 1 414243 ok
+
+# at the write that opens the gate
+07 000000050003 0C
+31 0005000301 0C
+31 0005000301 4C
+1D 000500030200000158 0C ! 07 W 01
 @ t 0 98 2 41424358 ok
 
-# an update fails at its read and its write
+# at the sync of that
+07 000000050003 0C
+31 0005000301 0C
+31 0005000301 4C
+1D 000500030200000158 0C ! 08 W 01
+@ t 0 98 2 41424358 ok
+
+# a format of a record whose gate is shut closes the later ones first; it fails at the write of the record
+07 000000050007 0C
+31 0005000700 4C
+1D 000500070100000158 0C ! 03 W 01
+@ t 0 102 0 - ok
+
+# at the write that opens the gate, which is its fourth item
+07 000000050007 0C
+31 0005000700 4C
+1D 000500070100000158 0C ! 05 W 01
+@ t 0 102 1 58 ok
+
+# and at its fifth, the sync of that
+07 000000050007 0C
+31 0005000700 4C
+1D 000500070100000158 0C ! 06 W 01
+@ t 0 102 1 58 ok
+
+# an update fails at its read, its write and its sync
 07 000000050003 0C
 31 0005000301 0C
 31 0005000301 4C
 05 58595A 0C ! 01 R 01
 05 58595A 0C ! 02 W 02
+05 58595A 0C ! 03 W 03
 05 58595A 0C";
 
 /// A command that is answered as its line says.

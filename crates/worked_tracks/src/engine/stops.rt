@@ -4,7 +4,7 @@ use crate::sites::play_stops;
 use std::process::Abort;
 use std::test::Fail;
 
-/// A record takes two writes, and an update one.
+/// A record takes two writes, each with a sync, and an update one with its sync.
 const UPDATE: &str = "\
 # a record of a blank track, and other data
 07 000000050003 0C
@@ -16,20 +16,32 @@ const UPDATE: &str = "\
 05 58595A 0C";
 
 const TORN: &str = "\
-2 -
+2 00
+t 0 98 0 - ok
+
+2 C1
 t 0 98 1 414243 ok
 
-2 FF00FF
-t 0 98 1 FF00FF ok
-
-3 FF00FF
-t 0 98 1 58595A ok
+3 -
+t 0 98 1 414243 ok
 
 4 -
+t 0 98 1 414243 ok
+
+4 FF00FF
+t 0 98 1 FF00FF ok
+
+5 FF00FF
+t 0 98 1 58595A ok
+
+6 -
+t 0 98 1 58595A ok
+
+7 -
 none";
 
-/// Three records take two writes each. The second is formatted again: its gate and the next are closed, it is put, its
-/// gate opened.
+/// Three records take four items each. The second is formatted again: its gate is closed and synced; the next is closed,
+/// it is put, and both are synced; its gate is opened and synced.
 const FORMATS: &str = "\
 # three records, and the second again
 07 000000050003 0C
@@ -43,19 +55,94 @@ const FORMATS: &str = "\
 1D 000500030200000358595A 0C";
 
 const ENDED: &str = "\
-6 -
+12 -
 t 0 98 3 414243444546474849 ok
 
-7 -
+12 C1
+t 0 98 3 414243444546474849 ok
+
+12 00
 t 0 98 1 414243 ok
 
-9 -
+13 -
 t 0 98 1 414243 ok
 
-10 -
+14 C1
+t 0 98 1 414243 ok
+
+15 FF
+t 0 98 1 414243 ok
+
+16 -
+t 0 98 1 414243 ok
+
+17 00
+t 0 98 1 414243 ok
+
+17 C1
 t 0 98 2 41424358595A ok
 
-11 -
+18 -
+t 0 98 2 41424358595A ok
+
+19 -
+t 0 98 2 41424358595A ok
+
+20 -
+none";
+
+/// A record takes four items, and six where it is formatted again: its gate alone is closed and synced first. Behind it
+/// one without data takes four; an update of that makes none.
+const TWICE: &str = "\
+# a record of a blank track, it again, one without data behind it, and an update of that
+07 000000050003 0C
+31 0005000300 4C
+1D 0005000301000003414243 0C
+07 000000050003 0C
+31 0005000300 4C
+1D 000500030100000358595A 0C
+1D 0005000302000000 0C
+07 000000050003 0C
+31 0005000302 0C
+31 0005000302 0C
+31 0005000302 4C
+05 FF 0D";
+
+const ENDED_TWICE: &str = "\
+4 C1
+t 0 98 1 414243 ok
+
+5 -
+t 0 98 0 - ok
+
+6 -
+t 0 98 0 - ok
+
+7 -
+t 0 98 0 - ok
+
+8 00
+t 0 98 0 - ok
+
+8 C1
+t 0 98 1 58595A ok
+
+9 -
+t 0 98 1 58595A ok
+
+10 -
+t 0 98 1 58595A ok
+
+12 00
+t 0 98 1 58595A ok
+
+13 -
+t 0 98 2 58595A ok
+
+14 -
+t 0 98 2 58595A ok
+
+15 -
 none";
 
 /// A program on blank tracks, and what stops leave of its writes.
@@ -80,4 +167,10 @@ fn a_torn_update_shows_its_bytes(rt: HostRuntime) -> Result<(), Fail> {
 fn a_stop_within_a_format_ends_the_track_before_its_record(rt: HostRuntime) -> Result<(), Fail> {
     let mut twins = Twins::blank(rt.alloc())?;
     play_with_stops(&rt, &mut twins, FORMATS, ENDED)
+}
+
+#[test]
+fn a_format_closes_no_gate_that_is_shut(rt: HostRuntime) -> Result<(), Fail> {
+    let mut twins = Twins::blank(rt.alloc())?;
+    play_with_stops(&rt, &mut twins, TWICE, ENDED_TWICE)
 }

@@ -11,7 +11,7 @@ use crate::engine::table::{Line, program_of};
 use channel_commands::{Call, Command, DeviceCommand, Reply};
 use ckd_plain::steps::{is_data, opened, refused_by, run_control};
 use ckd_plain::{HostState, UnitCheck, admitted};
-use ckd_track::{Record, Track, check_track, read_track};
+use ckd_track::{FORMAT_ITEMS, Record, Track, check_track, read_track};
 use memory_devices::{MemorySite, SiteFault};
 use mss_base::{Bytes, Cylinder, Head, HostNo, Serial, Site, UnitNo, VolumeNo};
 use plain_machine::{PlainState, plain_step};
@@ -63,7 +63,7 @@ fn run_on_tracks(
     requires passes { Passes (opened host.old) command.now argument.now }
     requires data { is_data command.now ≡ true }
 {
-    site.reserve(4)?;
+    site.reserve(FORMAT_ITEMS)?;
     let place = place_of(host.cylinder);
     check_tracks(site, &place, buffer)?;
     site.fail(faults)?;
