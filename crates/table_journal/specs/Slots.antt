@@ -1,0 +1,48 @@
+-- The slots of a block: eight bytes each, from place 512 on, one behind another. A slot is a gate and a body of seven
+-- bytes. In use are the slots before the first whose gate is closed.
+use Rattle.std.specs.Prelude.{◌≡◌, ◌⊎◌, ℕ, zero, suc, ◌+◌, ◌*◌, Bool, ◌==◌, if◌then◌else◌, List, [], ◌∷◌, ◌++◌, length, take, drop, slice_index}
+use Rattle.mss_base.specs.Content.{SiteLog, content, Writes, ChangesBlock}
+use Rattle.mss_base.specs.declared.block.TheConstants.{OPEN}
+use Rattle.mss_base.specs.declared.place.BlockPlace.{BlockPlace}
+use Rattle.table_journal.specs.declared.layout.TheConstants.{SLOTS, SLOTS_AT, SLOT_BYTES, SLOT_BODY_BYTES}
+
+-- the place of a slot's gate
+abbrev pub slot_place : ℕ → ℕ
+slot_place number = SLOTS_AT + SLOT_BYTES * number
+
+abbrev pub is_slot_open : ℕ → List ℕ → Bool
+is_slot_open number block = slice_index block (slot_place number) == OPEN
+
+abbrev pub slot_body : ℕ → List ℕ → List ℕ
+slot_body number block = take SLOT_BODY_BYTES (drop (suc (slot_place number)) block)
+
+-- the bodies from a slot on, of so many at most, as far as the gates are open
+unfoldable pub slots_from : ℕ → ℕ → List ℕ → List (List ℕ)
+slots_from zero number block = []
+slots_from (suc count) number block =
+    if is_slot_open number block then slot_body number block ∷ slots_from count (suc number) block else []
+
+-- the bodies of a block's slots in use
+unfoldable pub slots : List ℕ → List (List ℕ)
+slots block = slots_from SLOTS 0 block
+
+-- while a slot with this body is appended: the bytes before all slots stay, and the slots in use are as before, or one more
+pub record IsAppending (body old now : List ℕ) : Type 0 where
+  pub long : length now ≡ length old
+  pub head : take SLOTS_AT now ≡ take SLOTS_AT old
+  pub slots_ : (slots now ≡ slots old) ⊎ (slots now ≡ slots old ++ body ∷ [])
+
+-- the bytes of a block of a site, and its slots in use
+abbrev pub block_of : SiteLog → BlockPlace → List ℕ
+block_of s at = content s at.unit at.block
+
+abbrev pub slots_on : SiteLog → BlockPlace → List (List ℕ)
+slots_on s at = slots (block_of s at)
+
+-- the log got writes into this block alone, and P holds of the block at each moment since
+abbrev pub WritesBlock : BlockPlace → (List ℕ → Type 0) → SiteLog → SiteLog → Type 0
+WritesBlock at P old new = Writes (ChangesBlock at.unit at.block P (content old)) old new
+
+-- the log got writes into this block alone, which append a slot with this body
+abbrev pub AppendsSlot : List ℕ → BlockPlace → SiteLog → SiteLog → Type 0
+AppendsSlot body at old new = WritesBlock at (IsAppending body (block_of old at)) old new
