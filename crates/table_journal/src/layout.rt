@@ -1,4 +1,6 @@
 // Where the slots of a block stand.
+ghost use Rattle.std.specs.Prelude.{◌≡◌, ◌<◌};
+ghost use Rattle.table_journal.specs.Slots.{slot_place};
 
 /// How many slots a block has.
 pub const SLOTS: u16 = 1_984;
@@ -11,3 +13,11 @@ pub const SLOT_BYTES: usize = 8;
 
 /// How many bytes a slot's body has.
 pub const SLOT_BODY_BYTES: usize = 7;
+
+/// The place of a slot's gate.
+pub fn slot_place(number: u16) -> usize
+    requires { number < SLOTS }
+    ensures { result ≡ slot_place number }
+{
+    SLOTS_AT + SLOT_BYTES * number as usize
+}

@@ -1,0 +1,4 @@
+pub mod WalkLemmas
+pub mod SlotLemmas
+pub mod SlotFacts
+pub mod AppendLemmas
