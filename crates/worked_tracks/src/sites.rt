@@ -1,16 +1,18 @@
 //! Calls of a site as text. A line is a call: `w` writes the bytes, `r` reads them and `b` brings them, at an offset of a
 //! unit's block, and it's done (`ok`) or fails (`!`). `s` syncs the unit and `a` all units. `n` tells the counts of items
 //! (writes and syncs) and of faults, in place of block and offset; `t` how many records the block's track has, in place of
-//! the offset, and their data.
+//! the offset, and their data; `l` how many slots are in use, in place of the offset, and the body of the last. `p` appends
+//! a slot with these bytes behind so many, as the offset says.
 ghost use Rattle.std.specs.Prelude.{◌≡◌, length, vec_len, IfOk};
 
 use crate::words::{bytes_of, number_of};
 use ckd_track::{check_track, record_count, stored_records};
 use memory_devices::{ImageFault, MemorySite, SiteFault};
-use mss_base::{CartridgeNo, Site, UnitNo};
+use mss_base::{BlockPlace, CartridgeNo, Site, UnitNo};
 use std::alloc::Global;
 use std::process::Abort;
 use std::test::Fail;
+use table_journal::{SLOT_BODY_BYTES, SLOT_ITEMS, SLOTS, append_slot, read_slots, slot};
 
 /// A call of a site.
 #[derive(Drop)]
@@ -129,6 +131,32 @@ fn has_records<S: Site>(alloc: Global, site: &mut S, row: &Row) -> Result<bool, 
     Ok(u16::from(record_count(block)) == row.offset && bodies.as_slice() == row.bytes.as_slice())
 }
 
+/// Whether so many slots are in use as the offset says, the last of them with these bytes.
+fn has_slots<S: Site>(site: &mut S, row: &Row) -> Result<bool, Fail> {
+    site.bring(row.unit, row.block)?;
+    let block = site.brought();
+    let used = read_slots(block);
+    if used != row.offset {
+        return Ok(false);
+    }
+    Ok(used == 0 || slot(block, used - 1) == row.bytes.as_slice())
+}
+
+fn append<S: Site>(site: &mut S, row: &Row) -> Result<bool, Fail> {
+    let at = BlockPlace {
+        unit: row.unit,
+        block: row.block,
+    };
+    site.reserve(SLOT_ITEMS)?;
+    site.bring(at.unit, at.block)?;
+    let used = read_slots(site.brought());
+    let body = row.bytes.as_slice();
+    if used != row.offset || used == SLOTS || body.len() != SLOT_BODY_BYTES {
+        return Err("no such slot".into());
+    }
+    Ok(append_slot(site, &at, used, body).is_ok() == row.is_ok)
+}
+
 /// Whether a call does what its line says.
 fn is_so<S: Site>(alloc: Global, site: &mut S, line: &str) -> Result<bool, Fail> {
     let row = row_of(alloc, line)?;
@@ -140,6 +168,8 @@ fn is_so<S: Site>(alloc: Global, site: &mut S, line: &str) -> Result<bool, Fail>
         b'a' => sync_all(site, &row),
         b'n' => Ok(has_counted(site, &row)),
         b't' => has_records(alloc, site, &row),
+        b'l' => has_slots(site, &row),
+        b'p' => append(site, &row),
         _ => Err("no such call".into()),
     }
 }

@@ -19,8 +19,15 @@ fn byte_of(pair: &[u8]) -> Option<u8> {
     Some(digit_value(high)? * 16 + digit_value(low)?)
 }
 
-/// The bytes of a word: pairs of hexadecimal digits, or `-` for none.
+fn repeated(alloc: Global, byte: u8, count: u32) -> Result<Vec<u8>, Fail> {
+    Ok(vec![in alloc; byte; count as usize]?)
+}
+
+/// The bytes of a word: pairs of hexadecimal digits, `-` for none, or as `C1*8` a pair and how often it stands.
 pub fn bytes_of(alloc: Global, word: &str) -> Result<Vec<u8>, Fail> {
+    if let Some((pair, count)) = word.split_once("*") {
+        return repeated(alloc, single_byte(Some(pair))?, number_of(Some(count))?);
+    }
     let mut bytes = Vec::new(alloc);
     if word == "-" {
         return Ok(bytes);
