@@ -67,10 +67,12 @@ fn open_slot<S: Site>(site: &mut S, at: &BlockPlace, used: u16) -> Result<(), Fa
     requires there { S.tells → length (slots_on (S.told site.old) at.now) ≡ used }
     requires next { S.tells → IsNextClosed used (block_of (S.told site.old) at.now) }
     requires room { FIRM_ITEMS ≤ S.spare site.old }
-    ensures moments { S.tells → AppendsSlot (slot_body used (block_of (S.told site.old) at.now)) at.now
+    ensures moments { S.tells
+        → AppendsSlot (slot_body used (block_of (S.told site.old) at.now)) at.now
         (S.told site.old) (S.told site.new) }
     ensures done { S.tells → OnOk result (slots_on (S.told site.new) at.now
-        ≡ slots_on (S.told site.old) at.now ++ slot_body used (block_of (S.told site.old) at.now) ∷ []) }
+        ≡ slots_on (S.told site.old) at.now
+        ++ slot_body used (block_of (S.told site.old) at.now) ∷ []) }
     ensures firm { S.tells → OnOk result (Settles (S.told site.old) (S.told site.new)) }
     ensures grown { S.tells →
         OnOk result (length (S.told site.old).log < length (S.told site.new).log) }
