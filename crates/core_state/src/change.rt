@@ -32,7 +32,7 @@ fn freed_by(rows: &Rows, volume: VolumeNo, change: &Change) -> Option<FrameNo>
 /// Changes the row of a volume: in the list, in both copies, and with its message, whose mark is
 /// the count of writes then.
 ///
-/// It makes six writes at most, and takes no memory. Where one of them fails the session stops, and
+/// It makes eight writes and six syncs at most, and takes no memory. Where one of them fails the session stops, and
 /// tells no message; the copies hold the old row or the new one, and the list has the new one. The
 /// rest of the session stays, with its room.
 pub fn write_change<S: Site>(

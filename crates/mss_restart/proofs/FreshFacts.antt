@@ -6,12 +6,11 @@ use Rattle.std.proofs.lemmas.List.{get_or-set_same, get_or-set_other}
 use Rattle.mss_base.specs.Content.{Content}
 use Rattle.mss_base.specs.declared.place.UnitNo.TheVariants.{TableA, TableB}
 use Rattle.volume_table.specs.Row.{RowValue}
-use Rattle.volume_table.specs.Grammar.{decode}
 use Rattle.volume_table.specs.declared.fault.RowFault.{RowFault}
 use Rattle.table_pair.specs.declared.copy.TableCopy.{TableCopy}
 use Rattle.table_pair.specs.declared.copy.TableCopy.TheVariants as copy
 use Rattle.table_pair.specs.Copies.{CopyView, copy_at}
-use Rattle.table_pair.specs.Pair.{known, reading, read_of, taken, row_of, row_of_copies, AreClosed, HoldsRow, ChangesRow}
+use Rattle.table_pair.specs.Pair.{known, reading, read_of, row_told, taken, row_of, row_of_copies, AreClosed, HoldsRow, ChangesRow}
 use Rattle.table_pair.proofs.PairFacts.{open_read, closed_read, held_row}
 use Rattle.shown_volumes.specs.Shown.{RowsOf, told_row, rows_of}
 use Rattle.shown_volumes.specs.Sound.{cartridge_of}
@@ -32,9 +31,9 @@ taken_none which (Err fault) is = cc
 -- copies that tell that there is no row are closed
 none_closed : (a b : CopyView) → row_of_copies a b ≡ known None false → (a.is_open ≡ false) × (b.is_open ≡ false)
 none_closed a b is = elim (cases_Bool a.is_open) [
-  | inl open_a ↦ absurd (taken_none copy.A (decode a.spelled) (sym (ap (λ r. reading r (read_of b)) (open_read a open_a)) ∙ is))
+  | inl open_a ↦ absurd (taken_none copy.A (row_told a) (sym (ap (λ r. reading r (read_of b)) (open_read a open_a)) ∙ is))
   | inr shut_a ↦ elim (cases_Bool b.is_open) [
-    | inl open_b ↦ absurd (taken_none copy.B (decode b.spelled) (sym (λ i. reading (closed_read a shut_a i) (open_read b open_b i)) ∙ is))
+    | inl open_b ↦ absurd (taken_none copy.B (row_told b) (sym (λ i. reading (closed_read a shut_a i) (open_read b open_b i)) ∙ is))
     | inr shut_b ↦ (shut_a, shut_b)
   ]
 ]

@@ -1,10 +1,12 @@
 -- What a write into a block does to the copy in it.
-use Rattle.std.proofs.Common.{◌≡◌, ℕ, zero, suc, ◌+◌, ◌≤◌, Bool, not, ◌==◌, List, [], ◌∷◌, length, get_or, take, drop, refl, sym, ◌∙◌, ap, arith}
+use Rattle.std.proofs.Common.{◌≡◌, ℕ, zero, suc, ◌+◌, ◌≤◌, Bool, false, not, ◌==◌, List, [], ◌∷◌, length, get_or, take, drop, refl, sym, ◌∙◌, ap, arith}
 use Rattle.std.proofs.lemmas.List.{take-take}
 use Rattle.mss_base.specs.Content.{splice}
 use Rattle.mss_base.proofs.ContentLemmas.{get_or-splice_below, get_or-splice_above, get_or-splice_in}
 use Rattle.volume_table.specs.Grammar.{body}
 use Rattle.volume_table.proofs.SpellingLemmas.{body_splice}
+use Rattle.table_journal.specs.Slots.{slots}
+use Rattle.table_journal.proofs.SlotFacts.{slots_behind, slots_cleared}
 use Rattle.table_pair.specs.Copies.{CopyView, copy_at}
 
 drop-splice : (at n : ℕ) (bytes block : List ℕ) → at + length bytes ≤ n → drop n (splice at bytes block) ≡ drop n block
@@ -38,8 +40,8 @@ module _ (left block : List ℕ) (whole : length block ≡ 16384) where
   gate_written one = λ i. record {
     is_open = get_or-splice_in 0 left block 0 0 refl (omega arith) (omega arith) i == 193;
     spelled = take 510 (drop-splice 0 1 left block (omega arith) i);
+    slots = slots_behind 0 left block (omega arith) i;
     is_made = not (get_or-splice_above 0 left block 511 (omega arith) i == 0);
-    behind = drop-splice 0 512 left block (omega arith) i;
   }
 
   -- the body is written
@@ -48,8 +50,8 @@ module _ (left block : List ℕ) (whole : length block ≡ 16384) where
   body_written full = λ i. record {
     is_open = get_or-splice_below 1 left block 0 (omega arith) i == 193;
     spelled = body_splice left block full (omega arith) i;
+    slots = slots_behind 1 left block (omega arith) i;
     is_made = not (get_or-splice_above 1 left block 511 (omega arith) i == 0);
-    behind = drop-splice 1 512 left block (omega arith) i;
   }
 
   -- the made mark is written
@@ -58,8 +60,18 @@ module _ (left block : List ℕ) (whole : length block ≡ 16384) where
   mark_written one = λ i. record {
     is_open = get_or-splice_below 511 left block 0 (omega arith) i == 193;
     spelled = (ap (take 510) (drop_one-splice 510 left block) ∙ take-splice 510 510 left (drop 1 block) (omega arith)) i;
+    slots = slots_behind 511 left block (omega arith) i;
     is_made = not (get_or-splice_in 511 left block 511 0 refl (omega arith) (omega arith) i == 0);
-    behind = drop-splice 511 512 left block (omega arith) i;
+  }
+
+  -- the gate of slot 0 is closed
+  pub slot_shut : (byte : ℕ) → (byte == 193) ≡ false → copy_at (splice 512 (byte ∷ []) block) ≡ record (copy_at block) { slots = [] }
+  unfolding copy_at
+  slot_shut byte other = λ i. record {
+    is_open = get_or-splice_below 512 (byte ∷ []) block 0 (omega arith) i == 193;
+    spelled = (ap (take 510) (drop_one-splice 511 (byte ∷ []) block) ∙ take-splice 511 510 (byte ∷ []) (drop 1 block) (omega arith)) i;
+    slots = slots_cleared (byte ∷ []) block (omega arith) (omega arith) other i;
+    is_made = not (get_or-splice_below 512 (byte ∷ []) block 511 (omega arith) i == 0);
   }
 
 -- a copy with the gate that it has
@@ -81,6 +93,14 @@ mark_of block = refl
 pub spelled_of : (block : List ℕ) → (copy_at block).spelled ≡ body block
 unfolding copy_at
 spelled_of block = refl
+
+pub slots_of : (block : List ℕ) → (copy_at block).slots ≡ slots block
+unfolding copy_at
+slots_of block = refl
+
+-- a copy without slots
+pub no_slot : (c : CopyView) → c.slots ≡ [] → record c { slots = [] } ≡ c
+no_slot c none = λ i. record c { slots = sym none i }
 
 -- the front of a block has its body
 pub body_front : (block : List ℕ) → body (take 512 block) ≡ body block

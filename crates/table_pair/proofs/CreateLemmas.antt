@@ -1,26 +1,38 @@
 -- The moments of a creation.
 use Rattle.std.proofs.Common.{◌≡◌, ◌⊎◌, inl, inr, true, false, List, get_or, ℕ, Some, None, Ok, sym, ◌∙◌, ap, subst}
-use Rattle.mss_base.specs.Content.{SiteLog, content, Writes}
+use Rattle.mss_base.specs.declared.place.BlockPlace.{BlockPlace}
+use Rattle.mss_base.specs.Content.{SiteLog, content, Settles, Writes}
+use Rattle.mss_base.proofs.Settling.{settles_then}
 use Rattle.volume_table.specs.Row.{RowValue}
-use Rattle.volume_table.specs.Grammar.{decode, spelling}
+use Rattle.volume_table.specs.Grammar.{decode}
 use Rattle.table_pair.specs.declared.copy.TableCopy.TheVariants as copy
 use Rattle.table_pair.specs.Places.{place_of}
-use Rattle.table_pair.specs.Copies.{CopyView, byte_on, marked, filled, IsRewriting, WritesCopy}
-use Rattle.table_pair.specs.Pair.{known, row_of_copies, HoldsRow, AreSpelled, AreClosed, AreMade, AreMarked, StaysCopy, ChangesRow, NoneOrNew}
-use Rattle.table_pair.specs.Repairs.{NeedsNoRepair}
+use Rattle.table_pair.specs.Copies.{CopyView, byte_on, copy_on, marked, filled, IsFilling, IsRewriting, WritesCopy}
+use Rattle.table_pair.specs.Pair.{known, row_of_copies, HoldsRow, AreClosed, AreMade, AreMarked, StaysCopy, ChangesRow, NoneOrNew}
 use Rattle.table_pair.proofs.PairFacts.{row_by_a, row_by_none}
-use Rattle.table_pair.proofs.PairLemmas.{copy_a, copy_b, ChangesPair, InPair, kept_a, kept_b, from_a, from_b, pair_then, pair_row, block_a_kept, block_b_kept, equal_settled, both_filled}
+use Rattle.table_pair.proofs.PairLemmas.{copy_a, copy_b, ChangesPair, InPair, kept_a, kept_b, from_a, from_b, pair_then, pair_row, block_a_kept, block_b_kept}
 use Rattle.table_pair.proofs.StayLemmas.{stays, stays_as, stays_marked, stays_filled, stays_rewriting, stays_since, rewriting_made}
-use Rattle.table_pair.proofs.ChangeLemmas.{open_filled, open_as}
+use Rattle.table_pair.proofs.WriteLemmas.{copy_weaker}
+use Rattle.table_pair.proofs.ChangeLemmas.{Rewritten, open_filled, open_as}
 
 abbrev pub Marking : CopyView → CopyView → Type 0
 Marking old now = (now ≡ old) ⊎ (now ≡ marked old)
+
+-- a copy was marked to its end
+pub record Marked (at : BlockPlace) (s t : SiteLog) : Type 0 where
+  pub moments : WritesCopy at (Marking (copy_on s at)) s t
+  pub done : copy_on t at ≡ marked (copy_on s at)
+  pub firm : Settles s t
 
 stays_marking : (old now : CopyView) → Marking old now → StaysCopy old now
 stays_marking old now is = elim is [ inl same ↦ stays_as old now same | inr made ↦ stays_marked old now made ]
 
 gate_marking : (old now : CopyView) → Marking old now → now.is_open ≡ old.is_open
 gate_marking old now is = elim is [ inl same ↦ ap (λ (c : CopyView). c.is_open) same | inr made ↦ ap (λ (c : CopyView). c.is_open) made ]
+
+-- a filling is a rewriting
+pub as_rewriting : (at : BlockPlace) (bytes : List ℕ) (s t : SiteLog) → WritesCopy at (IsFilling bytes (copy_on s at)) s t → WritesCopy at (IsRewriting bytes (copy_on s at)) s t
+as_rewriting at bytes s t w = copy_weaker at (IsFilling bytes (copy_on s at)) (IsRewriting bytes (copy_on s at)) (λ c is. inr is) s t w
 
 module _ (volume : ℕ) (row : RowValue) (bytes : List ℕ) (spelled : decode bytes ≡ Ok row) (s : SiteLog) (none : AreClosed volume (content s)) where
   abbrev a : CopyView
@@ -45,38 +57,44 @@ module _ (volume : ℕ) (row : RowValue) (bytes : List ℕ) (spelled : decode by
   pub first_pair : (s1 : SiteLog) → WritesCopy (place_of copy.A volume) (Marking a) s s1 → Pair s s s1
   first_pair s1 w = from_a volume (Marking a) (InPair a b Row) s s1 (λ x is. record { stays_a = stays_marking a x is; stays_b = stays b; here = no_row x b (gate_marking a x is ∙ none.a) none.b }) w
 
-  module _ (s1 : SiteLog) (w1 : WritesCopy (place_of copy.A volume) (Marking a) s s1) (a1 : copy_a volume s1 ≡ marked a) where
+  module _ (s1 : SiteLog) (first : Marked (place_of copy.A volume) s s1) where
     b1 : copy_b volume s1 ≡ b
-    b1 = kept_b volume (Marking a) s s1 w1
+    b1 = kept_b volume (Marking a) s s1 first.moments
 
     -- the mark of copy B
     within_two : (y : CopyView) → Marking (copy_b volume s1) y → InPair a b Row (copy_a volume s1) y
     within_two y was =
         let is : Marking b y = subst (λ (c : CopyView). Marking c y) b1 was in
         record {
-          stays_a = stays_marked a (copy_a volume s1) a1;
+          stays_a = stays_marked a (copy_a volume s1) first.done;
           stays_b = stays_marking b y is;
-          here = no_row (copy_a volume s1) y (ap (λ (c : CopyView). c.is_open) a1 ∙ none.a) (gate_marking b y is ∙ none.b);
+          here = no_row (copy_a volume s1) y (ap (λ (c : CopyView). c.is_open) first.done ∙ none.a) (gate_marking b y is ∙ none.b);
         }
 
     pub second_pair : (s2 : SiteLog) → WritesCopy (place_of copy.B volume) (Marking (copy_b volume s1)) s1 s2 → Pair s s s2
-    second_pair s2 w = pair_then volume (InPair a b Row) s s1 s2 (first_pair s1 w1) (from_b volume (Marking (copy_b volume s1)) (InPair a b Row) s1 s2 within_two w)
+    second_pair s2 w = pair_then volume (InPair a b Row) s s1 s2 first.firm (first_pair s1 first.moments) (from_b volume (Marking (copy_b volume s1)) (InPair a b Row) s1 s2 within_two w)
 
-    module _ (s2 : SiteLog) (w2 : WritesCopy (place_of copy.B volume) (Marking (copy_b volume s1)) s1 s2) (was_b2 : copy_b volume s2 ≡ marked (copy_b volume s1)) where
+    module _ (s2 : SiteLog) (second : Marked (place_of copy.B volume) s1 s2) where
       b2 : copy_b volume s2 ≡ marked b
-      b2 = was_b2 ∙ ap marked b1
+      b2 = second.done ∙ ap marked b1
 
       a2 : copy_a volume s2 ≡ marked a
-      a2 = kept_a volume (Marking (copy_b volume s1)) s1 s2 w2 ∙ a1
+      a2 = kept_a volume (Marking (copy_b volume s1)) s1 s2 second.moments ∙ first.done
 
       pub a_closed : (copy_a volume s2).is_open ≡ false
       a_closed = ap (λ (c : CopyView). c.is_open) a2 ∙ none.a
+
+      pub a_slots : (copy_a volume s2).slots ≡ a.slots
+      a_slots = ap (λ (c : CopyView). c.slots) a2
 
       b_shut : (copy_b volume s2).is_open ≡ false
       b_shut = ap (λ (c : CopyView). c.is_open) b2 ∙ none.b
 
       b_made : (copy_b volume s2).is_made ≡ true
       b_made = ap (λ (c : CopyView). c.is_made) b2
+
+      firm_two : Settles s s2
+      firm_two = settles_then s s1 s2 first.firm second.firm
 
       -- copy A is filled
       row_three : (x : CopyView) → IsRewriting bytes (marked a) x → Row x (copy_b volume s2)
@@ -94,17 +112,23 @@ module _ (volume : ℕ) (row : RowValue) (bytes : List ℕ) (spelled : decode by
           record { stays_a = stays_since a x (stays_rewriting bytes (marked a) x is); stays_b = stays_marked b (copy_b volume s2) b2; here = row_three x is }
 
       pub third_pair : (s3 : SiteLog) → WritesCopy (place_of copy.A volume) (IsRewriting bytes (copy_a volume s2)) s2 s3 → Pair s s s3
-      third_pair s3 w = pair_then volume (InPair a b Row) s s2 s3 (second_pair s2 w2) (from_a volume (IsRewriting bytes (copy_a volume s2)) (InPair a b Row) s2 s3 within_three w)
+      third_pair s3 w = pair_then volume (InPair a b Row) s s2 s3 firm_two (second_pair s2 second.moments) (from_a volume (IsRewriting bytes (copy_a volume s2)) (InPair a b Row) s2 s3 within_three w)
 
-      module _ (s3 : SiteLog) (w3 : WritesCopy (place_of copy.A volume) (IsRewriting bytes (copy_a volume s2)) s2 s3) (was_a3 : copy_a volume s3 ≡ filled bytes (copy_a volume s2)) where
+      module _ (s3 : SiteLog) (third : Rewritten (place_of copy.A volume) bytes s2 s3) where
         a3 : copy_a volume s3 ≡ filled bytes (marked a)
-        a3 = was_a3 ∙ ap (filled bytes) a2
+        a3 = third.done ∙ ap (filled bytes) a2
 
         b3 : copy_b volume s3 ≡ marked b
-        b3 = kept_b volume (IsRewriting bytes (copy_a volume s2)) s2 s3 w3 ∙ b2
+        b3 = kept_b volume (IsRewriting bytes (copy_a volume s2)) s2 s3 third.moments ∙ b2
 
         pub b_closed : (copy_b volume s3).is_open ≡ false
         b_closed = ap (λ (c : CopyView). c.is_open) b3 ∙ none.b
+
+        pub b_slots : (copy_b volume s3).slots ≡ (copy_b volume s1).slots
+        b_slots = ap (λ (c : CopyView). c.slots) (b3 ∙ ap marked (sym b1))
+
+        firm_three : Settles s s3
+        firm_three = settles_then s s2 s3 firm_two third.firm
 
         -- copy B is filled
         within_four : (y : CopyView) → IsRewriting bytes (copy_b volume s3) y → InPair a b Row (copy_a volume s3) y
@@ -121,14 +145,14 @@ module _ (volume : ℕ) (row : RowValue) (bytes : List ℕ) (spelled : decode by
             }
 
         pub fourth_pair : (s4 : SiteLog) → WritesCopy (place_of copy.B volume) (IsRewriting bytes (copy_b volume s3)) s3 s4 → Pair s s s4
-        fourth_pair s4 w = pair_then volume (InPair a b Row) s s3 s4 (third_pair s3 w3) (from_b volume (IsRewriting bytes (copy_b volume s3)) (InPair a b Row) s3 s4 within_four w)
+        fourth_pair s4 w = pair_then volume (InPair a b Row) s s3 s4 firm_three (third_pair s3 third.moments) (from_b volume (IsRewriting bytes (copy_b volume s3)) (InPair a b Row) s3 s4 within_four w)
 
-        module _ (s4 : SiteLog) (w4 : WritesCopy (place_of copy.B volume) (IsRewriting bytes (copy_b volume s3)) s3 s4) (was_b4 : copy_b volume s4 ≡ filled bytes (copy_b volume s3)) where
+        module _ (s4 : SiteLog) (fourth : Rewritten (place_of copy.B volume) bytes s3 s4) where
           a4 : copy_a volume s4 ≡ filled bytes (marked a)
-          a4 = kept_a volume (IsRewriting bytes (copy_b volume s3)) s3 s4 w4 ∙ a3
+          a4 = kept_a volume (IsRewriting bytes (copy_b volume s3)) s3 s4 fourth.moments ∙ a3
 
           b4 : copy_b volume s4 ≡ filled bytes (marked b)
-          b4 = was_b4 ∙ ap (filled bytes) b3
+          b4 = fourth.done ∙ ap (filled bytes) b3
 
           pub created : HoldsRow row volume (content s4)
           created = record {
@@ -136,14 +160,11 @@ module _ (volume : ℕ) (row : RowValue) (bytes : List ℕ) (spelled : decode by
             b = open_as row (copy_b volume s4) (filled bytes (marked b)) b4 (open_filled row bytes (marked b) spelled);
           }
 
-          pub both_settled : NeedsNoRepair volume (content s4)
-          both_settled = equal_settled volume s4 bytes (marked a) (marked b) a4 b4
-
-          pub both_spelled : bytes ≡ spelling row → AreSpelled row volume (content s4)
-          both_spelled is = both_filled row volume s4 bytes (marked a) (marked b) is a4 b4
-
           pub both_made : AreMade volume (content s4)
           both_made = record { a = ap (λ (c : CopyView). c.is_made) a4; b = ap (λ (c : CopyView). c.is_made) b4 }
+
+          pub all_firm : Settles s s4
+          all_firm = settles_then s s3 s4 firm_three fourth.firm
 
 -- what becomes of the two marks, from one write to the next
 module _ (volume : ℕ) (P1 P2 P3 P4 : CopyView → Type 0) (s s1 s2 s3 s4 : SiteLog)
@@ -158,8 +179,9 @@ module _ (volume : ℕ) (P1 P2 P3 P4 : CopyView → Type 0) (s s1 s2 s3 s4 : Sit
   abbrev mark_in : List ℕ → ℕ
   mark_in block = get_or block 511 0
 
-  pub both_marked : (A s ≡ 0 → A s1 ≡ 77) → (B s1 ≡ 0 → B s2 ≡ 77) → A s3 ≡ A s2 → B s4 ≡ B s3 → AreMarked volume (content s) (content s4)
-  both_marked first second third fourth = record {
+  pub both_marked : (A s ≡ 0 → A s1 ≡ 77) → (B s1 ≡ 0 → B s2 ≡ 77) → A s3 ≡ A s2 → B s4 ≡ B s3 → AreMade volume (content s4) → AreMarked volume (content s) (content s4)
+  both_marked first second third fourth made = record {
+    made = made;
     a = λ none. ap mark_in (block_a_kept volume P4 s3 s4 w4) ∙ third ∙ ap mark_in (block_a_kept volume P2 s1 s2 w2) ∙ first none;
     b = λ none. fourth ∙ ap mark_in (block_b_kept volume P3 s2 s3 w3) ∙ second (ap mark_in (block_b_kept volume P1 s s1 w1) ∙ none);
   }

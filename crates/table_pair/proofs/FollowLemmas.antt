@@ -1,59 +1,52 @@
 -- Which copy is to be rewritten.
-use Rattle.std.proofs.Common.{◌≡◌, inl, Bool, true, false, ℕ, List, take, Option, Some, None, Result, Ok, Err, refl, sym, ◌∙◌, ap, subst, ◌++◌, length}
-use Rattle.std.specs.Prelude.{is_ok, OnOk}
+use Rattle.std.proofs.Common.{◌≡◌, inl, inr, Bool, true, false, ℕ, List, take, Option, Some, None, Result, Ok, Err, sym, ◌∙◌, ap, subst, ◌++◌, length}
+use Rattle.std.specs.Prelude.{OnOk}
 use Rattle.std.proofs.lemmas.List.{take_at}
-use Rattle.mss_base.specs.Content.{SiteLog, content}
-use Rattle.mss_base.specs.declared.place.UnitNo.TheVariants.{TableA, TableB}
 use Rattle.volume_table.specs.Row.{RowValue}
-use Rattle.volume_table.specs.Grammar.{body, decode, decoded, first_fault, row_at, Finds}
+use Rattle.volume_table.specs.Grammar.{decode}
 use Rattle.volume_table.specs.declared.fault.RowFault.{RowFault}
-use Rattle.table_pair.specs.declared.copy.TableCopy.{TableCopy}
-use Rattle.table_pair.specs.declared.copy.TableCopy.TheVariants as copy
-use Rattle.table_pair.specs.Copies.{CopyView, copy_at}
-use Rattle.table_pair.specs.Pair.{reading, known}
-use Rattle.table_pair.specs.Repairs.{NeedNoRepair, IsStale}
-use Rattle.table_pair.proofs.CopyLemmas.{spelled_of, body_front}
-use Rattle.table_pair.proofs.PairLemmas.{copy_a, copy_b}
-use Rattle.table_pair.proofs.PairFacts.{open_read, closed_read, row_by_none, spells_row, taken_row}
+use Rattle.table_pair.specs.Copies.{CopyView}
+use Rattle.table_pair.specs.Pair.{unread, closed, opened, read_of, IsOpenWith}
+use Rattle.table_pair.specs.Repairs.{HoldSame, NeedNoRepair, TellsRow}
+use Rattle.table_pair.proofs.PairFacts.{row_read, told_by_a, told_by_b, same_open}
 
-abbrev pub HasRow : CopyView → Type 0
-HasRow c = (row : RowValue) × (decode c.spelled ≡ Ok row)
+-- a copy that was read as closed, as damaged, or not at all, tells no row
+pub read_closed : (made : Bool) (c : CopyView) → closed made ≡ read_of c → TellsRow None c
+read_closed made c is row held = let e : closed made ≡ opened (Ok row) = is ∙ row_read row c held in cc
 
--- a body without a fault spells a row
-pub row_found : (block : List ℕ) (r : Result (Unit {0}) RowFault) → Finds r (first_fault (body (take 512 block))) → (is_ok r ≡ true → HasRow (copy_at block)) × (HasRow (copy_at block) → is_ok r ≡ true)
-row_found block (Ok u) is =
-    let none : first_fault (copy_at block).spelled ≡ None = ap first_fault (spelled_of block ∙ sym (body_front block)) ∙ is in
-    (λ _. (row_at (copy_at block).spelled, ap (λ (f : Option RowFault). decoded f (row_at (copy_at block).spelled)) none), λ _. refl)
-row_found block (Err fault) is =
-    let some : first_fault (copy_at block).spelled ≡ Some fault = ap first_fault (spelled_of block ∙ sym (body_front block)) ∙ is in
-    let no : decode (copy_at block).spelled ≡ Err fault = ap (λ (f : Option RowFault). decoded f (row_at (copy_at block).spelled)) some in
-    (λ e. absurd cc, λ found. absurd (let e : Err fault ≡ Ok found.0 = sym no ∙ found.1 in cc))
+pub read_damaged : (fault : RowFault) (c : CopyView) → opened (Err fault) ≡ read_of c → TellsRow None c
+read_damaged fault c is row held = let e : opened (Err fault) ≡ opened (Ok row) = is ∙ row_read row c held in cc
+
+pub read_unread : (c : CopyView) → unread ≡ read_of c → TellsRow None c
+read_unread c is row held = let e : unread ≡ opened (Ok row) = is ∙ row_read row c held in cc
+
+-- bodies of one row are one
+pub same_rows : (row other : RowValue) (x y : List ℕ) → decode x ≡ Ok row → decode y ≡ Ok other → x ≡ y → row ≡ other
+same_rows row other x y is was same = let e : Ok row ≡ Ok other = sym is ∙ ap decode same ∙ was in cc
+
+module _ (a b : CopyView) where
+  -- the copy that counts tells no row
+  pub none_of_b : a.is_open ≡ false → TellsRow None b → NeedNoRepair a b
+  none_of_b shut none = inl (λ row told. none row (told_by_b row a b shut told))
+
+  pub none_of_a : a.is_open ≡ true → TellsRow None a → NeedNoRepair a b
+  none_of_a is none = inl (λ row told. none row (told_by_a row a b is told))
+
+  module _ (row : RowValue) (open_a : IsOpenWith row a) (told : Option RowValue) (by_b : TellsRow told b) where
+    pub both_tell : told ≡ Some row → NeedNoRepair a b
+    both_tell same = inr (row, open_a, subst (λ (o : Option RowValue). TellsRow o b) same by_b)
+
+  pub tells_other : (told : Option RowValue) → TellsRow told b → (row : RowValue) → IsOpenWith row a → (told ≡ Some row → ⊥) → HoldSame a b → ⊥
+  tells_other None none row open_a other same = none same.0 same.2
+  tells_other (Some found) held row open_a other same = other (ap Some (same_open found same.0 b held same.2 ∙ same_open same.0 row a same.1 open_a))
 
 -- a test that is false rules its fact out
 pub refuted : (flag : Bool) (P : Type 0) → flag ≡ false → (P → flag ≡ true) → P → ⊥
 refuted flag P is gives p = let e : false ≡ true = sym is ∙ gives p in cc
 
-module _ (a b : CopyView) where
-  pub damaged_a : a.is_open ≡ true → (HasRow a → ⊥) → NeedNoRepair a b
-  damaged_a is none = inl (λ row told. none (row, spells_row row a b is told))
-
-  pub damaged_b : a.is_open ≡ false → b.is_open ≡ true → (HasRow b → ⊥) → NeedNoRepair a b
-  damaged_b shut is none = inl (λ row told. none (row, taken_row copy.B false (decode b.spelled) row (sym (λ i. reading (closed_read a shut i) (open_read b is i)) ∙ told)))
-
-  pub no_copy : a.is_open ≡ false → b.is_open ≡ false → NeedNoRepair a b
-  no_copy shut_a shut_b = inl (λ row told. let e : known None false ≡ known (Some row) false = sym (row_by_none a b shut_a shut_b) ∙ told in cc)
-
 pub on_ok_gives : {T E : Type 0} (r : Result T E) (P Q : Type 0) → (P → Q) → OnOk r P → OnOk r Q
 on_ok_gives (Ok value) P Q gives holds = gives holds
 on_ok_gives (Err e) P Q gives holds = tt
-
--- the copies as they were read
-pub stale_told : (which : Option TableCopy) (s : SiteLog) (volume : ℕ) (a b : List ℕ) → content s TableA volume ≡ a → content s TableB volume ≡ b
-    → IsStale which (copy_at a) (copy_at b) → IsStale which (copy_a volume s) (copy_b volume s)
-stale_told which s volume a b is_a is_b stale = subst (λ (y : CopyView). IsStale which (copy_a volume s) y) (ap copy_at (sym is_b)) (subst (λ (x : CopyView). IsStale which x (copy_at b)) (ap copy_at (sym is_a)) stale)
-
-pub spelled_told : (c block : List ℕ) → c ≡ block → body block ≡ (copy_at c).spelled
-spelled_told c block is = sym (spelled_of block) ∙ ap (λ (b : List ℕ). (copy_at b).spelled) (sym is)
 
 -- what was read into a buffer, seen in it later
 pub lent_back : (put rest : List ℕ) (size : ℕ) (seen : List ℕ) → length put ≡ size → seen ≡ take size (put ++ rest) → put ≡ seen

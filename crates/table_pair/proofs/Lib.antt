@@ -1,4 +1,5 @@
 pub mod SiteLemmas
+pub mod SlotLemmas
 pub mod CopyLemmas
 pub mod WriteLemmas
 pub mod PairFacts

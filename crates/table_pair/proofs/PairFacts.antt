@@ -1,29 +1,28 @@
 -- Which row two copies tell, and that what is held is told.
-use Rattle.std.proofs.Common.{◌≡◌, ◌<◌, ◌==◌, Bool, true, false, not, ℕ, List, get_or, Some, None, Result, Ok, Err, lit<, sym, ◌∙◌, ap}
+use Rattle.std.proofs.Common.{◌≡◌, inl, inr, ◌<◌, ◌==◌, Bool, true, false, not, ℕ, List, get_or, Some, None, Result, Ok, Err, lit<, sym, ◌∙◌, ap}
 use Rattle.std.proofs.lemmas.List.{get_or-replicate}
-use Rattle.std.proofs.lemmas.Bool.{cond-true, cond-false}
+use Rattle.std.proofs.lemmas.Bool.{cases_Bool, cond-true, cond-false}
 use Rattle.mss_base.specs.Zeros.{zeros}
 use Rattle.mss_base.specs.Content.{Content}
 use Rattle.mss_base.specs.declared.place.UnitNo.{UnitNo}
 use Rattle.mss_base.specs.declared.place.UnitNo.TheVariants.{TableA, TableB}
 use Rattle.volume_table.specs.Row.{RowValue}
-use Rattle.volume_table.specs.Grammar.{decode}
 use Rattle.volume_table.specs.declared.fault.RowFault.{RowFault}
 use Rattle.table_pair.specs.declared.copy.TableCopy.{TableCopy}
 use Rattle.table_pair.specs.declared.copy.TableCopy.TheVariants as copy
 use Rattle.table_pair.specs.Copies.{CopyView, copy_at}
 use Rattle.table_pair.proofs.CopyLemmas.{gate_of, mark_of}
-use Rattle.table_pair.specs.Pair.{CopyRead, opened, closed, read_of, known, taken, reading, row_of_copies, row_of, IsOpenWith, HoldsRow, AreClosed}
+use Rattle.table_pair.specs.Pair.{CopyRead, opened, closed, read_of, row_told, known, taken, reading, row_of_copies, row_of, IsOpenWith, HoldsRow, AreClosed}
 
 zero_at : (place : ℕ) → place < 16384 → get_or zeros place 0 ≡ 0
 unfolding zeros
 zero_at place lt = get_or-replicate 16384 place 0 0 lt
 
-pub open_read : (c : CopyView) → c.is_open ≡ true → read_of c ≡ opened (decode c.spelled)
-open_read c is = cond-true _ (opened (decode c.spelled)) (closed c.is_made) is
+pub open_read : (c : CopyView) → c.is_open ≡ true → read_of c ≡ opened (row_told c)
+open_read c is = cond-true _ (opened (row_told c)) (closed c.is_made) is
 
 pub closed_read : (c : CopyView) → c.is_open ≡ false → read_of c ≡ closed c.is_made
-closed_read c is = cond-false _ (opened (decode c.spelled)) (closed c.is_made) is
+closed_read c is = cond-false _ (opened (row_told c)) (closed c.is_made) is
 
 pub row_read : (row : RowValue) (c : CopyView) → IsOpenWith row c → read_of c ≡ opened (Ok row)
 row_read row c is = open_read c is.open_gate ∙ ap opened is.row_is
@@ -53,9 +52,28 @@ pub taken_row : (which : TableCopy) (missing : Bool) (read : Result RowValue Row
 taken_row which missing (Ok found) row is = ap Ok (one_row found row missing false is)
 taken_row which missing (Err fault) row is = absurd cc
 
--- an open copy A that tells a row spells it
-pub spells_row : (row : RowValue) (a b : CopyView) → a.is_open ≡ true → row_of_copies a b ≡ known (Some row) false → decode a.spelled ≡ Ok row
-spells_row row a b is told = taken_row copy.A false (decode a.spelled) row (sym (ap (λ (k : CopyRead). reading k (read_of b)) (open_read a is)) ∙ told)
+-- the row that is told is that of an open copy A, or else of an open copy B
+pub told_by_a : (row : RowValue) (a b : CopyView) → a.is_open ≡ true → row_of_copies a b ≡ known (Some row) false → IsOpenWith row a
+told_by_a row a b is told = record {
+  open_gate = is;
+  row_is = taken_row copy.A false (row_told a) row (sym (ap (λ (k : CopyRead). reading k (read_of b)) (open_read a is)) ∙ told);
+}
+
+pub told_by_b : (row : RowValue) (a b : CopyView) → a.is_open ≡ false → row_of_copies a b ≡ known (Some row) false → IsOpenWith row b
+told_by_b row a b shut told = elim (cases_Bool b.is_open) [
+  | inl is ↦ record { open_gate = is; row_is = taken_row copy.B false (row_told b) row (sym (λ i. reading (closed_read a shut i) (open_read b is i)) ∙ told) }
+  | inr none ↦ (let e : known None false ≡ known (Some row) false = sym (row_by_none a b shut none) ∙ told in cc)
+]
+
+-- a copy that was read as open with a row is, and no other is
+pub read_open : (row : RowValue) (c : CopyView) → opened (Ok row) ≡ read_of c → IsOpenWith row c
+read_open row c is = elim (cases_Bool c.is_open) [
+  | inl open_gate ↦ record { open_gate = open_gate; row_is = (let e : opened (row_told c) ≡ opened (Ok row) = sym (open_read c open_gate) ∙ sym is in cc) }
+  | inr shut ↦ (let e : opened (Ok row) ≡ closed c.is_made = is ∙ closed_read c shut in cc)
+]
+
+pub same_open : (row other : RowValue) (c : CopyView) → IsOpenWith row c → IsOpenWith other c → row ≡ other
+same_open row other c is was = let e : Ok row ≡ Ok other = sym is.row_is ∙ was.row_is in cc
 
 -- a block that was never written is a closed copy, of a volume that was never created
 pub zeros_closed : (copy_at zeros).is_open ≡ false

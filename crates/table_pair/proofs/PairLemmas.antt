@@ -1,15 +1,14 @@
 -- Writes of a copy, seen as writes of a row.
-use Rattle.std.proofs.Common.{◌≡◌, inr, ℕ, List, false, ◌&&◌, ◌==◌, refl, sym, ◌∙◌, ap, subst}
+use Rattle.std.proofs.Common.{◌≡◌, inr, ℕ, false, ◌&&◌, ◌==◌, refl, sym, ◌∙◌, ap, subst}
 use Rattle.mss_base.specs.declared.place.UnitNo.{UnitNo}
 use Rattle.mss_base.specs.declared.place.UnitNo.TheVariants.{TableA, TableB, Staging, Cartridge}
-use Rattle.mss_base.specs.Content.{Content, SiteLog, content, same_unit, Writes, ChangesBlock}
-use Rattle.mss_base.proofs.Moments.{then, weaker, ended_with, started}
+use Rattle.mss_base.specs.Content.{Content, SiteLog, content, same_unit, Settles, Writes, ChangesBlock}
+use Rattle.mss_base.proofs.Moments.{then_firm, weaker, ended_with, started}
 use Rattle.volume_table.specs.Row.{RowValue}
-use Rattle.volume_table.specs.Grammar.{spelling}
 use Rattle.table_pair.specs.declared.copy.TableCopy.TheVariants as copy
 use Rattle.table_pair.specs.Places.{place_of}
-use Rattle.table_pair.specs.Copies.{CopyView, copy_at, filled, WritesCopy}
-use Rattle.table_pair.specs.Pair.{is_table, AreSpelled, StaysCopy, ChangesRow}
+use Rattle.table_pair.specs.Copies.{CopyView, copy_at, WritesCopy}
+use Rattle.table_pair.specs.Pair.{is_table, StaysCopy, HoldsRow, ChangesRow}
 use Rattle.table_pair.specs.Repairs.{NeedsNoRepair}
 
 -- a block of one copy is a block of the row
@@ -71,11 +70,11 @@ module _ (volume : ℕ) where
     here = subst (λ (x : CopyView). R x (copy_at (c TableB volume))) (ap copy_at (sym (has.others TableA volume refl))) (give (copy_at (c TableB volume)) has.here);
   }) s t w
 
-  -- one run after another
-  pub pair_then : (R : CopyView → CopyView → Type 0) (s t u : SiteLog) → Writes (ChangesPair volume R (content s)) s t → Writes (ChangesPair volume R (content t)) t u → Writes (ChangesPair volume R (content s)) s u
-  pair_then R s t u first second =
+  -- one run after another, where nothing that the first wrote is loose at its end
+  pub pair_then : (R : CopyView → CopyView → Type 0) (s t u : SiteLog) → Settles s t → Writes (ChangesPair volume R (content s)) s t → Writes (ChangesPair volume R (content t)) t u → Writes (ChangesPair volume R (content s)) s u
+  pair_then R s t u settled first second =
       let at = ended_with (ChangesPair volume R (content s)) s t first in
-      then (ChangesPair volume R (content s)) s t u first
+      then_firm (ChangesPair volume R (content s)) s t u settled first
       (weaker (ChangesPair volume R (content t)) (ChangesPair volume R (content s)) (λ c has. record { others = λ unit block other. has.others unit block other ∙ at.others unit block other; here = has.here }) t u second)
 
   -- as writes of the row
@@ -91,19 +90,8 @@ module _ (volume : ℕ) where
   -- no write at all
   pub row_unwritten : (R : Content → Type 0) (s t : SiteLog) → t ≡ s → R (content s) → Writes (ChangesRow volume R (content s)) s t
   row_unwritten R s t same holds = subst (λ (u : SiteLog). Writes (ChangesRow volume R (content s)) s u) (sym same)
-      (started (ChangesRow volume R (content s)) s (record { others = λ unit block other. refl; a = record { behind = refl; made = λ is. is }; b = record { behind = refl; made = λ is. is }; here = holds }))
+      (started (ChangesRow volume R (content s)) s (record { others = λ unit block other. refl; a = record { made = λ is. is }; b = record { made = λ is. is }; here = holds }))
 
--- two copies that are open with one body need no repair
-pub equal_settled : (volume : ℕ) (t : SiteLog) (bytes : List ℕ) (a b : CopyView) → copy_a volume t ≡ filled bytes a → copy_b volume t ≡ filled bytes b → NeedsNoRepair volume (content t)
-equal_settled volume t bytes a b is_a is_b = inr (record {
-  open_a = ap (λ (c : CopyView). c.is_open) is_a;
-  open_b = ap (λ (c : CopyView). c.is_open) is_b;
-  same = ap (λ (c : CopyView). c.spelled) is_b ∙ sym (ap (λ (c : CopyView). c.spelled) is_a);
-})
-
--- and are spelled as a row that is spelled so
-pub both_filled : (row : RowValue) (volume : ℕ) (t : SiteLog) (bytes : List ℕ) (a b : CopyView) → bytes ≡ spelling row → copy_a volume t ≡ filled bytes a → copy_b volume t ≡ filled bytes b → AreSpelled row volume (content t)
-both_filled row volume t bytes a b is is_a is_b = record {
-  a = ap (λ (c : CopyView). c.spelled) is_a ∙ is;
-  b = ap (λ (c : CopyView). c.spelled) is_b ∙ is;
-}
+-- two copies that hold one row need no repair
+pub held_settled : (row : RowValue) (volume : ℕ) (c : Content) → HoldsRow row volume c → NeedsNoRepair volume c
+held_settled row volume c holds = inr (row, holds.a, holds.b)

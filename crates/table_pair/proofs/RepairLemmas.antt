@@ -1,26 +1,26 @@
 -- The moments of a repair.
-use Rattle.std.proofs.Common.{◌≡◌, inl, inr, true, false, ℕ, List, Some, Result, Ok, Err, refl, sym, ◌∙◌, ap, subst}
+use Rattle.std.proofs.Common.{◌≡◌, inl, inr, true, false, ℕ, List, Option, Some, Result, Ok, Err, refl, sym, ◌∙◌, ap, subst}
 use Rattle.std.specs.Prelude.{IsOk}
-use Rattle.mss_base.specs.Content.{SiteLog, content, Writes, ChangesBlock}
+use Rattle.mss_base.specs.Content.{SiteLog, content, Settles, Writes, ChangesBlock}
 use Rattle.mss_base.specs.declared.place.UnitNo.TheVariants.{TableA, TableB}
 use Rattle.mss_base.proofs.Moments.{started, weaker}
+use Rattle.mss_base.proofs.Settling.{settles_none}
 use Rattle.volume_table.specs.Row.{RowValue}
 use Rattle.volume_table.specs.Grammar.{decode}
+use Rattle.table_pair.specs.declared.copy.TableCopy.{TableCopy}
 use Rattle.table_pair.specs.declared.copy.TableCopy.TheVariants as copy
+use Rattle.table_pair.specs.declared.repairs.Stale.{Stale}
+use Rattle.table_pair.specs.declared.write.Gates.{Gates}
 use Rattle.table_pair.specs.Places.{place_of}
-use Rattle.table_pair.specs.Copies.{CopyView, copy_at, filled, IsRewriting, WritesCopy}
-use Rattle.table_pair.specs.Pair.{known, row_of_copies, IsOpenWith, HoldsRow, ChangesRow}
-use Rattle.table_pair.specs.Repairs.{AreEqual, NeedNoRepair, NeedsNoRepair, KeepsRow, KeepsMarks, HoldsToldRow, KeepsRepairFault}
+use Rattle.table_pair.specs.Copies.{CopyView, copy_at, copy_on, filled, HasGates, IsRewriting, WritesCopy}
+use Rattle.table_pair.specs.Pair.{known, row_of_copies, HoldsRow, ChangesRow}
+use Rattle.table_pair.specs.Repairs.{NeedNoRepair, NeedsNoRepair, IsBehind, one_of, MayBeStale, MayBeStaleOn, KeepsRow, KeepsMarks, HoldsToldRow, KeepsRepairFault}
 use Rattle.table_pair.specs.declared.copy.RepairFault.{RepairFault}
 use Rattle.table_pair.specs.declared.copy.RepairFault.TheVariants.{Memory}
-use Rattle.table_pair.proofs.PairFacts.{row_by_a, row_by_b, one_row, spells_row}
-use Rattle.table_pair.proofs.PairLemmas.{copy_a, copy_b, InPair, kept_a, kept_b, from_a, from_b, pair_row, row_unwritten, equal_settled}
+use Rattle.table_pair.proofs.PairFacts.{row_by_a, row_by_b, one_row}
+use Rattle.table_pair.proofs.PairLemmas.{copy_a, copy_b, InPair, kept_a, kept_b, from_a, from_b, pair_row, row_unwritten}
 use Rattle.table_pair.proofs.StayLemmas.{stays, stays_rewriting, rewriting_keeps_mark}
 use Rattle.table_pair.proofs.ChangeLemmas.{open_filled, open_as}
-
--- an open copy is filled with what it spells
-opened_as : (c : CopyView) → c.is_open ≡ true → c ≡ filled c.spelled c
-opened_as c is = λ i. record c { is_open = is i }
 
 module _ (volume : ℕ) (s t : SiteLog) where
   abbrev a : CopyView
@@ -39,18 +39,8 @@ module _ (volume : ℕ) (s t : SiteLog) where
   pub no_marks : t ≡ s → Writes (KeepsMarks volume (content s)) s t
   no_marks same = subst (λ (u : SiteLog). Writes (KeepsMarks volume (content s)) s u) (sym same) (started (KeepsMarks volume (content s)) s (record { a = refl; b = refl }))
 
-  -- a copy that is rewritten keeps its mark, and the other one isn't written
-  pub a_marks : (bytes : List ℕ) → WritesCopy (place_of copy.A volume) (IsRewriting bytes a) s t → Writes (KeepsMarks volume (content s)) s t
-  a_marks bytes w = weaker (ChangesBlock TableA volume (λ block. IsRewriting bytes a (copy_at block)) (content s)) (KeepsMarks volume (content s)) (λ c has. record {
-    a = rewriting_keeps_mark bytes a (copy_at (c TableA volume)) has.here;
-    b = ap (λ (block : List ℕ). (copy_at block).is_made) (has.others TableB volume refl);
-  }) s t w
-
-  pub b_marks : (bytes : List ℕ) → WritesCopy (place_of copy.B volume) (IsRewriting bytes b) s t → Writes (KeepsMarks volume (content s)) s t
-  b_marks bytes w = weaker (ChangesBlock TableB volume (λ block. IsRewriting bytes b (copy_at block)) (content s)) (KeepsMarks volume (content s)) (λ c has. record {
-    a = ap (λ (block : List ℕ). (copy_at block).is_made) (has.others TableA volume refl);
-    b = rewriting_keeps_mark bytes b (copy_at (c TableB volume)) has.here;
-  }) s t w
+  pub none_firm : t ≡ s → Settles s t
+  none_firm same = subst (λ (u : SiteLog). Settles s u) (sym same) (settles_none s)
 
   pub none_settled : NeedNoRepair a b → t ≡ s → NeedsNoRepair volume (content t)
   none_settled none same = subst (λ (u : SiteLog). NeedsNoRepair volume (content u)) (sym same) none
@@ -58,67 +48,78 @@ module _ (volume : ℕ) (s t : SiteLog) where
   pub equal_hold : NeedNoRepair a b → t ≡ s → HoldsToldRow volume (content s) (content t)
   equal_hold none same row told = elim none [
     | inl gone ↦ absurd (gone row told)
-    | inr equal ↦
-        let spelled : decode a.spelled ≡ Ok row = spells_row row a b equal.open_a told in
-        subst (λ (u : SiteLog). HoldsRow row volume (content u)) (sym same)
-        (record { a = record { open_gate = equal.open_a; row_is = spelled }; b = record { open_gate = equal.open_b; row_is = ap decode equal.same ∙ spelled } })
+    | inr both ↦
+        let is : both.0 ≡ row = one_row both.0 row false false (sym (row_by_a both.0 a b both.1) ∙ told) in
+        subst (λ (u : SiteLog). HoldsRow row volume (content u)) (sym same) (subst (λ (r : RowValue). HoldsRow r volume (content s)) is (record { a = both.1; b = both.2 }))
   ]
 
-  -- copy B is rewritten as copy A
-  module _ (row : RowValue) (open_a : IsOpenWith row a) (w : WritesCopy (place_of copy.B volume) (IsRewriting a.spelled b) s t) where
-    pub b_moments : Writes (ChangesRow volume (KeepsRow volume (content s)) (content s)) s t
-    b_moments = pair_row volume Row (KeepsRow volume (content s)) s t (λ c is. is)
-        (from_b volume (IsRewriting a.spelled b) (InPair a b Row) s t (λ y is. record { stays_a = stays a; stays_b = stays_rewriting a.spelled b y is; here = row_by_a row a y open_a ∙ sym (row_by_a row a b open_a) }) w)
+  -- a copy is rewritten with this row, which the other one tells
+  module _ (row : RowValue) (bytes : List ℕ) (spelled : decode bytes ≡ Ok row) where
+    pub told_row : (which : TableCopy) → IsBehind which row a b → row_of_copies a b ≡ known (Some row) false
+    told_row copy.A behind = row_by_b row a b behind.0 behind.1
+    told_row copy.B behind = row_by_a row a b behind.1
 
-    pub b_hold : copy_b volume t ≡ filled a.spelled b → HoldsToldRow volume (content s) (content t)
-    b_hold done other told =
-        let same : row ≡ other = one_row row other false false (sym (row_by_a row a b open_a) ∙ told) in
-        subst (λ (r : RowValue). HoldsRow r volume (content t)) same (record {
-          a = open_as row (copy_a volume t) a (kept_a volume (IsRewriting a.spelled b) s t w) open_a;
-          b = open_as row (copy_b volume t) (filled a.spelled b) done (open_filled row a.spelled b open_a.row_is);
-        })
-
-    pub b_settled : copy_b volume t ≡ filled a.spelled b → NeedsNoRepair volume (content t)
-    b_settled done =
-        equal_settled volume t a.spelled a b (kept_a volume (IsRewriting a.spelled b) s t w ∙ opened_as a open_a.open_gate) done
-
-    pub b_needed : (AreEqual a b → ⊥) → NeedNoRepair a b → t ≡ s
-    b_needed unequal none = elim none [ inl gone ↦ absurd (gone row (row_by_a row a b open_a)) | inr equal ↦ absurd (unequal equal) ]
-
-  -- copy A is rewritten as copy B
-  module _ (closed_a : a.is_open ≡ false) (row : RowValue) (open_b : IsOpenWith row b) (w : WritesCopy (place_of copy.A volume) (IsRewriting b.spelled a) s t) where
-    told_row : row_of_copies a b ≡ known (Some row) false
-    told_row = row_by_b row a b closed_a open_b
-
-    within_a : (x : CopyView) → IsRewriting b.spelled a x → Row x b
-    within_a x is = elim is [
+    -- copy A is, and was closed
+    within_a : IsBehind copy.A row a b → (x : CopyView) → IsRewriting bytes a x → Row x b
+    within_a behind x is = elim is [
       | inl same ↦ ap (λ (c : CopyView). row_of_copies c b) same
       | inr filling ↦ elim filling.gate [
-        | inl closed ↦ row_by_b row x b closed open_b ∙ sym told_row
-        | inr full ↦ row_by_a row x b (open_as row x (filled b.spelled a) full (open_filled row b.spelled a open_b.row_is)) ∙ sym told_row
+        | inl closed ↦ row_by_b row x b closed behind.1 ∙ sym (told_row copy.A behind)
+        | inr full ↦ row_by_a row x b (open_as row x (filled bytes a) full (open_filled row bytes a spelled)) ∙ sym (told_row copy.A behind)
       ]
     ]
 
-    pub a_moments : Writes (ChangesRow volume (KeepsRow volume (content s)) (content s)) s t
-    a_moments = pair_row volume Row (KeepsRow volume (content s)) s t (λ c is. is)
-        (from_a volume (IsRewriting b.spelled a) (InPair a b Row) s t (λ x is. record { stays_a = stays_rewriting b.spelled a x is; stays_b = stays b; here = within_a x is }) w)
+    pub follow_moments : (which : TableCopy) → IsBehind which row a b → WritesCopy (place_of which volume) (IsRewriting bytes (copy_on s (place_of which volume))) s t
+        → Writes (ChangesRow volume (KeepsRow volume (content s)) (content s)) s t
+    follow_moments copy.A behind w = pair_row volume Row (KeepsRow volume (content s)) s t (λ c is. is)
+        (from_a volume (IsRewriting bytes a) (InPair a b Row) s t (λ x is. record { stays_a = stays_rewriting bytes a x is; stays_b = stays b; here = within_a behind x is }) w)
+    follow_moments copy.B behind w = pair_row volume Row (KeepsRow volume (content s)) s t (λ c is. is)
+        (from_b volume (IsRewriting bytes b) (InPair a b Row) s t (λ y is. record { stays_a = stays a; stays_b = stays_rewriting bytes b y is; here = row_by_a row a y behind.1 ∙ sym (told_row copy.B behind) }) w)
 
-    pub a_hold : copy_a volume t ≡ filled b.spelled a → HoldsToldRow volume (content s) (content t)
-    a_hold done other told =
-        let same : row ≡ other = one_row row other false false (sym told_row ∙ told) in
-        subst (λ (r : RowValue). HoldsRow r volume (content t)) same (record {
-          a = open_as row (copy_a volume t) (filled b.spelled a) done (open_filled row b.spelled a open_b.row_is);
-          b = open_as row (copy_b volume t) b (kept_b volume (IsRewriting b.spelled a) s t w) open_b;
-        })
+    -- it keeps its mark, and the other one isn't written
+    pub follow_marks : (which : TableCopy) → WritesCopy (place_of which volume) (IsRewriting bytes (copy_on s (place_of which volume))) s t → Writes (KeepsMarks volume (content s)) s t
+    follow_marks copy.A w = weaker (ChangesBlock TableA volume (λ block. IsRewriting bytes a (copy_at block)) (content s)) (KeepsMarks volume (content s)) (λ c has. record {
+      a = rewriting_keeps_mark bytes a (copy_at (c TableA volume)) has.here;
+      b = ap (λ (block : List ℕ). (copy_at block).is_made) (has.others TableB volume refl);
+    }) s t w
+    follow_marks copy.B w = weaker (ChangesBlock TableB volume (λ block. IsRewriting bytes b (copy_at block)) (content s)) (KeepsMarks volume (content s)) (λ c has. record {
+      a = ap (λ (block : List ℕ). (copy_at block).is_made) (has.others TableA volume refl);
+      b = rewriting_keeps_mark bytes b (copy_at (c TableB volume)) has.here;
+    }) s t w
 
-    pub a_settled : copy_a volume t ≡ filled b.spelled a → NeedsNoRepair volume (content t)
-    a_settled done =
-        equal_settled volume t b.spelled a b done (kept_b volume (IsRewriting b.spelled a) s t w ∙ opened_as b open_b.open_gate)
+    -- then both hold the row
+    pub follow_holds : (which : TableCopy) → IsBehind which row a b → WritesCopy (place_of which volume) (IsRewriting bytes (copy_on s (place_of which volume))) s t
+        → copy_on t (place_of which volume) ≡ filled bytes (copy_on s (place_of which volume)) → HoldsRow row volume (content t)
+    follow_holds copy.A behind w done = record {
+      a = open_as row (copy_a volume t) (filled bytes a) done (open_filled row bytes a spelled);
+      b = open_as row (copy_b volume t) b (kept_b volume (IsRewriting bytes a) s t w) behind.1;
+    }
+    follow_holds copy.B behind w done = record {
+      a = open_as row (copy_a volume t) a (kept_a volume (IsRewriting bytes b) s t w) behind.1;
+      b = open_as row (copy_b volume t) (filled bytes b) done (open_filled row bytes b spelled);
+    }
 
-    pub a_needed : NeedNoRepair a b → t ≡ s
-    a_needed none = elim none [ inl gone ↦ absurd (gone row told_row) | inr equal ↦ absurd (let e : false ≡ true = sym closed_a ∙ equal.open_a in cc) ]
+    pub follow_told : (which : TableCopy) → IsBehind which row a b → HoldsRow row volume (content t) → HoldsToldRow volume (content s) (content t)
+    follow_told which behind holds other told =
+        subst (λ (r : RowValue). HoldsRow r volume (content t)) (one_row row other false false (sym (told_row which behind) ∙ told)) holds
+
+    pub follow_needed : (which : TableCopy) → IsBehind which row a b → NeedNoRepair a b → ⊥
+    follow_needed copy.A behind none = elim none [ inl gone ↦ gone row (told_row copy.A behind) | inr both ↦ (let e : false ≡ true = sym behind.0 ∙ both.1.open_gate in cc) ]
+    follow_needed copy.B behind none = elim none [ inl gone ↦ gone row (told_row copy.B behind) | inr both ↦ behind.0 both ]
+
+-- the gates of the copy that is rewritten
+pub gates_on : (which : TableCopy) (volume : ℕ) (s : SiteLog) (gates : Gates) → HasGates gates (one_of which (copy_a volume s) (copy_b volume s)) → HasGates gates (copy_on s (place_of which volume))
+gates_on copy.A volume s gates has = has
+gates_on copy.B volume s gates has = has
+
+-- what was read of two copies is so of them
+pub stale_on : (stale : Option Stale) (volume : ℕ) (s : SiteLog) (a b : List ℕ) → content s TableA volume ≡ a → content s TableB volume ≡ b → MayBeStale stale (copy_at a) (copy_at b) → MayBeStaleOn stale volume (content s)
+stale_on stale volume s a b is_a is_b found = subst (λ (p : List ℕ × List ℕ). MayBeStale stale (copy_at p.0) (copy_at p.1)) (λ i. (sym is_a i, sym is_b i)) found
 
 -- what a call that wrote nothing before keeps
+pub firm_since : (s r t : SiteLog) → r ≡ s → Settles r t → Settles s t
+firm_since s r t same firm = subst (λ (q : SiteLog). Settles q t) same firm
+
 pub marks_since : (volume : ℕ) (s r t : SiteLog) → r ≡ s → Writes (KeepsMarks volume (content r)) r t → Writes (KeepsMarks volume (content s)) s t
 marks_since volume s r t same w = subst (λ (q : SiteLog). Writes (KeepsMarks volume (content q)) q t) same w
 

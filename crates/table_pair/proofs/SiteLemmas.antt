@@ -5,7 +5,7 @@ use Rattle.mss_base.specs.Sites.{OnlyReads, MayWrite}
 use Rattle.mss_base.specs.declared.place.UnitNo.{UnitNo}
 use Rattle.mss_base.specs.declared.site.Site.{Ghosts}
 use Rattle.table_pair.specs.Reads.{IsReadable, CanReadTracks}
-use Rattle.table_pair.specs.Repairs.{LeavesSite}
+use Rattle.table_pair.specs.Repairs.{GotRoom, LeavesSite}
 
 -- what can be read goes on so
 pub readable_on : {S : Type 0} (g : Ghosts S) (old new : S) → StaysSound g.never_fails_but old new → (unit : UnitNo) → IsReadable g old unit → IsReadable g new unit
@@ -32,17 +32,10 @@ module _ {S : Type 0} (g : Ghosts S) where
   }
 
   -- reads of a site that got room at most
-  pub record GotRoom (s t : S) : Type 0 where
-    pub log : g.tells → g.told t ≡ g.told s
-    pub room : g.spare s ≤ g.spare t
-    pub unwritten : g.writes t ≡ g.writes s
-    pub later : g.faults s ≤ g.faults t
-    pub sound : StaysSound g.never_fails_but s t
-
-  pub got_room : (s t : S) → (g.tells → g.told t ≡ g.told s) → g.spare s ≤ g.spare t → g.writes t ≡ g.writes s → g.faults t ≡ g.faults s → StaysSound g.never_fails_but s t → GotRoom s t
+  pub got_room : (s t : S) → (g.tells → g.told t ≡ g.told s) → g.spare s ≤ g.spare t → g.writes t ≡ g.writes s → g.faults t ≡ g.faults s → StaysSound g.never_fails_but s t → GotRoom g s t
   got_room s t log room unwritten unfailed sound = record { log = log; room = room; unwritten = unwritten; later = omega (arith, unfailed); sound = sound }
 
-  pub room_read : (s r t : S) → GotRoom s r → OnlyReads g r t → GotRoom s t
+  pub room_read : (s r t : S) → GotRoom g s r → OnlyReads g r t → GotRoom g s t
   room_read s r t first second = record {
     log = λ yes. second.log yes ∙ first.log yes;
     room = omega (arith, first.room, second.room);
@@ -51,13 +44,13 @@ module _ {S : Type 0} (g : Ghosts S) where
     sound = sound_then s r t first.sound second.sound;
   }
 
-  pub room_leaves : (s t : S) → GotRoom s t → g.faults t ≡ g.faults s → LeavesSite g s t
+  pub room_leaves : (s t : S) → GotRoom g s t → g.faults t ≡ g.faults s → LeavesSite g s t
   room_leaves s t got same = record { log = got.log; room = got.room; unwritten = got.unwritten; unfailed = same }
 
-  pub room_may : (most : ℕ) (s t : S) → GotRoom s t → MayWrite g most s t
+  pub room_may : (most : ℕ) (s t : S) → GotRoom g s t → MayWrite g most s t
   room_may most s t got = record { room = omega (arith, got.room); written = omega (arith, got.unwritten); later = got.later; sound = got.sound }
 
-  pub room_write : (most : ℕ) (s r t : S) → GotRoom s r → MayWrite g most r t → MayWrite g most s t
+  pub room_write : (most : ℕ) (s r t : S) → GotRoom g s r → MayWrite g most r t → MayWrite g most s t
   room_write most s r t first second = record {
     room = omega (arith, first.room, second.room);
     written = omega (arith, first.unwritten, second.written);

@@ -4,26 +4,26 @@ use Rattle.table_pair.specs.Copies.{CopyView, marked, filled, IsRewriting}
 use Rattle.table_pair.specs.Pair.{StaysCopy}
 
 pub stays : (c : CopyView) → StaysCopy c c
-stays c = record { behind = refl; made = λ is. is }
+stays c = record { made = λ is. is }
 
 pub stays_as : (old now : CopyView) → now ≡ old → StaysCopy old now
 stays_as old now same = subst (StaysCopy old) (sym same) (stays old)
 
 pub stays_marked : (old now : CopyView) → now ≡ marked old → StaysCopy old now
-stays_marked old now is = subst (StaysCopy old) (sym is) (record { behind = refl; made = λ _. refl })
+stays_marked old now is = subst (StaysCopy old) (sym is) (record { made = λ _. refl })
 
 pub stays_filled : (bytes : List ℕ) (old : CopyView) → StaysCopy old (filled bytes old)
-stays_filled bytes old = record { behind = refl; made = λ is. is }
+stays_filled bytes old = record { made = λ is. is }
 
 pub stays_rewriting : (bytes : List ℕ) (old now : CopyView) → IsRewriting bytes old now → StaysCopy old now
 stays_rewriting bytes old now is = elim is [
   | inl same ↦ stays_as old now same
-  | inr filling ↦ record { behind = filling.behind; made = λ made. filling.made ∙ made }
+  | inr filling ↦ record { made = λ made. filling.made ∙ made }
 ]
 
 -- of what was marked, what stays stays of the copy before
 pub stays_since : (old now : CopyView) → StaysCopy (marked old) now → StaysCopy old now
-stays_since old now is = record { behind = is.behind; made = λ _. is.made refl }
+stays_since old now is = record { made = λ _. is.made refl }
 
 pub rewriting_made : (bytes : List ℕ) (old now : CopyView) → IsRewriting bytes (marked old) now → now.is_made ≡ true
 rewriting_made bytes old now is = (stays_rewriting bytes (marked old) now is).made refl

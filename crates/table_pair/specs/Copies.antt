@@ -1,42 +1,50 @@
 -- One copy of a row, and what it may be while it is written.
-use Rattle.std.specs.Prelude.{◌≡◌, ◌⊎◌, ℕ, Bool, true, false, not, ◌==◌, List, drop, slice_index}
+use Rattle.std.specs.Prelude.{◌≡◌, ◌⊎◌, ℕ, Bool, true, false, not, ◌==◌, List, [], slice_index}
 use Rattle.mss_base.specs.Content.{SiteLog, content, Writes, ChangesBlock}
 use Rattle.mss_base.specs.declared.place.BlockPlace.{BlockPlace}
 use Rattle.mss_base.specs.declared.block.TheConstants.{OPEN}
-use Rattle.volume_table.specs.declared.layout.TheConstants.{ROW_BYTES}
 use Rattle.volume_table.specs.Grammar.{body}
+use Rattle.table_journal.specs.Slots.{slots}
 use Rattle.table_pair.specs.declared.write.TheConstants.{GATE, MADE}
+use Rattle.table_pair.specs.declared.write.Gates.{Gates}
 
--- what counts of a copy's block: its gate, the body that spells the row, its made mark, the bytes behind the row
+-- what counts of a copy's block: its gate, the body that spells a row, the slots in use, which change it, its made mark
 pub record CopyView : Type 0 where
   pub is_open : Bool
   pub spelled : List ℕ
+  pub slots : List (List ℕ)
   pub is_made : Bool
-  pub behind : List ℕ
 
 -- an open gate alone is C1; the made mark is 00 until the volume is created
 unfoldable pub copy_at : List ℕ → CopyView
 copy_at block = record {
   is_open = slice_index block GATE == OPEN;
   spelled = body block;
+  slots = slots block;
   is_made = not (slice_index block MADE == 0);
-  behind = drop ROW_BYTES block;
 }
 
--- a copy after its gate was closed, after it was marked, and open with a body
+-- a copy after its gate was closed, after it was marked, with a body and no slot, and open so
 abbrev pub shut : CopyView → CopyView
 shut c = record c { is_open = false }
 
 abbrev pub marked : CopyView → CopyView
 marked c = record c { is_made = true }
 
-abbrev pub filled : List ℕ → CopyView → CopyView
-filled bytes c = record c { is_open = true; spelled = bytes }
+abbrev pub emptied : List ℕ → CopyView → CopyView
+emptied bytes c = record c { spelled = bytes; slots = [] }
 
--- a copy while a body is written behind its closed gate, and the gate then opened: closed, or open with that body
+abbrev pub filled : List ℕ → CopyView → CopyView
+filled bytes c = record c { is_open = true; spelled = bytes; slots = [] }
+
+-- whether a copy is open is known, and whether it may have slots
+pub record HasGates (gates : Gates) (c : CopyView) : Type 0 where
+  pub own : c.is_open ≡ gates.is_open
+  pub slots_ : gates.has_slots ≡ false → c.slots ≡ []
+
+-- a copy while a body is written behind its closed gate, and the gate then opened: closed, or open with that body alone
 pub record IsFilling (bytes : List ℕ) (old now : CopyView) : Type 0 where
   pub made : now.is_made ≡ old.is_made
-  pub behind : now.behind ≡ old.behind
   pub gate : (now.is_open ≡ false) ⊎ (now ≡ filled bytes old)
 
 -- a copy while it is rewritten: as it was, or being filled

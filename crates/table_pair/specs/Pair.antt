@@ -4,7 +4,7 @@ use Rattle.mss_base.specs.Content.{Content}
 use Rattle.mss_base.specs.declared.place.UnitNo.{UnitNo}
 use Rattle.mss_base.specs.declared.place.UnitNo.TheVariants.{TableA, TableB}
 use Rattle.volume_table.specs.Row.{RowValue}
-use Rattle.volume_table.specs.Grammar.{decode, spelling}
+use Rattle.volume_table.specs.Slots.{told_by}
 use Rattle.volume_table.specs.declared.fault.RowFault.{RowFault}
 use Rattle.table_pair.specs.declared.copy.TableCopy.{TableCopy}
 use Rattle.table_pair.specs.declared.copy.TableCopy.TheVariants as copy
@@ -17,8 +17,12 @@ pub data CopyRead : Type 0 where
   closed : Bool → CopyRead
   opened : Result RowValue RowFault → CopyRead
 
+-- the row of a copy's body after the changes of its slots, or the first of its fields or slots at fault
+abbrev pub row_told : CopyView → Result RowValue RowFault
+row_told c = told_by c.spelled c.slots
+
 abbrev pub read_of : CopyView → CopyRead
-read_of c = if c.is_open then opened (decode c.spelled) else closed c.is_made
+read_of c = if c.is_open then opened (row_told c) else closed c.is_made
 
 -- what is known of a row: that there is this one or none, and whether a copy was missing; that a copy is damaged; nothing
 pub data RowReading : Type 0 where
@@ -53,17 +57,12 @@ row_of c volume = row_of_copies (copy_at (c TableA volume)) (copy_at (c TableB v
 -- a copy is open with a row
 pub record IsOpenWith (row : RowValue) (c : CopyView) : Type 0 where
   pub open_gate : c.is_open ≡ true
-  pub row_is : decode c.spelled ≡ Ok row
+  pub row_is : row_told c ≡ Ok row
 
 -- both copies are open with this row
 pub record HoldsRow (row : RowValue) (volume : ℕ) (c : Content) : Type 0 where
   pub a : IsOpenWith row (copy_at (c TableA volume))
   pub b : IsOpenWith row (copy_at (c TableB volume))
-
--- both copies are spelled as this row
-pub record AreSpelled (row : RowValue) (volume : ℕ) (c : Content) : Type 0 where
-  pub a : (copy_at (c TableA volume)).spelled ≡ spelling row
-  pub b : (copy_at (c TableB volume)).spelled ≡ spelling row
 
 -- both copies are closed
 pub record AreClosed (volume : ℕ) (c : Content) : Type 0 where
@@ -75,8 +74,9 @@ pub record AreMade (volume : ℕ) (c : Content) : Type 0 where
   pub a : (copy_at (c TableA volume)).is_made ≡ true
   pub b : (copy_at (c TableB volume)).is_made ≡ true
 
--- where a copy had no made mark, it has the byte that stands for one
+-- both copies have their made mark, and where one had none, it has the byte that stands for one
 pub record AreMarked (volume : ℕ) (old new : Content) : Type 0 where
+  pub made : AreMade volume new
   pub a : slice_index (old TableA volume) MADE ≡ 0 → slice_index (new TableA volume) MADE ≡ MADE_MARK
   pub b : slice_index (old TableB volume) MADE ≡ 0 → slice_index (new TableB volume) MADE ≡ MADE_MARK
 
@@ -85,12 +85,11 @@ is_table TableA = true
 is_table TableB = true
 is_table _ = false
 
--- of a copy that was written, the bytes behind the row stay, and so does a made mark
+-- of a copy that was written, a made mark stays
 pub record StaysCopy (old new : CopyView) : Type 0 where
-  pub behind : new.behind ≡ old.behind
   pub made : old.is_made ≡ true → new.is_made ≡ true
 
--- only the two blocks of a volume's row differ, what stands behind the row stays, and P holds
+-- only the two blocks of a volume's row differ, their made marks stay, and P holds
 pub record ChangesRow (volume : ℕ) (P : Content → Type 0) (old new : Content) : Type 0 where
   pub others : (unit : UnitNo) (block : ℕ) → (is_table unit && (volume == block)) ≡ false → new unit block ≡ old unit block
   pub a : StaysCopy (copy_at (old TableA volume)) (copy_at (new TableA volume))

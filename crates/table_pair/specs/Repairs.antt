@@ -1,36 +1,59 @@
 -- When copies need no repair, which one is to be rewritten, and what a failed repair keeps.
-use Rattle.std.specs.Prelude.{◌≡◌, ◌≢◌, ◌⊎◌, ◌≤◌, ℕ, true, false, Option, Some, None, Result, Ok, Err}
+use Rattle.std.specs.Prelude.{◌≡◌, ◌≢◌, ◌⊎◌, ◌≤◌, ℕ, false, Option, Some, None, Result, Ok, Err}
 use Rattle.mss_base.specs.Content.{Content}
 use Rattle.mss_base.specs.declared.place.UnitNo.TheVariants.{TableA, TableB}
 use Rattle.volume_table.specs.Row.{RowValue}
 use Rattle.table_pair.specs.declared.copy.TableCopy.{TableCopy}
+use Rattle.table_pair.specs.declared.repairs.Stale.{Stale}
 use Rattle.table_pair.specs.declared.copy.TableCopy.TheVariants as copy
-use Rattle.table_pair.specs.Copies.{CopyView, copy_at}
+use Rattle.table_pair.specs.Copies.{CopyView, copy_at, HasGates}
 use Rattle.table_pair.specs.Pair.{row_of, row_of_copies, known, IsOpenWith, HoldsRow}
 use Rattle.mss_base.specs.Counts.{IsFaultSince}
-use Rattle.mss_base.specs.Content.{SiteLog}
+use Rattle.mss_base.specs.Sound.{StaysSound}
 use Rattle.mss_base.specs.declared.site.Site.{Ghosts}
 use Rattle.table_pair.specs.declared.copy.RepairFault.{RepairFault}
 use Rattle.table_pair.specs.declared.copy.RepairFault.TheVariants.{Failed, Memory}
 
--- both copies are open with the same body
-pub record AreEqual (a b : CopyView) : Type 0 where
-  pub open_a : a.is_open ≡ true
-  pub open_b : b.is_open ≡ true
-  pub same : b.spelled ≡ a.spelled
+-- both copies are open with the same row
+abbrev pub HoldSame : CopyView → CopyView → Type 0
+HoldSame a b = (row : RowValue) × IsOpenWith row a × IsOpenWith row b
 
--- there is no row to follow, or the copies are equal
+-- there is no row to follow, or both copies hold it
 abbrev pub NeedNoRepair : CopyView → CopyView → Type 0
-NeedNoRepair a b = ((row : RowValue) → row_of_copies a b ≢ known (Some row) false) ⊎ AreEqual a b
+NeedNoRepair a b = ((row : RowValue) → row_of_copies a b ≢ known (Some row) false) ⊎ HoldSame a b
 
 abbrev pub NeedsNoRepair : ℕ → Content → Type 0
 NeedsNoRepair volume c = NeedNoRepair (copy_at (c TableA volume)) (copy_at (c TableB volume))
 
--- the copy that differs from the row which the other one tells, if any
-abbrev pub IsStale : Option TableCopy → CopyView → CopyView → Type 0
-IsStale None a b = NeedNoRepair a b
-IsStale (Some copy.A) a b = (a.is_open ≡ false) × ((row : RowValue) × IsOpenWith row b)
-IsStale (Some copy.B) a b = (AreEqual a b → ⊥) × ((row : RowValue) × IsOpenWith row a)
+-- the row that an open copy tells, if any
+abbrev pub TellsRow : Option RowValue → CopyView → Type 0
+TellsRow None c = (row : RowValue) → IsOpenWith row c → ⊥
+TellsRow (Some row) c = IsOpenWith row c
+
+-- a copy hasn't the row which the other one tells: copy A is followed where it is open
+abbrev pub IsBehind : TableCopy → RowValue → CopyView → CopyView → Type 0
+IsBehind copy.A row a b = (a.is_open ≡ false) × IsOpenWith row b
+IsBehind copy.B row a b = (HoldSame a b → ⊥) × IsOpenWith row a
+
+abbrev pub one_of : TableCopy → CopyView → CopyView → CopyView
+one_of copy.A a b = a
+one_of copy.B a b = b
+
+-- what is to be rewritten: a copy that is behind, with the gates that it has
+pub record IsStale (stale : Stale) (a b : CopyView) : Type 0 where
+  pub behind : IsBehind stale.copy stale.row a b
+  pub gates : HasGates stale.gates (one_of stale.copy a b)
+
+-- what is to be repaired, if anything
+abbrev pub MayBeStale : Option Stale → CopyView → CopyView → Type 0
+MayBeStale None a b = NeedNoRepair a b
+MayBeStale (Some stale) a b = IsStale stale a b
+
+abbrev pub IsStaleOn : Stale → ℕ → Content → Type 0
+IsStaleOn stale volume c = IsStale stale (copy_at (c TableA volume)) (copy_at (c TableB volume))
+
+abbrev pub MayBeStaleOn : Option Stale → ℕ → Content → Type 0
+MayBeStaleOn stale volume c = MayBeStale stale (copy_at (c TableA volume)) (copy_at (c TableB volume))
 
 -- the row stays
 abbrev pub KeepsRow : ℕ → Content → Content → Type 0
@@ -55,6 +78,14 @@ KeepsRepairFault before now (Err Memory) = now ≡ before
 abbrev pub FailsNever : {T : Type 0} → Result T RepairFault → Type 0
 FailsNever (Err (Failed fault)) = ⊥
 FailsNever _ = Unit {0}
+
+-- a site that was read at most. It may have got room.
+pub record GotRoom {S : Type 0} (g : Ghosts S) (old new : S) : Type 0 where
+  pub log : g.tells → g.told new ≡ g.told old
+  pub room : g.spare old ≤ g.spare new
+  pub unwritten : g.writes new ≡ g.writes old
+  pub later : g.faults old ≤ g.faults new
+  pub sound : StaysSound g.never_fails_but old new
 
 -- a site that was neither read nor written. It may have got room.
 pub record LeavesSite {S : Type 0} (g : Ghosts S) (old new : S) : Type 0 where

@@ -1,6 +1,7 @@
 //! The row of a volume in two copies, such that a stop at any moment leaves the old row or the new one.
 //!
-//! Block v of the table's copy A and block v of its copy B each have a gate, the row's body and a made mark.
+//! Block v of the table's copy A and block v of its copy B each have a gate, the row's body, a made mark, and slots, which
+//! change the row of the body.
 //! `specs/Pair.antt` says which row two copies tell, also where one of them can't be read, and what holds at each
 //! moment of a change. The layers above rely on `read_row`, `change_row`, `create_row` and `repair`, over every site,
 //! on `law`, and on the lemmas of `proofs/PairFacts.antt` and `proofs/SiteLemmas.antt`.

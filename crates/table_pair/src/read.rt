@@ -12,10 +12,11 @@ use crate::copy::{CopyState, RowRead, RowTrouble, TableCopy, place_of};
 use crate::write::{GATE, MADE};
 use mss_base::{BLOCK_BYTES, BlockPlace, Failed, NoMemory, OPEN, Site, VolumeNo};
 use std::alloc::Global;
-use volume_table::{DecodeFault, ROW_BYTES, RowFault, VolumeRow, decode_row};
+use table_journal::read_slots;
+use volume_table::{DecodeFault, ROW_BYTES, RowFault, VolumeRow, decode_told};
 
 /// What a block that was read says of its copy.
-fn copy_state(alloc: Global, block: &[u8]) -> Result<CopyState, NoMemory>
+pub fn copy_state(alloc: Global, block: &[u8]) -> Result<CopyState, NoMemory>
     requires { length block.now ≡ BLOCK_BYTES }
     ensures { IfOk result (λ c. seen c ≡ read_of (copy_at block.now)) }
 {
@@ -24,7 +25,8 @@ fn copy_state(alloc: Global, block: &[u8]) -> Result<CopyState, NoMemory>
             made: block[MADE as usize] != 0,
         });
     }
-    match decode_row(alloc, &block[0..ROW_BYTES]) {
+    let (row, slots) = block.split_at(ROW_BYTES);
+    match decode_told(alloc, row, read_slots(block), slots) {
         Ok(row) => Ok(CopyState::Open(Ok(row))),
         Err(DecodeFault::Bad(fault)) => Ok(CopyState::Open(Err(fault))),
         Err(DecodeFault::Memory) => Err(NoMemory),

@@ -1,23 +1,28 @@
-// Making two copies equal.
-ghost use Rattle.std.specs.Prelude.{◌≡◌, ◌≢◌, ◌≤◌, ℕ, Bool, length, IsOk, OnOk, IsTrue, ◌↔◌};
-ghost use Rattle.mss_base.specs.Content.{content, Writes};
-ghost use Rattle.mss_base.specs.Counts.{HasCause};
-ghost use Rattle.mss_base.specs.Sites.{OnlyReads, MayWrite};
-ghost use Rattle.mss_base.specs.declared.place.UnitNo.{UnitNo};
+// Making two copies tell the same row.
+ghost use Rattle.std.specs.Prelude.{◌≡◌, ◌≤◌, ℕ, length, IfOk, OnOk, IsOk, IsTrue, ◌↔◌, Some, Err};
+ghost use Rattle.mss_base.specs.Content.{content, Settles, Writes};
+ghost use Rattle.mss_base.specs.Sites.{OnlyReads, MayWrite, WritesAtMost};
 ghost use Rattle.mss_base.specs.declared.place.UnitNo.TheVariants.{TableA, TableB};
-ghost use Rattle.volume_table.specs.Row.{RowValue};
-ghost use Rattle.volume_table.specs.Grammar.{decode};
 ghost use Rattle.table_pair.specs.Copies.{copy_at};
 ghost use Rattle.table_pair.specs.Pair.{ChangesRow};
 ghost use Rattle.table_pair.specs.Reads.{IsReadable};
-ghost use Rattle.table_pair.specs.Repairs.{NeedsNoRepair, IsStale, KeepsRow, KeepsMarks, HoldsToldRow, KeepsRepairFault, LeavesSite, FailsNever};
+ghost use Rattle.table_pair.specs.Repairs.{NeedsNoRepair, TellsRow, MayBeStale, IsStaleOn, MayBeStaleOn, KeepsRow, KeepsMarks, HoldsToldRow, KeepsRepairFault, GotRoom, LeavesSite, FailsNever};
 ghost use Rattle.table_pair.specs.declared.copy.RepairFault.TheVariants.{Memory};
 
-use crate::copy::{RepairFault, TableCopy, place_of};
-use crate::write::{COPY_ITEMS, GATE, rewrite_copy};
-use mss_base::{BLOCK_BYTES, BlockPlace, Failed, OPEN, Site, VolumeNo};
+use crate::copy::{CopyState, RepairFault, TableCopy, place_of};
+use crate::read::copy_state;
+use crate::write::{COPY_ITEMS, GATE, Gates, gates_of, rewrite_copy};
+use mss_base::{BLOCK_BYTES, BlockPlace, Failed, NoMemory, OPEN, Site, VolumeNo};
 use std::alloc::Global;
-use volume_table::{BODY, BODY_END, ROW_BYTES, check_row};
+use volume_table::{BODY, BODY_END, ROW_BYTES, VolumeRow, encode_row};
+
+/// A copy that hasn't the row which the other one tells, its gates, and that row.
+#[derive(Drop)]
+pub struct Stale {
+    pub copy: TableCopy,
+    pub gates: Gates,
+    pub row: VolumeRow,
+}
 
 fn is_open(block: &[u8]) -> bool
     requires { length block.now ≡ BLOCK_BYTES }
@@ -26,50 +31,73 @@ fn is_open(block: &[u8]) -> bool
     block[GATE as usize] == OPEN
 }
 
-/// Whether an open copy spells a row.
-fn has_row(block: &[u8]) -> bool
+/// The row that a copy tells, if it is open and tells one.
+fn told_row(alloc: Global, block: &[u8]) -> Result<Option<VolumeRow>, NoMemory>
     requires { length block.now ≡ BLOCK_BYTES }
-    ensures { IsTrue result ↔ ((row : RowValue) × (decode (copy_at block.now).spelled ≡ Ok row)) }
+    ensures { IfOk result (λ row. TellsRow row (copy_at block.now)) }
 {
-    check_row(&block[0..ROW_BYTES]).is_ok()
-}
-
-fn same_body(a: &[u8], b: &[u8]) -> bool
-    requires a { length a.now ≡ BLOCK_BYTES }
-    requires b { length b.now ≡ BLOCK_BYTES }
-    ensures { IsTrue result ↔ ((copy_at b.now).spelled ≡ (copy_at a.now).spelled) }
-{
-    b[BODY..BODY_END] == a[BODY..BODY_END]
-}
-
-/// The copy that has to be rewritten, if any. Copy A is followed where it is open, else an open copy B; a copy that
-/// spells no row isn't followed.
-fn stale_copy(a: &[u8], b: &[u8]) -> Option<TableCopy>
-    requires a { length a.now ≡ BLOCK_BYTES }
-    requires b { length b.now ≡ BLOCK_BYTES }
-    ensures { IsStale result (copy_at a.now) (copy_at b.now) }
-{
-    if is_open(a) {
-        if !has_row(a) {
-            return None;
-        }
-        if is_open(b) && same_body(a, b) {
-            return None;
-        }
-        return Some(TableCopy::B);
+    match copy_state(alloc, block)? {
+        CopyState::Open(Ok(row)) => Ok(Some(row)),
+        CopyState::Open(Err(_)) => Ok(None),
+        CopyState::Closed { .. } => Ok(None),
+        CopyState::Unread { .. } => Ok(None),
     }
-    if is_open(b) && has_row(b) {
-        return Some(TableCopy::A);
-    }
-    None
 }
 
-/// Makes the copies, which were read as `a` and `b`, equal.
-fn follow<S: Site>(site: &mut S, volume: VolumeNo, a: &[u8], b: &[u8]) -> Result<(), Failed>
+fn is_same(a: &VolumeRow, b: &VolumeRow) -> bool
+    ensures { IsTrue result ↔ (a.now ≡ b.now) }
+{
+    let mut first = [0; ROW_BYTES];
+    let mut second = [0; ROW_BYTES];
+    encode_row(a, &mut first);
+    encode_row(b, &mut second);
+    first[BODY..BODY_END] == second[BODY..BODY_END]
+}
+
+/// Whether a copy tells this row.
+fn tells(told: &Option<VolumeRow>, row: &VolumeRow) -> bool
+    ensures { IsTrue result ↔ (told.now ≡ Some row.now) }
+{
+    match told {
+        Some(other) => is_same(other, row),
+        None => false,
+    }
+}
+
+/// What has to be rewritten, if anything. Copy A is followed where it is open, else an open copy B; a copy that tells no
+/// row isn't followed.
+fn stale_copy(alloc: Global, a: &[u8], b: &[u8]) -> Result<Option<Stale>, NoMemory>
     requires a { length a.now ≡ BLOCK_BYTES }
     requires b { length b.now ≡ BLOCK_BYTES }
-    requires told_a { S.tells → content (S.told site.old) TableA volume ≡ a.now }
-    requires told_b { S.tells → content (S.told site.old) TableB volume ≡ b.now }
+    ensures { IfOk result (λ stale. MayBeStale stale (copy_at a.now) (copy_at b.now)) }
+{
+    let by_b = told_row(alloc, b)?;
+    if !is_open(a) {
+        let Some(row) = by_b else {
+            return Ok(None);
+        };
+        return Ok(Some(Stale {
+            copy: TableCopy::A,
+            gates: gates_of(a),
+            row,
+        }));
+    }
+    let Some(row) = told_row(alloc, a)? else {
+        return Ok(None);
+    };
+    if tells(&by_b, &row) {
+        return Ok(None);
+    }
+    Ok(Some(Stale {
+        copy: TableCopy::B,
+        gates: gates_of(b),
+        row,
+    }))
+}
+
+/// Rewrites a stale copy with the row of the other one.
+fn follow<S: Site>(site: &mut S, volume: VolumeNo, stale: &Stale) -> Result<(), Failed>
+    requires stale { S.tells → IsStaleOn stale.now volume (content (S.told site.old)) }
     requires room { COPY_ITEMS ≤ S.spare site.old }
     ensures moments { S.tells → Writes
         (ChangesRow volume (KeepsRow volume (content (S.told site.old))) (content (S.told site.old)))
@@ -79,31 +107,14 @@ fn follow<S: Site>(site: &mut S, volume: VolumeNo, a: &[u8], b: &[u8]) -> Result
     ensures done { S.tells → OnOk result
         (HoldsToldRow volume (content (S.told site.old)) (content (S.told site.new))) }
     ensures settled { S.tells → OnOk result (NeedsNoRepair volume (content (S.told site.new))) }
-    ensures untouched { S.tells → NeedsNoRepair volume (content (S.told site.old))
-        → S.told site.new ≡ S.told site.old }
-    ensures devices { MayWrite S.Site COPY_ITEMS site.old site.new }
-    ensures cause { HasCause (S.faults site.old) (S.faults site.new) result }
-    ensures works { (but : UnitNo → Bool) → S.never_fails_but site.old but → IsOk result }
+    ensures needed { S.tells → NeedsNoRepair volume (content (S.told site.old)) → ⊥ }
+    ensures firm { S.tells → OnOk result (Settles (S.told site.old) (S.told site.new)) }
+    ensures site_ { WritesAtMost S.Site COPY_ITEMS site.old site.new result }
 {
-    match stale_copy(a, b) {
-        None => Ok(()),
-        Some(TableCopy::A) => {
-            rewrite_copy(
-                site,
-                &place_of(TableCopy::A, volume),
-                false,
-                &b[BODY..BODY_END],
-            )
-        }
-        Some(TableCopy::B) => {
-            rewrite_copy(
-                site,
-                &place_of(TableCopy::B, volume),
-                is_open(b),
-                &a[BODY..BODY_END],
-            )
-        }
-    }
+    let mut bytes = [0; ROW_BYTES];
+    encode_row(&stale.row, &mut bytes);
+    let at = place_of(stale.copy, volume);
+    rewrite_copy(site, &at, stale.gates, &bytes[BODY..BODY_END])
 }
 
 /// Reads a block, or tells the count of faults after the read.
@@ -122,11 +133,34 @@ fn read_block<S: Site>(site: &mut S, at: &BlockPlace, block: &mut [u8]) -> Resul
     }
 }
 
-/// Makes the two copies of a volume's row equal, where one of them tells a row: the row that `read_row` tells stands in
-/// both after that. Elsewhere, and where they are equal, nothing is written.
+/// Takes room for a rewriting, reads both copies, and finds what has to be rewritten, if anything.
+fn find_stale<S: Site>(
+    alloc: Global,
+    site: &mut S,
+    volume: VolumeNo,
+) -> Result<Option<Stale>, RepairFault>
+    ensures found { S.tells → IfOk result (λ stale.
+        MayBeStaleOn stale volume (content (S.told site.old))) }
+    ensures room { OnOk result (COPY_ITEMS ≤ S.spare site.new) }
+    ensures reads { GotRoom S.Site site.old site.new }
+    ensures kept { KeepsRepairFault (S.faults site.old) (S.faults site.new) result }
+    ensures works { IsReadable S.Site site.old TableA
+        → IsReadable S.Site site.old TableB → FailsNever result }
+{
+    site.reserve(COPY_ITEMS)?;
+    let mut a = vec![in alloc; 0u8; BLOCK_BYTES]?;
+    let mut b = vec![in alloc; 0u8; BLOCK_BYTES]?;
+    read_block(site, &place_of(TableCopy::A, volume), &mut a)?;
+    read_block(site, &place_of(TableCopy::B, volume), &mut b)?;
+    let stale = stale_copy(alloc, &a, &b)?;
+    Ok(stale)
+}
+
+/// Makes the two copies of a volume's row tell the same, where one of them tells a row: the row that `read_row` tells
+/// stands in both after that, firm. Elsewhere, and where both hold it, nothing is written.
 ///
-/// It makes at most three writes, for which it takes the room itself. The row is the same at every moment, and so are
-/// the made marks. After want of memory the devices are as they were.
+/// It makes at most four writes and three syncs, for which it takes the room itself. The row is the same at every
+/// moment, and so are the made marks. After want of memory the devices are as they were.
 pub fn repair<S: Site>(alloc: Global, site: &mut S, volume: VolumeNo) -> Result<(), RepairFault>
     ensures moments { S.tells → Writes
         (ChangesRow volume (KeepsRow volume (content (S.told site.old))) (content (S.told site.old)))
@@ -138,18 +172,17 @@ pub fn repair<S: Site>(alloc: Global, site: &mut S, volume: VolumeNo) -> Result<
     ensures settled { S.tells → OnOk result (NeedsNoRepair volume (content (S.told site.new))) }
     ensures untouched { S.tells → NeedsNoRepair volume (content (S.told site.old))
         → S.told site.new ≡ S.told site.old }
+    ensures firm { S.tells → OnOk result (Settles (S.told site.old) (S.told site.new)) }
     ensures memory { result ≡ Err Memory → LeavesSite S.Site site.old site.new }
     ensures devices { MayWrite S.Site COPY_ITEMS site.old site.new }
     ensures kept { KeepsRepairFault (S.faults site.old) (S.faults site.new) result }
     ensures works { IsReadable S.Site site.old TableA
         → IsReadable S.Site site.old TableB → FailsNever result }
 {
-    site.reserve(COPY_ITEMS)?;
-    let mut a = vec![in alloc; 0u8; BLOCK_BYTES]?;
-    let mut b = vec![in alloc; 0u8; BLOCK_BYTES]?;
-    read_block(site, &place_of(TableCopy::A, volume), &mut a)?;
-    read_block(site, &place_of(TableCopy::B, volume), &mut b)?;
-    match follow(site, volume, &a, &b) {
+    let Some(stale) = find_stale(alloc, site, volume)? else {
+        return Ok(());
+    };
+    match follow(site, volume, &stale) {
         Ok(()) => Ok(()),
         Err(Failed) => Err(RepairFault::Failed {
             fault: site.faults(),

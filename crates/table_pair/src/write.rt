@@ -1,15 +1,23 @@
 // The writes of one copy.
-ghost use Rattle.std.specs.Prelude.{◌≡◌, ◌⊎◌, ◌≤◌, ◌<◌, ◌+◌, ℕ, Bool, true, false, length, IsOk, IsTrue, OnOk, OnErr};
-ghost use Rattle.mss_base.specs.Counts.{HasCause, Rises};
-ghost use Rattle.mss_base.specs.Sites.{MayWrite};
+ghost use Rattle.std.specs.Prelude.{◌≡◌, ◌⊎◌, ◌≤◌, ◌<◌, ◌+◌, ℕ, Bool, true, false, [], length, IsOk, IsTrue, IfOk, OnOk};
+ghost use Rattle.mss_base.specs.Content.{Settles};
+ghost use Rattle.mss_base.specs.Counts.{HasCause};
+ghost use Rattle.mss_base.specs.Sites.{MayWrite, WritesAtMost};
 ghost use Rattle.mss_base.specs.declared.place.UnitNo.{UnitNo};
-ghost use Rattle.table_pair.specs.Copies.{byte_on, copy_on, shut, marked, filled, IsFilling, IsRewriting, WritesCopy};
+ghost use Rattle.table_pair.specs.Copies.{byte_on, copy_at, copy_on, shut, marked, emptied, filled, HasGates, IsFilling, IsRewriting, WritesCopy};
 
-use mss_base::{BLOCK_BYTES, BlockPlace, Failed, OPEN, Site};
-use volume_table::{BODY, BODY_BYTES, BODY_END};
+use mss_base::{BLOCK_BYTES, BlockPlace, FIRM_ITEMS, Failed, OPEN, Site, write_firm};
+use table_journal::read_slots;
+use volume_table::{BODY, BODY_BYTES, BODY_END, ROW_BYTES};
 
-/// How many items of the log the rewriting of a copy makes at most: three writes.
-pub const COPY_ITEMS: u32 = 3;
+/// How many items of the log a body makes at most, with the gate of slot 0: two writes, and a sync.
+const BODY_ITEMS: u32 = 3;
+
+/// How many the filling of a copy makes: those of its body, a write and a sync.
+pub const FILL_ITEMS: u32 = 5;
+
+/// How many the rewriting of a copy makes: a write and a sync, and those of its filling.
+pub const COPY_ITEMS: u32 = 7;
 
 /// Where a copy's gate stands.
 pub const GATE: u16 = 0;
@@ -17,16 +25,39 @@ pub const GATE: u16 = 0;
 /// Where its made mark stands, behind the body.
 pub const MADE: u16 = BODY_END as u16;
 
+/// Where the gate of its first slot stands.
+const SLOT_GATE: u16 = ROW_BYTES as u16;
+
 /// What a gate is closed with.
 const CLOSED: u8 = 0x00;
 
 /// What a made mark is written as. Any byte but 00 counts as one.
 pub const MADE_MARK: u8 = 0x4D;
 
+/// What is known of a copy's gates.
+#[derive(Clone, Copy, Debug, PartialEq, Eq)]
+pub struct Gates {
+    /// Whether the copy is open.
+    pub is_open: bool,
+    /// Whether it may have slots.
+    pub has_slots: bool,
+}
+
+/// The gates of a copy whose block was read.
+pub fn gates_of(block: &[u8]) -> Gates
+    requires { length block.now ≡ BLOCK_BYTES }
+    ensures { HasGates result (copy_at block.now) }
+{
+    Gates {
+        is_open: block[GATE as usize] == OPEN,
+        has_slots: read_slots(block) > 0,
+    }
+}
+
 /// Closes a copy's gate, where it is open.
 fn close_copy<S: Site>(site: &mut S, at: &BlockPlace, is_open: bool) -> Result<(), Failed>
     requires told { S.tells → (copy_on (S.told site.old) at.now).is_open ≡ is_open }
-    requires room { 1 ≤ S.spare site.old }
+    requires room { FIRM_ITEMS ≤ S.spare site.old }
     ensures moments { S.tells → WritesCopy at.now
         (λ c. (c ≡ copy_on (S.told site.old) at.now) ⊎ (c ≡ shut (copy_on (S.told site.old) at.now)))
         (S.told site.old) (S.told site.new) }
@@ -34,22 +65,54 @@ fn close_copy<S: Site>(site: &mut S, at: &BlockPlace, is_open: bool) -> Result<(
         OnOk result (copy_on (S.told site.new) at.now ≡ shut (copy_on (S.told site.old) at.now)) }
     ensures gate { S.tells → IsTrue is_open
         → OnOk result (byte_on (S.told site.new) at.now GATE ≡ CLOSED) }
-    ensures devices { MayWrite S.Site 1 site.old site.new }
-    ensures cause { HasCause (S.faults site.old) (S.faults site.new) result }
-    ensures counted { OnErr result (Rises (S.writes site.old) (S.writes site.new)) }
-    ensures works { (but : UnitNo → Bool) → S.never_fails_but site.old but → IsOk result }
+    ensures firm { S.tells → OnOk result (Settles (S.told site.old) (S.told site.new)) }
+    ensures site_ { WritesAtMost S.Site FIRM_ITEMS site.old site.new result }
 {
     if is_open {
-        site.write(at.unit, at.block, GATE, &[CLOSED])?;
+        write_firm(site, at, GATE, &[CLOSED])?;
     }
     Ok(())
 }
 
-/// Writes a body behind a closed gate, and opens the gate.
-pub fn fill_copy<S: Site>(site: &mut S, at: &BlockPlace, body: &[u8]) -> Result<(), Failed>
+/// Writes a body behind a closed gate, and closes the gate of slot 0 where it may be open. At Ok both are firm.
+fn put_body<S: Site>(
+    site: &mut S,
+    at: &BlockPlace,
+    has_slots: bool,
+    body: &[u8],
+) -> Result<(), Failed>
     requires long { length body.now ≡ BODY_BYTES }
     requires closed { S.tells → (copy_on (S.told site.old) at.now).is_open ≡ false }
-    requires room { 2 ≤ S.spare site.old }
+    requires none { S.tells → has_slots ≡ false → (copy_on (S.told site.old) at.now).slots ≡ [] }
+    requires room { BODY_ITEMS ≤ S.spare site.old }
+    ensures moments { S.tells → WritesCopy at.now
+        (IsFilling body.now (copy_on (S.told site.old) at.now)) (S.told site.old) (S.told site.new) }
+    ensures done { S.tells → OnOk result
+        (copy_on (S.told site.new) at.now ≡ emptied body.now (copy_on (S.told site.old) at.now)) }
+    ensures mark { S.tells → OnOk result
+        (byte_on (S.told site.new) at.now MADE ≡ byte_on (S.told site.old) at.now MADE) }
+    ensures firm { S.tells → OnOk result (Settles (S.told site.old) (S.told site.new)) }
+    ensures site_ { WritesAtMost S.Site BODY_ITEMS site.old site.new result }
+{
+    site.write(at.unit, at.block, BODY as u16, body)?;
+    if !has_slots {
+        return site.sync(at.unit);
+    }
+    site.write(at.unit, at.block, SLOT_GATE, &[CLOSED])?;
+    site.sync(at.unit)
+}
+
+/// Writes a body behind a closed gate, without slots, and opens the gate: at most three writes and two syncs.
+pub fn fill_copy<S: Site>(
+    site: &mut S,
+    at: &BlockPlace,
+    has_slots: bool,
+    body: &[u8],
+) -> Result<(), Failed>
+    requires long { length body.now ≡ BODY_BYTES }
+    requires closed { S.tells → (copy_on (S.told site.old) at.now).is_open ≡ false }
+    requires none { S.tells → has_slots ≡ false → (copy_on (S.told site.old) at.now).slots ≡ [] }
+    requires room { FILL_ITEMS ≤ S.spare site.old }
     ensures moments { S.tells → WritesCopy at.now
         (IsFilling body.now (copy_on (S.told site.old) at.now)) (S.told site.old) (S.told site.new) }
     ensures done { S.tells → OnOk result
@@ -58,25 +121,24 @@ pub fn fill_copy<S: Site>(site: &mut S, at: &BlockPlace, body: &[u8]) -> Result<
         (byte_on (S.told site.new) at.now MADE ≡ byte_on (S.told site.old) at.now MADE) }
     ensures grown { S.tells →
         OnOk result (length (S.told site.old).log < length (S.told site.new).log) }
-    ensures devices { MayWrite S.Site 2 site.old site.new }
-    ensures cause { HasCause (S.faults site.old) (S.faults site.new) result }
-    ensures counted { OnErr result (Rises (S.writes site.old) (S.writes site.new)) }
-    ensures works { (but : UnitNo → Bool) → S.never_fails_but site.old but → IsOk result }
+    ensures firm { S.tells → OnOk result (Settles (S.told site.old) (S.told site.new)) }
+    ensures site_ { WritesAtMost S.Site FILL_ITEMS site.old site.new result }
 {
-    site.write(at.unit, at.block, BODY as u16, body)?;
-    site.write(at.unit, at.block, GATE, &[OPEN])?;
+    put_body(site, at, has_slots, body)?;
+    write_firm(site, at, GATE, &[OPEN])?;
     Ok(())
 }
 
-/// Closes a copy's gate where it is open, writes a body, opens the gate: at most three writes.
+/// Closes a copy's gate where it is open, writes a body without slots, opens the gate: at most four writes and three
+/// syncs.
 pub fn rewrite_copy<S: Site>(
     site: &mut S,
     at: &BlockPlace,
-    is_open: bool,
+    gates: Gates,
     body: &[u8],
 ) -> Result<(), Failed>
     requires long { length body.now ≡ BODY_BYTES }
-    requires told { S.tells → (copy_on (S.told site.old) at.now).is_open ≡ is_open }
+    requires told { S.tells → HasGates gates (copy_on (S.told site.old) at.now) }
     requires room { COPY_ITEMS ≤ S.spare site.old }
     ensures moments { S.tells → WritesCopy at.now
         (IsRewriting body.now (copy_on (S.told site.old) at.now)) (S.told site.old) (S.told site.new) }
@@ -84,35 +146,38 @@ pub fn rewrite_copy<S: Site>(
         (copy_on (S.told site.new) at.now ≡ filled body.now (copy_on (S.told site.old) at.now)) }
     ensures grown { S.tells →
         OnOk result (length (S.told site.old).log < length (S.told site.new).log) }
-    ensures devices { MayWrite S.Site COPY_ITEMS site.old site.new }
-    ensures cause { HasCause (S.faults site.old) (S.faults site.new) result }
-    ensures counted { OnErr result (Rises (S.writes site.old) (S.writes site.new)) }
-    ensures works { (but : UnitNo → Bool) → S.never_fails_but site.old but → IsOk result }
+    ensures firm { S.tells → OnOk result (Settles (S.told site.old) (S.told site.new)) }
+    ensures site_ { WritesAtMost S.Site COPY_ITEMS site.old site.new result }
 {
-    close_copy(site, at, is_open)?;
-    fill_copy(site, at, body)?;
+    close_copy(site, at, gates.is_open)?;
+    fill_copy(site, at, gates.has_slots, body)?;
     Ok(())
 }
 
-/// Sets a copy's made mark, where it isn't set.
-pub fn mark_copy<S: Site>(site: &mut S, at: &BlockPlace) -> Result<(), Failed>
-    requires room { 1 ≤ S.spare site.old }
+/// Sets a copy's made mark, where it isn't set, and tells whether the copy has slots.
+pub fn mark_copy<S: Site>(site: &mut S, at: &BlockPlace) -> Result<bool, Failed>
+    requires room { FIRM_ITEMS ≤ S.spare site.old }
     ensures moments { S.tells → WritesCopy at.now
         (λ c. (c ≡ copy_on (S.told site.old) at.now) ⊎ (c ≡ marked (copy_on (S.told site.old) at.now)))
         (S.told site.old) (S.told site.new) }
     ensures done { S.tells →
         OnOk result (copy_on (S.told site.new) at.now ≡ marked (copy_on (S.told site.old) at.now)) }
+    ensures none { S.tells → IfOk result (λ has_slots. has_slots ≡ false
+        → (copy_on (S.told site.old) at.now).slots ≡ []) }
     ensures mark { S.tells → byte_on (S.told site.old) at.now MADE ≡ 0
         → OnOk result (byte_on (S.told site.new) at.now MADE ≡ MADE_MARK) }
-    ensures devices { MayWrite S.Site 1 site.old site.new }
+    ensures firm { S.tells → OnOk result (Settles (S.told site.old) (S.told site.new)) }
+    ensures devices { MayWrite S.Site FIRM_ITEMS site.old site.new }
     ensures cause { HasCause (S.faults site.old) (S.faults site.new) result }
     ensures works { (but : UnitNo → Bool) → S.never_fails_but site.old but
         → but at.now.unit ≡ false → IsOk result }
 {
     let mut block = [0; BLOCK_BYTES];
     site.read(at.unit, at.block, &mut block)?;
-    if block[MADE as usize] == 0 {
-        site.write(at.unit, at.block, MADE, &[MADE_MARK])?;
+    let has_slots = read_slots(&block) > 0;
+    if block[MADE as usize] != 0 {
+        return Ok(has_slots);
     }
-    Ok(())
+    write_firm(site, at, MADE, &[MADE_MARK])?;
+    Ok(has_slots)
 }

@@ -11,10 +11,10 @@ fill table B 3 511 x4D";
 // Opened, and opened again.
 const TWICE: &str = "\
 open three -> 0 VOL001 1 3 3 VOL004 0 2 5 VOL006 4 5
-writes -> 16
+writes -> 30
 survey three -> 0 VOL001 1 3 3 VOL004 0 2 5 VOL006 4 5
 open three -> 0 VOL001 1 3 3 VOL004 0 2 5 VOL006 4 5
-writes -> 16";
+writes -> 30";
 
 #[test]
 fn opens_one_old_and_two_new_volumes(rt: HostRuntime) -> Result<(), Fail> {
@@ -28,22 +28,22 @@ fill table B 3 511 x4D
 open three -> 0 VOL001 1 3 3 VOL004 0 2 5 VOL006 4 5";
 
 // What a stop leaves shows a front of the new volumes, and is opened as if there had been no stop. The
-// repair writes the body of copy B and opens it. Each creation makes two marks, writes and opens copy A, then copy B;
-// its volume is shown from the opening of copy A on.
+// repair writes the body of copy B and opens it. Each creation makes two marks, writes and opens copy A, then copy B, with
+// a sync behind each of these writes; its volume is shown from the opening of copy A on.
 const STOPS: &str = "\
-turns 2 7
+turns 2 12
 stop N 0 0 survey three -> 3 VOL004 0 2
 stop N 0 0 open three -> 0 VOL001 1 3 3 VOL004 0 2 5 VOL006 4 5
 stop N 2 x5555 survey three -> 3 VOL004 0 2
 stop N 2 x5555 open three -> 0 VOL001 1 3 3 VOL004 0 2 5 VOL006 4 5
 
-turns 8 13
+turns 13 24
 stop N 0 0 survey three -> 0 VOL001 1 3 3 VOL004 0 2
 stop N 0 0 open three -> 0 VOL001 1 3 3 VOL004 0 2 5 VOL006 4 5
 stop N 2 x5555 survey three -> 0 VOL001 1 3 3 VOL004 0 2
 stop N 2 x5555 open three -> 0 VOL001 1 3 3 VOL004 0 2 5 VOL006 4 5
 
-turns 14 16
+turns 25 30
 stop N 0 0 survey three -> 0 VOL001 1 3 3 VOL004 0 2 5 VOL006 4 5
 stop N 0 0 open three -> 0 VOL001 1 3 3 VOL004 0 2 5 VOL006 4 5
 stop N 2 x5555 survey three -> 0 VOL001 1 3 3 VOL004 0 2 5 VOL006 4 5
@@ -80,9 +80,9 @@ fn refuses_each_failing_read_of_the_survey_by_name(rt: HostRuntime) -> Result<()
     run(&rt, rt.alloc(), OLD, SURVEY_READS)
 }
 
-// The repair reads both copies of each volume and writes twice: 66 calls.
+// The repair reads both copies of each volume, and writes and syncs twice: 68 calls.
 const REPAIR_CALLS: &str = "\
-turns 64 129
+turns 64 131
 fail N
 open three -> stopped 1
 fail 0
@@ -93,28 +93,28 @@ fn refuses_each_failing_call_of_the_repair_by_name(rt: HostRuntime) -> Result<()
     run(&rt, rt.alloc(), OLD, REPAIR_CALLS)
 }
 
-// Each of the two creations reads two blocks before it marks them, and writes six times; its volume is
-// shown from the sixth of these calls on, which opens copy A. No call is the 146th.
+// Each of the two creations reads two blocks before it marks them, and writes and syncs six times; its volume is
+// shown from the ninth of these calls on, which opens copy A. No call is the 160th.
 const CREATION_CALLS: &str = "\
-turns 130 134
+turns 132 139
 fail N
 open three -> stopped 1
 fail 0
 survey three -> 3 VOL004 0 2
 
-turns 135 142
+turns 140 153
 fail N
 open three -> stopped 1
 fail 0
 survey three -> 0 VOL001 1 3 3 VOL004 0 2
 
-turns 143 145
+turns 154 159
 fail N
 open three -> stopped 1
 fail 0
 survey three -> 0 VOL001 1 3 3 VOL004 0 2 5 VOL006 4 5
 
-turns 146 146
+turns 160 160
 fail N
 open three -> 0 VOL001 1 3 3 VOL004 0 2 5 VOL006 4 5
 fail 0
@@ -147,7 +147,7 @@ fn one_unreadable_copy_changes_nothing_and_two_are_told(rt: HostRuntime) -> Resu
 // A restart of blank devices creates the volume, and its console tells that with its mark. Where the row
 // has another serial, it is refused, and nothing is written.
 const RESTARTS: &str = "\
-restart 3 VOL004 -> 3 VOL004 0 1 6 0 0 none 6 create VOL004 0 1
+restart 3 VOL004 -> 3 VOL004 0 1 12 0 0 none 12 create VOL004 0 1
 
 put table A 3 VOL009 0 1
 restart 3 VOL004 -> differs 3 VOL009 VOL004

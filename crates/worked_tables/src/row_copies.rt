@@ -172,52 +172,52 @@ fn repairs_the_copy_that_differs(rt: HostRuntime) -> Result<(), Fail> {
     run(&rt, rt.alloc(), "", REPAIRS)
 }
 
-// A creation reads and marks copy A, then copy B, and then fills each. A failing write leaves its
-// bytes here.
+// A creation reads and marks copy A, then copy B, and then fills each, by its body and by its gate. A sync is behind each
+// of these six writes. A failing write leaves its bytes here.
 const CREATIONS: &str = "\
-turns 1 5
+turns 1 8
 fail N
 create 7 VOL001 1 100 -> failed
 row 7 -> none
 
-turns 6 8
+turns 9 14
 fail N
 create 7 VOL001 1 100 -> failed
 row 7 -> VOL001 1 100
 
-fail 9
+fail 15
 create 7 VOL001 1 100
-writes -> 6";
+writes -> 12";
 
 #[test]
 fn creates_a_row_or_none(rt: HostRuntime) -> Result<(), Fail> {
     run(&rt, rt.alloc(), "", CREATIONS)
 }
 
-// A change rewrites copy A, then copy B.
+// A change rewrites copy A, then copy B: its gate, a sync, the body, the gate of slot 0, a sync, its gate, a sync.
 const CHANGES: &str = "\
-turns 1 2
+turns 1 5
 fail N
 change 7 VOL001 2 100 -> failed
 row 7 -> VOL001 1 100
 
-turns 3 6
+turns 6 14
 fail N
 change 7 VOL001 2 100 -> failed
 row 7 -> VOL001 2 100
 
-fail 7
+fail 15
 change 7 VOL001 2 100
-writes -> 12";
+writes -> 26";
 
 #[test]
 fn changes_a_row_or_leaves_it(rt: HostRuntime) -> Result<(), Fail> {
     run(&rt, rt.alloc(), "create 7 VOL001 1 100", CHANGES)
 }
 
-// A repair reads both copies and writes twice.
+// A repair reads both copies, and writes a closed one's body and gate, each with a sync.
 const FAILED_REPAIRS: &str = "\
-turns 1 4
+turns 1 6
 pair 7 row closed
 fail N
 repair 7 -> failed 1
@@ -228,23 +228,23 @@ fn a_failed_repair_keeps_the_row(rt: HostRuntime) -> Result<(), Fail> {
     run(&rt, rt.alloc(), "", FAILED_REPAIRS)
 }
 
-// Marks of A and B, body and gate of A, body and gate of B. The new row is there once the gate of A
-// is C1.
+// Marks of A and B, body and gate of A, body and gate of B, each with a sync. The new row is there once the gate of A is
+// C1.
 const STOPPED_CREATIONS: &str = "\
-writes -> 6
+writes -> 12
 
-turns 0 2
+turns 0 5
 stop N 0 0 row 7 -> none
 stop N 1 x00 row 7 -> none
 stop N 1 xC1 row 7 -> none
 stop N 3 xFF00FF row 7 -> none
 
-stop 3 0 0 row 7 -> none
-stop 3 1 x00 row 7 -> none
-stop 3 1 xC1 row 7 -> VOL001 1 100
-stop 3 3 xFF00FF row 7 -> none
+stop 6 0 0 row 7 -> none
+stop 6 1 x00 row 7 -> none
+stop 6 1 xC1 row 7 -> VOL001 1 100
+stop 6 3 xFF00FF row 7 -> none
 
-turns 4 6
+turns 7 12
 stop N 0 0 row 7 -> VOL001 1 100
 stop N 1 x00 row 7 -> VOL001 1 100
 stop N 1 xC1 row 7 -> VOL001 1 100
@@ -255,23 +255,23 @@ fn a_stop_within_a_creation_leaves_no_row_or_the_new_one(rt: HostRuntime) -> Res
     run(&rt, rt.alloc(), "create 7 VOL001 1 100", STOPPED_CREATIONS)
 }
 
-// After the six writes of the creation: gate, body, gate of A, then of B. A closed copy A leaves
-// the row to copy B.
+// After the twelve items of the creation: gate of A, body and gate of slot 0, gate, with three syncs; then of B. A closed
+// copy A leaves the row to copy B.
 const STOPPED_CHANGES: &str = "\
-writes -> 12
+writes -> 26
 
-turns 6 7
+turns 12 16
 stop N 0 0 row 7 -> VOL001 1 100
 stop N 1 x00 row 7 -> VOL001 1 100
 stop N 1 xC1 row 7 -> VOL001 1 100
 stop N 3 xFF00FF row 7 -> VOL001 1 100
 
-stop 8 0 0 row 7 -> VOL001 1 100
-stop 8 1 x00 row 7 -> VOL001 1 100
-stop 8 1 xC1 row 7 -> VOL001 2 100
-stop 8 3 xFF00FF row 7 -> VOL001 1 100
+stop 17 0 0 row 7 -> VOL001 1 100
+stop 17 1 x00 row 7 -> VOL001 1 100
+stop 17 1 xC1 row 7 -> VOL001 2 100
+stop 17 3 xFF00FF row 7 -> VOL001 1 100
 
-turns 9 12
+turns 18 26
 stop N 0 0 row 7 -> VOL001 2 100
 stop N 1 x00 row 7 -> VOL001 2 100
 stop N 1 xC1 row 7 -> VOL001 2 100
@@ -281,4 +281,73 @@ stop N 3 xFF00FF row 7 -> VOL001 2 100";
 fn a_stop_within_a_change_leaves_the_old_row_or_the_new(rt: HostRuntime) -> Result<(), Fail> {
     let before = "create 7 VOL001 1 100\nchange 7 VOL001 2 100";
     run(&rt, rt.alloc(), before, STOPPED_CHANGES)
+}
+
+// Slots of copy A spelled by hand: page 0 gets frame 7, and cylinder 0 is staged. Behind a closed gate none counts.
+const SLOTS_READ: &str = "\
+fill table A 7 512 xC1
+fill table A 7 513 7
+row 7 -> damaged 7 A slot 0 7
+fill table A 7 0 0
+row 7 -> VOL001 1 100
+
+fill table A 7 513 7
+row 7 -> VOL001 1 100
+fill table A 7 520 xC1
+row 7 -> VOL001 1 100
+
+fill table A 7 512 xC1
+fill table A 7 513 3
+row 7 -> damaged 7 A slot 0 3
+
+fill table A 7 512 xC1
+fill table A 7 513 1
+fill table A 7 516 7
+fill table A 7 520 xC1
+fill table A 7 521 3
+row 7 -> VOL001 1 100
+fill table A 7 523 8
+row 7 -> damaged 7 A slot 1 3
+fill table A 7 510 1
+row 7 -> damaged 7 A spare 43 1";
+
+#[test]
+fn reads_a_row_with_its_slots(rt: HostRuntime) -> Result<(), Fail> {
+    run(&rt, rt.alloc(), "create 7 VOL001 1 100", SLOTS_READ)
+}
+
+// A slot of copy A gives page 0 frame 7. Where the body of copy B says so, the rows are equal; else it is written there, and
+// copy B has no slots then. A change rewrites copy A as well.
+const SLOTS_REPAIRED: &str = "\
+fill table B 7 12 7
+writes -> 16
+repair 7
+writes -> 16
+
+repair 7
+writes -> 21
+has table A 7 12 xFF
+has table A 7 512 xC1
+has table B 7 12 7
+has table B 7 512 0
+
+fill table B 7 512 xC1
+repair 7
+writes -> 23
+has table B 7 512 0
+has table B 7 12 7
+
+change 7 VOL001 2 100
+has table A 7 512 0
+has table A 7 12 xFF
+row 7 -> VOL001 2 100
+equal 7";
+
+#[test]
+fn repairs_by_rows_and_leaves_no_slots(rt: HostRuntime) -> Result<(), Fail> {
+    let before = "create 7 VOL001 1 100
+fill table A 7 512 xC1
+fill table A 7 513 1
+fill table A 7 516 7";
+    run(&rt, rt.alloc(), before, SLOTS_REPAIRED)
 }

@@ -7,7 +7,9 @@ use crate::lines::words::code;
 use memory_devices::SiteFault;
 use mss_base::{CartridgeNo, Serial, Site, UnitNo};
 use std::alloc::Global;
-use table_pair::{RepairFault, RowRead, RowTrouble, change_row, create_row, read_row, repair};
+use table_pair::{
+    CHANGE_WRITES, RepairFault, RowRead, RowTrouble, change_row, create_row, read_row, repair,
+};
 use volume_table::VolumeRow;
 
 // The row of VOL001 on this cartridge and cartridge 100, open and made, with what a test has done to it.
@@ -114,13 +116,13 @@ fn new_row(alloc: Global, words: &[u64]) -> Option<VolumeRow> {
 
 fn create(alloc: Global, bench: &mut Bench, words: &[u64]) -> Option<bool> {
     let row = new_row(alloc, words)?;
-    bench.reserve(6).ok()?;
+    bench.reserve(CHANGE_WRITES).ok()?;
     Some(create_row(bench, volume(words, 1)?, &row).is_ok())
 }
 
 fn change(alloc: Global, bench: &mut Bench, words: &[u64]) -> Option<bool> {
     let row = new_row(alloc, words)?;
-    bench.reserve(6).ok()?;
+    bench.reserve(CHANGE_WRITES).ok()?;
     Some(change_row(bench, volume(words, 1)?, &row).is_ok())
 }
 

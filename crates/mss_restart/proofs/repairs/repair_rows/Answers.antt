@@ -32,7 +32,7 @@ returns-in-Err-clause-works g c = λ never.
 pub returns-in-Err-clause-devices : goal.returns-in-Err-clause-devices
 returns-in-Err-clause-devices g c =
     written_on g.S.Site c.args.site.now c.loop-number.site c.repair.new.site c.loop-number.invariant.devices
-    (may_be_written g.S.Site 3 c.loop-number.site c.repair.new.site c.repair.ensures.devices)
+    (may_be_written g.S.Site 7 c.loop-number.site c.repair.new.site c.repair.ensures.devices)
 
 pub loop-number-preserved : goal.loop-number-preserved
 loop-number-preserved g c = record {
@@ -49,7 +49,7 @@ loop-number-preserved g c = record {
       (repair_others c.volume_at.result (g.S.Site.told c.loop-number.site) (g.S.Site.told c.repair.new.site) (c.repair.ensures.moments tells) (c.repair.ensures.marks tells) (c.repair.ensures.untouched tells));
   count = c.in_default.ensures.kept ∙ c.loop-number.invariant.count;
   devices = written_on g.S.Site c.args.site.now c.loop-number.site c.repair.new.site c.loop-number.invariant.devices
-      (may_be_written g.S.Site 3 c.loop-number.site c.repair.new.site c.repair.ensures.devices);
+      (may_be_written g.S.Site 7 c.loop-number.site c.repair.new.site c.repair.ensures.devices);
 }
 
 pub returns-clause-held : goal.returns-clause-held
