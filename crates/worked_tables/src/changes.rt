@@ -123,12 +123,12 @@ fn changed(alloc: Global, failing: u64, both: bool) -> Told {
 #[test]
 fn a_change_tells_its_mark_and_the_frame_that_it_frees(rt: HostRuntime) {
     let told = changed(rt.alloc(), 0, true);
-    assert_told(&rt, rt.alloc(), told, "done 3 done none none 6 none 12 3");
+    assert_told(&rt, rt.alloc(), told, "done 3 done none none 14 none 28 3");
 }
 
 #[test]
 fn a_failed_change_stops_the_session(rt: HostRuntime) {
-    for failing in 1..7u64 {
+    for failing in 1..15u64 {
         let told = changed(rt.alloc(), failing, false);
         assert_told(&rt, rt.alloc(), told, "failed 3 1");
     }
