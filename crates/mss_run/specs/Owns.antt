@@ -112,6 +112,9 @@ Makes call p None q = IsUnanswered call p q
 -- ---- what comes of an item
 
 -- what the host asked since then is of the item: all of it, where the host was told of all
+abbrev pub AreAsked : ItemData → List Exchange → List Exchange → Bool → Type 0
+AreAsked item old new true = GivesSince item old new true
+AreAsked item old new false = (whole : Bool) × GivesSince item old new whole
+
 abbrev pub AsksSince : ItemData → PassData → PassData → Bool → Type 0
-AsksSince item p q true = GivesSince item (asked_by p) (asked_by q) true
-AsksSince item p q false = (whole : Bool) × GivesSince item (asked_by p) (asked_by q) whole
+AsksSince item p q finished = AreAsked item (asked_by p) (asked_by q) finished

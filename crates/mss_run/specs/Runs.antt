@@ -1,16 +1,30 @@
 -- How hosts ended, and what ended a run.
-use Rattle.std.specs.Prelude.{◌≡◌, ◌⊎◌, ℕ, ◌==◌, Bool, ◌&&◌, List, [], ◌∷◌, length, map, Option, Some, None, if◌then◌else◌}
+use Rattle.std.specs.Prelude.{◌≡◌, ◌≤◌, ◌⊎◌, ℕ, ◌==◌, Bool, ◌&&◌, List, [], ◌∷◌, length, map, Option, Some, None, if◌then◌else◌}
 use Rattle.std.specs.List.{AllByRecursion, list_all}
-use Rattle.ckd_plain.specs.History.{EntryData}
+use Rattle.mss_base.specs.Listing.{Listing}
+use Rattle.mss_base.specs.Sound.{StaysSound}
+use Rattle.mss_base.specs.declared.place.UnitNo.{UnitNo}
+use Rattle.mss_base.specs.declared.site.Site.{Ghosts}
+use Rattle.ckd_plain.specs.History.{EntryData, IsLegal}
+use Rattle.core_state.specs.Beginning.{IsLater}
+use Rattle.core_state.specs.CoreValue.{CoreValue, seen}
+use Rattle.core_state.specs.IsCore.{opening_of}
 use Rattle.core_state.specs.declared.session.TheConstants.{ENTRY_LIMIT}
 use Rattle.channel_program.specs.Items.{EndsScript}
 use Rattle.channel_program.specs.Script.{Follows}
-use Rattle.job_text.specs.Jobs.{ScriptData}
+use Rattle.job_text.specs.Jobs.{JobData, ScriptData}
 use Rattle.seen_book.specs.Entries.{entries_of}
-use Rattle.seen_book.specs.Books.{PassData}
+use Rattle.seen_book.specs.Books.{AreOfThese, PassData}
 use Rattle.mss_run.specs.declared.ends.RunAnswer.{RunAnswer}
 use Rattle.mss_run.specs.declared.ends.RunAnswer.TheVariants as answer
 use Rattle.mss_run.specs.Owns.{places_of, exchanges_of, asked_of, asked_by}
+
+-- ---- what a run takes before its first actor
+
+-- an empty list, with room for so many
+pub record IsEmptyFor {T : Type 0} (count : ℕ) (list : Listing T) : Type 0 where
+  pub empty : list.items ≡ []
+  pub room : count ≤ list.spare
 
 -- ---- how hosts ended
 
@@ -82,3 +96,19 @@ run_answer None entries hosts ends =
     if are_finished hosts ends then answer.Done
     else (if (entries == ENTRY_LIMIT) && (length ends == hosts) then answer.CommandLimit
     else answer.Memory)
+
+-- ---- what a run leaves
+
+-- a later core of the same session, whose history is legal and of the job's hosts; how each of them
+-- ended, and what ended the run
+pub record LeavesRun {S C : Type 0} (g : Ghosts S) (job : JobData) (core after : CoreValue S C)
+    (ends : List EndData) (answer : RunAnswer) : Type 0 where
+  pub later : IsLater g.tells (seen g core) (seen g after)
+  pub sound : StaysSound g.never_fails_but core.site after.site
+  pub only_reads_fail : (but : UnitNo → Bool) → g.never_fails_but core.site but
+      → core.stopped ≡ None → after.stopped ≡ None
+  pub legal : g.tells → IsLegal (opening_of (g.told core.site) core) after.history
+  pub hosts : AreOfThese (hosts_of job.hosts) after.history
+  pub ends_ : Leaves after.history job.hosts ends
+  pub follow : AskByScript after.history job.hosts
+  pub answer_ : answer ≡ run_answer after.stopped (length after.history) (length job.hosts) ends

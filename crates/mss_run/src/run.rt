@@ -1,5 +1,5 @@
 // The actors of a job, each in a thread of its own.
-ghost use Rattle.std.specs.Prelude.{◌≡◌, ◌≤◌, ◌+◌, ◌++◌, ◌∷◌, [], Bool, None, length, nat_eq};
+ghost use Rattle.std.specs.Prelude.{◌≡◌, ◌≤◌, ◌+◌, ◌++◌, ◌∷◌, [], Bool, IfOk, None, length, nat_eq};
 ghost use Rattle.std.specs.List.{IsDistinct, list_all};
 ghost use Rattle.std.specs.Thread.{IsSend, IsSync};
 ghost use Rattle.mss_base.specs.Sound.{StaysSound};
@@ -14,9 +14,11 @@ ghost use Rattle.mss_run.specs.Runs.{
   AreRuns,
   AreStarts,
   AskByScript,
+  IsEmptyFor,
   IsRun,
   IsStart,
   Leaves,
+  LeavesRun,
   hosts_of,
   run_answer,
 };
@@ -28,7 +30,7 @@ use crate::setup::Setup;
 use crate::shared::Shared;
 use core_state::{Core, ENTRY_LIMIT};
 use job_text::{HostScript, Job};
-use mss_base::{RecorderNo, Site};
+use mss_base::{NoMemory, RecorderNo, Site};
 use seen_book::{Blank, Book, HostPass, Name, PassList, Word, host_pass, make, start_book};
 use std::alloc::Global;
 use std::marker::Brand;
@@ -249,16 +251,40 @@ fn answer_of<S: Site, C: Choose>(core: &Core<S, C>, hosts: usize, ends: &[HostEn
     RunAnswer::Memory
 }
 
-/// The core as it is, in which no call was made, without the end of any host.
-fn without_ends<S: Site, C: Choose>(alloc: Global, core: Core<S, C>, hosts: usize) -> RunEnd<S, C>
-    requires empty { core.history ≡ [] }
-    ensures core { result.core ≡ core }
-    ensures hosts { result.hosts.items ≡ [] }
-    ensures empty { result.core.history ≡ [] }
-    ensures answer { result.answer ≡ run_answer core.stopped (length core.history) hosts [] }
+/// What a run takes before its first actor: its word's blank, and lists with room for each host.
+#[derive(Drop)]
+struct Supplies<N: Name> {
+    blank: Blank,
+    passes: PassList<N>,
+    ends: HostEnds,
+}
+
+/// The blank, with what a run of so many hosts takes beside it.
+fn supplies_for<N: Name>(alloc: Global, blank: Blank, hosts: usize) -> Result<Supplies<N>, NoMemory>
+    ensures blank { IfOk result (λ taken. taken.blank ≡ blank) }
+    ensures passes { IfOk result (λ taken. IsEmptyFor hosts taken.passes) }
+    ensures ends { IfOk result (λ taken. IsEmptyFor hosts taken.ends) }
 {
+    let mut ends = HostEnds::new(alloc);
+    ends.reserve(hosts)?;
+    let mut passes = PassList::new(alloc);
+    passes.reserve(hosts)?;
+    Ok(Supplies {
+        blank,
+        passes,
+        ends,
+    })
+}
+
+/// The core as it is, in which no call was made, without the end of any host.
+fn without_ends<S: Site, C: Choose>(alloc: Global, core: Core<S, C>, job: &Job) -> RunEnd<S, C>
+    requires empty { core.history ≡ [] }
+    ensures { LeavesRun S.Site job.now core result.core result.hosts.items result.answer }
+{
+    let scripts = job.hosts.as_slice();
     let ends = HostEnds::new(alloc);
-    let answer = answer_of(&core, hosts, ends.as_slice());
+    let none = ends.as_slice();
+    let answer = answer_of(&core, scripts.len(), none);
     RunEnd {
         core,
         hosts: ends,
@@ -282,23 +308,41 @@ fn run_named<
         → S.never_fails_but core.site but → N.setup.never_fails_but but }
     requires hosts { N.hosts ≡ hosts_of job.now.hosts }
     requires empty { core.history ≡ [] }
-    ensures later { IsLater S.tells (seen S.Site core) (seen S.Site result.core) }
-    ensures sound { StaysSound S.never_fails_but core.site result.core.site }
-    ensures only_reads_fail { (but : UnitNo → Bool) → S.never_fails_but core.site but
-        → core.stopped ≡ None → result.core.stopped ≡ None }
-    ensures legal { S.tells → IsLegal (opening_of (S.told core.site) core) result.core.history }
-    ensures hosts { AreOfThese (hosts_of job.now.hosts) result.core.history }
-    ensures ends { Leaves result.core.history job.now.hosts result.hosts.items }
-    ensures follow { AskByScript result.core.history job.now.hosts }
-    ensures answer { result.answer ≡ run_answer result.core.stopped (length result.core.history)
-        (length job.now.hosts) result.hosts.items }
+    ensures { LeavesRun S.Site job.now core result.core result.hosts.items result.answer }
 {
+    let hosts = job.hosts.as_slice().len();
+    let Ok(taken) = supplies_for::<N>(alloc, blank, hosts) else {
+        return without_ends(alloc, core, job);
+    };
+    run_supplied(rt, alloc, taken, core, job, gate)
+}
+
+/// Runs a job under such a name, with the lists that the run fills.
+fn run_supplied<
+    N: Setup + Send + Sync,
+    S: Site + Send,
+    C: Choose + Send,
+    G: Gate + Sync,
+    R: Threads + Wait + Sync,
+>(rt: &R, alloc: Global, taken: Supplies<N>, core: Core<S, C>, job: &Job, gate: &G) -> RunEnd<S, C>
+    requires word { taken.blank ≡ N.table }
+    requires passes { IsEmptyFor (length job.now.hosts) taken.passes }
+    requires ends { IsEmptyFor (length job.now.hosts) taken.ends }
+    requires opening { OpensWith N.opening N.setup S.tells (S.never_fails_but core.site)
+        (seen S.Site core) }
+    requires began { N.setup.began ≡ seen S.Site core }
+    requires sound { (but : UnitNo → Bool)
+        → S.never_fails_but core.site but → N.setup.never_fails_but but }
+    requires hosts { N.hosts ≡ hosts_of job.now.hosts }
+    requires empty { core.history ≡ [] }
+    ensures { LeavesRun S.Site job.now core result.core result.hosts.items result.answer }
+{
+    let Supplies {
+        blank,
+        passes,
+        ends,
+    } = taken;
     let scripts = job.hosts.as_slice();
-    let mut passes = PassList::new(alloc);
-    let mut ends = HostEnds::new(alloc);
-    if passes.reserve(scripts.len()).is_err() || ends.reserve(scripts.len()).is_err() {
-        return without_ends(alloc, core, scripts.len());
-    }
     let (word, book) = start_book::<N>(blank);
     let (book, passes) = make_passes(&word, book, scripts, passes);
     let shared = Shared::new(word, book, core);
@@ -348,7 +392,7 @@ pub fn run_actors<S: Site + Send, C: Choose + Send, G: Gate + Sync, R: Threads +
         (length job.now.hosts) result.hosts.items }
 {
     let Ok(blank) = make::<Brand>(alloc) else {
-        return without_ends(alloc, core, job.hosts.as_slice().len());
+        return without_ends(alloc, core, job);
     };
     run_named::<Brand, S, C, G, R>(rt, alloc, blank, core, job, gate)
 }

@@ -1,10 +1,12 @@
 // A host's script, call after call.
-ghost use Rattle.std.specs.Prelude.{◌≡◌, [], map, option_map};
+ghost use Rattle.std.specs.Prelude.{◌≡◌, List, [], map, option_map};
 ghost use Rattle.channel_commands.specs.Views.{call_of, reply_of};
 ghost use Rattle.channel_program.specs.Items.{Asks, EndsScript, GivesSince};
-ghost use Rattle.channel_program.specs.Script.{Follows, ItemData, program as running_program};
+ghost use Rattle.channel_program.specs.Script.{Exchange, Follows, ItemData, program as running_program};
+ghost use Rattle.channel_program.proofs.ProgramFacts.{HasRun};
 ghost use Rattle.job_text.specs.Views.{item_of};
 ghost use Rattle.mss_run.specs.Owns.{AsksSince, asked_by, exchanges_by};
+ghost use Rattle.mss_run.specs.Programs.{AsksOn, RunsOn, stands};
 
 use crate::actor::{Gate, Run};
 use crate::host::Running;
@@ -27,6 +29,47 @@ fn last_of(last: &Option<Reply>) -> Option<&Reply>
 }
 
 impl<N: Setup, S: Site, C: Choose, G: Gate, R: Wait> Run<'_, N, S, C, G, R> {
+    /// Makes the next call of a channel program. None where the program goes on behind its reply; else whether the
+    /// program is finished: it isn't where the run has ended.
+    fn step_program(
+        &self,
+        running: Running<N>,
+        program: &Program,
+        cursor: &mut Cursor,
+        last: &mut Option<Reply>,
+    ) -> (Running<N>, Option<bool>)
+        ensures gives { (begun : List Exchange)
+            → HasRun program.now begun (exchanges_by running)
+            (stands program.now cursor.old last.old)
+            → RunsOn program.now begun (exchanges_by result.0)
+            (stands program.now cursor.new last.new) result.1 }
+        ensures asks { (begun : List Exchange)
+            → HasRun program.now begun (asked_by running)
+            (stands program.now cursor.old last.old)
+            → AsksOn program.now begun (asked_by result.0)
+            (stands program.now cursor.new last.new) result.1 }
+        ensures host { result.0.host ≡ running.host }
+    {
+        let before = last_of(last);
+        let Ok(next) = next_call(self.alloc, program, cursor, before) else {
+            self.shared.end(self.rt);
+            return (running, Some(false));
+        };
+        let Some(call) = next else {
+            return (running, Some(true));
+        };
+        let goes_on = is_command(&call);
+        let (now, reply) = self.make_call(running, &call);
+        let Some(reply) = reply else {
+            return (now, Some(false));
+        };
+        *last = Some(reply);
+        if !goes_on {
+            return (now, Some(true));
+        }
+        (now, None)
+    }
+
     /// Runs a channel program, call after call. False where the run ended before the program.
     fn run_program(&self, mut running: Running<N>, program: &Program) -> (Running<N>, bool)
         ensures gives { GivesSince (running_program program.now)
@@ -37,24 +80,11 @@ impl<N: Setup, S: Site, C: Choose, G: Gate, R: Wait> Run<'_, N, S, C, G, R> {
         let mut cursor = Cursor::start();
         let mut last: Option<Reply> = None;
         for _ in self.rt.forever() {
-            let before = last_of(&last);
-            let Ok(next) = next_call(self.alloc, program, &mut cursor, before) else {
-                self.shared.end(self.rt);
-                return (running, false);
-            };
-            let Some(call) = next else {
-                return (running, true);
-            };
-            let goes_on = is_command(&call);
-            let (now, reply) = self.make_call(running, &call);
-            let Some(reply) = reply else {
-                return (now, false);
-            };
-            if !goes_on {
-                return (now, true);
+            let (now, end) = self.step_program(running, program, &mut cursor, &mut last);
+            match end {
+                None => running = now,
+                Some(finished) => return (now, finished),
             }
-            running = now;
-            last = Some(reply);
         }
         unreachable!()
     }

@@ -1,10 +1,6 @@
 use Rattle.core_state.specs.CoreValue.{seen}
 use Rattle.mss_run.proofs.AnswerFacts.{opens_itself}
-use Rattle.mss_run.proofs.RunFacts.{asks_nothing}
 use Rattle.mss_run.proofs.run.run_actors.Goals as goal
 
 pub run_named-requires-clause-opening : goal.run_named-requires-clause-opening
 run_named-requires-clause-opening g c = λ _ _. opens_itself g.S.Site.tells (g.S.Site.never_fails_but c.args.core.site) (seen g.S.Site c.args.core)
-
-pub returns-in_default-clause-follow : goal.returns-in_default-clause-follow
-returns-in_default-clause-follow g c = asks_nothing c.without_ends.result.core.history c.args.job.now.hosts c.without_ends.ensures.empty

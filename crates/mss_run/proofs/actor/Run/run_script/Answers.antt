@@ -41,3 +41,8 @@ returns-clause-asks g c =
     let all_ : length (map item_of c.args.items.now) ≤ c.loop-item.item-index = omega (arith, c.loop-item-test.false, length-map c.args.items.now item_of) in
     FollowsToEnd-follows (map item_of c.args.items.now) (asked_by c.loop-item.running)
     (subst (λ (items : List ItemData). FollowsToEnd items (asked_by c.loop-item.running)) (take_all c.loop-item.item-index (map item_of c.args.items.now) all_) c.loop-item.invariant.asks)
+
+pub returns-clause-ends : goal.returns-clause-ends
+returns-clause-ends g c =
+    let all_ : length (map item_of c.args.items.now) ≤ c.loop-item.item-index = omega (arith, c.loop-item-test.false, length-map c.args.items.now item_of) in
+    subst (λ (items : List ItemData). FollowsToEnd items (exchanges_by c.loop-item.running)) (take_all c.loop-item.item-index (map item_of c.args.items.now) all_) c.loop-item.invariant.follows
