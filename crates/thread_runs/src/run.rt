@@ -24,10 +24,10 @@ use victim_choice::Choose;
 
 /// A session that was run in threads, and how each host of its job ended.
 #[derive(Drop)]
-pub struct PlayedAtOnce<S> {
-    pub played: Played<S>,
+struct PlayedAtOnce<S> {
+    played: Played<S>,
     /// The hosts of the job, in its order; none where memory ran out before they began.
-    pub hosts: HostEnds,
+    hosts: HostEnds,
 }
 
 /// What became of a job that was run in threads, and how each of its hosts ended.
@@ -118,44 +118,13 @@ fn play_on<S: Site + Send, C: Choose + Drop + Send, G: Gate + Sync, R: Threads +
     }
 }
 
-/// Takes up a site and runs a job on it in threads: each host of the job and each recorder in one of its own.
+/// Takes up a site and runs a job on it in threads, each host of the job and each recorder in one of its own; and puts
+/// the report. Where a read for it fails, it ends before that track.
 ///
 /// A site that a session left, stopped at whatever moment, is taken up; one with another fault is refused by the
 /// first, untouched, and handed back. The session's history is that of plain volumes, whatever the order in which the
 /// threads came; in it each host's entries are those that it was told of. All actors pass the gate between events. Where
 /// nothing but reads can fail, the session isn't stopped.
-pub fn play_at_once<
-    S: Site + Send,
-    C: Choose + Drop + Send,
-    G: Gate + Sync,
-    R: Threads + Wait + Sync,
->(
-    rt: &R,
-    alloc: Global,
-    job: &Job,
-    site: S,
-    chooser: C,
-    gate: &G,
-) -> Result<PlayedAtOnce<S>, (S, Refused)>
-    requires able { C.can_choose chooser }
-    ensures played { IfOk result (λ p. IsPlayedAtOnce job.now (devices S.Site site p.played.site)
-        p.played.end p.hosts.items (session_data p.played.session)) }
-    ensures rows { IfOk result (λ p.
-        AreRowsOf S.tells (S.told p.played.site) p.played.session.stopped p.played.rows) }
-    ensures devices { IfOk result (λ p. WritesOn S.Site site p.played.site) }
-    ensures only_reads_fail { IfOk result (λ p. (but : UnitNo → Bool)
-        → S.never_fails_but site but → p.played.session.stopped ≡ None) }
-    ensures untaken { IfErr result (λ back. Opens job.now.config
-        (devices S.Site site back.0) (Err back.1)) }
-    ensures back { IfErr result (λ back. WritesOn S.Site site back.0) }
-{
-    match begin(alloc, job, site, chooser) {
-        Ok(core) => Ok(play_on(rt, alloc, core, job, gate)),
-        Err(untaken) => Err(untaken),
-    }
-}
-
-/// Runs a job in threads on a site, and puts the report. Where a read for it fails, it ends before that track.
 pub fn run_at_once<
     S: Site + Send,
     C: Choose + Drop + Send,
@@ -172,11 +141,14 @@ pub fn run_at_once<
     ensures only_reads_fail { (but : UnitNo → Bool) → S.never_fails_but site but
         → GoesUnstopped result.job.outcome }
 {
-    match play_at_once(rt, alloc, job, site, chooser, gate) {
-        Ok(done) => EndAtOnce {
-            job: put_report(alloc, job, done.played, output),
-            hosts: done.hosts,
-        },
+    match begin(alloc, job, site, chooser) {
+        Ok(core) => {
+            let done = play_on(rt, alloc, core, job, gate);
+            EndAtOnce {
+                job: put_report(alloc, job, done.played, output),
+                hosts: done.hosts,
+            }
+        }
         Err((site, refused)) => EndAtOnce {
             job: JobEnd {
                 site,

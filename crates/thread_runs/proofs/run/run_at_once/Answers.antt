@@ -1,3 +1,4 @@
+use Rattle.mss_base.specs.Sound.{StaysSound}
 use Rattle.core_state.specs.Sessions.{session_data}
 use Rattle.session_report.specs.Parties.{Stream, sink_between}
 use Rattle.job_runs.specs.Parties.{Devices, devices}
@@ -8,36 +9,44 @@ use Rattle.core_state.specs.CoreValue.{seen_site}
 
 pub put_report-requires-clause-halts : goal.put_report-requires-clause-halts
 put_report-requires-clause-halts g c =
-    let p = c.in-Ok.done.played in
+    let done = c.play_on-done.result in
+    let p = done.played in
+    let was = seen_site g.S.Site c.args.site in
     let site : Devices = devices g.S.Site c.args.site p.site in
-    played_halts c.args.job.now site p.end c.in-Ok.done.hosts.items (session_data p.session) c.in-Ok.ensures.played
+    played_halts c.args.job.now site p.end done.hosts.items (session_data p.session) (c.play_on-done.ensures.session was c.in-Ok.ensures.begun)
 
 pub returns-in-Ok-clause-ends : goal.returns-in-Ok-clause-ends
 returns-in-Ok-clause-ends g c =
-    let p = c.in-Ok.done.played in
+    let done = c.play_on-done.result in
+    let p = done.played in
+    let was = seen_site g.S.Site c.args.site in
     let told = g.S.Site.told in
     let put = c.put_report in
+    let played = c.play_on-done.ensures.session was c.in-Ok.ensures.begun in
     let sink : Stream = sink_between g.O.Sink c.args.output.now put.new.output in
-    ends_at_once g.S.Site c.args.job.now (seen_site g.S.Site c.args.site) p.site put.result.site p.end c.in-Ok.done.hosts.items (session_data p.session)
-    c.in-Ok.ensures.played sink put.result.outcome (put.ensures.tells (told c.args.site) c.in-Ok.ensures.played.promised.plain)
+    ends_at_once g.S.Site c.args.job.now was p.site put.result.site p.end done.hosts.items (session_data p.session) played sink put.result.outcome (put.ensures.tells (told c.args.site) played.promised.plain)
 
 pub returns-in-Ok-clause-unread : goal.returns-in-Ok-clause-unread
 returns-in-Ok-clause-unread g c =
-    let p = c.in-Ok.done.played in
+    let done = c.play_on-done.result in
+    let p = done.played in
     let told = g.S.Site.told in
     let put = c.put_report in
+    let played = c.play_on-done.ensures.session (seen_site g.S.Site c.args.site) c.in-Ok.ensures.begun in
     let sink : Stream = sink_between g.O.Sink c.args.output.now put.new.output in
     let whole : Devices = devices g.S.Site c.args.site p.site in
+    let sound : StaysSound g.S.Site.never_fails_but c.args.site p.site = λ but never. c.play_on-done.ensures.devices.sound but (c.in-Ok.ensures.devices.sound but never) in
     broke_off_of g.S.Site c.args.job.now c.args.site p.site put.result.site p.end (session_data p.session) p.rows
-    (played_halts c.args.job.now whole p.end c.in-Ok.done.hosts.items (session_data p.session) c.in-Ok.ensures.played) c.in-Ok.ensures.rows c.in-Ok.ensures.devices.sound put.ensures.site sink put.result.outcome
-    (put.ensures.tells (told c.args.site) c.in-Ok.ensures.played.promised.plain) (put.ensures.unread (told c.args.site) c.in-Ok.ensures.played.promised.plain)
+    (played_halts c.args.job.now whole p.end done.hosts.items (session_data p.session) played) c.play_on-done.ensures.rows sound put.ensures.site sink put.result.outcome
+    (put.ensures.tells (told c.args.site) played.promised.plain) (put.ensures.unread (told c.args.site) played.promised.plain)
 
 pub returns-in-Ok-clause-only_reads_fail : goal.returns-in-Ok-clause-only_reads_fail
 returns-in-Ok-clause-only_reads_fail g c = λ but never.
-    let p = c.in-Ok.done.played in
+    let p = c.play_on-done.result.played in
     let told = g.S.Site.told in
     let put = c.put_report in
+    let played = c.play_on-done.ensures.session (seen_site g.S.Site c.args.site) c.in-Ok.ensures.begun in
     let sink : Stream = sink_between g.O.Sink c.args.output.now put.new.output in
     let site : Devices = devices g.S.Site p.site put.result.site in
-    unstopped_of c.args.job.now (told c.args.site) site sink p.end (session_data p.session) put.result.outcome
-    (put.ensures.tells (told c.args.site) c.in-Ok.ensures.played.promised.plain) (c.in-Ok.ensures.only_reads_fail but never)
+    unstopped_of c.args.job.now (told c.args.site) site sink p.end (session_data p.session) put.result.outcome (put.ensures.tells (told c.args.site) played.promised.plain)
+    (c.play_on-done.ensures.only_reads_fail but (c.in-Ok.ensures.devices.sound but never) c.in-Ok.ensures.begun.begins.going)
