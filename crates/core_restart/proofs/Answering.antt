@@ -13,7 +13,10 @@ use Rattle.mss_restart.specs.declared.creations.Creation.{Creation}
 use Rattle.mss_restart.proofs.Finishing.{none_complete}
 use Rattle.mss_restart.proofs.OtherRows.{nothing_else}
 use Rattle.core_state.specs.CoreValue.{DevicesSeen}
-use Rattle.core_restart.specs.Opening.{OpensTold}
+use Rattle.volume_table.specs.Listed.{listed}
+use Rattle.mss_restart.specs.Usable.{AreUsableFor}
+use Rattle.mss_restart.specs.Answers.{CreatesCounted}
+use Rattle.core_restart.specs.Opening.{OpensTold, OpensAny}
 
 -- before anything is done
 pub none_told : (config : ConfigData) (now : DevicesSeen) → OpensTold config now now (Err Memory)
@@ -41,4 +44,13 @@ module _ (config : ConfigData) (old new : DevicesSeen) (opened : Opened) where
     others = is.others;
     paired = is.paired;
     untouched = is.untouched;
+  }
+
+  pub any_as : (rows : List (Option RowValue)) (made : List Creation) → rows ≡ opened.rows → made ≡ opened.creations.items → OpensAny config old new (Ok opened)
+      → OpensAny config old new (Ok (record { rows = rows; creations = record { items = made; spare = 0 } }))
+  any_as rows made rows_are made_are is = record {
+    usable = subst (λ (rs : List (Option RowValue)). AreUsableFor config (listed rs)) (sym rows_are) is.usable;
+    counted = subst (λ (x : List (Option RowValue) × List Creation). CreatesCounted config old.writes new.writes (listed x.0) x.1) (λ i. (sym rows_are i, sym made_are i)) is.counted;
+    refused = tt;
+    kept = is.kept;
   }

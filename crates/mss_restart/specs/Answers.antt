@@ -1,17 +1,21 @@
 -- What opening answers.
-use Rattle.std.specs.Prelude.{◌≡◌, ◌⊎◌, ◌≤◌, ℕ, List, [], Some, None, Result, Ok, Err}
+use Rattle.std.specs.Prelude.{◌≡◌, ◌⊎◌, ◌<◌, ◌≤◌, ℕ, List, [], Some, None, Result, Ok, Err, IfOk, IfErr}
 use Rattle.mss_base.specs.Configs.{ConfigData}
-use Rattle.mss_base.specs.Content.{Content, SiteLog, content}
+use Rattle.mss_base.specs.Content.{Content, SiteLog, content, Writes}
 use Rattle.mss_base.specs.Counts.{IsFaultSince, IsFaultWithin}
+use Rattle.mss_base.specs.declared.site.Site.{Ghosts}
 use Rattle.ckd_plain.specs.Plain.{serial_in}
 use Rattle.shown_volumes.specs.declared.refused.Refused.{Refused}
 use Rattle.shown_volumes.specs.declared.refused.Refused.TheVariants.{RowUnread, Stopped, Memory}
-use Rattle.shown_volumes.specs.Shown.{RowsOf, rows_in, rows_of}
+use Rattle.shown_volumes.specs.Shown.{RowsOf, rows_in, rows_of, shown}
+use Rattle.shown_volumes.specs.Sound.{IsSound}
 use Rattle.shown_volumes.specs.Faults.{first_fault}
 use Rattle.volume_table.specs.Listed.{listed}
 use Rattle.mss_restart.specs.Survey.{Readings, AreFaultless, StandApart, IsFirstAlone, Surveys}
-use Rattle.mss_restart.specs.Opening.{IsOpened, Creates, missing}
-use Rattle.mss_restart.specs.Creations.{CompletesWhole, AreCounted}
+use Rattle.mss_restart.specs.Usable.{AreUsableFor}
+use Rattle.mss_restart.specs.OneCopy.{StayPaired}
+use Rattle.mss_restart.specs.Opening.{IsOpened, Creates, ShowsFront, missing}
+use Rattle.mss_restart.specs.Creations.{CompletesWhole, AreCounted, RepairsOthers}
 use Rattle.mss_restart.specs.declared.creations.Creation.{Creation}
 use Rattle.mss_restart.specs.declared.opening.Opened.{Opened}
 
@@ -77,3 +81,35 @@ OpensWhole config old new (Ok opened) =
     CompletesWhole {T = Unit {0}} (missing (rows_of (content old)) config.volumes) opened.creations.items (rows_of (content old)) (rows_of (content new)) old new (Ok tt)
 OpensWhole config old new (Err e) =
     CompletesWhole {T = Unit {0}} (missing (rows_of (content old)) config.volumes) [] (rows_of (content old)) (rows_of (content new)) old new (Err e)
+
+-- of a site that tells: what is answered, exactly where no call failed; what a stop or a failing call leaves at each
+-- moment; that each repair and creation that was begun is whole after Ok and after want of memory; that no row but the
+-- further ones is more than repaired, and that each copy goes on to tell its row alone, unless a call failed; that a
+-- content with a fault isn't written
+pub record OpensSite (before now : ℕ) (config : ConfigData) (old new : SiteLog) (answer : Result Opened Refused) : Type 0 where
+  pub opens : Opens before now config old new answer
+  pub exact : now ≡ before → before < 18446744073709551615 → OpensExactly config (content old) answer
+  pub moments : (frames : ℕ) → IsSound frames (content old)
+      → Writes (ShowsFront frames (missing (rows_of (content old)) config.volumes) (shown (content old))) old new
+  pub complete : OpensWhole config old new answer
+  pub others : RepairsOthers (missing (rows_of (content old)) config.volumes) old new
+  pub paired : StayPaired (content old) (content new) answer
+  pub untouched : WritesIfFaultless config old new
+
+-- how many writes and how many faults a site had counted before a call, and after it
+pub record Counters : Type 0 where
+  pub written : ℕ
+  pub writes : ℕ
+  pub before : ℕ
+  pub now : ℕ
+
+abbrev pub counters : {S : Type 0} → Ghosts S → S → S → Counters
+counters g old new = record { written = g.writes old; writes = g.writes new; before = g.faults old; now = g.faults new }
+
+-- of every site: the rows can be used, and each configured volume has one; the creations are told with rising counts of
+-- writes; what a refusal leaves, and which counts it keeps
+pub record AnswersOpening (config : ConfigData) (counts : Counters) (answer : Result Opened Refused) : Type 0 where
+  pub usable : IfOk answer (λ opened. AreUsableFor config (listed opened.rows))
+  pub counted : MakesCounted config counts.written counts.writes answer
+  pub refused : IfErr answer (RefusalLeaves counts.written counts.writes counts.before counts.now)
+  pub kept : KeepsOpening counts.before counts.now answer

@@ -1,5 +1,5 @@
 -- Repairs and creations, each written to its end.
-use Rattle.std.specs.Prelude.{◌≡◌, ◌≢◌, ◌≤◌, ℕ, zero, suc, List, [], ◌∷◌, ◌++◌, length, Result, Ok, Err}
+use Rattle.std.specs.Prelude.{◌≡◌, ◌≢◌, ◌≤◌, ℕ, zero, suc, List, [], ◌∷◌, ◌++◌, length, Option, Result, Ok, Err, OnOk}
 use Rattle.std.specs.List.{AllByRecursion}
 use Rattle.mss_base.specs.Sound.{StaysSound}
 use Rattle.mss_base.specs.Configs.{VolumeData}
@@ -8,13 +8,15 @@ use Rattle.mss_base.specs.declared.place.UnitNo.TheVariants.{TableA, TableB}
 use Rattle.mss_base.specs.Counts.{IsFaultSince}
 use Rattle.mss_base.specs.declared.site.Site.{Ghosts}
 use Rattle.volume_table.specs.Row.{RowValue}
+use Rattle.volume_table.specs.Listed.{listed}
 use Rattle.table_pair.specs.Pair.{ChangesRow, NoneOrNew, HoldsRow}
 use Rattle.table_pair.specs.Repairs.{NeedsNoRepair, KeepsRow, KeepsMarks, HoldsToldRow}
 use Rattle.shown_volumes.specs.declared.refused.Refused.{Refused}
 use Rattle.shown_volumes.specs.declared.refused.Refused.TheVariants.{Stopped, Memory}
-use Rattle.shown_volumes.specs.Shown.{RowsOf}
+use Rattle.shown_volumes.specs.Shown.{RowsOf, shown}
+use Rattle.shown_volumes.specs.Sound.{IsSound}
 use Rattle.shown_volumes.specs.Changing.{with_row}
-use Rattle.mss_restart.specs.Opening.{IsNewRow}
+use Rattle.mss_restart.specs.Opening.{AreCreated, IsNewRow, ShowsFront, missing}
 use Rattle.mss_restart.specs.declared.creations.Creation.{Creation}
 
 -- a site that was read, and written as often as it made room for
@@ -106,6 +108,14 @@ abbrev pub CreatesWhole : {T : Type 0} → List VolumeData → List Creation →
 CreatesWhole volumes made rows last old new (Ok value) = AreCreations volumes made rows last old new
 CreatesWhole volumes made rows last old new (Err Memory) = IsFrontCreated volumes rows old new
 CreatesWhole volumes made rows last old new (Err e) = Unit {0}
+
+-- creations of the volumes of a list that had no row, over a site that tells: what a sound content shows at each moment,
+-- and that no other row is more than repaired; what is made where none failed, and that each was written to its end
+pub record CreatesVolumes {T : Type 0} (volumes : List VolumeData) (made : List Creation) (before after : List (Option RowValue)) (old new : SiteLog) (result : Result T Refused) : Type 0 where
+  pub moments : (frames : ℕ) → IsSound frames (content old) → Writes (ShowsFront frames (missing (listed before) volumes) (shown (content old))) old new
+  pub others : RepairsOthers (missing (listed before) volumes) old new
+  pub created : OnOk result (AreCreated volumes (content old) (content new) before after)
+  pub complete : CreatesWhole (missing (listed before) volumes) made (listed before) (listed after) old new result
 
 -- what repairs and then creations leave
 abbrev pub CompletesWhole : {T : Type 0} → List VolumeData → List Creation → RowsOf → RowsOf → SiteLog → SiteLog → Result T Refused → Type 0

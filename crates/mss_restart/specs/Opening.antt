@@ -22,6 +22,11 @@ RowsAre rows c = (volume : ℕ) → volume < 32 → row_of c volume ≡ known (l
 abbrev pub AreHeld : RowsOf → Content → Type 0
 AreHeld rows c = (volume : ℕ) (row : RowValue) → rows volume ≡ Some row → HoldsRow row volume c
 
+-- the rows of a content are known: both copies tell each of them, and are open with it
+pub record AreKnown (rows : List (Option RowValue)) (c : Content) : Type 0 where
+  pub told : RowsAre rows c
+  pub held : AreHeld (listed rows) c
+
 -- the volumes of a list that have no row
 abbrev pub missing : RowsOf → List VolumeData → List VolumeData
 missing rows [] = []

@@ -10,18 +10,16 @@ ghost use Rattle.shown_volumes.specs.Changing.{WithOrWithout};
 ghost use Rattle.shown_volumes.specs.declared.refused.Refused.TheVariants.{Memory};
 ghost use Rattle.volume_table.specs.Listed.{listed};
 ghost use Rattle.mss_restart.specs.Opening.{
-  AreCreated,
-  AreHeld,
+  AreKnown,
   Creates,
   HasNewRow,
   IsCreated,
   RowsAre,
-  ShowsFront,
   missing,
 };
 ghost use Rattle.mss_restart.specs.Creations.{
   AreCounted,
-  CreatesWhole,
+  CreatesVolumes,
   IsCreation,
   RepairsOthers,
   StopsAlone,
@@ -103,18 +101,9 @@ pub fn create_volumes<S: Site>(
     requires none { creations.old.items ≡ [] }
     requires room { length volumes.now ≤ creations.old.spare }
     requires rising { IsStrictlySortedBy nat_cmp (map (λ v. v.0) volumes.now) }
-    requires told { S.tells → RowsAre rows.old (content (S.told site.old)) }
-    requires held { S.tells → AreHeld (listed rows.old) (content (S.told site.old)) }
-    ensures moments { S.tells → (frames : ℕ) → IsSound frames (content (S.told site.old)) → Writes
-        (ShowsFront frames (missing (listed rows.old) volumes.now)
-        (shown (content (S.told site.old)))) (S.told site.old) (S.told site.new) }
-    ensures created { S.tells → OnOk result (AreCreated volumes.now
-        (content (S.told site.old)) (content (S.told site.new)) rows.old rows.new) }
-    ensures complete { S.tells → CreatesWhole (missing (listed rows.old) volumes.now)
-        creations.new.items (listed rows.old) (listed rows.new)
+    requires known { S.tells → AreKnown rows.old (content (S.told site.old)) }
+    ensures told { S.tells → CreatesVolumes volumes.now creations.new.items rows.old rows.new
         (S.told site.old) (S.told site.new) result }
-    ensures others { S.tells → RepairsOthers (missing (listed rows.old) volumes.now)
-        (S.told site.old) (S.told site.new) }
     ensures rows { OnOk result (Creates (missing (listed rows.old) volumes.now)
         (listed rows.old) (listed rows.new)) }
     ensures counted { OnOk result (AreCounted (S.writes site.old) (S.writes site.new)

@@ -25,16 +25,18 @@ ghost use Rattle.mss_restart.specs.Creations.{
   WritesOn,
 };
 ghost use Rattle.mss_restart.specs.Answers.{
+  AnswersOpening,
   KeepsOpening,
   MakesCounted,
   Opens,
   OpensExactly,
+  OpensSite,
   OpensWhole,
   RefusalLeaves,
   RefusesAs,
   WritesIfFaultless,
+  counters,
 };
-ghost use Rattle.mss_restart.specs.OneCopy.{StayPaired};
 ghost use Rattle.mss_restart.specs.Survey.{NeverFails, TellsNoFailure};
 
 use crate::creations::{Creations, create_volumes};
@@ -160,30 +162,10 @@ pub fn open_rows<S: Site>(
     site: S,
     config: &Config,
 ) -> Result<(S, Opened), (S, Refused)>
-    ensures opens { S.tells → Opens (S.faults site) (S.faults (site_of result)) config.now
+    ensures told { S.tells → OpensSite (S.faults site) (S.faults (site_of result)) config.now
         (S.told site) (S.told (site_of result)) (answer_of result) }
-    ensures exact { S.tells → S.faults (site_of result) ≡ S.faults site
-        → S.faults site < 18446744073709551615
-        → OpensExactly config.now (content (S.told site)) (answer_of result) }
-    ensures moments { S.tells → (frames : ℕ) → IsSound frames (content (S.told site)) → Writes
-        (ShowsFront frames (missing (rows_of (content (S.told site))) config.now.volumes)
-        (shown (content (S.told site)))) (S.told site) (S.told (site_of result)) }
-    ensures complete { S.tells → OpensWhole config.now (S.told site) (S.told (site_of result))
+    ensures any { AnswersOpening config.now (counters S.Site site (site_of result))
         (answer_of result) }
-    ensures others { S.tells → RepairsOthers
-        (missing (rows_of (content (S.told site))) config.now.volumes)
-        (S.told site) (S.told (site_of result)) }
-    ensures paired { S.tells → StayPaired
-        (content (S.told site)) (content (S.told (site_of result))) (answer_of result) }
-    ensures untouched { S.tells →
-        WritesIfFaultless config.now (S.told site) (S.told (site_of result)) }
-    ensures usable { IfOk (answer_of result) (λ opened.
-        AreUsableFor config.now (listed opened.rows)) }
-    ensures counted { MakesCounted config.now (S.writes site) (S.writes (site_of result))
-        (answer_of result) }
-    ensures refused { IfErr (answer_of result) (RefusalLeaves
-        (S.writes site) (S.writes (site_of result)) (S.faults site) (S.faults (site_of result))) }
-    ensures kept { KeepsOpening (S.faults site) (S.faults (site_of result)) (answer_of result) }
     ensures works { NeverFails S.Site site → TellsNoFailure (answer_of result) }
     ensures devices { WritesOn S.Site site (site_of result) }
 {

@@ -9,14 +9,13 @@ use Rattle.mss_restart.proofs.Counting.{AreComing, AreLogged, none_coming, none_
 use Rattle.mss_restart.proofs.Repaired.{nothing_written, written_on, stop_since}
 use Rattle.std.proofs.lemmas.Result.{err_from_is_err_and}
 use Rattle.shown_volumes.specs.declared.refused.Refused.{Refused}
-use Rattle.mss_restart.specs.Opening.{missing}
-use Rattle.mss_restart.specs.Creations.{StopsAlone, CreatesWhole}
+use Rattle.mss_restart.specs.Creations.{CreatesVolumes, StopsAlone}
 use Rattle.mss_restart.proofs.creations.create_volumes.Goals as goal
 use Rattle.mss_restart.proofs.creations.create_volumes.Goals.{then-missing+in_ok-create_volume, else-missing}
 
 pub loop-entry-init : goal.loop-entry-init
 loop-entry-init g c = record {
-  creating = λ tells. nothing_created c.args.volumes.now (g.S.Site.told c.args.site.now) c.args.rows.now (c.requires.told tells) (c.requires.held tells);
+  creating = λ tells. nothing_created c.args.volumes.now (g.S.Site.told c.args.site.now) c.args.rows.now (c.requires.known tells).told (c.requires.known tells).held;
   rising = c.requires.rising;
   coming = none_coming c.args.volumes.now (listed c.args.rows.now) (g.S.Site.writes c.args.site.now) c.args.creations.now.items c.requires.none;
   logged = λ tells. none_logged c.args.volumes.now (listed c.args.rows.now) (g.S.Site.told c.args.site.now) c.args.creations.now.items c.requires.none;
@@ -25,20 +24,30 @@ loop-entry-init g c = record {
   devices = nothing_written g.S.Site c.args.site.now;
 }
 
-pub returns-in_err-create_volume-clause-moments : goal.returns-in_err-create_volume-clause-moments
-returns-in_err-create_volume-clause-moments g c = λ tells.
+pub returns-in_err-create_volume-clause-told : goal.returns-in_err-create_volume-clause-told
+returns-in_err-create_volume-clause-told g c = λ tells.
+    let p = err_from_is_err_and c.from_residual.result c.from_residual.ensures.1 in
     let all = c.args.volumes.now in
     let start = listed c.args.rows.now in
     let begun = g.S.Site.told c.args.site.now in
     let mid = g.S.Site.told c.loop-entry.site in
+    let now = g.S.Site.told c.create_volume.new.site in
     let rows = c.loop-entry.rows in
+    let made = c.loop-entry.creations.items in
     let behind : List VolumeData = drop (c.loop-entry.entry-index + 1) all in
     let v : VolumeData = c.entry-item.result in
     let known = c.loop-entry.invariant in
     let rest = rest_is all c.loop-entry.entry-index v (omega (arith, c.loop-entry-test.true)) c.entry-item.is in
-    let row = sym c.row.ensures in
-    moments_on all start begun mid rows v behind (subst (λ (x : List VolumeData). IsCreating all start begun mid rows x) rest (known.creating tells))
-    (ap (λ (o : Option RowValue). is_some o) row ∙ c.is_none-missing.ensures ∙ ap not c.if-missing.true) (g.S.Site.told c.create_volume.new.site) (c.create_volume.ensures.moments tells)
+    let creating = subst (λ (x : List VolumeData). IsCreating all start begun mid rows x) rest (known.creating tells) in
+    let fresh = ap (λ (o : Option RowValue). is_some o) (sym c.row.ensures) ∙ c.is_none-missing.ensures ∙ ap not c.if-missing.true in
+    subst (λ (r : Result (Unit {0}) Refused). CreatesVolumes all made c.args.rows.now c.create_volume.new.rows begun now r) (sym (p.1 ∙ ap Err p.2)) (record {
+      moments = moments_on all start begun mid rows v behind creating fresh now (c.create_volume.ensures.moments tells);
+      others = others_on all start begun mid rows v behind creating fresh now (c.create_volume.ensures.others tells);
+      created = tt;
+      complete =
+          memory_creates all start (listed rows) (listed c.create_volume.new.rows) begun mid now made made (drop c.loop-entry.entry-index all) c.in_err-create_volume.field-0.0
+          (known.logged tells) (λ is. (c.in_err-create_volume.ensures.memory (ap Err is)).log tells);
+    })
 
 pub loop-entry-preserved : goal.loop-entry-preserved
 loop-entry-preserved g c =
@@ -94,40 +103,32 @@ loop-entry-preserved g c =
       })
     ]
 
-pub returns-clause-created : goal.returns-clause-created
-returns-clause-created g c = λ tells.
-    let none : drop c.loop-entry.entry-index c.args.volumes.now ≡ [] = drop_of_length-le c.args.volumes.now {i = c.loop-entry.entry-index} (omega (arith, c.loop-entry-test.false)) in
-    all_created c.args.volumes.now (g.S.Site.told c.args.site.now) (g.S.Site.told c.loop-entry.site) c.args.rows.now c.loop-entry.rows
-    (subst (λ (x : List VolumeData). IsCreating c.args.volumes.now (listed c.args.rows.now) (g.S.Site.told c.args.site.now) (g.S.Site.told c.loop-entry.site) c.loop-entry.rows x) none (c.loop-entry.invariant.creating tells))
-
 pub returns-in_err-create_volume-clause-stops : goal.returns-in_err-create_volume-clause-stops
 returns-in_err-create_volume-clause-stops g c =
     let p = err_from_is_err_and c.from_residual.result c.from_residual.ensures.1 in
     subst (λ (r : Result (Unit {0}) Refused). StopsAlone (g.S.Site.faults c.args.site.now) (g.S.Site.faults c.create_volume.new.site) r) (sym (p.1 ∙ ap Err p.2))
     (stop_since (g.S.Site.faults c.args.site.now) (g.S.Site.faults c.loop-entry.site) (g.S.Site.faults c.create_volume.new.site) c.in_err-create_volume.field-0.0 c.loop-entry.invariant.count c.in_err-create_volume.ensures.stops)
 
-pub returns-in_err-create_volume-clause-complete : goal.returns-in_err-create_volume-clause-complete
-returns-in_err-create_volume-clause-complete g c = λ tells.
-    let p = err_from_is_err_and c.from_residual.result c.from_residual.ensures.1 in
-    let start = listed c.args.rows.now in
-    let begun = g.S.Site.told c.args.site.now in
-    let now = g.S.Site.told c.create_volume.new.site in
-    let made = c.loop-entry.creations.items in
-    let last = listed c.create_volume.new.rows in
-    subst (λ (r : Result (Unit {0}) Refused). CreatesWhole (missing start c.args.volumes.now) made start last begun now r) (sym (p.1 ∙ ap Err p.2))
-    (memory_creates c.args.volumes.now start (listed c.loop-entry.rows) last begun (g.S.Site.told c.loop-entry.site) now made made (drop c.loop-entry.entry-index c.args.volumes.now) c.in_err-create_volume.field-0.0
-    (c.loop-entry.invariant.logged tells) (λ is. (c.in_err-create_volume.ensures.memory (ap Err is)).log tells))
-
 pub returns-in_err-create_volume-clause-devices : goal.returns-in_err-create_volume-clause-devices
 returns-in_err-create_volume-clause-devices g c =
     written_on g.S.Site c.args.site.now c.loop-entry.site c.create_volume.new.site c.loop-entry.invariant.devices c.create_volume.ensures.devices
 
-pub returns-clause-complete : goal.returns-clause-complete
-returns-clause-complete g c = λ tells.
-    let none : drop c.loop-entry.entry-index c.args.volumes.now ≡ [] = drop_of_length-le c.args.volumes.now {i = c.loop-entry.entry-index} (omega (arith, c.loop-entry-test.false)) in
+pub returns-clause-told : goal.returns-clause-told
+returns-clause-told g c = λ tells.
+    let all = c.args.volumes.now in
+    let none : drop c.loop-entry.entry-index all ≡ [] = drop_of_length-le all {i = c.loop-entry.entry-index} (omega (arith, c.loop-entry-test.false)) in
     let start = listed c.args.rows.now in
-    all_logged c.args.volumes.now start (listed c.loop-entry.rows) (g.S.Site.told c.args.site.now) (g.S.Site.told c.loop-entry.site) c.loop-entry.creations.items
-    (subst (λ (x : List VolumeData). AreLogged c.args.volumes.now start (g.S.Site.told c.args.site.now) (g.S.Site.told c.loop-entry.site) (listed c.loop-entry.rows) c.loop-entry.creations.items x) none (c.loop-entry.invariant.logged tells))
+    let begun = g.S.Site.told c.args.site.now in
+    let now = g.S.Site.told c.loop-entry.site in
+    let known = c.loop-entry.invariant in
+    record {
+      moments = (known.creating tells).moments;
+      others = (known.creating tells).others;
+      created = all_created all begun now c.args.rows.now c.loop-entry.rows (subst (λ (x : List VolumeData). IsCreating all start begun now c.loop-entry.rows x) none (known.creating tells));
+      complete =
+          all_logged all start (listed c.loop-entry.rows) begun now c.loop-entry.creations.items
+          (subst (λ (x : List VolumeData). AreLogged all start begun now (listed c.loop-entry.rows) c.loop-entry.creations.items x) none (known.logged tells));
+    }
 
 pub returns-clause-rows : goal.returns-clause-rows
 returns-clause-rows g c =
@@ -142,21 +143,3 @@ returns-clause-counted g c =
     let start = listed c.args.rows.now in
     (all_come c.args.volumes.now start (listed c.loop-entry.rows) (g.S.Site.writes c.args.site.now) (g.S.Site.writes c.loop-entry.site) c.loop-entry.creations.items
     (subst (λ (x : List VolumeData). AreComing c.args.volumes.now start (g.S.Site.writes c.args.site.now) (g.S.Site.writes c.loop-entry.site) (listed c.loop-entry.rows) c.loop-entry.creations.items x) none c.loop-entry.invariant.coming)).1
-
-pub returns-in_err-create_volume-clause-others : goal.returns-in_err-create_volume-clause-others
-returns-in_err-create_volume-clause-others g c = λ tells.
-    let all = c.args.volumes.now in
-    let start = listed c.args.rows.now in
-    let begun = g.S.Site.told c.args.site.now in
-    let mid = g.S.Site.told c.loop-entry.site in
-    let rows = c.loop-entry.rows in
-    let behind : List VolumeData = drop (c.loop-entry.entry-index + 1) all in
-    let v : VolumeData = c.entry-item.result in
-    let known = c.loop-entry.invariant in
-    let rest = rest_is all c.loop-entry.entry-index v (omega (arith, c.loop-entry-test.true)) c.entry-item.is in
-    let row = sym c.row.ensures in
-    others_on all start begun mid rows v behind (subst (λ (x : List VolumeData). IsCreating all start begun mid rows x) rest (known.creating tells))
-    (ap (λ (o : Option RowValue). is_some o) row ∙ c.is_none-missing.ensures ∙ ap not c.if-missing.true) (g.S.Site.told c.create_volume.new.site) (c.create_volume.ensures.others tells)
-
-pub returns-clause-others : goal.returns-clause-others
-returns-clause-others g c = λ tells. (c.loop-entry.invariant.creating tells).others

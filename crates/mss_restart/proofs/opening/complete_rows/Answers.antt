@@ -19,9 +19,11 @@ pub returns-in_err-repair_rows-clause-moments : goal.returns-in_err-repair_rows-
 returns-in_err-repair_rows-clause-moments g c = λ tells frames sound.
     no_front frames (missing (listed c.args.rows.now) c.args.config.now.volumes) (shown (content (g.S.Site.told c.args.site.now))) (g.S.Site.told c.args.site.now) (g.S.Site.told c.repair_rows.new.site) (c.repair_rows.ensures.moments tells frames sound)
 
-pub create_volumes-requires-clause-held : goal.create_volumes-requires-clause-held
-create_volumes-requires-clause-held g c = λ tells.
-    rows_held c.args.rows.now (g.S.Site.told c.args.site.now) (g.S.Site.told c.repair_rows.new.site) c.look.ensures.places (c.requires.told tells) (c.in_ok-repair_rows.ensures.held tells)
+pub create_volumes-requires-clause-known : goal.create_volumes-requires-clause-known
+create_volumes-requires-clause-known g c = λ tells. record {
+  told = λ volume low. c.repair_rows.ensures.rows tells volume ∙ c.requires.told tells volume low;
+  held = rows_held c.args.rows.now (g.S.Site.told c.args.site.now) (g.S.Site.told c.repair_rows.new.site) c.look.ensures.places (c.requires.told tells) (c.in_ok-repair_rows.ensures.held tells);
+}
 
 pub returns-clause-moments : goal.returns-clause-moments
 returns-clause-moments g c = λ tells.
@@ -31,7 +33,7 @@ returns-clause-moments g c = λ tells.
     let rows = c.args.rows.now in
     let same : c.as_slice.result.now ≡ c.args.config.now.volumes = c.as_slice.ensures ∙ ap (λ (x : ConfigData). x.volumes) c.config.view_is in
     then_created rows s mid c.look.ensures.places (c.requires.told tells) (c.repair_rows.ensures.moments tells) c.args.config.now.volumes now
-    (subst (λ (x : List VolumeData). (frames : _) → IsSound frames (content mid) → Writes (ShowsFront frames (missing (listed rows) x) (shown (content mid))) mid now) same (c.create_volumes.ensures.moments tells))
+    (subst (λ (x : List VolumeData). (frames : _) → IsSound frames (content mid) → Writes (ShowsFront frames (missing (listed rows) x) (shown (content mid))) mid now) same (c.create_volumes.ensures.told tells).moments)
 
 pub returns-clause-created : goal.returns-clause-created
 returns-clause-created g c = λ tells.
@@ -43,7 +45,7 @@ returns-clause-created g c = λ tells.
     let same : c.as_slice.result.now ≡ c.args.config.now.volumes = c.as_slice.ensures ∙ ap (λ (x : ConfigData). x.volumes) c.config.view_is in
     on_ok_too (AreCreated c.args.config.now.volumes (content mid) (content now) rows after) (AreCreated c.args.config.now.volumes (content s) (content now) rows after)
     (created_since rows s mid c.look.ensures.places (c.requires.told tells) (c.repair_rows.ensures.moments tells) c.args.config.now.volumes (content now) after) c.create_volumes.result
-    (subst (λ (x : List VolumeData). OnOk c.create_volumes.result (AreCreated x (content mid) (content now) rows after)) same (c.create_volumes.ensures.created tells))
+    (subst (λ (x : List VolumeData). OnOk c.create_volumes.result (AreCreated x (content mid) (content now) rows after)) same (c.create_volumes.ensures.told tells).created)
 
 pub create_volumes-requires-clause-room : goal.create_volumes-requires-clause-room
 create_volumes-requires-clause-room g c =
@@ -70,7 +72,7 @@ returns-clause-complete g c = λ tells.
     let made = c.create_volumes.new.creations.items in
     let same : c.as_slice.result.now ≡ c.args.config.now.volumes = c.as_slice.ensures ∙ ap (λ (x : ConfigData). x.volumes) c.config.view_is in
     creates_complete (missing rows c.args.config.now.volumes) made rows last s mid now c.create_volumes.result (c.in_ok-repair_rows.ensures.complete tells)
-    (subst (λ (x : List VolumeData). CreatesWhole (missing rows x) made rows last mid now c.create_volumes.result) same (c.create_volumes.ensures.complete tells))
+    (subst (λ (x : List VolumeData). CreatesWhole (missing rows x) made rows last mid now c.create_volumes.result) same (c.create_volumes.ensures.told tells).complete)
 
 pub returns-clause-rows : goal.returns-clause-rows
 returns-clause-rows g c =
@@ -111,4 +113,4 @@ returns-clause-others g c = λ tells.
     let volumes = missing rows c.args.config.now.volumes in
     let same : c.as_slice.result.now ≡ c.args.config.now.volumes = c.as_slice.ensures ∙ ap (λ (x : ConfigData). x.volumes) c.config.view_is in
     others_then volumes s mid now (none_of volumes s mid (c.repair_rows.ensures.others tells))
-    (subst (λ (x : List VolumeData). RepairsOthers (missing rows x) mid now) same (c.create_volumes.ensures.others tells))
+    (subst (λ (x : List VolumeData). RepairsOthers (missing rows x) mid now) same (c.create_volumes.ensures.told tells).others)
