@@ -73,7 +73,7 @@ module _ (core : CoreData) (h : ℕ) (core' : CoreData) where
     replied_told told index reply is = ap is_reply is
 
     module _ (tells : Type 0) (call : CallData) where
-      runs : (k : CallData) (c : Command) (volume frame : ℕ) (told : HostTold) → RunsIt tells core h k c volume frame told core' → Leaves core h told core'
+      runs : (k : CallData) (c : Command) (volume frame : ℕ) (told : HostTold) → RunsIt tells core h k (record { command = c; volume = volume; frame = frame }) told core' → Leaves core h told core'
       runs k c volume frame (replied index equipment_check) does = ended (replied index equipment_check) refl (ap (λ (x : CoreData). x.requests) does.2) (ap (λ (x : CoreData). x.rows) does.2)
       runs (ask code argument chained) c volume frame (replied index reply) does = ended (replied index reply) refl (ap (λ (x : CoreData). x.requests) does.3) (ap (λ (x : CoreData). x.rows) does.3)
       runs (ask code argument chained) c volume frame (halts fault) does =

@@ -207,7 +207,7 @@ module _ (tells : Type 0) (core core' : CoreData) (kept : IsCore core) (h : ℕ)
         with_one (in_state request.Ready r) (one_remade core kept.requests_ h volume cylinder request.Ready r has) refl
         (may.asked.volume_ ∙ volume_is core kept h r has) (may.asked.cylinder_ ∙ cylinders core kept h h r has)
 
-  pub marks_now : MarksIt tells core h call volume cylinder marked core' → IsMarkedNow core h core'
+  pub marks_now : MarksIt tells core h call (record { volume = volume; cylinder = cylinder }) marked core' → IsMarkedNow core h core'
   marks_now does = marks_at (subst (λ (c : CoreData). core' ≡ noted (Host h) (touching (volume, page_of cylinder) (with_request h volume cylinder request.Ready (with_change volume (change.Changed cylinder) (record c { site = core'.site }))))) going_same does.1)
 
 -- ---- an event of a host that isn't kept waiting
@@ -216,7 +216,7 @@ one_more : {A : Type 0} (xs : List A) (x : A) → length (xs ++ x ∷ []) ≡ le
 one_more xs x = length-append xs (x ∷ [])
 
 module _ (tells : Type 0) (core core' : CoreData) (kept : IsCore core) (i : ℕ) (low : i < 8) where
-  runs_falls : (call : CallData) (c : Command) (volume frame : ℕ) (told : HostTold) → RunsIt tells core (suc i) call c volume frame told core' → length core.history < 4096 → is_end (called (suc i) call told) ≡ false → run_left core' < run_left core
+  runs_falls : (call : CallData) (c : Command) (volume frame : ℕ) (told : HostTold) → RunsIt tells core (suc i) call (record { command = c; volume = volume; frame = frame }) told core' → length core.history < 4096 → is_end (called (suc i) call told) ≡ false → run_left core' < run_left core
   runs_falls call c volume frame (replied index equipment_check) does few on = reply_falls core core' (ap (λ (x : CoreData). length x.history) does.2 ∙ one_more core.history _) few
   runs_falls (ask code argument chained) c volume frame (replied index reply) does few on = reply_falls core core' (ap (λ (x : CoreData). length x.history) does.3 ∙ one_more core.history _) few
   runs_falls (ask code argument chained) c volume frame (halts fault) does few on = absurd (false≢true (sym on))

@@ -22,13 +22,13 @@ use Rattle.core_progress.specs.Progress.{keeps_waiting, is_kept_waiting, AsksFir
 
 -- a command that runs is told neither to wait nor to go on
 module _ (tells : Type 0) (core : CoreData) (h : ℕ) (core' : CoreData) (c : Command) (volume frame : ℕ) where
-  pub run_never_waits : (call : CallData) (w : Waiting) → RunsIt tells core h call c volume frame (waits w) core' → ⊥
+  pub run_never_waits : (call : CallData) (w : Waiting) → RunsIt tells core h call (record { command = c; volume = volume; frame = frame }) (waits w) core' → ⊥
   run_never_waits (mount v b) w is = is
   run_never_waits demount w is = is
   run_never_waits (ask code argument chained) w is = is
   run_never_waits (break cause) w is = is
 
-  pub run_never_marks : (call : CallData) → RunsIt tells core h call c volume frame marked core' → ⊥
+  pub run_never_marks : (call : CallData) → RunsIt tells core h call (record { command = c; volume = volume; frame = frame }) marked core' → ⊥
   run_never_marks (mount v b) is = is
   run_never_marks demount is = is
   run_never_marks (ask code argument chained) is = is

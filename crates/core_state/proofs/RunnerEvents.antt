@@ -117,7 +117,7 @@ going_site core h call = site_either (ends_request core h call) (record core { r
 
 ran_on : (core : CoreData) (h : ℕ) (code : ℕ) (argument : List ℕ) (chained : Bool) (c : Command) (volume frame : ℕ) (host' : HostState) → host'.mounted ≡ (host_at core.hosts h).mounted
     → (reply : ReplyData) → IsDone reply → KeepsChain chained reply host'
-    → RunsIt ⊥ core h (ask code argument chained) c volume frame (replied (length core.history) reply)
+    → RunsIt ⊥ core h (ask code argument chained) (record { command = c; volume = volume; frame = frame }) (replied (length core.history) reply)
     (after_reply core.site h (ask code argument chained) None (reply, host') (used c (page_under core h volume) frame core))
 ran_on core h code argument chained c volume frame host' mounted (done status bytes) is_done kept = (
   host',

@@ -62,13 +62,21 @@ abbrev pub IsSame : Type 0 → CoreData → CoreData → Type 0
 IsSame tells core core' =
     StillHold tells core.site core'.site × (core' ≡ record core { site = core'.site })
 
+-- what a host is to be told: the reply, the fault that its entry keeps, and the host then
+pub record Given : Type 0 where
+  pub reply : ReplyData
+  pub fault : Option ℕ
+  pub host : HostState
+
+abbrev pub given_by : Option ℕ → ReplyData × HostState → Given
+given_by fault answer = record { reply = answer.0; fault = fault; host = answer.1 }
+
 -- the host is replied this, and nothing is written
-abbrev pub Replies : Type 0 → CoreData → ℕ → CallData → Option ℕ → ReplyData × HostState → HostTold
-    → CoreData → Type 0
-Replies tells core h call fault answer told core' =
+abbrev pub Replies : Type 0 → CoreData → ℕ → CallData → Given → HostTold → CoreData → Type 0
+Replies tells core h call given told core' =
     StillHold tells core.site core'.site
-    × (told ≡ replied (length core.history) answer.0)
-    × (core' ≡ after_reply core'.site h call fault answer core)
+    × (told ≡ replied (length core.history) given.reply)
+    × (core' ≡ after_reply core'.site h call given.fault (given.reply, given.host) core)
 
 -- the host waits, and its request ends where the call isn't for it
 abbrev pub Holds : Type 0 → CoreData → ℕ → CallData → CoreData → Type 0
@@ -85,21 +93,29 @@ Asks tells core h call volume cylinder core' =
     else noted (Host h) (with_request h volume cylinder request.Queued (going_on core h call)))
     { site = core'.site })
 
+-- a cylinder of a volume
+pub record VolumeCylinder : Type 0 where
+  pub volume : ℕ
+  pub cylinder : ℕ
+
 -- the cylinder becomes changed, for the host to write it then; where its row isn't written, the
 -- list of rows has the new one all the same
-abbrev pub MarksIt : Type 0 → CoreData → ℕ → CallData → ℕ → ℕ → HostTold → CoreData → Type 0
-MarksIt tells core h call volume cylinder marked core' =
-    ForSome (listed core.rows volume)
-    (λ r. HaveRow tells volume (effect (change.Changed cylinder) r) core.site core'.site)
-    × (core' ≡ noted (Host h) (touching (volume, page_of cylinder)
-    (with_request h volume cylinder request.Ready
-    (with_change volume (change.Changed cylinder)
+abbrev pub MarksIt : Type 0 → CoreData → ℕ → CallData → VolumeCylinder → HostTold → CoreData
+    → Type 0
+MarksIt tells core h call at marked core' =
+    ForSome (listed core.rows at.volume)
+    (λ r. HaveRow tells at.volume (effect (change.Changed at.cylinder) r) core.site core'.site)
+    × (core' ≡ noted (Host h) (touching (at.volume, page_of at.cylinder)
+    (with_request h at.volume at.cylinder request.Ready
+    (with_change at.volume (change.Changed at.cylinder)
     (record (going_on core h call) { site = core'.site })))))
-MarksIt tells core h call volume cylinder (halts fault) core' =
-    ForSome (listed core.rows volume)
-    (λ r. FailRow tells volume (effect (change.Changed cylinder) r) fault core.site core'.site)
-    × (core' ≡ after_stop core'.site h call (with_row volume (change.Changed cylinder) core))
-MarksIt tells core h call volume cylinder _ core' = ⊥
+MarksIt tells core h call at (halts fault) core' =
+    ForSome (listed core.rows at.volume)
+    (λ r. FailRow tells at.volume (effect (change.Changed at.cylinder) r) fault
+    core.site core'.site)
+    × (core' ≡ after_stop core'.site h call
+    (with_row at.volume (change.Changed at.cylinder) core))
+MarksIt tells core h call at _ core' = ⊥
 
 -- a command on the host's cylinder, which stands in a frame
 abbrev pub run_of : CoreData → ℕ → ℕ → Command → List ℕ → Bool → Run
@@ -114,23 +130,30 @@ run_of core h frame c argument chained = record {
 abbrev pub page_under : CoreData → ℕ → ℕ → ℕ × ℕ
 page_under core h volume = (volume, page_of (host_at core.hosts h).cylinder)
 
+-- a command, and the frame that it uses, in which a page of this volume stands
+pub record FrameUse : Type 0 where
+  pub command : Command
+  pub volume : ℕ
+  pub frame : ℕ
+
 -- the command runs on the frame's blocks
-abbrev pub RunsIt : Type 0 → CoreData → ℕ → CallData → Command → ℕ → ℕ → HostTold → CoreData
-    → Type 0
-RunsIt tells core h call c volume frame (replied index equipment_check) core' =
+abbrev pub RunsIt : Type 0 → CoreData → ℕ → CallData → FrameUse → HostTold → CoreData → Type 0
+RunsIt tells core h call at (replied index equipment_check) core' =
     FailRead tells core.site core'.site
     × (index ≡ length core.history)
     × (core' ≡ after_reply core'.site h call (Some core'.site.faults) (equipment core h) core)
-RunsIt tells core h (ask code argument chained) c volume frame (replied index reply) core' =
+RunsIt tells core h (ask code argument chained) at (replied index reply) core' =
     (host : HostState)
-    × RunOn tells (run_of core h frame c argument chained) core.site core'.site (reply, host)
+    × RunOn tells (run_of core h at.frame at.command argument chained) core.site core'.site
+    (reply, host)
     × (index ≡ length core.history)
     × (core' ≡ after_reply core'.site h (ask code argument chained) None (reply, host)
-    (used c (page_under core h volume) frame core))
-RunsIt tells core h (ask code argument chained) c volume frame (halts fault) core' =
-    FailOn tells (run_of core h frame c argument chained) fault core.site core'.site
+    (used at.command (page_under core h at.volume) at.frame core))
+RunsIt tells core h (ask code argument chained) at (halts fault) core' =
+    FailOn tells (run_of core h at.frame at.command argument chained) fault
+    core.site core'.site
     × (core' ≡ after_stop core'.site h (ask code argument chained) core)
-RunsIt tells core h call c volume frame _ core' = ⊥
+RunsIt tells core h call at _ core' = ⊥
 
 -- ---- the rules
 
@@ -148,17 +171,17 @@ HostDoes tells core h call (IsMoving cylinder) told core' =
 HostDoes tells core h call (IsHeld frame) told core' =
     (told ≡ waits (Held frame)) × Holds tells core h call core'
 HostDoes tells core h call Responds told core' =
-    Replies tells core h call None (response core h call) told core'
+    Replies tells core h call (given_by None (response core h call)) told core'
 HostDoes tells core h call (HasFailed fault) told core' =
-    Replies tells core h call (Some fault) (equipment core h) told core'
+    Replies tells core h call (given_by (Some fault) (equipment core h)) told core'
 HostDoes tells core h call HasNoSpace told core' =
-    Replies tells core h call None (exception check.NoSpace no_space core h) told core'
+    Replies tells core h call (given_by None (exception check.NoSpace no_space core h)) told core'
 HostDoes tells core h call (Faults volume cylinder) told core' =
     (told ≡ waits (Fault cylinder)) × Asks tells core h call volume cylinder core'
 HostDoes tells core h call (Marks volume cylinder) told core' =
-    MarksIt tells core h call volume cylinder told core'
+    MarksIt tells core h call (record { volume = volume; cylinder = cylinder }) told core'
 HostDoes tells core h call (Runs c volume frame) told core' =
-    RunsIt tells core h call c volume frame told core'
+    RunsIt tells core h call (record { command = c; volume = volume; frame = frame }) told core'
 
 -- the first rule that applies gives this answer and this core
 abbrev pub HostEvent : Type 0 → CoreData → ℕ → CallData → HostTold → CoreData → Type 0

@@ -59,7 +59,7 @@ pub struct Session {
 impl Session {
     ghost use Rattle.core_state.specs.SessionData.{begun, with_last_entry, with_last_event};
     ghost use Rattle.core_state.specs.SessionData.{with_last_message};
-    ghost use Rattle.core_state.specs.Sessions.{session_data};
+    ghost use Rattle.core_state.specs.Sessions.{HasRoom, TellsTheSame, session_data};
 
     /// A session that begins at these counts of its site, with these changes of rows on its
     /// console.
@@ -79,18 +79,8 @@ impl Session {
 
     /// Makes room for what one event tells. After want of memory all but the room is as it was.
     pub fn reserve(&mut self) -> Result<(), NoMemory>
-        ensures same { session_data self.new ≡ session_data self.old }
-        ensures history { self.new.history.items ≡ self.old.history.items }
-        ensures marks { self.new.marks.items ≡ self.old.marks.items }
-        ensures console { self.new.console.items ≡ self.old.console.items }
-        ensures events { self.new.events.items ≡ self.old.events.items }
-        ensures first_write { self.new.first_write ≡ self.old.first_write }
-        ensures first_faults { self.new.first_faults ≡ self.old.first_faults }
-        ensures stopped { self.new.stopped ≡ self.old.stopped }
-        ensures room { OnOk result (1 ≤ self.new.history.spare) }
-        ensures room_marks { OnOk result (1 ≤ self.new.marks.spare) }
-        ensures room_console { OnOk result (1 ≤ self.new.console.spare) }
-        ensures room_events { OnOk result (1 ≤ self.new.events.spare) }
+        ensures same { TellsTheSame self.old self.new }
+        ensures room { OnOk result (HasRoom self.new) }
     {
         self.history.reserve(1)?;
         self.marks.reserve(1)?;

@@ -81,7 +81,7 @@ module _ (tells : Type 0) (core : CoreData) (h : ℕ) (core' : CoreData) where
   run_by code argument chained P each c volume frame _ host ran is = absurd ran.done_
 
   module _ (P : CallData → HostRule → HostTold → Type 0) (c : Command) (volume frame : ℕ) where
-    runs_by : (call : CallData) (told : HostTold) → RunsIt tells core h call c volume frame told core' → EachOutcome tells core h call core' (P call) → P call (Runs c volume frame) told
+    runs_by : (call : CallData) (told : HostTold) → RunsIt tells core h call (record { command = c; volume = volume; frame = frame }) told core' → EachOutcome tells core h call core' (P call) → P call (Runs c volume frame) told
     runs_by call (replied index equipment_check) does each =
         subst (λ (n : ℕ). P call (Runs c volume frame) (replied n equipment_check)) (sym does.1) (each.unread c volume frame (does.0, does.2))
     runs_by (ask code argument chained) (replied index reply) does each =

@@ -14,7 +14,7 @@ use Rattle.track_engine.specs.Tracks.{tracks_at}
 use Rattle.track_engine.specs.Writing.{WritesTrack, HoldsWritten, most_writes}
 use Rattle.core_state.specs.CoreValue.{CoreData, DevicesSeen}
 use Rattle.core_state.specs.Devices.{StillHold, FailRead, Run, RunOn, FailOn, WritesFor, UpdatesNothing, answer_on, track_under}
-use Rattle.core_state.specs.HostEvents.{run_of, page_under, replied, halts, RunsIt}
+use Rattle.core_state.specs.HostEvents.{run_of, page_under, replied, halts, FrameUse, RunsIt}
 use Rattle.core_state.specs.Steps.{after_reply, after_stop, used}
 
 -- ---- the devices before room was made on them
@@ -77,15 +77,18 @@ look_is_still tells r old new answer reads ran = record {
 -- ---- the events
 
 module _ (tells : Type 0) (core core' : CoreData) (h : ℕ) (call : CallData) (c : Command) (volume frame code : ℕ) (argument : List ℕ) (chained : Bool) (is : call ≡ ask code argument chained) where
+  abbrev at : FrameUse
+  at = record { command = c; volume = volume; frame = frame }
+
   -- the command is replied
   pub run_does : (index : ℕ) (reply : ReplyData) (host : HostState) → RunOn tells (run_of core h frame c argument chained) core.site core'.site (reply, host) → index ≡ length core.history
-      → core' ≡ after_reply core'.site h call None (reply, host) (used c (page_under core h volume) frame core) → RunsIt tells core h call c volume frame (replied index reply) core'
+      → core' ≡ after_reply core'.site h call None (reply, host) (used c (page_under core h volume) frame core) → RunsIt tells core h call at (replied index reply) core'
   run_does index reply host ran place after =
-      subst (λ (k : CallData). RunsIt tells core h k c volume frame (replied index reply) core') (sym is)
+      subst (λ (k : CallData). RunsIt tells core h k at (replied index reply) core') (sym is)
       (by reply ran ran.done_ (subst (λ (k : CallData). core' ≡ after_reply core'.site h k None (reply, host) (used c (page_under core h volume) frame core)) is after))
     where
       by : (r : ReplyData) → RunOn tells (run_of core h frame c argument chained) core.site core'.site (r, host) → IsDone r
-          → core' ≡ after_reply core'.site h (ask code argument chained) None (r, host) (used c (page_under core h volume) frame core) → RunsIt tells core h (ask code argument chained) c volume frame (replied index r) core'
+          → core' ≡ after_reply core'.site h (ask code argument chained) None (r, host) (used c (page_under core h volume) frame core) → RunsIt tells core h (ask code argument chained) at (replied index r) core'
       by (done status bytes) on is_done leaves = (host, on, place, leaves)
       by mounted on is_done leaves = absurd is_done
       by demounted on is_done leaves = absurd is_done
@@ -100,6 +103,6 @@ module _ (tells : Type 0) (core core' : CoreData) (h : ℕ) (call : CallData) (c
       by stopped on is_done leaves = absurd is_done
 
   -- a write of the devices failed
-  pub stop_does : (fault : ℕ) → FailOn tells (run_of core h frame c argument chained) fault core.site core'.site → core' ≡ after_stop core'.site h call core → RunsIt tells core h call c volume frame (halts fault) core'
+  pub stop_does : (fault : ℕ) → FailOn tells (run_of core h frame c argument chained) fault core.site core'.site → core' ≡ after_stop core'.site h call core → RunsIt tells core h call at (halts fault) core'
   stop_does fault failed after =
-      subst (λ (k : CallData). RunsIt tells core h k c volume frame (halts fault) core') (sym is) (failed, subst (λ (k : CallData). core' ≡ after_stop core'.site h k core) is after)
+      subst (λ (k : CallData). RunsIt tells core h k at (halts fault) core') (sym is) (failed, subst (λ (k : CallData). core' ≡ after_stop core'.site h k core) is after)

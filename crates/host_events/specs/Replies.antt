@@ -9,7 +9,7 @@ use Rattle.core_state.specs.declared.session.Event.TheVariants.{Host}
 use Rattle.core_state.specs.CoreValue.{CoreData, CoreValue}
 use Rattle.core_state.specs.Counted.{IsCounted}
 use Rattle.core_state.specs.Entered.{entered}
-use Rattle.core_state.specs.HostEvents.{HostTold, no_memory, IsSame, Replies}
+use Rattle.core_state.specs.HostEvents.{HostTold, no_memory, IsSame, Given, Replies}
 use Rattle.core_state.specs.Pins.{put_host}
 use Rattle.core_state.specs.SessionData.{SessionData, data_of, with_last_entry, with_last_event}
 use Rattle.core_state.specs.Steps.{entry_of}
@@ -40,14 +40,7 @@ pub record IsUpheld {S C : Type 0} (tells : Type 0) (site : SiteLog) (writes fau
   pub whole : IsWhole tells site v
   pub counted : IsCounted writes faults v.requests (data_of v)
 
--- what a host is to be told: the reply, the fault that its entry keeps, and the host then
-pub record Given : Type 0 where
-  pub reply : ReplyData
-  pub fault : Option ℕ
-  pub host : HostState
-
 -- the reply, or want of memory
 abbrev pub RepliesOr : Type 0 → CoreData → ℕ → CallData → Given → HostTold → CoreData → Type 0
 RepliesOr tells core h call given no_memory core' = IsSame tells core core'
-RepliesOr tells core h call given told core' =
-    Replies tells core h call given.fault (given.reply, given.host) told core'
+RepliesOr tells core h call given told core' = Replies tells core h call given told core'

@@ -37,7 +37,7 @@ invariant_of-core-2 g c =
     let says = rule_returns now c.args.recorder c.requires.fits kept.whole.kept c.args.cartridge c.requires.rule in
     let known : c.args.cartridge < length now.store = subst (λ (z : CoreValue g.row.S.Denot g.row.C.Denot). c.args.cartridge < length z.store) is c.put.ensures.known in
     let number : c.from.result ≡ c.args.recorder = c.from.ensures ∙ c.get-3.ensures.value in
-    let told : session_data c.did.new.session ≡ with_last_event (Work c.args.recorder) (data_of now) = c.did.ensures.told ∙ ap (with_last_event (Work c.args.recorder)) (c.reserve.ensures.same ∙ ap (λ (z : CoreValue g.row.S.Denot g.row.C.Denot). data_of z) is) in
+    let told : session_data c.did.new.session ≡ with_last_event (Work c.args.recorder) (data_of now) = c.did.ensures.told ∙ ap (with_last_event (Work c.args.recorder)) (c.reserve.ensures.same.told ∙ ap (λ (z : CoreValue g.row.S.Denot g.row.C.Denot). data_of z) is) in
     let recorders : c.set.new.self.items ≡ slice_set now.recorders c.args.recorder None = c.set.ensures.items ∙ (λ i. slice_set (is i).recorders (number i) (c.empty.ensures i)) in
     let store : c.put.new.store ≡ with_place c.args.cartridge (home_of c.args.cartridge) now.store = c.put.ensures.there ∙ (λ i. with_place c.args.cartridge (Cell (c.get.ensures.value i)) (is i).store) in
     let path : ◌≡◌ {A = CoreValue g.row.S.Denot g.row.C.Denot} _ (record now { recorders = slice_set now.recorders c.args.recorder None; store = with_place c.args.cartridge (home_of c.args.cartridge) now.store; rail = c.carry.new.rail; events = now.events ++ Work c.args.recorder ∷ [] }) =
