@@ -1,0 +1,4 @@
+pub mod Rules
+pub mod Padding
+pub mod Closures
+pub mod Texts
