@@ -4,3 +4,4 @@ pub mod Tops
 pub mod Spelled
 pub mod Parsing
 pub mod Meanings
+pub mod Ruling

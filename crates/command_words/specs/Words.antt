@@ -1,13 +1,18 @@
 -- What the words after the program's name ask for.
 use Rattle.std.specs.Prelude.{ℕ, ◌+◌, ◌-◌, ◌*◌, ◌≤◌, ⊤, Bool, ◌&&◌, nat_le, List, [], ◌∷◌}
-use Rattle.std.specs.Prelude.{fold, length, Option, Some, None, IfSome, codes, if◌then◌else◌}
+use Rattle.std.specs.Prelude.{drop, fold, get_or, length, Option, Some, None, IfSome, codes}
+use Rattle.std.specs.Prelude.{Result, Ok, Err, if◌then◌else◌}
 use Rattle.std.specs.List.{find, list_all}
 use Rattle.std.specs.Option.{option_map, option_and_then}
 use Rattle.std.specs.Str.{bytes_eq}
 use Rattle.clap.specs.Lexer.{is_digit}
 use Rattle.command_words.specs.declared.command.Command.{Command}
-use Rattle.command_words.specs.declared.command.Command.TheVariants.{Serial, Threads, Show}
+use Rattle.command_words.specs.declared.command.Command.TheVariants.{Serial, Policy, Threads}
+use Rattle.command_words.specs.declared.command.Command.TheVariants.{Show}
 use Rattle.command_words.specs.Options.{Given, Text, given_in}
+use Rattle.victim_rules.specs.Texts.{rules_of}
+use Rattle.victim_rules.specs.declared.reading.RulesFault.{RulesFault}
+use Rattle.victim_rules.specs.declared.rule.Rule.{Rule}
 
 -- one to twenty digits
 abbrev pub is_number : Text → Bool
@@ -58,17 +63,41 @@ command_by name givens =
     if bytes_eq name (codes "serial") then serial_of givens
     else (if bytes_eq name (codes "threads") then Some Threads else Some Show)
 
--- what the words mean, if anything: a command's name, and then its options
-abbrev pub meaning : List Text → Option Command
-meaning [] = None
-meaning (name ∷ words) =
+-- what words without rules mean, if anything: a command's name, and then its options
+abbrev pub unruled : List Text → Option Command
+unruled [] = None
+unruled (name ∷ words) =
     if bytes_eq (codes "serial") name then option_and_then serial_of (given_in serial_options words)
     else (if bytes_eq (codes "threads") name then option_map (λ _. Threads) (given_in [] words)
     else (if bytes_eq (codes "show") name then option_map (λ _. Show) (given_in [] words)
     else None))
 
+-- a run by rules, where `serial` is asked for otherwise
+abbrev pub with_rules : List Rule → Option Command → Option Command
+with_rules rules (Some (Serial order turns load)) = Some (Policy rules order turns load)
+with_rules rules _ = None
+
+abbrev pub policy_by : Result (List Rule) RulesFault → Option Command → Option Command
+policy_by (Ok rules) asked = with_rules rules asked
+policy_by (Err fault) asked = None
+
+-- the text of rules, and then options as behind `serial`
+abbrev pub policy_of : Text → List Text → Option Command
+policy_of rules options = policy_by (rules_of rules) (unruled (codes "serial" ∷ options))
+
+-- the first of two or more words is `policy`
+abbrev pub asks_policy : List Text → Bool
+asks_policy words = nat_le 2 (length words) && bytes_eq (get_or words 0 []) (codes "policy")
+
+-- what the words mean, if anything
+unfoldable pub meaning : List Text → Option Command
+meaning words =
+    if asks_policy words then policy_of (get_or words 1 []) (drop 2 words) else unruled words
+
 -- the numbers that whoever runs a command relies on
 abbrev pub IsWithin : Command → Type 0
 IsWithin (Serial order turns load) = (turns ≤ 100000) × IfSome load (λ n. (1 ≤ n) × (n ≤ 1000))
+IsWithin (Policy rules order turns load) =
+    (turns ≤ 100000) × IfSome load (λ n. (1 ≤ n) × (n ≤ 1000))
 IsWithin Threads = ⊤
 IsWithin Show = ⊤

@@ -1,8 +1,9 @@
 //! What the words ask for.
 use std::alloc::AllocError;
+use victim_rules::Ruled;
 
 /// What the words of the command ask for.
-#[derive(Clone, Copy, Debug, PartialEq, Eq)]
+#[derive(Clone, Copy, Debug)]
 pub enum Command {
     /// A run in one thread.
     Serial {
@@ -11,6 +12,14 @@ pub enum Command {
         /// How many turns are drawn at the start of the run, 0 to 100,000.
         turns: u32,
         /// Of how many programs, 1 to 1,000, a load stands in for the input's job, if one does.
+        load: Option<u32>,
+    },
+    /// A run in one thread, in which rules choose the page that gives its frame to another.
+    Policy {
+        rules: Ruled,
+        /// The rest is that of `Serial`.
+        order: u64,
+        turns: u32,
         load: Option<u32>,
     },
     /// A run in threads.

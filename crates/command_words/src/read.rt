@@ -7,7 +7,7 @@ ghost use Rattle.clap.specs.Walk.{rows_of};
 ghost use Rattle.command_words.specs.Options.{Given};
 ghost use Rattle.command_words.specs.Outcomes.{Reads};
 ghost use Rattle.command_words.specs.Parser.{expected_top, row_for};
-ghost use Rattle.command_words.specs.Words.{IsWithin, command_by, load_setting, meaning};
+ghost use Rattle.command_words.specs.Words.{IsWithin, command_by, load_setting, unruled};
 ghost use Rattle.command_words.specs.Words.{serial_by, serial_of, setting};
 
 use crate::command::{Command, CommandFault};
@@ -97,7 +97,7 @@ fn command_by(name: &str, options: &ArgMatches<'_>) -> Option<Command>
 /// What the parsed words mean.
 fn meaning(matches: &ArgMatches<'_>) -> Option<Command>
     ensures value { (words : List (List ℕ))
-        → expected_top words ≡ Some (subcommand_rows_of matches.now) → result ≡ meaning words }
+        → expected_top words ≡ Some (subcommand_rows_of matches.now) → result ≡ unruled words }
     ensures within { IfSome result IsWithin }
 {
     match matches.subcommand() {
@@ -106,15 +106,9 @@ fn meaning(matches: &ArgMatches<'_>) -> Option<Command>
     }
 }
 
-/// The command that the words behind the program's name ask for.
-///
-/// They are `serial`, `threads` or `show`, and behind `serial` its options: `--order` of 0 to
-/// 18,446,744,073,709,551,615, `--turns` of 0 to 100,000 and `--load` of 1 to 1,000, each at most
-/// once, in any order, as two words or with `=`. Order and turns are 0 where they are left out. A
-/// number is one to twenty digits. A last word `--` means nothing. All other words are `Refused`,
-/// `help`, `--help` and `--version` too. `Memory` may come at any words.
-pub fn read_command(alloc: Global, words: &[String]) -> Result<Command, CommandFault>
-    ensures meaning { Reads result (meaning (map string_bytes words.now)) }
+/// The command that words without rules ask for.
+pub fn read_unruled(alloc: Global, words: &[String]) -> Result<Command, CommandFault>
+    ensures meaning { Reads result (unruled (map string_bytes words.now)) }
     ensures within { IfOk result IsWithin }
 {
     let matches = match parse(alloc, words) {

@@ -1,8 +1,8 @@
 -- What the words ask for is done, or they are refused.
-use Rattle.std.proofs.Common.{◌≡◌, inl, inr, [], Option, Some, None, Err, refl, sym, ◌∙◌, subst}
+use Rattle.std.proofs.Common.{◌≡◌, inl, inr, ℕ, List, [], Option, Some, None, Err, refl, sym, ◌∙◌, subst}
 use Rattle.mss_base.specs.Content.{Content}
 use Rattle.command_words.specs.declared.command.Command.{Command}
-use Rattle.command_words.specs.declared.command.Command.TheVariants.{Serial, Threads, Show}
+use Rattle.command_words.specs.declared.command.Command.TheVariants.{Serial, Policy, Threads, Show}
 use Rattle.core_state.specs.declared.session.Session.{Session}
 use Rattle.report_text.specs.declared.one_line.OneLine.{OneLine}
 use Rattle.report_text.specs.declared.one_line.OneLine.TheVariants as line
@@ -19,6 +19,8 @@ use Rattle.mss_top.proofs.Completed.{run_complete}
 use Rattle.mss_top.proofs.CompletedThreads.{threads_complete}
 use Rattle.mss_top.proofs.Looked.{look_complete}
 use Rattle.mss_top.proofs.Threading.{ends_kept_out, refused_threads}
+use Rattle.victim_rules.specs.Rules.{RulesMay}
+use Rattle.victim_rules.specs.declared.rule.Rule.{Rule}
 
 -- where nothing fails, what was done is whole
 pub whole_of : (asked : Option Command) (may : Chooses) (p : Parties) (told : Status) (session : Option Session) → Does asked may p told session → IsWhole asked p told
@@ -27,6 +29,8 @@ whole_of (Some Show) may p told session does = λ well. look_complete (Some Show
 whole_of (Some Threads) may p told session does = λ job well. threads_complete (Some Threads) p.input p.site p.sink job well told does.0 session does.1
 whole_of (Some (Serial order turns load)) may p told session does = λ settings job well.
     run_complete (Some (Serial order turns load)) p.input p.site p.sink settings job well told may session does
+whole_of (Some (Policy rules order turns load)) may p told session does = λ settings job well.
+    run_complete (Some (Serial order turns load)) p.input p.site p.sink settings job well told (RulesMay rules) session does
 
 -- ---- words that are refused
 
@@ -53,6 +57,22 @@ module _ (asked : Option Command) where
   refused_exactly c (line.JobRefused n kind) is asks = absurd is
   refused_exactly c (line.RestartRefused why) is asks = absurd is
 
+-- a run of `serial`
+refused_run : (order turns : ℕ) (load : Option ℕ) (may : Chooses) (p : Parties) (told : Status) (session : Option Session) (said : OneLine)
+    → Asks (Some (Serial order turns load)) (Err said) → IsUntouched p.input → p.site.now ≡ p.site.was → session ≡ None → IsLinePut said p.sink told
+    → Ends (Some (Serial order turns load)) may p.input p.site p.sink told session
+refused_run order turns load may p told session said is untouched same none put =
+    subst (λ (l : Option Session). Ends (Some (Serial order turns load)) may p.input p.site p.sink told l) (sym none)
+    (record { said = said; cause = inl (record { unread = refused_words (Some (Serial order turns load)) p.input said is untouched; devices_ = same }); put = put })
+
+-- of words that ask for a run by rules only want of memory can be told
+asks_serial : (rules : List Rule) (order turns : ℕ) (load : Option ℕ) (said : OneLine) → Asks (Some (Policy rules order turns load)) (Err said) → Asks (Some (Serial order turns load)) (Err said)
+asks_serial rules order turns load line.WordsRefused is = absurd cc
+asks_serial rules order turns load line.WantOfMemory is = tt
+asks_serial rules order turns load line.InputFault is = is
+asks_serial rules order turns load (line.JobRefused n kind) is = is
+asks_serial rules order turns load (line.RestartRefused why) is = is
+
 -- whatever they ask for, if memory ran out before that was known
 pub refused_does : (asked : Option Command) (may : Chooses) (p : Parties) (told : Status) (session : Option Session) (said : OneLine)
     → Asks asked (Err said) → IsUntouched p.input → p.site.now ≡ p.site.was → session ≡ None → IsLinePut said p.sink told → Does asked may p told session
@@ -62,5 +82,6 @@ refused_does (Some Show) may p told session said is untouched same none put = in
 refused_does (Some Threads) may p told session said is untouched same none put =
     ([], ends_kept_out (Some Threads) p.input p.site p.sink told [] said session none refl (refused_threads (Some Threads) p.input said is untouched) same put)
 refused_does (Some (Serial order turns load)) may p told session said is untouched same none put =
-    subst (λ (l : Option Session). Ends (Some (Serial order turns load)) may p.input p.site p.sink told l) (sym none)
-    (record { said = said; cause = inl (record { unread = refused_words (Some (Serial order turns load)) p.input said is untouched; devices_ = same }); put = put })
+    refused_run order turns load may p told session said is untouched same none put
+refused_does (Some (Policy rules order turns load)) may p told session said is untouched same none put =
+    refused_run order turns load (RulesMay rules) p told session said (asks_serial rules order turns load said is) untouched same none put

@@ -3,7 +3,8 @@ use Rattle.std.specs.Prelude.{◌≡◌, ◌⊎◌, List, Option, Some, None}
 use Rattle.mss_base.specs.Content.{content}
 use Rattle.mss_base.specs.declared.site.Site.{Ghosts}
 use Rattle.command_words.specs.declared.command.Command.{Command}
-use Rattle.command_words.specs.declared.command.Command.TheVariants.{Serial, Threads, Show}
+use Rattle.command_words.specs.declared.command.Command.TheVariants.{Serial, Policy, Threads}
+use Rattle.command_words.specs.declared.command.Command.TheVariants.{Show}
 use Rattle.job_text.specs.Jobs.{JobData}
 use Rattle.report_text.specs.declared.one_line.OneLine.{OneLine}
 use Rattle.report_text.specs.declared.one_line.OneLine.TheVariants as line
@@ -17,6 +18,7 @@ use Rattle.mss_top.specs.Showing.{EndsShown, IsShown, LookBrokeOff, LooksWell}
 use Rattle.mss_top.specs.Threads.{EndsThreads, GoesWellAtOnce, ThreadsBrokeOff}
 use Rattle.mss_top.specs.declared.admission.Settings.{Settings}
 use Rattle.mss_top.specs.declared.status.Status.{Status}
+use Rattle.victim_rules.specs.Rules.{RulesMay}
 
 -- the parties of a call: input, devices and output, each from before it to behind it
 pub record Parties : Type 1 where
@@ -38,7 +40,8 @@ pub record IsRefusal (p : Parties) (told : Status) (session : Option Session) : 
   pub devices_ : p.site.now ≡ p.site.was
   pub none : session ≡ None
 
--- what the words ask for is done: a look, a run in threads or a run; or they are refused
+-- What the words ask for is done: a look, a run in threads or a run; or they are refused. A run by
+-- rules is what `serial` promises with these settings, where the rules choose.
 abbrev pub Does : Option Command → Chooses → Parties → Status → Option Session → Type 0
 Does None may p told session = IsRefusal p told session
 Does (Some Show) may p told session = EndsShown (Some Show) p.site p.sink told
@@ -46,6 +49,8 @@ Does (Some Threads) may p told session =
     (hosts : List EndData) × EndsThreads (Some Threads) p.input p.site p.sink told hosts session
 Does (Some (Serial order turns load)) may p told session =
     Ends (Some (Serial order turns load)) may p.input p.site p.sink told session
+Does (Some (Policy rules order turns load)) may p told session =
+    Ends (Some (Serial order turns load)) (RulesMay rules) p.input p.site p.sink told session
 
 -- and what is answered where nothing fails
 abbrev pub IsWhole : Option Command → Parties → Status → Type 0
@@ -57,6 +62,9 @@ IsWhole (Some Threads) p told =
 IsWhole (Some (Serial order turns load)) p told = (settings : Settings) (job : JobData)
     → GoesWell (Some (Serial order turns load)) p.input p.site p.sink settings job
     → IsComplete told
+IsWhole (Some (Policy rules order turns load)) p told = (settings : Settings) (job : JobData)
+    → GoesWell (Some (Serial order turns load)) p.input p.site p.sink settings job
+    → IsComplete told
 
 -- what was put broke off before a track of which a read may fail; of words that are refused none is
 abbrev pub OutputBrokeOff : {S : Type 0} → Ghosts S → S → Option Command → Parties → Option Session
@@ -66,4 +74,6 @@ OutputBrokeOff g s (Some Show) p session = LookBrokeOff g s p.site p.sink
 OutputBrokeOff g s (Some Threads) p session =
     OnUnstopped session (ThreadsBrokeOff g s (Some Threads) p.input p.site p.sink)
 OutputBrokeOff g s (Some (Serial order turns load)) p session = OnUnstopped session
+    (RunBrokeOff g s (Some (Serial order turns load)) p.input p.site p.sink)
+OutputBrokeOff g s (Some (Policy rules order turns load)) p session = OnUnstopped session
     (RunBrokeOff g s (Some (Serial order turns load)) p.input p.site p.sink)

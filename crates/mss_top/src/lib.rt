@@ -3,8 +3,9 @@
 //! `serial` does a run; its clause `ended` (`specs/Serial.antt`) is the promise of this repository. It reads the
 //! words, the job and draws the turns (`admission.rt`), and runs the job on the site by `job_runs`. `threads` does one
 //! with a thread for each host and each recorder, by `thread_runs` (`specs/Threads.antt`). `show` lists the volumes of
-//! a site (`specs/Showing.antt`). `obey` does whichever of the three the words ask for (`specs/Obeying.antt`). Contracts
-//! speak of input, devices and output as parties: what each told before and after, and its counts of faults.
+//! a site (`specs/Showing.antt`). `obey` does whichever of the three the words ask for, or a run of `serial` in which
+//! rules choose (`specs/Obeying.antt`). Contracts speak of input, devices and output as parties: what each told before
+//! and after, and its counts of faults.
 #![tactic(auto)]
 
 mod admission;

@@ -16,7 +16,7 @@ ghost use Rattle.mss_top.specs.declared.status.Status.TheVariants.{Stopped};
 use crate::admission::{Settings, command_in};
 use crate::at_once::run_threads;
 use crate::ending::{Ended, refuse};
-use crate::run::run_with;
+use crate::run::{policy, run_with};
 use crate::showing::look;
 use command_words::Command;
 use mss_base::{Sink, Site, Source};
@@ -64,14 +64,25 @@ fn carry_out<
             let settings = Settings { order, turns, load };
             run_with(rt.alloc(), settings, input, output, site, chooser)
         }
+        Command::Policy {
+            rules,
+            order,
+            turns,
+            load,
+        } => {
+            let settings = Settings { order, turns, load };
+            policy(rt.alloc(), rules, settings, input, output, site)
+        }
         Command::Threads => run_threads(rt, input, output, site, chooser, gate).run,
         Command::Show => look(rt.alloc(), output, site),
     }
 }
 
-/// Does what the words ask for on the site: the run of `serial`, that of `threads`, or the look of `show`.
+/// Does what the words ask for on the site: the run of `serial`, that run by rules, the run of `threads`, or the look of
+/// `show`.
 ///
-/// The words are read once. What each of the three says holds here of its command. Words that ask for nothing are refused
+/// The words are read once. What each of the three says holds here of its command, and what `serial` says of a run by
+/// rules, which choose in place of the chooser that is handed in. Words that ask for nothing are refused
 /// by one line, before the input is read and the site is looked at.
 pub fn obey<
     I: Source,

@@ -14,6 +14,7 @@ ghost use Rattle.mss_top.specs.Serial.{Closes, Ends, EndsRun, GoesWell, IsComple
 ghost use Rattle.mss_top.specs.Serial.{JobBrokeOff, OnUnstopped, RunBrokeOff};
 ghost use Rattle.mss_top.specs.declared.admission.Settings.{Settings};
 ghost use Rattle.mss_top.specs.declared.status.Status.TheVariants.{Stopped};
+ghost use Rattle.victim_rules.specs.Rules.{RulesMay};
 
 use crate::admission::{Admitted, Settings, admit, command_in};
 use crate::ending::{Ended, refusal_line, refuse, say, status_of};
@@ -26,6 +27,7 @@ use serial_driver::DriveAnswer;
 use session_report::ReportFault;
 use std::alloc::Global;
 use victim_choice::Choose;
+use victim_rules::Ruled;
 
 /// Ends the output of a session, and answers with the status: where memory ran out in it, nothing was put yet, and one
 /// line says so.
@@ -118,6 +120,29 @@ pub fn run_with<I: Source, O: Sink, S: Site, C: Choose + Drop>(
         Ok(run) => run_admitted(alloc, &run, site, chooser, output),
         Err(line) => refuse(output, site, line),
     }
+}
+
+/// Does the run of these settings on the site, in which rules choose. It promises what `serial` does with that chooser.
+pub fn policy<I: Source, O: Sink, S: Site>(
+    alloc: Global,
+    rules: Ruled,
+    settings: Settings,
+    input: &mut I,
+    output: &mut O,
+    site: S,
+) -> Ended<S>
+    requires { IsLoad settings.load }
+    ensures ended { Ends (Some (command_of settings)) (RulesMay rules)
+        (source_between I.Source input.old input.new) (devices S.Site site result.site)
+        (sink_between O.Sink output.old output.new) result.status result.session }
+    ensures unread { result.status ≡ Stopped → OnUnstopped result.session (RunBrokeOff
+        S.Site site (Some (command_of settings)) (source_between I.Source input.old input.new)
+        (devices S.Site site result.site) (sink_between O.Sink output.old output.new)) }
+    ensures only_reads_fail { (but : UnitNo → Bool) → S.never_fails_but site but
+        → IfSome result.session (λ s. (session_data s).stopped ≡ None) }
+    ensures devices { WritesOn S.Site site result.site }
+{
+    run_with(alloc, settings, input, output, site, rules)
 }
 
 /// Does the run that the words ask for on the site: of the job that the input has, with its report, or of a load,

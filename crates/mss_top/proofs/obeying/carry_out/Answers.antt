@@ -20,6 +20,21 @@ returns-in-Serial-clause-unread g c = λ stop.
 pub returns-in-Serial-clause-one_copy : goal.returns-in-Serial-clause-one_copy
 returns-in-Serial-clause-one_copy g c = λ looks. absurd (let e : ◌≡◌ {A = Option Command} (Some _) (Some Show) = sym (ap (λ (k : Command). Some k) c.in-Serial.is) ∙ looks.command in cc)
 
+pub returns-in-Policy-clause-does : goal.returns-in-Policy-clause-does
+returns-in-Policy-clause-does g c =
+    let ran = c.policy in
+    let p : Parties = parties (source_between g.I.Source c.args.input.now ran.new.input) (devices g.S.Site c.args.site ran.result.site) (sink_between g.O.Sink c.args.output.now ran.new.output) in
+    subst (λ (k : Command). Does (Some k) (g.C.Choose.may c.args.chooser) p ran.result.status ran.result.session) (sym c.in-Policy.is) ran.ensures.ended
+
+pub returns-in-Policy-clause-unread : goal.returns-in-Policy-clause-unread
+returns-in-Policy-clause-unread g c = λ stop.
+    let ran = c.policy in
+    let p : Parties = parties (source_between g.I.Source c.args.input.now ran.new.input) (devices g.S.Site c.args.site ran.result.site) (sink_between g.O.Sink c.args.output.now ran.new.output) in
+    subst (λ (k : Command). OutputBrokeOff g.S.Site c.args.site (Some k) p ran.result.session) (sym c.in-Policy.is) (ran.ensures.unread stop)
+
+pub returns-in-Policy-clause-one_copy : goal.returns-in-Policy-clause-one_copy
+returns-in-Policy-clause-one_copy g c = λ looks. absurd (let e : ◌≡◌ {A = Option Command} (Some _) (Some Show) = sym (ap (λ (k : Command). Some k) c.in-Policy.is) ∙ looks.command in cc)
+
 pub returns-in-Threads-clause-does : goal.returns-in-Threads-clause-does
 returns-in-Threads-clause-does g c =
     let ran = c.run_threads in

@@ -1,0 +1,89 @@
+//! Words that may ask for rules.
+ghost use Rattle.std.specs.Prelude.{◌≡◌, ◌≤◌, ◌∷◌, true, codes, length, map, string_bytes, Some, IfOk};
+ghost use Rattle.command_words.specs.Outcomes.{Reads};
+ghost use Rattle.command_words.specs.Words.{IsWithin, asks_policy, meaning, policy_of};
+ghost use Rattle.command_words.specs.Words.{unruled, with_rules};
+
+use crate::command::{Command, CommandFault};
+use crate::read::read_unruled;
+use std::alloc::{AllocError, Global};
+use victim_rules::{Ruled, read_rules};
+
+/// Whether the first of two or more words is `policy`.
+fn asks_policy(words: &[String]) -> bool
+    ensures value { result ≡ asks_policy (map string_bytes words.now) }
+    ensures two { result ≡ true → 2 ≤ length words.now }
+{
+    2 <= words.len() && words[0].as_str() == "policy"
+}
+
+/// The words of `serial` with these options.
+fn serial_words(alloc: Global, options: &[String]) -> Result<Vec<String>, AllocError>
+    ensures { IfOk result (λ words.
+        map string_bytes words.items ≡ codes "serial" ∷ map string_bytes options.now) }
+{
+    let mut words = Vec::new(alloc);
+    words.push(String::from_str(alloc, "serial")?)?;
+    for option in options {
+        words.push(String::from_str(alloc, option.as_str())?)?;
+    }
+    Ok(words)
+}
+
+/// What options ask for behind `serial`.
+fn read_settings(alloc: Global, options: &[String]) -> Result<Command, CommandFault>
+    ensures meaning { Reads result (unruled (codes "serial" ∷ map string_bytes options.now)) }
+    ensures within { IfOk result IsWithin }
+{
+    let words = serial_words(alloc, options)?;
+    read_unruled(alloc, words.as_slice())
+}
+
+/// The run that is asked for, by these rules.
+fn with_rules(rules: Ruled, command: Command) -> Result<Command, CommandFault>
+    requires { IsWithin command }
+    ensures meaning { Reads result (with_rules rules (Some command)) }
+    ensures within { IfOk result IsWithin }
+{
+    match command {
+        Command::Serial { order, turns, load } => Ok(Command::Policy {
+            rules,
+            order,
+            turns,
+            load,
+        }),
+        _ => Err(CommandFault::Refused),
+    }
+}
+
+/// What a text of rules and the options behind it ask for.
+fn read_policy(alloc: Global, rules: &str, options: &[String]) -> Result<Command, CommandFault>
+    ensures meaning { Reads result (policy_of rules.now (map string_bytes options.now)) }
+    ensures within { IfOk result IsWithin }
+{
+    let Ok(rules) = read_rules(rules) else {
+        return Err(CommandFault::Refused);
+    };
+    match read_settings(alloc, options) {
+        Ok(command) => with_rules(rules, command),
+        Err(fault) => Err(fault),
+    }
+}
+
+/// The command that the words behind the program's name ask for.
+///
+/// They are `serial`, `threads` or `show`, and behind `serial` its options: `--order` of 0 to
+/// 18,446,744,073,709,551,615, `--turns` of 0 to 100,000 and `--load` of 1 to 1,000, each at most
+/// once, in any order, as two words or with `=`. Order and turns are 0 where they are left out. A
+/// number is one to twenty digits. A last word `--` means nothing. Or they are `policy`, a text of
+/// rules, as `victim_rules` reads it, and the options of `serial`. All other words are `Refused`,
+/// `help`, `--help` and `--version` too. `Memory` may come at any words.
+pub fn read_command(alloc: Global, words: &[String]) -> Result<Command, CommandFault>
+    ensures meaning { Reads result (meaning (map string_bytes words.now)) }
+    ensures within { IfOk result IsWithin }
+{
+    if asks_policy(words) {
+        return read_policy(alloc, words[1].as_str(), &words[2..]);
+    }
+    read_unruled(alloc, words)
+}
