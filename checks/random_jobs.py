@@ -103,7 +103,7 @@ def fault(command, text, turns, folder):
     """What is wrong with the report of a job; none where it is the model's, with its status."""
     ran = run_on_blank(command, text.encode(), folder)
     job = read_job(text.encode())
-    due = Model(job, plain.Machine(job.volumes), plain).report(turns)
+    due = Model(job, plain.Machine(job.volumes), plain, chooser_of(rules_in(command))).report(turns)
     if ran.stdout != due.encode():
         for line, other in zip(ran.stdout.decode().splitlines(), due.splitlines()):
             if line != other:
@@ -111,6 +111,11 @@ def fault(command, text, turns, folder):
         return "the end differs"
     status = 6 if due.endswith("LIMIT\n") else 0
     return None if ran.returncode == status else f"the status is {ran.returncode}"
+
+
+def rules_in(command):
+    """The rules by which a command runs a job: those behind `policy`, or none."""
+    return command[command.index("policy") + 1] if "policy" in command else "lru"
 
 
 def cases(top, count):
@@ -160,10 +165,11 @@ def main(top, count, *command):
 
 if __name__ == "__main__":
     sys.path.insert(0, str(Path(sys.argv[1], "tools")))
-    from draws import drawn_turns
     from formats import plain
+    from formats.draws import drawn_turns
     from formats.jobs import read_job
+    from formats.rules import chooser_of
+    from formats.staging_model import Model
     from runs import new_folder, run_on_blank
-    from staging_model import Model
 
     sys.exit(main(*sys.argv[1:]))

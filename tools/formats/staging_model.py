@@ -7,6 +7,8 @@ what the recorders do. No device fails, and no stop comes.
 import copy
 from dataclasses import dataclass, field
 
+from .rules import Candidate, least_recent
+
 ENTRY_LIMIT = 4_096
 CHAIN_LIMIT = 2_048
 PAGE = 8
@@ -79,6 +81,7 @@ class Model:
     job: object
     machine: object
     plain: object  # the module of plain volumes
+    choose: object = least_recent  # the place of the candidate whose frame is taken
     entries: list = field(default_factory=list)
     changes: list = field(default_factory=list)
     states: dict = field(default_factory=dict)  # of each cylinder that isn't blank, by volume and number
@@ -251,10 +254,21 @@ class Model:
             if frame not in owners and frame not in moving:
                 return frame, None
         taken = moving | self.bound() | self.kept()
-        for frame in self.recency:
-            if frame in owners and frame not in taken:
-                return frame, owners[frame]
-        return None
+        free = [frame for frame in self.recency if frame in owners and frame not in taken]
+        candidates = [self.candidate(frame, owners[frame]) for frame in free]
+        if not candidates:
+            return None
+        chosen = candidates[self.choose(candidates)]
+        return chosen.frame, owners[chosen.frame]
+
+    def candidate(self, frame, page):
+        return Candidate(frame, *page, len(self.changed_in(page)))
+
+    def changed_in(self, page):
+        """The cylinders of a page that have to be destaged."""
+        volume, number = page
+        cylinders = range(number * PAGE, number * PAGE + PAGE)
+        return [c for c in cylinders if self.states.get((volume, c), BLANK) == CHANGED]
 
     def work(self, recorder, task):
         if task.victim is not None and task.is_touched and task.copied in (0, HEADS):
@@ -281,10 +295,8 @@ class Model:
     def next_transfer(self, task):
         """The kind, the volume and the cylinder of the copy that is due; none while a row is to be changed."""
         if task.victim is not None:
-            volume, page = task.victim
-            cylinders = range(page * PAGE, page * PAGE + PAGE)
-            changed = [c for c in cylinders if self.states.get((volume, c), BLANK) == CHANGED]
-            return ("destage", volume, changed[0]) if changed else None
+            changed = self.changed_in(task.victim)
+            return ("destage", task.victim[0], changed[0]) if changed else None
         if (task.volume, task.cylinder // PAGE) not in self.frames:
             return None
         is_blank = self.states.get((task.volume, task.cylinder), BLANK) == BLANK
