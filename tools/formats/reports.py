@@ -1,9 +1,10 @@
-"""The report of a session: its entries, its changes of the table, its volumes."""
+"""The report of a session: its entries, its changes of the table, its volumes. A listing has the volumes alone."""
 
 import re
 from dataclasses import dataclass, field
 
 from .files import lines_of
+from .progress import quiet
 
 NUMBER = r"(0|[1-9][0-9]*)"
 
@@ -101,18 +102,33 @@ class Report:
     last: str = ""
 
 
-def read_report(text):
+def read_report(text, watch=quiet):
     """The report of a text. The first line that isn't as the format says is told as a ReportFault."""
     lines = [line.decode("latin-1") for line in lines_of(text)]
     if not lines or lines[0] != "MSS REPORT 1":
         raise ReportFault("line 1: a report begins with MSS REPORT 1")
     report = Report()
-    for number, line in enumerate(lines[1:], 2):
+    for number, line in enumerate(watch("lines read", lines[1:]), 2):
         if report.last or not take_line(report, line):
             raise ReportFault(f"line {number}: {line[:80]}")
     if not report.last:
         raise ReportFault("the report has no last line: END, LIMIT or STOPPED")
     return report
+
+
+def read_volumes(text, watch=quiet):
+    """The volumes of a listing, or of a report that shows them whole."""
+    lines = [line.decode("latin-1") for line in lines_of(text)]
+    if lines[:1] != ["MSS VOLUMES 1"]:
+        report = read_report(text, watch)
+    else:
+        report = Report()
+        for number, line in enumerate(watch("lines read", lines[1:]), 2):
+            if report.last or not take_volume_line(report, line):
+                raise ReportFault(f"line {number}: {line[:80]}")
+    if report.last not in ("END", "LIMIT"):
+        raise ReportFault(f"it doesn't show its volumes whole: it ends with {report.last or 'no last line'}")
+    return report.volumes
 
 
 def take_line(report, line):
@@ -122,6 +138,11 @@ def take_line(report, line):
         return not report.changes and not report.volumes and put(report.entries, entry)
     if match := CHANGE.fullmatch(line):
         return not report.volumes and put(report.changes, change_of(int(match[1]), int(match[2]), match[3]))
+    return take_volume_line(report, line)
+
+
+def take_volume_line(report, line):
+    """Takes a line of what the volumes have, or the last line."""
     if match := VOLUME.fullmatch(line):
         report.volumes.append(Volume(int(match[1]), match[2]))
         return True
