@@ -1,7 +1,7 @@
-# Read by checks that run the program: each run of theirs has a site of its own.
+# Read by scripts that time the program: each run of theirs has a site of its own.
 
 # Goes to a new folder, in memory where the machine has such a file system, since a run syncs each write. The folder goes
-# when the check ends.
+# when the script ends.
 enter_folder() {
     local memory=/dev/shm
     [[ -d $memory && -w $memory ]] || memory=${TMPDIR:-/tmp}
@@ -14,10 +14,4 @@ enter_folder() {
 on_blank() { # COMMAND WORD..
     rm -rf mss.site
     "$@"
-}
-
-# The lines of each host of a report, without their numbers, and the volumes at the end.
-by_host() { # REPORT
-    sed -n 's/^entry [0-9]* //p' "$1" | sort -s -k2,2n
-    sed '/^entry /d; /^change /d' "$1"
 }

@@ -1,8 +1,9 @@
-"""What a site may show that a run left, and what it shows. The folder `tools` has to be on the path."""
+"""What a site may show that a run left, and what it shows."""
 
 from formats.following import sources_of
 from formats.plain import Machine
 from formats.replaying import reply
+from formats.reports import ReportFault, read_volumes
 
 
 def tracks_of(volumes):
@@ -38,20 +39,12 @@ def cuts(last, now, place):
 
 
 def listed(text):
-    """The tracks of a listing."""
-    told = {}
-    lines = text.decode().splitlines()
-    if lines[:1] != ["MSS VOLUMES 1"] or lines[-1:] != ["END"]:
+    """The tracks of a listing; none of a text that is no whole one."""
+    try:
+        volumes = read_volumes(text)
+    except ReportFault:
         return None
-    for line in lines[1:-1]:
-        word, *rest = line.split(" ")
-        if word == "volume":
-            volume = int(rest[0])
-        elif word == "track":
-            told[at := (volume, int(rest[0]), int(rest[1]))] = []
-        else:
-            told[at].append(tuple(b"" if part == "-" else bytes.fromhex(part) for part in rest))
-    return told
+    return {(volume.number, track.cylinder, track.head): track.records for volume in volumes for track in volume.tracks}
 
 
 def on_volume(tracks, number):

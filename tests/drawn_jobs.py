@@ -1,9 +1,11 @@
-"""Runs jobs that are drawn from numbers, of several hosts on few frames. Each report has to be that of the model."""
+"""Jobs that are drawn from numbers, of several hosts on few frames; and what is left of one that shows a fault, once
+all is taken out of it that the fault doesn't need."""
 
 import random
-import sys
-from itertools import chain
-from pathlib import Path
+import time
+
+from fixtures import LONGEST
+from formats.jobs import BadLine, read_job
 
 # Few places, on both cartridges and on few pages, so that hosts meet and pages replace each other.
 CYLINDERS = (0, 1, 7, 8, 16, 201, 202, 403)
@@ -12,10 +14,6 @@ RECORDS = (0, 1, 2, 3)
 SEARCH_IDS, SEARCH_KEYS = ("31", "51", "71"), ("29", "49", "69")
 READS = ("06", "0E", "1E", "12", "16", "1A", "39 00000000")
 CONTROLS = ("03", "04", "13", "23 00", "1F 00", "1F 40", "1F 80", "1F 18", "1B 000000000001", "FF", "05 41")
-
-
-# Every other job is begun with so many drawn turns, in which hosts call while recorders work.
-TURNS = 500
 
 
 def hexadecimal(number, length):
@@ -99,77 +97,43 @@ class Drawing:
         return f"{int(code, 16) | 0x80:02X}" if multi else code
 
 
-def fault(command, text, turns, folder):
-    """What is wrong with the report of a job; none where it is the model's, with its status."""
-    ran = run_on_blank(command, text.encode(), folder)
-    job = read_job(text.encode())
-    due = Model(job, plain.Machine(job.volumes), plain, chooser_of(rules_in(command))).report(turns)
-    if ran.stdout != due.encode():
-        for line, other in zip(ran.stdout.decode().splitlines(), due.splitlines()):
-            if line != other:
-                return f"{line}, and the model tells {other}"
-        return "the end differs"
-    status = 6 if due.endswith("LIMIT\n") else 0
-    return None if ran.returncode == status else f"the status is {ran.returncode}"
+def parts(lines):
+    """Which lines may be left out of a job together: those of a host, of what it does, and each word of a program."""
+    hosts, items, words = [], [], []
+    firsts = [line.split(" ")[0] for line in lines]
+    for at, first in enumerate(firsts):
+        if first == "host":
+            end = next(behind for behind in range(at + 1, len(lines)) if firsts[behind] in ("host", "done"))
+            hosts.append((at, end))
+        elif first == "program":
+            items.append((at, firsts.index("end", at) + 1))
+        elif first in ("mount", "demount"):
+            items.append((at, at + 1))
+        elif first in ("ccw", "tic"):
+            words.append((at, at + 1))
+    return hosts + items + words
 
 
-def rules_in(command):
-    """The rules by which a command runs a job: those behind `policy`, or none."""
-    return command[command.index("policy") + 1] if "policy" in command else "lru"
+def is_good(text):
+    try:
+        read_job(text.encode())
+    except BadLine:
+        return False
+    return True
 
 
-def cases(top, count):
-    """Jobs, each with its name, an order and a number of turns."""
-    for number in range(count):
-        yield f"job {number}", Drawing(number).job(), number, TURNS * (number % 2)
-    for name in ("three_hosts", "bind"):
-        text = Path(top, f"checks/cases/{name}.job").read_text()
-        for order in range(10):
-            yield name, text, order, 2 * TURNS
-    yield "three hosts on one frame", text_of_one_frame(top), 0, 0
-
-
-# Words, with the order and the number of turns that they ask for.
-SPELLED = (
-    ("", 0, 0),
-    ("--", 0, 0),
-    ("--order=3 --turns 5 --", 3, 5),
-    ("--order 18446744073709551615 --turns 50", 2**64 - 1, 50),
-    ("--order 00000000000000000007 --turns 100000", 7, 100_000),
-)
-
-
-def spelled_cases(top):
-    """A job with the words of each line above."""
-    text = Path(top, "checks/cases/three_hosts.job").read_text()
-    for words, order, turns in SPELLED:
-        yield f"the words '{words}'", text, order, turns, words.split()
-
-
-def text_of_one_frame(top):
-    return Path(top, "checks/cases/three_hosts.job").read_text().replace("frames 8", "frames 1")
-
-
-def main(top, count, *command):
-    differing = 0
-    with new_folder() as folder:
-        drawn_cases = ((*case, [f"--order={case[2]}", f"--turns={case[3]}"]) for case in cases(top, int(count)))
-        for name, text, order, turns, words in chain(drawn_cases, spelled_cases(top)):
-            job = read_job(text.encode())
-            drawn = drawn_turns(order, turns, len(job.hosts) + job.recorders)
-            if told := fault([*command, *words], text, drawn, folder):
-                differing += 1
-                print(f"checks/random_jobs.py: {name}, order {order}: {told}", file=sys.stderr)
-    return 1 if differing else 0
-
-
-if __name__ == "__main__":
-    sys.path.insert(0, str(Path(sys.argv[1], "tools")))
-    from formats import plain
-    from formats.draws import drawn_turns
-    from formats.jobs import read_job
-    from formats.rules import chooser_of
-    from formats.staging_model import Model
-    from runs import new_folder, run_on_blank
-
-    sys.exit(main(*sys.argv[1:]))
+def shrunk(text, differs):
+    """A job that differs still, and of which nothing more can be left out, or not within a minute."""
+    until = time.monotonic() + LONGEST
+    lines, is_less = text.splitlines(), True
+    while is_less:
+        at, is_less = 0, False
+        while at < len(ranges := parts(lines)) and time.monotonic() < until:
+            start, end = ranges[at]
+            fewer = lines[:start] + lines[end:]
+            tried = "\n".join([*fewer, ""])
+            if is_good(tried) and differs(tried):
+                lines, is_less = fewer, True
+            else:
+                at += 1
+    return "\n".join([*lines, ""])

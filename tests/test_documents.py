@@ -1,0 +1,78 @@
+"""Compares the documents with the repository: each definition that docs/PROMISE.md quotes stands in the file that it
+names, each wrong body that it names is a must-fail edit of that crate, each link of a document leads to a file, and
+each name in code that a document about the repository has is that of something in the repository.
+"""
+
+import re
+import unittest
+
+from fixtures import TOP, Test, tests_of
+
+DOCUMENTS = [TOP / "README.md", TOP / "benches/README.md", *sorted((TOP / "docs").glob("*.md"))]
+PROMISE = TOP / "docs/PROMISE.md"
+# Those that tell of the repository as it is. The others speak of jobs and formats, or of what proving taught.
+ABOUT_CODE = ["ANSWERS", "ARCHITECTURE", "DECISIONS", "PROMISE", "PROVED", "TESTING"]
+NAME = r"[A-Za-z_][A-Za-z0-9_]*"
+SCRIPTS = ["tests", "tools", "benches"]
+PARTS = ["src", "specs", "proofs", "must-fail"]
+
+
+def words_of(text):
+    return " ".join(text.split())
+
+
+def names_of_repository():
+    """Every word of the sources and scripts, and every part of a path."""
+    files = [TOP / "crates.txt", *(path for folder in SCRIPTS for path in (TOP / folder).rglob("*"))]
+    for folder in PARTS:
+        files += (TOP / "crates").glob(f"*/{folder}/**/*")
+    names = {"HANDLES"}
+    for file in files:
+        names.update(re.split(r"[/.]", str(file.relative_to(TOP))))
+        if file.is_file():
+            names.update(re.findall(NAME, file.read_text(errors="replace")))
+    return names
+
+
+class Quotes(Test):
+    """What docs/PROMISE.md says of files."""
+
+    def test_quotes_stand_in_their_files(self):
+        quotes = re.findall(r"^File: `([^`]+)`\n\n((?:    .*\n|\n(?=    ))+)", PROMISE.read_text(), re.M)
+        self.assertTrue(quotes, "docs/PROMISE.md quotes nothing")
+        for name, quote in quotes:
+            self.assertTrue((TOP / name).is_file(), f"there is no {name}")
+            is_there = words_of(quote) in words_of((TOP / name).read_text())
+            self.assertTrue(is_there, f"{name} says otherwise than {words_of(quote)[:60]}..")
+
+    def test_wrong_bodies_are_edits(self):
+        named = re.findall(r"`(\w+)` of (\w+)", words_of(PROMISE.read_text()))
+        edits = [f"crates/{crate}/must-fail/{edit}.edit" for edit, crate in named]
+        self.assertEqual([edit for edit in edits if not (TOP / edit).is_file()], [])
+
+
+@tests_of([(str(path.relative_to(TOP)), path) for path in DOCUMENTS])
+class Links(Test):
+    """Links to files of the repository lead there."""
+
+    def check(self, document):
+        links = re.findall(r"\]\(([^)#]+)(?:#[^)]*)?\)", document.read_text())
+        dead = [link for link in links if "://" not in link and not (document.parent / link).exists()]
+        self.assertEqual(dead, [])
+
+
+class Names(Test):
+    """Names in code are those of something in the repository."""
+
+    def test_names_are_known(self):
+        names = names_of_repository()
+        unknown = []
+        for document in ABOUT_CODE:
+            for told in re.findall(r"`([^`\n]+)`", (TOP / f"docs/{document}.md").read_text()):
+                if re.fullmatch(rf"{NAME}(::{NAME})*", told) and not names.issuperset(told.split("::")):
+                    unknown.append(f"{document}: {told}")
+        self.assertEqual(unknown, [])
+
+
+if __name__ == "__main__":
+    unittest.main()

@@ -1,0 +1,77 @@
+"""tools/explain: on a job and a report whose words were written by hand, on the examples and the other cases, each
+entry of which has to be explained, on lines that stand in place of a report, and on a report of another job."""
+
+import unittest
+
+from fixtures import CASES, EXAMPLES, TOOLS, Test, run, tests_of
+
+JOBS = [
+    (f"{path.stem} of {folder.name}", path) for folder in (EXAMPLES, CASES) for path in sorted(folder.glob("*.job"))
+]
+TOOL = TOOLS / "explain"
+FIRST = EXAMPLES / "first.job"
+
+# A line in place of a report, and the beginning of its words.
+LINES = [
+    ("a refused job", "job refused line 7 Shape", "the number of words"),
+    ("a torn track", "restart refused torn track volume 0 cylinder 5 head 3", "a track's block"),
+    ("a want of memory", "want of memory", "there was too little memory"),
+]
+
+
+def explained(job, report, text=""):
+    """The status, and what is told."""
+    ran = run([TOOL, job, report], None, text)
+    return ran.returncode, ran.stdout.decode()
+
+
+def count(text, word):
+    return sum(line.startswith(f"{word} ") for line in text.splitlines())
+
+
+@tests_of(JOBS)
+class Reports(Test):
+    """Each entry and each change is told."""
+
+    def check(self, job):
+        report = job.with_suffix(".report")
+        status, told = explained(job, report)
+        self.assertEqual(status, 0)
+        for word in ("entry", "change"):
+            self.assertEqual(count(told, word), count(report.read_text(), word))
+
+
+@tests_of(LINES)
+class Lines(Test):
+    """Lines that stand in place of a report."""
+
+    def check(self, line, words):
+        _, told = explained(FIRST, "-", f"{line}\n")
+        self.assertTrue(told.splitlines()[-1].startswith(f"    {words}"), told)
+
+
+class Explained(Test):
+    """What was written by hand, and what can't be explained."""
+
+    def test_words_written_by_hand(self):
+        status, told = explained(CASES / "words.job", CASES / "words.report")
+        self.assert_told((CASES / "words.explained").read_text(), told)
+        self.assertEqual(status, 0)
+
+    def test_the_report_of_another_job(self):
+        status, told = explained(FIRST, EXAMPLES / "keys.report")
+        self.assertEqual(status, 1)
+        self.assertTrue(told.endswith("doesn't follow from this job\n"), told)
+
+    def test_a_report_without_its_last_entry(self):
+        lines = (EXAMPLES / "first.report").read_text().splitlines(True)
+        status, told = explained(FIRST, "-", "".join(line for line in lines if not line.startswith("entry 8")))
+        self.assertEqual(status, 1)
+        self.assertTrue(told.endswith("host 1 has more to do in this job\n"), told)
+
+    def test_a_text_that_is_no_report(self):
+        self.assertEqual(explained(FIRST, FIRST)[0], 2)
+
+
+if __name__ == "__main__":
+    unittest.main()
