@@ -51,14 +51,26 @@ class Quotes(Test):
         self.assertEqual([edit for edit in edits if not (TOP / edit).is_file()], [])
 
 
+def anchors_of(document):
+    """What a link can name of a document: its headings, as they are spelled there."""
+    headings = re.findall(r"^#+ (.*)$", document.read_text(), re.M)
+    return {re.sub(r"[^a-z0-9 _-]", "", heading.lower()).replace(" ", "-") for heading in headings}
+
+
+def is_dead(document, link):
+    """Whether a link of a document leads to no file of the repository, or to no heading there."""
+    name, _, anchor = link.partition("#")
+    target = document.parent / name if name else document
+    return not target.exists() or (anchor != "" and anchor not in anchors_of(target))
+
+
 @tests_of([(str(path.relative_to(TOP)), path) for path in DOCUMENTS])
 class Links(Test):
-    """Links to files of the repository lead there."""
+    """Links to files of the repository, and to headings in them, lead there."""
 
     def check(self, document):
-        links = re.findall(r"\]\(([^)#]+)(?:#[^)]*)?\)", document.read_text())
-        dead = [link for link in links if "://" not in link and not (document.parent / link).exists()]
-        self.assertEqual(dead, [])
+        links = re.findall(r"\]\(([^)\s]+)\)", document.read_text())
+        self.assertEqual([link for link in links if "://" not in link and is_dead(document, link)], [])
 
 
 class Names(Test):
