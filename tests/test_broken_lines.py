@@ -30,6 +30,7 @@ BROKEN = [
     ("test_spoiled_sites.SpoiledSites.test_frame", "tests/cases/spoiled/frame_twice.site", "1 page 3", "1 page 4"),
     ("test_stops.FailedCalls.test_first", "tests/test_stops.py", "refused stopped", "refused halted"),
     ("test_threads.Threads.test_an_option", "tests/test_threads.py", "words refused", "words taken"),
+    ("test_tools.Progress", "tools/formats/progress.py", "told + 1:", "told + 9:"),
     ("test_worked_jobs.WorkedJobs.test_bind", "tests/cases/bind.report", "END", "LIMIT"),
 ]
 

@@ -74,6 +74,7 @@ UNSHOWN = [
     ),
     ("a stop", "MSS VOLUMES 1\nvolume 0 VOL001\nSTOPPED 1\n", "show its volumes whole: it ends with STOPPED 1"),
     ("no end", "MSS VOLUMES 1\nvolume 0 VOL001\n", "it doesn't show its volumes whole: it ends with no last line"),
+    ("an odd digit", "MSS VOLUMES 1\nvolume 0 VOL001\ntrack 5 3\nrecord 0005000301 - 41424\nEND\n", "line 4: record"),
     ("another line", "MSS VOLUMES 1\nvolume 0 VOL001\nfirst\nEND\n", "line 3: first"),
     ("a far track", "MSS VOLUMES 1\nvolume 0 VOL001\ntrack 404 0\nEND\n", "cylinder 404, head 0: a listing has each"),
     (

@@ -3,6 +3,7 @@
 from dataclasses import dataclass, field
 
 from .files import lines_of
+from .progress import quiet
 
 TEXT_LIMIT = 4_194_304
 WORD_LIMIT = 256
@@ -304,13 +305,13 @@ def column_of(words, place):
     return sum(len(word) + 1 for word in words[:place])
 
 
-def read_job(text):
+def read_job(text, watch=quiet):
     """The job of a text. Its first bad line is told as a BadLine."""
     if len(text) > TEXT_LIMIT:
         raise BadLine(0, "TooBig")
     reader = Reader()
     reader.job.lines = lines_of(text)
-    for number, line in enumerate(reader.job.lines, 1):
+    for number, line in enumerate(watch("lines read", reader.job.lines), 1):
         if line == b"" or line[:1] == b"#":
             continue
         bad_byte = next((at for at, byte in enumerate(line) if not 0x20 <= byte <= 0x7E), None)

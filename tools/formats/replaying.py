@@ -2,6 +2,7 @@
 
 from .following import followed, unfinished
 from .plain import EQUIPMENT_CHECK, NO_SPACE, Machine
+from .progress import quiet
 
 CARTRIDGES = 2
 OF_PAGE = 8
@@ -11,13 +12,13 @@ class Differs(Exception):
     """Where a report isn't what plain volumes give."""
 
 
-def replay(job, report):
+def replay(job, report, watch=quiet):
     """Goes through a report of a job. What plain volumes don't give is told as Differs."""
     machine = Machine(job.volumes)
     sources, following = followed(job, report)
     if len(sources) < len(report.entries):
         raise Differs(f"entry {len(sources) + 1} doesn't follow from the job")
-    for entry, source in zip(report.entries, sources):
+    for entry, source in zip(watch("entries replayed", report.entries), sources):
         due = reply(machine, entry, source)
         if due != entry.text:
             raise Differs(f"entry {entry.number} is {entry.text}, and plain volumes give {due}")

@@ -13,7 +13,7 @@ CALLS = re.compile(
     rf"(?:mount (?P<volume>{NUMBER})(?P<bind> bind)?|ccw (?P<code>[0-9A-F]{{2}})|(?P<other>demount|break))"
     r" (?P<reply>.*)"
 )
-STATUS = re.compile(r"status ([0-9A-F]{2})(?: data ((?:[0-9A-F]{2})+))?")
+STATUS = re.compile(r"status ([0-9A-F]{2})(?: data ([0-9A-F]+))?")
 FAULT = re.compile(rf"(equipment check|stopped) fault {NUMBER}")
 REPLIES = [
     "mounted",
@@ -35,7 +35,7 @@ CYLINDER = re.compile(rf"(staged|changed|destaged) cylinder {NUMBER}")
 
 VOLUME = re.compile(rf"volume {NUMBER} ([A-Z0-9]{{6}})")
 TRACK = re.compile(rf"track {NUMBER} {NUMBER}")
-RECORD = re.compile(r"record ([0-9A-F]{10}) (-|(?:[0-9A-F]{2})+) (-|(?:[0-9A-F]{2})+)")
+RECORD = re.compile(r"record ([0-9A-F]{10}) (-|[0-9A-F]+) (-|[0-9A-F]+)")
 LAST = re.compile(rf"END|LIMIT|STOPPED {NUMBER}")
 
 CYLINDERS_OF_PAGE = 8
@@ -150,8 +150,7 @@ def take_volume_line(report, line):
         report.volumes[-1].tracks.append(Track(int(match[1]), int(match[2])))
         return True
     if (match := RECORD.fullmatch(line)) and report.volumes and report.volumes[-1].tracks:
-        report.volumes[-1].tracks[-1].records.append(tuple(bytes_of(match[place]) for place in (1, 2, 3)))
-        return True
+        return put_record(report.volumes[-1].tracks[-1], [bytes_of(word) for word in match.groups()])
     if LAST.fullmatch(line):
         report.last = line
         return True
@@ -166,8 +165,19 @@ def put(numbered, item):
     return True
 
 
+def put_record(track, parts):
+    """Puts a record whose ID, key and data are pairs of digits."""
+    if None in parts:
+        return False
+    track.records.append(tuple(parts))
+    return True
+
+
 def bytes_of(word):
-    return b"" if word == "-" else bytes.fromhex(word)
+    """The bytes of pairs of digits, of which - has none; none of an odd number of digits."""
+    if word == "-":
+        return b""
+    return None if len(word) % 2 else bytes.fromhex(word)
 
 
 def entry_of(number, host, text):
@@ -186,7 +196,8 @@ def entry_of(number, host, text):
 
 def take_reply(entry, reply):
     if match := STATUS.fullmatch(reply):
-        entry.reply, entry.status, entry.data = "status", int(match[1], 16), bytes_of(match[2] or "-")
+        entry.status, entry.data = int(match[1], 16), bytes_of(match[2] or "-")
+        entry.reply = "" if entry.data is None else "status"
     elif match := FAULT.fullmatch(reply):
         entry.reply, entry.fault = match[1], int(match[2])
     elif reply in REPLIES:
