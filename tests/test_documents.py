@@ -6,10 +6,17 @@ each name in code that a document about the repository has is that of something 
 import re
 import unittest
 
-from fixtures import TOP, Test, tests_of
+from fixtures import CASES, TOOLS, TOP, Test, run, tests_of
+from refused_texts import REFUSED
+from test_images import UNFIT
+from test_model import DRAWN
+from test_threads import RUNS
+from test_worked_jobs import ROWS
 
 DOCUMENTS = [TOP / "README.md", TOP / "benches/README.md", *sorted((TOP / "docs").glob("*.md"))]
 PROMISE = TOP / "docs/PROMISE.md"
+PROVED = (TOP / "docs/PROVED.md").read_text()
+SITES = sorted((CASES / "spoiled").glob("*.site"))
 # Those that tell of the repository as it is. The others speak of jobs and formats, or of what proving taught.
 ABOUT_CODE = ["ANSWERS", "ARCHITECTURE", "DECISIONS", "PROMISE", "PROVED", "TESTING"]
 NAME = r"[A-Za-z_][A-Za-z0-9_]*"
@@ -71,6 +78,41 @@ class Links(Test):
     def check(self, document):
         links = re.findall(r"\]\(([^)\s]+)\)", document.read_text())
         self.assertEqual([link for link in links if "://" not in link and is_dead(document, link)], [])
+
+
+def refused_sites():
+    """How many spoiled sites a look or a run refuses."""
+    return sum(bool(re.search(r"^(show|serial) 4$", path.read_text(), re.M)) for path in SITES)
+
+
+# What docs/TESTING.md tells of the tests, where the first words stand before the count, and how many there are.
+COUNTS = [
+    ("worked jobs", r"(\d+) worked jobs", len(ROWS)),
+    ("bad jobs", r"(\d+) bad jobs", len(REFUSED)),
+    ("drawn jobs", r"(\d+) (?:drawn jobs|jobs drawn)", DRAWN),
+    ("runs in threads", r"(\d+) drawn runs of threads", RUNS),
+    ("refused sites", r"(\d+) (?:are|have to be) refused by their first fault", refused_sites()),
+    ("sound sites", r"and (\d+) are sound still", len(SITES) - refused_sites()),
+    ("images", r"(\d+) kinds of images that can't be carried", len(UNFIT)),
+]
+
+
+@tests_of(COUNTS)
+class Counts(Test):
+    """Counts of tests are right."""
+
+    def check(self, pattern, count):
+        told = re.findall(pattern, words_of((TOP / "docs/TESTING.md").read_text()))
+        self.assertTrue(told, "the document tells no such count")
+        self.assertEqual(set(told), {str(count)})
+
+
+class Figures(Test):
+    """Those of crates are what tools/figures counts; with --renew it puts them there."""
+
+    def test_figures_of_crates(self):
+        counted = run([TOOLS / "figures"], None).stdout.decode()
+        self.assert_told(counted, PROVED[PROVED.index("## Figures") :])
 
 
 class Names(Test):

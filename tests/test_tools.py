@@ -11,6 +11,7 @@ from fixtures import EXAMPLES, TOOLS, Test, run, tests_of
 from formats.progress import with_progress
 
 NAMES = sorted(path.name for path in TOOLS.iterdir() if path.is_file())
+WORDLESS = ["build", "figures"]
 FIRST = EXAMPLES / "first.job"
 REPORT = EXAMPLES / "first.report"
 BAD_JOB = EXAMPLES / "first.report"  # whose first word no job has
@@ -52,7 +53,7 @@ class Refused(Test):
         self.assertTrue(line.startswith(told), line)
 
 
-@tests_of([(name, name) for name in NAMES if name != "build"])
+@tests_of([(name, name) for name in NAMES if name not in WORDLESS])
 class NoWords(Test):
     """Without words each tells its use, as something that went wrong."""
 
