@@ -8,9 +8,9 @@ from pathlib import Path
 
 from fixtures import EXAMPLES, PROGRAM, TOP, SiteTest, run, tests_of, tool_is_there
 
-DOCUMENTS = ["README.md", "docs/JOBS.md", "docs/SITES.md", "docs/IMAGES.md"]
+DOCUMENTS = ["README.md", "docs/JOBS.md", "docs/SITES.md", "docs/IMAGES.md", "docs/POLICIES.md"]
 STARTS = ("./mss ", "tools/", "flock ", "dasdinit ")
-SYNOPSIS = " LISTING "  # of a block that tells how words are put
+SYNOPSIS = r" LISTING | <JOB"  # of a block that tells how words are put
 REMARK = r"(?<=\S)\s{3,}\S.*"  # what stands to the right of a command
 NEEDED = ["flock", "dasdinit"]
 
@@ -30,7 +30,7 @@ def blocks_of(document):
 def scripts_of(document):
     """The commands of each block that has some, as one script."""
     for lines in blocks_of(document):
-        if lines[0].startswith(STARTS) and SYNOPSIS not in lines[0]:
+        if lines[0].startswith(STARTS) and not re.search(SYNOPSIS, lines[0]):
             yield "\n".join(re.sub(REMARK, "", line) for line in lines)
 
 
@@ -49,6 +49,8 @@ class CommandTest(SiteTest):
         for name in ("examples", "tools"):
             Path(self.folder, name).symlink_to(TOP / name)
         Path(self.folder, "mss").symlink_to(PROGRAM)
+        Path(self.folder, "docs").mkdir()
+        shutil.copy(TOP / "docs/policies.job", Path(self.folder, "docs"))
 
     def script(self, text):
         environment = {**os.environ, "NORTSILU": self.folder, "PYTHONDONTWRITEBYTECODE": "1"}
