@@ -1,36 +1,18 @@
 -- What restart hands on of what opening answers.
-use Rattle.std.proofs.Common.{◌≡◌, inl, List, [], Option, Ok, Err, refl, sym, subst}
+use Rattle.std.proofs.Common.{◌≡◌, List, Option, Ok, sym, subst}
 use Rattle.mss_base.specs.Configs.{ConfigData}
 use Rattle.mss_base.specs.Content.{content}
-use Rattle.mss_base.proofs.Moments.{started}
+use Rattle.volume_table.specs.Listed.{listed}
 use Rattle.volume_table.specs.Row.{RowValue}
-use Rattle.shown_volumes.specs.declared.refused.Refused.TheVariants.{Memory}
-use Rattle.shown_volumes.specs.Shown.{rows_of, shown}
+use Rattle.shown_volumes.specs.Shown.{rows_of}
 use Rattle.mss_restart.specs.declared.opening.Opened.{Opened}
-use Rattle.mss_restart.specs.Opening.{IsOpened, ShowsFront, missing}
+use Rattle.mss_restart.specs.Opening.{IsOpened, missing}
 use Rattle.mss_restart.specs.Creations.{CompletesWhole}
 use Rattle.mss_restart.specs.declared.creations.Creation.{Creation}
-use Rattle.mss_restart.proofs.Finishing.{none_complete}
-use Rattle.mss_restart.proofs.OtherRows.{nothing_else}
-use Rattle.core_state.specs.CoreValue.{DevicesSeen}
-use Rattle.volume_table.specs.Listed.{listed}
-use Rattle.mss_restart.specs.Usable.{AreUsableFor}
 use Rattle.mss_restart.specs.Answers.{CreatesCounted}
-use Rattle.core_restart.specs.Opening.{OpensTold, OpensAny}
-
--- before anything is done
-pub none_told : (config : ConfigData) (now : DevicesSeen) → OpensTold config now now (Err Memory)
-none_told config now = record {
-  opens = tt;
-  exact = λ _ _. tt;
-  moments = λ frames sound.
-      started (ShowsFront frames (missing (rows_of (content now.told)) config.volumes) (shown (content now.told))) now.told
-      (record { sound = sound; made = []; later = missing (rows_of (content now.told)) config.volumes; order = refl; same = refl });
-  complete = none_complete (missing (rows_of (content now.told)) config.volumes) [] (rows_of (content now.told)) (rows_of (content now.told)) now.told now.told Memory refl;
-  others = nothing_else (missing (rows_of (content now.told)) config.volumes) now.told now.told refl;
-  paired = λ paired. paired;
-  untouched = inl refl;
-}
+use Rattle.mss_restart.specs.Usable.{AreUsableFor}
+use Rattle.core_state.specs.CoreValue.{DevicesSeen}
+use Rattle.core_restart.specs.Opening.{OpensAny, OpensTold}
 
 module _ (config : ConfigData) (old new : DevicesSeen) (opened : Opened) where
   -- so it is of the same rows and creations in another list

@@ -6,7 +6,7 @@ use Rattle.std.specs.List.{AllByRecursion}
 use Rattle.std.proofs.lemmas.Bool.{cases_Bool, cond-true, cond-false, eq-eqb, eqb-true, ne_eqb}
 use Rattle.std.proofs.lemmas.List.{take_all}
 use Rattle.mss_base.specs.Configs.{ConfigData, VolumeData}
-use Rattle.mss_base.specs.Content.{Content, SiteLog, Item, IsTorn, content, after as written_after}
+use Rattle.mss_base.specs.Content.{Content, SiteLog, Item, IsTorn, Writes, content, after as written_after}
 use Rattle.mss_base.proofs.Moments.{moments_are_images}
 use Rattle.mss_base.specs.declared.site.Site.{Ghosts}
 use Rattle.ckd_track.specs.Data.{Volumes}
@@ -17,14 +17,12 @@ use Rattle.ckd_plain.specs.History.{EntryData, left_by as state_left, next, afte
 use Rattle.ckd_plain.specs.Near.{IsNear, unchanged, completed, data_overwritten, key_data_overwritten, ended_before}
 use Rattle.volume_table.specs.Row.{RowValue}
 use Rattle.shown_volumes.specs.declared.refused.Refused.{Refused}
-use Rattle.shown_volumes.specs.declared.refused.Refused.TheVariants.{RowUnread, Stopped, Memory}
 use Rattle.shown_volumes.specs.Shown.{RowsOf, rows_of, shown}
 use Rattle.shown_volumes.specs.Sound.{IsSound, HasSerialsAsked}
 use Rattle.shown_volumes.specs.Changing.{with_blank}
 use Rattle.shown_volumes.specs.Faults.{first_fault}
 use Rattle.mss_restart.specs.declared.opening.Opened.{Opened}
 use Rattle.mss_restart.specs.Opening.{ShowsFront, IsOpened, missing, with_blanks}
-use Rattle.mss_restart.specs.Answers.{OpensExactly}
 use Rattle.mss_restart.proofs.Creating.{AreRising, rising_first}
 use Rattle.mss_restart.proofs.UsableFacts.{AreAsked, asks_own}
 use Rattle.core_state.specs.CoreValue.{CoreValue, DevicesSeen, seen_site}
@@ -34,6 +32,7 @@ use Rattle.core_state.proofs.EntryLemmas.{opening_same}
 use Rattle.core_restart.specs.Begins.{Begins}
 use Rattle.core_restart.specs.TakingUp.{Answer, AreThere, IsFaultless, shown_for, IsTakenUp, BeginsWith, TakesUp, RestartsOver, Stop, left_by, IsSession, IsLater, LeavesAll, OpensFaultless, LeavesFront}
 use Rattle.core_restart.proofs.ConsoleFacts.{all_missing}
+use Rattle.core_restart.proofs.Syncing.{moments_before, same_content}
 
 -- ---- the serials of volumes stay
 
@@ -95,43 +94,28 @@ none_missing (w ∷ vs) rows there =
 pub none_missing_there : (vs : List VolumeData) (c : Content) → AreThere vs (shown c) → missing (rows_of c) vs ≡ []
 none_missing_there vs c there = none_missing vs (rows_of c) (λ v serial is. row_with (rows_of c v) serial (there v serial is))
 
--- ---- what is answered over content without a fault
+-- ---- a core that began
 
-not_told : (e : Refused) → ◌≡◌ {A = Option Refused} None (Some e) → ⊥
-not_told e is = cc
+module _ {S C : Type 0} (config : ConfigData) (old new : DevicesSeen)
+    (chooser : C) (core : CoreValue S C) (rows : List (Option RowValue)) (opened : IsOpened config (content old.told) (content new.told) rows)
+    (is : Begins config chooser new.writes new.faults core) (at_end : new.writes ≡ length new.told.log) where
+  all_written : written_after new.told.start (take core.first_write new.told.log) ≡ content new.told
+  all_written =
+      ap (λ (n : ℕ). written_after new.told.start (take n new.told.log)) (is.first_write_ ∙ at_end)
+      ∙ ap (λ (xs : List Item). written_after new.told.start xs) (take_all (length new.told.log) new.told.log (omega arith))
 
-not_refused : (config : ConfigData) (c : Content) (e : Refused) → IsFaultless config c → OpensExactly {T = Opened} config c (Err e) → e ≡ Memory
-not_refused config c (RowUnread v f) none is = absurd is
-not_refused config c (Stopped f) none is = absurd is
-not_refused config c Memory none is = refl
-not_refused config c e none is = absurd (not_told e (sym none ∙ is))
-
-module _ {S C : Type 0} (config : ConfigData) (old new : DevicesSeen) where
-  pub refusal_taken : (refused : S × Refused) → (new.faults ≡ old.faults → old.faults < 18446744073709551615 → OpensExactly {T = Opened} config (content old.told) (Err refused.1)) → TakesUp {S = S} {C = C} config old new (Err refused)
-  refusal_taken refused exact = record {
-    faultless = λ none quiet. not_refused config (content old.told) refused.1 none (exact quiet.same quiet.could_rise);
-    begins = tt;
+  begins_with : BeginsWith config (shown_for config (content old.told)) new.told core
+  begins_with = record {
+    opening_ = ap (λ (c : Content). start_of (shown c)) all_written ∙ ap (λ (v : Volumes). start_of v) opened.shows.same;
+    shows = opened.shows;
+    there = λ v serial asked.
+        let has = opened.asked v serial asked in
+        ap (λ (x : Volumes). x.serial v) (sym opened.shows.same) ∙ ap (λ (o : Option RowValue). option_map (λ (r : RowValue). r.serial) o) has.there ∙ ap (λ (k : List ℕ). Some k) has.same;
+    no_entries = is.no_entries;
   }
 
-  module _ (chooser : C) (core : CoreValue S C) (rows : List (Option RowValue)) (opened : IsOpened config (content old.told) (content new.told) rows)
-      (is : Begins config chooser new.writes new.faults core) (at_end : new.writes ≡ length new.told.log) where
-    all_written : written_after new.told.start (take core.first_write new.told.log) ≡ content new.told
-    all_written =
-        ap (λ (n : ℕ). written_after new.told.start (take n new.told.log)) (is.first_write_ ∙ at_end)
-        ∙ ap (λ (xs : List Item). written_after new.told.start xs) (take_all (length new.told.log) new.told.log (omega arith))
-
-    begins_with : BeginsWith config (shown_for config (content old.told)) new.told core
-    begins_with = record {
-      opening_ = ap (λ (c : Content). start_of (shown c)) all_written ∙ ap (λ (v : Volumes). start_of v) opened.shows.same;
-      shows = opened.shows;
-      there = λ v serial asked.
-          let has = opened.asked v serial asked in
-          ap (λ (x : Volumes). x.serial v) (sym opened.shows.same) ∙ ap (λ (o : Option RowValue). option_map (λ (r : RowValue). r.serial) o) has.there ∙ ap (λ (k : List ℕ). Some k) has.same;
-      no_entries = is.no_entries;
-    }
-
-    pub core_taken : TakesUp config old new (Ok core)
-    core_taken = record { faultless = λ none quiet. tt; begins = begins_with }
+  pub core_taken : TakesUp config old new (Ok core)
+  core_taken = record { faultless = λ none quiet. tt; begins = begins_with }
 
 -- a core that began on a site
 pub begun_taken : {S C : Type 0} (g : Ghosts S) (config asked : ConfigData) (chooser : C) (old : DevicesSeen) (site : S) (core : CoreValue S C) (rows : List (Option RowValue)) → core.site ≡ site → asked ≡ config
@@ -304,8 +288,20 @@ module _ (decides : Decides) (config : ConfigData) (old new : DevicesSeen) (answ
   torn_stays : (c d : Content) → Fronts c → IsTorn old.told c d → Fronts d
   torn_stays c d shows torn = subst Fronts (sym torn) shows
 
+  same : content is.opens.synced.told ≡ begun
+  same = same_content old.told is.opens.synced.told (is.opens.sync.told tt)
+
+  -- before anything was written
+  none_made : Fronts begun
+  none_made = record { sound = was.0; made = []; later = further; order = refl; same = refl }
+
+  moments : Writes Fronts old.told new.told
+  moments = moments_before Fronts old.told is.opens.synced.told new.told (is.opens.sync.told tt) none_made
+      (subst (λ (c : Content). Writes (ShowsFront config.frames (missing (rows_of c) config.volumes) (shown c)) is.opens.synced.told new.told) same
+      ((is.opens.told tt).moments config.frames (subst (IsSound config.frames) (sym same) was.0)))
+
   front : ShowsFront config.frames further (shown begun) (left_by stop)
-  front = moments_are_images Fronts Fronts old.told new.told (is.opens.moments config.frames was.0) torn_stays stop.moment stop.since stop.until stop.tear
+  front = moments_are_images Fronts Fronts old.told new.told moments torn_stays stop.moment stop.since stop.until stop.tear
 
   made_asked : AreAsked asked front.made
   made_asked =

@@ -1,7 +1,10 @@
 -- What restart makes of a site, and what it answers.
-use Rattle.std.specs.Prelude.{Result, Ok, Err}
+use Rattle.std.specs.Prelude.{◌≡◌, ◌⊎◌, ◌≤◌, ℕ, [], ◌∷◌, Result, Ok, Err}
 use Rattle.mss_base.specs.Configs.{ConfigData}
+use Rattle.mss_base.specs.Content.{Got, synced_all, unsynced}
+use Rattle.mss_base.specs.Counts.{Rises}
 use Rattle.shown_volumes.specs.declared.refused.Refused.{Refused}
+use Rattle.shown_volumes.specs.declared.refused.Refused.TheVariants.{Stopped, Memory}
 use Rattle.mss_restart.specs.declared.opening.Opened.{Opened}
 use Rattle.mss_restart.specs.Answers.{AnswersOpening, OpensSite}
 use Rattle.core_state.specs.CoreValue.{CoreValue, DevicesSeen}
@@ -38,3 +41,45 @@ OpensAny config old new answer =
       before = old.faults;
       now = new.faults;
     }) answer
+
+-- ---- all that earlier runs wrote is made firm first
+
+-- all units were synced, and that was all
+pub record SyncsAll (tells : Type 0) (old new : DevicesSeen) : Type 0 where
+  pub told : tells → Got (synced_all ∷ []) old.told new.told
+  pub later : old.writes ≤ new.writes
+  pub unfailed : new.faults ≡ old.faults
+
+-- the sync failed, and made nothing firm
+pub record FailsSync (tells : Type 0) (old new : DevicesSeen) : Type 0 where
+  pub told : tells → Got (unsynced ∷ []) old.told new.told
+  pub later : old.writes ≤ new.writes
+  pub failed : Rises old.faults new.faults
+
+-- nothing was done
+pub record StaysUnsynced (tells : Type 0) (old new : DevicesSeen) : Type 0 where
+  pub told : tells → new.told ≡ old.told
+  pub unwritten : new.writes ≡ old.writes
+  pub unfailed : new.faults ≡ old.faults
+
+-- why nothing is opened: memory ran out before anything was done, or the sync failed, and its count
+-- of faults is told
+abbrev pub IsUnsynced : Type 0 → DevicesSeen → DevicesSeen → Refused → Type 0
+IsUnsynced tells old new why =
+    (StaysUnsynced tells old new × (why ≡ Memory))
+    ⊎ (FailsSync tells old new × (why ≡ Stopped new.faults))
+
+-- all was synced, and then opened
+pub record OpensSynced (tells : Type 0) (config : ConfigData) (old new : DevicesSeen)
+    (answer : Result Opened Refused) : Type 0 where
+  pub synced : DevicesSeen
+  pub sync : SyncsAll tells old synced
+  pub told : tells → OpensTold config synced new answer
+  pub any : OpensAny config synced new answer
+
+-- what a restart makes of its devices, and answers: nothing is opened, or what is synced
+pub data Restarts (tells : Type 0) (config : ConfigData) (old new : DevicesSeen)
+    (answer : Result Opened Refused) : Type 0 where
+  not_opened : (why : Refused) → answer ≡ Err why → IsUnsynced tells old new why
+      → Restarts tells config old new answer
+  opened : OpensSynced tells config old new answer → Restarts tells config old new answer

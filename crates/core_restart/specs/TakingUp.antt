@@ -1,5 +1,5 @@
 -- What a restart takes up: content in which its configuration finds no fault, as a stop leaves it.
-use Rattle.std.specs.Prelude.{◌≡◌, ◌≤◌, ◌<◌, ℕ, List, [], ◌++◌, length, Option, Some, None, Result, Ok, Err, IfOk}
+use Rattle.std.specs.Prelude.{◌≡◌, ◌≤◌, ◌<◌, ℕ, List, [], length, Some, None, Result, Ok, Err, IfOk}
 use Rattle.mss_base.specs.Configs.{ConfigData, VolumeData, IsConfig}
 use Rattle.mss_base.specs.Content.{Content, SiteLog, Item, Tear, Got, content, image}
 use Rattle.ckd_track.specs.Data.{Volumes}
@@ -13,7 +13,7 @@ use Rattle.mss_restart.specs.declared.opening.Opened.{Opened}
 use Rattle.mss_restart.specs.Opening.{ShowsFront, missing, with_blanks}
 use Rattle.core_state.specs.CoreValue.{CoreValue, DevicesSeen}
 use Rattle.core_state.specs.IsCore.{IsTold, opening_of}
-use Rattle.core_restart.specs.Opening.{OpensTold}
+use Rattle.core_restart.specs.Opening.{OpensSynced}
 
 -- what `restart` answers
 abbrev pub Answer : Type 0 → Type 0 → Type 0
@@ -107,12 +107,12 @@ pub record LeavesAll (config : ConfigData) (c : Content) : Type 0 where
   pub all_there : AreThere config.volumes (shown c)
   pub none_missing : missing (rows_of c) config.volumes ≡ []
 
--- a restart over content without a fault, whatever it answered
+-- a restart that opened content without a fault, whatever it answered
 pub record OpensFaultless (config : ConfigData) (old new : DevicesSeen)
     (answer : Result Opened Refused) : Type 0 where
   pub whole : IsConfig config
   pub faultless : IsFaultless config (content old.told)
-  pub opens : OpensTold config old new answer
+  pub opens : OpensSynced (Unit {0}) config old new answer
 
 -- what a stop within a restart leaves: content without a fault, which shows the volumes of before
 -- with a front of the further ones, and of which the same volumes come in the end

@@ -1,12 +1,12 @@
 // The restart of a site.
-ghost use Rattle.std.specs.Prelude.{◌≡◌, IfOk};
+ghost use Rattle.std.specs.Prelude.{◌≡◌, IfOk, IfErr, OnOk};
 ghost use Rattle.mss_restart.specs.Survey.{NeverFails, TellsNoFailure};
 ghost use Rattle.mss_restart.specs.Creations.{WritesOn};
 ghost use Rattle.core_state.specs.SessionData.{begun};
 ghost use Rattle.core_state.specs.Sessions.{session_data};
 ghost use Rattle.core_restart.specs.Begins.{Begins};
 ghost use Rattle.core_restart.specs.Console.{creations_of};
-ghost use Rattle.core_restart.specs.Opening.{OpensAny, OpensTold, answer_of, site_of};
+ghost use Rattle.core_restart.specs.Opening.{IsUnsynced, Restarts, SyncsAll, answer_of, site_of};
 ghost use Rattle.core_restart.specs.Parts.{AreParts, MayBegin};
 ghost use Rattle.core_restart.specs.TakingUp.{TakesUp};
 ghost use Rattle.core_state.specs.CoreValue.{seen_site};
@@ -82,9 +82,28 @@ fn begin<S: Site, C: Choose>(
     }
 }
 
+/// Makes firm all that earlier runs wrote to a site.
+fn sync_site<S: Site>(site: &mut S) -> Result<(), Refused>
+    ensures synced { OnOk result
+        (SyncsAll S.tells (seen_site S.Site site.old) (seen_site S.Site site.new)) }
+    ensures unsynced { IfErr result
+        (IsUnsynced S.tells (seen_site S.Site site.old) (seen_site S.Site site.new)) }
+    ensures works { NeverFails S.Site site.old → TellsNoFailure result }
+    ensures devices { WritesOn S.Site site.old site.new }
+{
+    site.reserve(1)?;
+    if site.sync_all().is_err() {
+        return Err(Refused::Stopped {
+            fault: site.faults(),
+        });
+    }
+    Ok(())
+}
+
 /// Opens a site and makes the core of a session on it, in which nothing has happened yet. The session begins with the
 /// volumes that the site showed and the further ones of the configuration, blank; its console tells which were created.
 ///
+/// It begins with a sync of all units, so that what an earlier run left is firm before anything counts on it.
 /// A content with a fault is refused by its first fault, and nothing is written. `RowUnread` and `Stopped` come only where
 /// a call of the site failed, and keep its count of faults. After want of memory each repair and creation that was begun
 /// was written to its end. Where it refuses, it hands the site back. A stop at any moment, also within a call that fails,
@@ -99,12 +118,10 @@ pub fn restart<S: Site, C: Choose + Drop>(
     chooser: C,
 ) -> Result<Core<S, C>, (S, Refused)>
     requires able { C.can_choose chooser }
-    ensures told { S.tells → OpensTold config.now (seen_site S.Site site)
+    ensures restarts { Restarts S.tells config.now (seen_site S.Site site)
         (seen_site S.Site (site_of result)) (answer_of result) }
     ensures takes_up { S.tells → TakesUp config.now (seen_site S.Site site)
         (seen_site S.Site (site_of result)) result }
-    ensures any { OpensAny config.now (seen_site S.Site site)
-        (seen_site S.Site (site_of result)) (answer_of result) }
     ensures works { NeverFails S.Site site → TellsNoFailure (answer_of result) }
     ensures devices { WritesOn S.Site site (site_of result) }
     ensures begins { IfOk result (λ core.
@@ -113,6 +130,11 @@ pub fn restart<S: Site, C: Choose + Drop>(
     let Ok(parts) = Parts::new(alloc, config) else {
         return Err((site, Refused::Memory));
     };
+    let mut site = site;
+    match sync_site(&mut site) {
+        Ok(()) => {}
+        Err(refused) => return Err((site, refused)),
+    }
     match open_rows(alloc, site, config) {
         Err(refusal) => Err(refusal),
         Ok((site, opened)) => {

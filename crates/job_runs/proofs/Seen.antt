@@ -1,7 +1,6 @@
 -- A core, where only so much of its devices is seen.
-use Rattle.std.proofs.Common.{ℕ, refl}
+use Rattle.std.proofs.Common.{refl}
 use Rattle.mss_base.specs.Configs.{ConfigData}
-use Rattle.mss_base.specs.Content.{SiteLog}
 use Rattle.mss_base.specs.declared.site.Site.{Ghosts}
 use Rattle.ckd_track.specs.Data.{Volumes}
 use Rattle.core_state.specs.CoreValue.{CoreValue, CoreData, seen}

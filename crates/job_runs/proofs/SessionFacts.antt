@@ -16,8 +16,9 @@ use Rattle.core_state.specs.CoreValue.{CoreValue, CoreData, DevicesSeen, seen, s
 use Rattle.core_state.specs.IsCore.{IsTold as IsToldCore}
 use Rattle.core_state.specs.SessionData.{SessionData, data_of}
 use Rattle.core_restart.specs.Begins.{Begins}
-use Rattle.core_restart.specs.Opening.{OpensAny, OpensTold, opened_in}
+use Rattle.core_restart.specs.Opening.{Restarts, opened_in}
 use Rattle.core_restart.specs.TakingUp.{BeginsWith, shown_for}
+use Rattle.core_restart.proofs.Syncing.{opens_synced, telling}
 use Rattle.plain_sessions.specs.Sessions.{BeganOver, IsPlainSession, StopsAnywhere, plain_volumes}
 use Rattle.core_state.specs.Beginning.{IsLater}
 use Rattle.serial_driver.specs.Drives.{Leaves, RunsOn, Halts}
@@ -78,7 +79,7 @@ module _ {S C : Type 0} (g : Ghosts S) (core left : CoreValue S C) (config : Con
       (stops_law : (t : g.tells) → BeganOver config was from → IsLater g.tells from to → IsToldCore to.site.told to → StopsAnywhere config was.told to.site.told (data_of to)) where
     pub promised_of : IsPromised config (record { tells = g.tells; was = was; now = seen_site g left.site }) (data_of left)
     promised_of = record {
-      began = later.beginning.first_faults ∙ begun.begins.first_faults_ ∙ begun.opened.any.kept;
+      began = later.beginning.first_faults ∙ begun.begins.first_faults_ ∙ begun.opened.any.kept ∙ begun.opened.sync.unfailed;
       requests = left.requests;
       counted = counted;
       marked = marked;
@@ -180,19 +181,20 @@ module _ {S : Type 0} (g : Ghosts S) (job : JobData)
 -- ---- what a restart made
 
 pub begun_of : {S C : Type 0} (g : Ghosts S) (config : ConfigData) (chooser : C) (was : DevicesSeen) (core : CoreValue S C)
-    → IsConfig config → (g.tells → OpensTold config was (seen_site g core.site) (Ok (opened_in core))) → OpensAny config was (seen_site g core.site) (Ok (opened_in core))
+    → IsConfig config → Restarts g.tells config was (seen_site g core.site) (Ok (opened_in core))
     → Begins config chooser (g.writes core.site) (g.faults core.site) core → (g.tells → BeginsWith config (shown_for config (content was.told)) (g.told core.site) core) → (g.tells → IsToldCore (g.told core.site) core)
     → (g.tells → g.writes core.site ≡ length (g.told core.site).log) → IsBegun g.tells config was (seen g core)
-begun_of g config chooser was core whole opens any begins with_ kept counted = record {
-  begins = begins_seen g core config chooser begins;
-  opened = record { told = opens; any = any };
-  over = λ t. record {
-    whole = whole;
-    opened = opens t;
-    any = any;
-    begins = begins_seen g core config chooser begins;
-    with_ = with_seen g core config (shown_for config (content was.told)) (with_ t);
-    told = told_seen g core (kept t);
-    counted = counted t;
-  };
-}
+begun_of g config chooser was core whole restarts begins with_ kept counted =
+    let opened = opens_synced g.tells config was (seen_site g core.site) (opened_in core) restarts in
+    record {
+      begins = begins_seen g core config chooser begins;
+      opened = opened;
+      over = λ t. record {
+        whole = whole;
+        opened = telling g.tells t config was (seen_site g core.site) (Ok (opened_in core)) opened;
+        begins = begins_seen g core config chooser begins;
+        with_ = with_seen g core config (shown_for config (content was.told)) (with_ t);
+        told = told_seen g core (kept t);
+        counted = counted t;
+      };
+    }

@@ -1,6 +1,4 @@
 -- The devices of a run, from one moment to a later one.
-use Rattle.std.specs.Prelude.{ℕ}
-use Rattle.mss_base.specs.Content.{SiteLog}
 use Rattle.mss_base.specs.declared.site.Site.{Ghosts}
 use Rattle.core_state.specs.CoreValue.{DevicesSeen, seen_site}
 use Rattle.session_report.specs.Parties.{Devices as ToldDevices}

@@ -18,7 +18,7 @@ use Rattle.core_state.specs.CoreValue.{CoreData, DevicesSeen}
 use Rattle.core_state.specs.SessionData.{SessionData, data_of}
 use Rattle.core_state.specs.Sessions.{session_data}
 use Rattle.core_restart.specs.Begins.{Begins}
-use Rattle.core_restart.specs.Opening.{OpensAny, OpensTold, opened_in}
+use Rattle.core_restart.specs.Opening.{OpensSynced, Restarts, opened_in}
 use Rattle.plain_sessions.specs.Sessions.{BeganOver, IsPlainSession, StopsAnywhere, plain_volumes}
 use Rattle.serial_driver.specs.Drives.{IsFull, RunsOn}
 use Rattle.serial_driver.specs.Scripts.{exchanges_of, script_of}
@@ -41,17 +41,14 @@ use Rattle.job_runs.specs.declared.run.Outcome.TheVariants.{Untaken, Ran}
 -- ---- how a session begins, and how it goes
 
 -- what a restart made of the devices, and answered
-pub record Opens (config : ConfigData) (site : Devices) (answer : Result Opened Refused)
-    : Type 0 where
-  pub told : site.tells → OpensTold config site.was site.now answer
-  pub any : OpensAny config site.was site.now answer
+abbrev pub Opens : ConfigData → Devices → Result Opened Refused → Type 0
+Opens config site answer = Restarts site.tells config site.was site.now answer
 
 -- a restart over the devices as they were made this core, of which nothing has happened
 pub record IsBegun (tells : Type 0) (config : ConfigData) (was : DevicesSeen) (core : CoreData)
     : Type 0 where
   pub begins : Begins config tt core.site.writes core.site.faults core
-  pub opened : Opens config (record { tells = tells; was = was; now = core.site })
-      (Ok (opened_in core))
+  pub opened : OpensSynced tells config was core.site (Ok (opened_in core))
   pub over : tells → BeganOver config was core
 
 -- from a core that has begun to one that ended so: by the turns and then by rounds, or not at all,

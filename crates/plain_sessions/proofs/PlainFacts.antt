@@ -1,23 +1,22 @@
 -- A session at a later moment, in plain volumes.
-use Rattle.std.proofs.Common.{◌≡◌, ◌≤◌, ◌<◌, ◌↔◌, ℕ, suc, Bool, List, [], ◌∷◌, ◌++◌, length, take, Option, None, Ok, refl, sym, ◌∙◌, ap, subst, arith}
+use Rattle.std.proofs.Common.{◌≡◌, ◌≤◌, ◌<◌, ◌↔◌, ℕ, suc, List, [], ◌∷◌, length, take, Option, None, Ok, sym, ◌∙◌, ap, subst, arith}
 use Rattle.std.specs.Prelude.{if◌then◌else◌}
-use Rattle.std.proofs.lemmas.List.{take_all, take-append-le, length-append}
+use Rattle.std.proofs.lemmas.List.{take_all, take-append-le}
 use Rattle.mss_base.specs.Configs.{ConfigData, VolumeData}
 use Rattle.mss_base.specs.Content.{Content, SiteLog, Item, Tear, Got, content, image, after as written_after}
 use Rattle.mss_base.proofs.ContentLemmas.{image_front}
 use Rattle.channel_commands.specs.Data.{CallData}
-use Rattle.ckd_track.specs.Data.{Volumes}
 use Rattle.ckd_plain.specs.Data.{State}
 use Rattle.ckd_plain.specs.History.{IsLegal, after}
-use Rattle.ckd_plain.specs.Plain.{plain, serial_in, start_of}
+use Rattle.ckd_plain.specs.Plain.{plain}
 use Rattle.volume_table.specs.Listed.{listed}
 use Rattle.shown_volumes.specs.Faults.{first_fault}
-use Rattle.shown_volumes.specs.Shown.{RowsOf, rows_of, shown}
+use Rattle.shown_volumes.specs.Shown.{RowsOf, rows_of}
 use Rattle.shown_volumes.specs.Sound.{IsSound, HasSerialsAsked}
 use Rattle.mss_restart.specs.Creations.{AreCounted, AreCreations}
 use Rattle.mss_restart.specs.Opening.{Creates, missing}
 use Rattle.mss_restart.specs.declared.creations.Creation.{Creation}
-use Rattle.core_state.specs.Agrees.{Agrees, handed_rows, has_created, rows_after}
+use Rattle.core_state.specs.Agrees.{Agrees, handed_rows, rows_after}
 use Rattle.core_state.specs.Beginning.{IsLater}
 use Rattle.core_state.specs.CoreValue.{CoreData, DevicesSeen}
 use Rattle.core_state.specs.IsCore.{IsTold, handed_to, opening_of}
@@ -25,10 +24,11 @@ use Rattle.core_state.specs.SessionData.{data_of}
 use Rattle.core_state.specs.StopRule.{StopsWell, opening}
 use Rattle.core_state.proofs.EntryLemmas.{opening_same, start_same}
 use Rattle.core_restart.specs.Console.{creations_of}
-use Rattle.core_restart.specs.Opening.{opened_in}
-use Rattle.core_restart.specs.TakingUp.{IsSession, LeavesFront, OpensFaultless, Stop, left_by, shown_for}
+use Rattle.core_restart.specs.Opening.{OpensTold, opened_in}
+use Rattle.core_restart.specs.TakingUp.{IsFaultless, IsSession, LeavesFront, OpensFaultless, Stop, left_by, shown_for}
 use Rattle.core_restart.specs.TakingUp as taking
 use Rattle.core_restart.proofs.ConsoleFacts.{handed_are, missing_none}
+use Rattle.core_restart.proofs.Syncing.{same_content}
 use Rattle.core_restart.proofs.TakenUp.{leaves_all, leaves_front, session_begun, session_later}
 use Rattle.plain_sessions.specs.Sessions.{BeganOver, IsPlainSession, StopsAnywhere, plain_start}
 
@@ -46,20 +46,31 @@ abbrev Decides : Type 0
 Decides = (frames : ℕ) (asked : ℕ → Option (List ℕ)) (c : Content) → (first_fault frames asked c ≡ None) ↔ (IsSound frames c × HasSerialsAsked asked (rows_of c))
 
 module _ (config : ConfigData) (was : DevicesSeen) (began : CoreData) (b : BeganOver config was began) where
+  -- the devices when all that they held was firm
+  abbrev synced : DevicesSeen
+  synced = b.opened.synced
+
+  same : content synced.told ≡ content was.told
+  same = same_content was.told synced.told (b.opened.sync.told tt)
+
+  abbrev opened : OpensTold config synced began.site (Ok (opened_in began))
+  opened = b.opened.told tt
+
   abbrev asked_new : List VolumeData
-  asked_new = missing (rows_of (content was.told)) config.volumes
+  asked_new = missing (rows_of (content synced.told)) config.volumes
 
   rows_now : listed began.rows ≡ rows_of (content began.site.told)
-  rows_now = b.opened.opens.rows_are
+  rows_now = opened.opens.rows_are
 
   -- the rows before the creations that the console tells are those that were handed in
   handed_in : handed_rows (listed began.rows) began.console ≡ rows_of (content was.told)
   handed_in =
-      let counted = b.any.counted in
-      handed_are asked_new (rows_of (content was.told)) (listed began.rows) began.console was.writes began.site.writes
-      (subst (λ (r : RowsOf). Creates asked_new (rows_of (content was.told)) r) (sym rows_now) b.opened.opens.created)
-      (counted_of asked_new (missing counted.before config.volumes) (creations_of began.console) (rows_of (content was.told)) (rows_of (content began.site.told)) b.opened.complete.0 began.site.told was.writes began.site.writes b.opened.complete.2 counted.counted)
-      b.begins.created (missing_none (rows_of (content was.told)) config.volumes)
+      let counted = b.opened.any.counted in
+      handed_are asked_new (rows_of (content synced.told)) (listed began.rows) began.console synced.writes began.site.writes
+      (subst (λ (r : RowsOf). Creates asked_new (rows_of (content synced.told)) r) (sym rows_now) opened.opens.created)
+      (counted_of asked_new (missing counted.before config.volumes) (creations_of began.console) (rows_of (content synced.told)) (rows_of (content began.site.told)) opened.complete.0 began.site.told synced.writes began.site.writes opened.complete.2 counted.counted)
+      b.begins.created (missing_none (rows_of (content synced.told)) config.volumes)
+      ∙ ap rows_of same
 
   module _ (tells : Type 0) (t : tells) (left : CoreData) (l : IsLater tells began left) (told : IsTold left.site.told left) where
     abbrev items : List Item
@@ -105,7 +116,7 @@ module _ (config : ConfigData) (was : DevicesSeen) (began : CoreData) (b : Began
 
     module _ (serials : (s : State) (h : ℕ) (call : CallData) → (plain s h call).1.volumes.serial ≡ s.volumes.serial) (decides : Decides) where
       opened_faultless : OpensFaultless config was began.site (Ok (opened_in began))
-      opened_faultless = record { whole = b.whole; faultless = b.opened.opens.faultless; opens = b.opened }
+      opened_faultless = record { whole = b.whole; faultless = subst (IsFaultless config) same opened.opens.faultless; opens = b.opened }
 
       session : IsSession left.site.told left
       session = session_later began.site.told left.site.told began left (session_begun config (shown_for config (content was.told)) began.site.told began b.with_ b.begins.config_ b.told) later told

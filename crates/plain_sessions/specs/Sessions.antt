@@ -1,5 +1,5 @@
 -- What a session promises, in plain volumes.
-use Rattle.std.specs.Prelude.{◌≡◌, ◌≤◌, ◌<◌, ℕ, List, length, Option, Ok, None}
+use Rattle.std.specs.Prelude.{◌≡◌, ◌≤◌, ◌<◌, ℕ, List, length, Ok, None}
 use Rattle.mss_base.specs.Configs.{ConfigData, IsConfig}
 use Rattle.mss_base.specs.Content.{Content, SiteLog, Tear, content, image}
 use Rattle.ckd_track.specs.Data.{Volumes}
@@ -13,7 +13,7 @@ use Rattle.core_state.specs.IsCore.{IsTold}
 use Rattle.core_state.specs.SessionData.{SessionData}
 use Rattle.core_state.specs.StopRule.{StopsWell}
 use Rattle.core_restart.specs.Begins.{Begins}
-use Rattle.core_restart.specs.Opening.{OpensAny, OpensTold, opened_in}
+use Rattle.core_restart.specs.Opening.{OpensSynced, opened_in}
 use Rattle.core_restart.specs.TakingUp.{BeginsWith, LeavesAll, LeavesFront, Stop, left_by, shown_for}
 
 -- ---- how a session begins
@@ -21,8 +21,7 @@ use Rattle.core_restart.specs.TakingUp.{BeginsWith, LeavesAll, LeavesFront, Stop
 -- a restart over these devices made this core, of which nothing has happened yet
 pub record BeganOver (config : ConfigData) (was : DevicesSeen) (core : CoreData) : Type 0 where
   pub whole : IsConfig config
-  pub opened : OpensTold config was core.site (Ok (opened_in core))
-  pub any : OpensAny config was core.site (Ok (opened_in core))
+  pub opened : OpensSynced (Unit {0}) config was core.site (Ok (opened_in core))
   pub begins : Begins config tt core.site.writes core.site.faults core
   pub with_ : BeginsWith config (shown_for config (content was.told)) core.site.told core
   pub told : IsTold core.site.told core

@@ -17,7 +17,7 @@ returns-in-Ok g c =
     let played = c.play_on in
     let begun : IsBegun tells c.args.job.now.config (seen_site g.S.Site c.args.site) (seen g.S.Site core) =
     subst (λ (k : ConfigData). IsBegun tells k (seen_site g.S.Site c.args.site) (seen g.S.Site core)) (ap (λ (j : JobData). j.config) c.job.view_is)
-    (begun_of g.S.Site c.job.inside.config c.args.chooser (seen_site g.S.Site c.args.site) core c.job.invariant.config_ is.told is.any is.begins (λ t. (is.takes_up t).begins) c.look.ensures.told
+    (begun_of g.S.Site c.job.inside.config c.args.chooser (seen_site g.S.Site c.args.site) core c.job.invariant.config_ is.restarts is.begins (λ t. (is.takes_up t).begins) c.look.ensures.told
     (λ t. g.met.S.Site.counted core.site t)) in
     record {
       played = subst (λ (x : g.row.C.Denot). IsPlayed (g.C.Choose.may x) c.args.job.now c.args.turns.now (devices g.S.Site c.args.site played.result.site) played.result.end (session_data played.result.session)) is.begins.chooser_

@@ -13,5 +13,5 @@ returns-in-Ok-clause-begun g c =
     let is = c.in-Ok.ensures in
     let was : DevicesSeen = seen_site g.S.Site c.args.site in
     subst (λ (k : ConfigData). IsBegun tells k was (seen g.S.Site core)) (ap (λ (j : JobData). j.config) c.job.view_is)
-    (begun_of g.S.Site c.job.inside.config c.args.chooser was core c.job.invariant.config_ is.told is.any is.begins (λ t. (is.takes_up t).begins) c.look.ensures.told
+    (begun_of g.S.Site c.job.inside.config c.args.chooser was core c.job.invariant.config_ is.restarts is.begins (λ t. (is.takes_up t).begins) c.look.ensures.told
     (λ t. g.met.S.Site.counted core.site t))
