@@ -9,13 +9,11 @@ use Rattle.mss_base.proofs.FirstFacts.{none_next, found_first}
 use Rattle.mss_base.specs.declared.site.Site.{Ghosts}
 use Rattle.mss_restart.specs.Survey.{FindsFault, Finds, CountsFaults}
 
--- what a walk keeps of its site and its two buffers, and what it knows so far
-pub record IsGoing {S : Type 0} (g : Ghosts S) (begun now : S) (shown staged : ℕ) (Known : Content → Type 0) : Type 0 where
+-- what a walk keeps of its site, and what it knows so far
+pub record IsGoing {S : Type 0} (g : Ghosts S) (begun now : S) (Known : Content → Type 0) : Type 0 where
   pub known : g.tells → Known (content (g.told begun))
   pub devices : OnlyReads g begun now
   pub count : g.faults now ≡ g.faults begun
-  pub shown_whole : shown ≡ 16384
-  pub staged_whole : staged ≡ 16384
 
 -- a fault is told with the count as it was when the walk began
 pub counts_since : {T : Type 0} (begun before now : ℕ) (result : Result T Refused) → before ≡ begun → CountsFaults before now result → CountsFaults begun now result

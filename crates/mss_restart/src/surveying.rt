@@ -30,7 +30,7 @@ use crate::halves::halves_fault;
 use crate::pages::pages_fault;
 use crate::rows::{RowsRead, read_rows};
 use crate::tracks::check_tracks;
-use mss_base::{BLOCK_BYTES, Config, Site};
+use mss_base::{Block, Config, Site};
 use shown_volumes::Refused;
 use std::alloc::Global;
 use volume_table::Rows;
@@ -53,8 +53,8 @@ fn check_rows<S: Site>(alloc: Global, site: &mut S, frames: u16, rows: &Rows) ->
     if let Some(fault) = pages_fault(frames, rows) {
         return Err(fault);
     }
-    let mut shown = vec![in alloc; 0u8; BLOCK_BYTES]?;
-    let mut staged = vec![in alloc; 0u8; BLOCK_BYTES]?;
+    let mut shown = Block::zeros(alloc)?;
+    let mut staged = Block::zeros(alloc)?;
     check_tracks(site, rows, &mut shown, &mut staged)
 }
 

@@ -1,5 +1,5 @@
 // The walk over the tracks: the shown block is a track, and the block in a frame stands for it.
-ghost use Rattle.std.specs.Prelude.{◌≡◌, ◌≤◌, ◌/◌, not, Option, Some, OnOk, IfErr, length};
+ghost use Rattle.std.specs.Prelude.{◌≡◌, ◌≤◌, ◌/◌, not, Option, Some, OnOk, IfErr};
 ghost use Rattle.mss_base.specs.Content.{content};
 ghost use Rattle.mss_base.specs.Sites.{OnlyReads};
 ghost use Rattle.ckd_track.specs.Track.{reading};
@@ -17,15 +17,14 @@ ghost use Rattle.shown_volumes.specs.declared.refused.Refused.{Refused};
 
 use ckd_track::{check_track, is_blank};
 use mss_base::{
-    BLOCK_BYTES, BlockPlace, CYLINDERS, Cylinder, FrameNo, HEADS, Head, Site, VolumeNo,
-    cylinder_at, frame_block, head_at, volume_at,
+    Block, BlockPlace, CYLINDERS, Cylinder, FrameNo, HEADS, Head, Site, VolumeNo, cylinder_at,
+    frame_block, head_at, volume_at,
 };
 use shown_volumes::{Refused, on_cartridge};
 use volume_table::{CylinderState, Rows, VolumeRow};
 
 /// Reads the block at a place.
-fn read_block<S: Site>(site: &mut S, place: &BlockPlace, into: &mut [u8]) -> Result<(), Refused>
-    requires { length into.old ≡ BLOCK_BYTES }
+fn read_block<S: Site>(site: &mut S, place: &BlockPlace, into: &mut Block) -> Result<(), Refused>
     ensures block { S.tells →
         OnOk result (into.new ≡ block_at (content (S.told site.old)) place.now) }
     ensures device { IfErr result (λ r. (found : Option Refused) → FindsFault r found) }
@@ -33,7 +32,7 @@ fn read_block<S: Site>(site: &mut S, place: &BlockPlace, into: &mut [u8]) -> Res
     ensures works { IsReadable S.Site site.old place.now.unit → TellsNoFailure result }
     ensures devices { OnlyReads S.Site site.old site.new }
 {
-    if site.read(place.unit, place.block, into).is_err() {
+    if into.read(site, place).is_err() {
         return Err(Refused::Stopped {
             fault: site.faults(),
         });
@@ -48,9 +47,8 @@ fn check_shown<S: Site>(
     volume: VolumeNo,
     cylinder: Cylinder,
     head: Head,
-    into: &mut [u8],
+    into: &mut Block,
 ) -> Result<(), Refused>
-    requires { length into.old ≡ BLOCK_BYTES }
     ensures finds { S.tells → Finds result
         (where_so (is_torn (content (S.told site.old)) (Some place.now)) (TornTrack volume cylinder head)) }
     ensures block { S.tells →
@@ -60,7 +58,7 @@ fn check_shown<S: Site>(
     ensures devices { OnlyReads S.Site site.old site.new }
 {
     read_block(site, place, into)?;
-    if check_track(into).is_err() {
+    if check_track(into.as_slice()).is_err() {
         return Err(Refused::TornTrack {
             volume,
             cylinder,
@@ -77,9 +75,8 @@ fn check_blank<S: Site>(
     volume: VolumeNo,
     cylinder: Cylinder,
     head: Head,
-    into: &mut [u8],
+    into: &mut Block,
 ) -> Result<(), Refused>
-    requires { length into.old ≡ BLOCK_BYTES }
     ensures finds { S.tells → Finds result
         (where_so (not (is_blank (reading (block_at (content (S.told site.old)) place.now))))
         (StagedDiffers volume cylinder head)) }
@@ -88,7 +85,7 @@ fn check_blank<S: Site>(
     ensures devices { OnlyReads S.Site site.old site.new }
 {
     read_block(site, place, into)?;
-    if !is_blank(into) {
+    if !is_blank(into.as_slice()) {
         return Err(Refused::StagedDiffers {
             volume,
             cylinder,
@@ -105,10 +102,9 @@ fn check_copy<S: Site>(
     volume: VolumeNo,
     cylinder: Cylinder,
     head: Head,
-    shown: &[u8],
-    into: &mut [u8],
+    shown: &Block,
+    into: &mut Block,
 ) -> Result<(), Refused>
-    requires { length into.old ≡ BLOCK_BYTES }
     ensures finds { S.tells → Finds result
         (where_so (not (is_same_list (block_at (content (S.told site.old)) place.now) shown.now))
         (StagedDiffers volume cylinder head)) }
@@ -117,7 +113,7 @@ fn check_copy<S: Site>(
     ensures devices { OnlyReads S.Site site.old site.new }
 {
     read_block(site, place, into)?;
-    if *into != *shown {
+    if into.as_slice() != shown.as_slice() {
         return Err(Refused::StagedDiffers {
             volume,
             cylinder,
@@ -146,11 +142,9 @@ fn check_track_of<S: Site>(
     volume: VolumeNo,
     cylinder: Cylinder,
     head: Head,
-    shown: &mut [u8],
-    staged: &mut [u8],
+    shown: &mut Block,
+    staged: &mut Block,
 ) -> Result<(), Refused>
-    requires shown { length shown.old ≡ BLOCK_BYTES }
-    requires staged { length staged.old ≡ BLOCK_BYTES }
     ensures finds { S.tells → Finds result
         (row_track_fault (content (S.told site.old)) volume cylinder head row.now) }
     ensures counts { CountsFaults (S.faults site.old) (S.faults site.new) result }
@@ -187,11 +181,9 @@ fn check_cylinder<S: Site>(
     row: &VolumeRow,
     volume: VolumeNo,
     cylinder: Cylinder,
-    shown: &mut [u8],
-    staged: &mut [u8],
+    shown: &mut Block,
+    staged: &mut Block,
 ) -> Result<(), Refused>
-    requires shown { length shown.old ≡ BLOCK_BYTES }
-    requires staged { length staged.old ≡ BLOCK_BYTES }
     ensures finds { S.tells → Finds result
         (row_cylinder_fault (content (S.told site.old)) volume row.now cylinder) }
     ensures counts { CountsFaults (S.faults site.old) (S.faults site.new) result }
@@ -212,11 +204,9 @@ fn check_row<S: Site>(
     site: &mut S,
     row: &VolumeRow,
     volume: VolumeNo,
-    shown: &mut [u8],
-    staged: &mut [u8],
+    shown: &mut Block,
+    staged: &mut Block,
 ) -> Result<(), Refused>
-    requires shown { length shown.old ≡ BLOCK_BYTES }
-    requires staged { length staged.old ≡ BLOCK_BYTES }
     ensures finds { S.tells → Finds result
         (row_tracks_fault (content (S.told site.old)) volume row.now) }
     ensures counts { CountsFaults (S.faults site.old) (S.faults site.new) result }
@@ -234,11 +224,9 @@ fn check_volume<S: Site>(
     site: &mut S,
     rows: &Rows,
     volume: VolumeNo,
-    shown: &mut [u8],
-    staged: &mut [u8],
+    shown: &mut Block,
+    staged: &mut Block,
 ) -> Result<(), Refused>
-    requires shown { length shown.old ≡ BLOCK_BYTES }
-    requires staged { length staged.old ≡ BLOCK_BYTES }
     ensures finds { S.tells → Finds result
         (tracks_fault (listed rows.now) (content (S.told site.old)) volume) }
     ensures counts { CountsFaults (S.faults site.old) (S.faults site.new) result }
@@ -258,11 +246,9 @@ fn check_volume<S: Site>(
 pub fn check_tracks<S: Site>(
     site: &mut S,
     rows: &Rows,
-    shown: &mut [u8],
-    staged: &mut [u8],
+    shown: &mut Block,
+    staged: &mut Block,
 ) -> Result<(), Refused>
-    requires shown { length shown.old ≡ BLOCK_BYTES }
-    requires staged { length staged.old ≡ BLOCK_BYTES }
     ensures finds { S.tells → Finds result
         (first_below 32 (tracks_fault (listed rows.now) (content (S.told site.old)))) }
     ensures counts { CountsFaults (S.faults site.old) (S.faults site.new) result }

@@ -21,15 +21,14 @@ use Rattle.session_report.specs.Reports.{Grows, untitled, volumes_text, begun_te
 use Rattle.session_report.specs.declared.fault.VolumesFault.{VolumesFault}
 use Rattle.session_report.specs.declared.fault.VolumesFault.TheVariants as volumes_fault
 
--- what such a walk keeps of its site and its sink, of which no call failed, and of its buffer, and what it has put so far
+-- what such a walk keeps of its site and its sink, of which no call failed, and what it has put so far
 pub record IsPutting {S : Type 0} (g : Ghosts S) (sink_tells : Type 0) (begun now : S)
-    (old new : List ℕ) (sink_begun sink_now long : ℕ) (so_far : Content → List ℕ) : Type 0 where
+    (old new : List ℕ) (sink_begun sink_now : ℕ) (so_far : Content → List ℕ) : Type 0 where
   pub site : OnlyReads g begun now
   pub same : g.faults now ≡ g.faults begun
   pub put : g.tells → sink_tells → new ≡ old ++ so_far (content (g.told begun))
   pub grown : sink_tells → Grows old new
   pub output_same : sink_now ≡ sink_begun
-  pub whole : long ≡ 16384
 
 -- ---- the tracks of a volume
 

@@ -1,5 +1,5 @@
 // The report of a session.
-ghost use Rattle.std.specs.Prelude.{◌≡◌, ◌≢◌, ◌++◌, IfOk, IsErrOf, OnOk, length, vec_len};
+ghost use Rattle.std.specs.Prelude.{◌≡◌, ◌≢◌, ◌++◌, IsErrOf, OnOk};
 ghost use Rattle.mss_base.specs.Content.{content};
 ghost use Rattle.mss_base.specs.Counts.{HasCause};
 ghost use Rattle.mss_base.specs.Puts.{Puts};
@@ -22,7 +22,7 @@ use crate::changes::put_changes;
 use crate::fault::{ReportFault, VolumesFault};
 use crate::volumes::put_volumes;
 use core_state::Session;
-use mss_base::{BLOCK_BYTES, Bytes, Failed, NoMemory, Serial, Sink, Site, VolumeNo};
+use mss_base::{Block, Bytes, Failed, Serial, Sink, Site, VolumeNo};
 use report_text::{ReportFault as PartFault, put_end, put_history, put_limit, put_stopped};
 use std::alloc::Global;
 use volume_table::Rows;
@@ -69,10 +69,9 @@ fn put_to_end<S: Site, O: Sink>(
     rows: &Rows,
     volumes: &[(VolumeNo, Serial)],
     last: Last,
-    block: &mut [u8],
+    block: &mut Block,
     line: &mut Bytes,
 ) -> Result<(), VolumesFault>
-    requires block { length block.old ≡ BLOCK_BYTES }
     ensures bytes { let shown = shown_by (listed rows.now) (content (S.told site.old)) in
         PutsVolumes (S.tells × O.tells) (IsUnread S.Site site.old (listed rows.now) volumes.now)
         (untitled volumes.now shown) (volumes_text shown volumes.now ++ last_text last)
@@ -88,16 +87,6 @@ fn put_to_end<S: Site, O: Sink>(
     put_volumes(site, output, rows, volumes, block, line)?;
     put_last(output, last)?;
     Ok(())
-}
-
-/// Room for a block.
-fn block_room(alloc: Global) -> Result<Vec<u8>, NoMemory>
-    ensures { IfOk result (λ block. vec_len block ≡ BLOCK_BYTES) }
-{
-    let Ok(block) = vec![in alloc; 0u8; BLOCK_BYTES] else {
-        return Err(NoMemory);
-    };
-    Ok(block)
 }
 
 /// Puts the listed volumes and the last line, or where a read fails the volumes before it and the count of faults.
@@ -122,7 +111,7 @@ pub fn put_ending<S: Site, O: Sink>(
     ensures site { OnlyReads S.Site site.old site.new }
     ensures output { SinkCounts (O.faults output.old) (O.faults output.new) result }
 {
-    let mut block = block_room(alloc)?;
+    let mut block = Block::zeros(alloc)?;
     let mut line = Bytes::new(alloc);
     match put_to_end(site, output, rows, volumes, last, &mut block, &mut line) {
         Ok(()) => Ok(()),

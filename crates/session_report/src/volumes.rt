@@ -1,5 +1,5 @@
 // The volumes of a report, as the devices show them.
-ghost use Rattle.std.specs.Prelude.{◌≡◌, [], Some, length};
+ghost use Rattle.std.specs.Prelude.{◌≡◌, [], Some};
 ghost use Rattle.mss_base.specs.Content.{content};
 ghost use Rattle.mss_base.specs.Sites.{OnlyReads};
 ghost use Rattle.volume_table.specs.Listed.{listed};
@@ -13,9 +13,7 @@ ghost use Rattle.session_report.specs.Reports.{Grows, untitled, volumes_text};
 
 use crate::fault::VolumesFault;
 use crate::place::{is_blank, row_of, shown_place};
-use mss_base::{
-    BLOCK_BYTES, Bytes, CYLINDERS, Cylinder, HEADS, Head, Serial, Sink, Site, VolumeNo,
-};
+use mss_base::{Block, Bytes, CYLINDERS, Cylinder, HEADS, Head, Serial, Sink, Site, VolumeNo};
 use report_text::{put_heading, put_track};
 use volume_table::{Rows, VolumeRow};
 
@@ -27,10 +25,9 @@ fn put_shown<S: Site, O: Sink>(
     row: &VolumeRow,
     cylinder: Cylinder,
     head: Head,
-    block: &mut [u8],
+    block: &mut Block,
     line: &mut Bytes,
 ) -> Result<(), VolumesFault>
-    requires { length block.old ≡ BLOCK_BYTES }
     ensures bytes { let tracks = row_tracks (content (S.told site.old)) (Some row.now) in
         PutsTrack (S.tells × O.tells) (MayFail S.Site site.old (source row.now cylinder head))
         (track_text cylinder head (tracks cylinder head))
@@ -44,12 +41,12 @@ fn put_shown<S: Site, O: Sink>(
     let Some(place) = shown_place(row, cylinder, head) else {
         return Ok(());
     };
-    if site.read(place.unit, place.block, block).is_err() {
+    if block.read(site, &place).is_err() {
         return Err(VolumesFault::Read {
             fault: site.faults(),
         });
     }
-    put_track(output, line, cylinder, head, block)?;
+    put_track(output, line, cylinder, head, block.as_slice())?;
     Ok(())
 }
 
@@ -58,10 +55,9 @@ fn put_tracks<S: Site, O: Sink>(
     site: &mut S,
     output: &mut O,
     row: &VolumeRow,
-    block: &mut [u8],
+    block: &mut Block,
     line: &mut Bytes,
 ) -> Result<(), VolumesFault>
-    requires { length block.old ≡ BLOCK_BYTES }
     ensures bytes { PutsTracks (S.tells × O.tells)
         (λ n. MayFail S.Site site.old (block_of (Some row.now) n)) []
         (row_tracks (content (S.told site.old)) (Some row.now))
@@ -94,10 +90,9 @@ fn put_row<S: Site, O: Sink>(
     site: &mut S,
     output: &mut O,
     row: &Option<VolumeRow>,
-    block: &mut [u8],
+    block: &mut Block,
     line: &mut Bytes,
 ) -> Result<(), VolumesFault>
-    requires { length block.old ≡ BLOCK_BYTES }
     ensures bytes { PutsTracks (S.tells × O.tells)
         (λ n. MayFail S.Site site.old (block_of row.now n)) []
         (row_tracks (content (S.told site.old)) row.now)
@@ -121,10 +116,9 @@ fn put_volume<S: Site, O: Sink>(
     rows: &Rows,
     volume: VolumeNo,
     serial: &Serial,
-    block: &mut [u8],
+    block: &mut Block,
     line: &mut Bytes,
 ) -> Result<(), VolumesFault>
-    requires block { length block.old ≡ BLOCK_BYTES }
     ensures bytes { PutsTracks (S.tells × O.tells)
         (λ n. MayFail S.Site site.old (block_of (listed rows.now volume) n))
         (heading_text volume serial.now)
@@ -142,16 +136,15 @@ fn put_volume<S: Site, O: Sink>(
 
 /// Puts each listed volume: its heading, and its tracks as the rows show them over the devices.
 ///
-/// `block` has 16,384 bytes; what it and `line` hold means nothing afterwards.
+/// What `block` and `line` hold means nothing afterwards.
 pub fn put_volumes<S: Site, O: Sink>(
     site: &mut S,
     output: &mut O,
     rows: &Rows,
     volumes: &[(VolumeNo, Serial)],
-    block: &mut [u8],
+    block: &mut Block,
     line: &mut Bytes,
 ) -> Result<(), VolumesFault>
-    requires block { length block.old ≡ BLOCK_BYTES }
     ensures bytes { let shown = shown_by (listed rows.now) (content (S.told site.old)) in
         PutsVolumes (S.tells × O.tells) (IsUnread S.Site site.old (listed rows.now) volumes.now)
         (untitled volumes.now shown) (volumes_text shown volumes.now)

@@ -13,8 +13,6 @@ loop-number-init g c = record {
   known = λ tells. none_yet ((λ (k : Content). λ (h : ℕ). row_track_fault k c.args.volume c.args.cylinder h c.args.row.now) (content (g.S.Site.told c.args.site.now)));
   devices = reads_none g.S.Site c.args.site.now;
   count = refl;
-  shown_whole = c.requires.shown;
-  staged_whole = c.requires.staged;
 }
 
 pub returns-in_err-check_track_of-clause-finds : goal.returns-in_err-check_track_of-clause-finds
@@ -32,8 +30,6 @@ loop-number-preserved g c =
           (c.in_ok-check_track_of.ensures.finds tells);
       devices = reads_then g.S.Site c.args.site.now c.loop-number.site c.check_track_of.new.site known.devices c.check_track_of.ensures.devices;
       count = c.in_ok-check_track_of.ensures.counts ∙ known.count;
-      shown_whole = omega (arith, known.shown_whole, c.check_track_of.auto.shown);
-      staged_whole = omega (arith, known.staged_whole, c.check_track_of.auto.staged);
     }
 
 pub returns-in_err-check_track_of-clause-works : goal.returns-in_err-check_track_of-clause-works

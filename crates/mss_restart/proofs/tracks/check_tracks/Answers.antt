@@ -14,8 +14,6 @@ loop-number-init g c = record {
   known = λ tells. none_yet ((λ (k : Content). tracks_fault (listed c.args.rows.now) k) (content (g.S.Site.told c.args.site.now)));
   devices = reads_none g.S.Site c.args.site.now;
   count = refl;
-  shown_whole = c.requires.shown;
-  staged_whole = c.requires.staged;
 }
 
 pub returns-in_err-check_volume-clause-finds : goal.returns-in_err-check_volume-clause-finds
@@ -33,8 +31,6 @@ loop-number-preserved g c =
           (c.in_ok-check_volume.ensures.finds tells);
       devices = reads_then g.S.Site c.args.site.now c.loop-number.site c.check_volume.new.site known.devices c.check_volume.ensures.devices;
       count = c.in_ok-check_volume.ensures.counts ∙ known.count;
-      shown_whole = omega (arith, known.shown_whole, c.check_volume.auto.shown);
-      staged_whole = omega (arith, known.staged_whole, c.check_volume.auto.staged);
     }
 
 pub returns-in_err-check_volume-clause-works : goal.returns-in_err-check_volume-clause-works

@@ -1,4 +1,4 @@
-use Rattle.std.proofs.Common.{◌≡◌, None, length}
+use Rattle.std.proofs.Common.{◌≡◌, None}
 use Rattle.mss_base.specs.Firsts.{first_below}
 use Rattle.shown_volumes.specs.Faults.{tracks_fault}
 use Rattle.volume_table.specs.Listed.{listed}
@@ -8,4 +8,4 @@ use Rattle.mss_restart.proofs.tracks.check_tracks.Given as goal
 abbrev pub invariant-loop-number : goal.invariant-loop-number
 invariant-loop-number g l =
     IsGoing g.S.Site l.initial.site l.site
-    (length l.shown) (length l.staged) (λ c. first_below l.number (tracks_fault (listed l.rows) c) ≡ None)
+    (λ c. first_below l.number (tracks_fault (listed l.rows) c) ≡ None)

@@ -17,7 +17,6 @@ loop-cylinder-init g c = record {
   put = λ tells sink_tells. tracks_begin (row_tracks (content (g.S.Site.told c.args.site.now)) (Some c.args.row.now)) (g.O.Sink.told c.args.output.now);
   grown = λ sink_tells. grows_none (g.O.Sink.told c.args.output.now);
   output_same = refl;
-  whole = c.requires;
 }
 
 pub loop-cylinder-preserved-then-is_blank : goal.loop-cylinder-preserved-then-is_blank
@@ -32,7 +31,6 @@ loop-cylinder-preserved-then-is_blank g c =
           (g.O.Sink.told c.args.output.now) (g.O.Sink.told c.loop-cylinder.output) c.loop-cylinder.cylinder c.in-Some.ensures.value (known.put tells sink_tells);
       grown = known.grown;
       output_same = known.output_same;
-      whole = known.whole;
     }
 
 pub returns-in_err-put_shown-clause-bytes : goal.returns-in_err-put_shown-clause-bytes
@@ -59,7 +57,6 @@ loop-head-preserved g c = record {
       (c.loop-head.invariant.site.log t.0) (c.in_ok-put_shown.ensures.bytes t)) (tells, sink_tells);
   grown = λ sink_tells. grows_then _ _ _ (c.loop-head.invariant.grown sink_tells) (c.put_shown.ensures.grown sink_tells);
   output_same = c.in_ok-put_shown.ensures.output.same (λ x. x) ∙ c.loop-head.invariant.output_same;
-  whole = omega (arith, c.loop-head.invariant.whole, c.put_shown.auto.block);
 }
 
 pub returns-in_err-put_shown-clause-works : goal.returns-in_err-put_shown-clause-works

@@ -39,7 +39,6 @@ loop-entry-preserved g c = record {
       (c.loop-entry.invariant.site.log t.0) (c.in_ok-put_volume.ensures.bytes t)) (tells, sink_tells);
   grown = λ sink_tells. grows_then _ _ _ (c.loop-entry.invariant.grown sink_tells) (c.put_volume.ensures.grown sink_tells);
   output_same = c.in_ok-put_volume.ensures.output.same (λ x. x) ∙ c.loop-entry.invariant.output_same;
-  whole = omega (arith, c.loop-entry.invariant.whole, c.put_volume.auto.block);
 }
 
 pub returns-in_err-put_volume-clause-works : goal.returns-in_err-put_volume-clause-works

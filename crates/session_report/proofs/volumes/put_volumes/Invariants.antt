@@ -1,4 +1,4 @@
-use Rattle.std.proofs.Common.{length, take}
+use Rattle.std.proofs.Common.{take}
 use Rattle.volume_table.specs.Listed.{listed}
 use Rattle.shown_volumes.specs.Shown.{shown_by}
 use Rattle.session_report.specs.Reports.{volumes_text}
@@ -8,5 +8,5 @@ use Rattle.session_report.proofs.volumes.put_volumes.Given as goal
 abbrev pub invariant-loop-entry : goal.invariant-loop-entry
 invariant-loop-entry g l =
     IsPutting g.S.Site g.O.Sink.tells l.fn.site l.site
-    (g.O.Sink.told l.fn.output) (g.O.Sink.told l.output) (g.O.Sink.faults l.fn.output) (g.O.Sink.faults l.output) (length l.block)
+    (g.O.Sink.told l.fn.output) (g.O.Sink.told l.output) (g.O.Sink.faults l.fn.output) (g.O.Sink.faults l.output)
     (λ c. volumes_text (shown_by (listed l.rows) c) (take l.entry-index l.volumes))
