@@ -1,4 +1,4 @@
-// A chooser of our own: the third page takes the frame of the second. `checks/cases` shows the program's choice.
+// A chooser of our own: the third page takes the frame of the second. `tests/cases` shows the program's choice.
 use crate::running::{NONE_FAILS, failing_site, new_output, run_by};
 use memory_devices::{MemorySink, MemorySite};
 use std::alloc::Global;

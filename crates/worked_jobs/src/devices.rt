@@ -12,8 +12,9 @@ const R0: &[u8] = &[0, 0, 0, 0, 0];
 
 const R1: &[u8] = &[0, 0, 0, 0, 1, 0, 0, 1, 0x41];
 
-/// The restart makes 136 calls; the frame is told by 6 writes, 19 stage the cylinder, and 6 tell that; the search reads
-/// the track; and 6 writes tell the changed cylinder. Then the command reads its track, and writes, which is call 176.
+/// Behind the restart a cylinder is staged, searched and told as changed; the track is read, and the write fails.
+const WRITE: u64 = CALLS_OF_RESTART + (STAGE_ITEMS + 1) + (CHANGE_ITEMS + 1) + 1;
+
 const WRITE_FAILS: &[Row] = &[
     (1, Step::Mount(1, 0), Told::Mounted),
     (1, Step::Chain(1, 0x31, R0), Told::Fault(0)),
@@ -38,10 +39,12 @@ const FAILED_WRITE: Course = Course {
 
 #[test]
 fn a_failed_write_stops_the_session(rt: HostRuntime) {
-    assert_eq!(rt; other_answer(rt.alloc(), [176, 0], &FAILED_WRITE), None);
+    assert_eq!(rt; other_answer(rt.alloc(), [WRITE, 0], &FAILED_WRITE), None);
 }
 
-/// The second search reads the track by call 169.
+/// The first search reads the track, and the second can't.
+const SECOND_SEARCH: u64 = CALLS_OF_RESTART + (STAGE_ITEMS + 1) + 1;
+
 const READ_FAILS: &[Row] = &[
     (1, Step::Mount(1, 0), Told::Mounted),
     (1, Step::Chain(1, 0x31, R0), Told::Fault(0)),
@@ -65,10 +68,16 @@ const FAILED_READ: Course = Course {
 
 #[test]
 fn a_failed_read_is_an_equipment_check_once(rt: HostRuntime) {
-    assert_eq!(rt; other_answer(rt.alloc(), [169, 0], &FAILED_READ), None);
+    assert_eq!(rt;
+        other_answer(rt.alloc(), [SECOND_SEARCH, 0], &FAILED_READ),
+        None
+    );
 }
 
-/// The fourth track can't be written by call 146, so the host is told; then the cylinder is staged anew.
+/// The frame is told, and three tracks are written.
+const FOURTH_TRACK: u64 = CALLS_OF_RESTART + CHANGE_ITEMS + 4;
+
+/// The fourth track can't be written, so the host is told; then the cylinder is staged anew.
 const COPY_FAILS: &[Row] = &[
     (1, Step::Mount(1, 0), Told::Mounted),
     (1, Step::Ask(1, 0x31, R0), Told::Fault(0)),
@@ -95,7 +104,10 @@ const FAILED_COPY: Course = Course {
 
 #[test]
 fn a_failed_copy_is_an_equipment_check_of_its_host(rt: HostRuntime) {
-    assert_eq!(rt; other_answer(rt.alloc(), [146, 0], &FAILED_COPY), None);
+    assert_eq!(rt;
+        other_answer(rt.alloc(), [FOURTH_TRACK, 0], &FAILED_COPY),
+        None
+    );
 }
 
 const TWO_VOLUMES: &str = "mss 1 frames 1 recorders 1\nvolume 0 VOL001\nvolume 1 VOL002\ndone\n";

@@ -1,5 +1,5 @@
 // Runs on blank devices of which calls fail, said by value.
-use crate::items::CREATE_ITEMS;
+use crate::items::{CREATE_ITEMS, SYNC_ITEMS};
 use crate::running::{Failing, failing_site, left_by, shows};
 use mss_base::Site;
 use std::alloc::Global;
@@ -195,20 +195,22 @@ pub fn other_pair(alloc: Global, worked: &Worked, pairs: &[(u64, Ending)]) -> Op
     None
 }
 
-/// How many calls there are before the session on one volume, which isn't there where one of them fails. For the survey
-/// both copies of 32 rows are read, and again for repairs. Then each copy of the new row is read and marked, and each is
-/// filled by two writes.
+/// How many calls there are before the session on one volume, which isn't there where one of them fails. All units are
+/// synced. For the survey both copies of 32 rows are read, and again for repairs. Then each copy of the new row is read and
+/// marked, and each is filled by two writes, with a sync behind each write.
 pub const CALLS_OF_RESTART: u64 = CALLS_OF_A_LOOK + 2 + CREATE_ITEMS;
 
-/// The calls of a survey and of repairs.
-const CALLS_OF_A_LOOK: u64 = 128;
+/// The calls of a sync, a survey and of repairs.
+const CALLS_OF_A_LOOK: u64 = SYNC_ITEMS + 128;
 
-/// How many writes are made up to one of these calls.
+/// The call behind a look that reads the second copy of the new row. The first copy was read, marked and synced.
+const SECOND_READ: u64 = 4;
+
+/// How many writes and syncs are made up to one of these calls.
 fn writes_of_restart(call: u64) -> u64 {
-    if call < CALLS_OF_A_LOOK + 2 {
-        return 0;
-    }
-    (call - CALLS_OF_A_LOOK - 2).max(1)
+    let behind = call.saturating_sub(CALLS_OF_A_LOOK);
+    let reads = if behind < SECOND_READ { 1 } else { 2 };
+    behind.saturating_sub(reads).saturating_add(SYNC_ITEMS)
 }
 
 /// The line that is told of devices that aren't taken up, of which a call failed.

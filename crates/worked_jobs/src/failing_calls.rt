@@ -80,11 +80,11 @@ const CUT_BEHIND_THE_TRACK: &str = "volume 0 VOL001\n\
     record 0005000301 - 414243\n\
     STOPPED 1\n";
 
-/// The frame is told in the row by 6 writes, blank tracks are written into it by 19, and the staged cylinder is told by
-/// 6. A write of a row stops the session where it fails; a write of a track fails the search that waits for it. The
-/// search reads the track. Before the record is written, the changed cylinder is told by 6 writes and the track is
-/// read; the record takes a write and a sync, and its gate too. A write that fails was made all the same, so behind the
-/// gate's, also where its sync fails, the record is there.
+/// The frame is told in the row, blank tracks are written into it, and the staged cylinder is told. A write or a sync of a
+/// row stops the session where it fails; a write of a track fails the search that waits for it. The search reads the
+/// track. Before the record is written, the changed cylinder is told and the track is read; the record takes a write and
+/// a sync, and its gate too. A write that fails was made all the same, so behind the gate's, also where its sync fails,
+/// the record is there.
 const ENDINGS: &[Ending] = &[
     Ending {
         last: ASSIGNED,
@@ -231,7 +231,7 @@ const PAIRS: &[(u64, Ending)] = &[
     (
         COPIED,
         Ending {
-            last: WRITTEN + 4,
+            last: COPIED + TRACK_ITEMS + 1,
             entries: 2,
             then: SEARCH_AND_STAGING,
             changes: 2,

@@ -1,5 +1,6 @@
 // Three hosts take turns, and each call of the devices fails once.
-use crate::failing::REFUSED;
+use crate::failing::{CALLS_OF_RESTART, REFUSED};
+use crate::items::{APPEND_ITEMS, CHANGE_ITEMS, CREATE_ITEMS, STAGE_ITEMS, TRACK_ITEMS};
 use crate::jobs::{FOUR_VOLUMES, THREE_HOSTS};
 use crate::running::{ends_with, failing_site, new_output, run};
 use job_runs::Outcome;
@@ -423,11 +424,15 @@ fn fails_well<S: Site + Drop>(alloc: Global, site: S) -> bool {
     }
 }
 
-/// Each of the calls fails once: 128 reads of the rows, and 8 calls for each of the four that are created. Then of each
-/// volume a frame is told by 6 writes, a cylinder staged by 19 and told by 6, the track read for the search, the changed
-/// cylinder told by 6 writes, and for the record the track read, and twice written and synced; three of them are read
-/// back. The four staged cylinders are read for the report, and there is no further call.
-const CALLS: u64 = 417;
+/// Each of the calls fails once: those of the restart, which creates three rows more, each with two reads. Then of each
+/// volume a cylinder is staged, the track read for the search, the changed cylinder told, and for the record the track
+/// read, and the record appended; three of them are read back, by two reads for the search and one for the data. The four
+/// staged cylinders are read for the report, and there is no further call.
+const CALLS: u64 = CALLS_OF_RESTART
+    + 3 * (CREATE_ITEMS + 2)
+    + 4 * (STAGE_ITEMS + 1 + CHANGE_ITEMS + 1 + APPEND_ITEMS)
+    + 3 * 3
+    + 4 * TRACK_ITEMS;
 
 /// Whether the run of which this call fails ends in one of the ways.
 fn call_fails_well(alloc: Global, call: u64) -> bool {

@@ -196,8 +196,8 @@ const CUT_BEHIND_BOTH: &str = "volume 0 VOL001\n\
     STOPPED 1\n";
 
 const ENDINGS: &[Ending] = &[
-    // As for one record: 6 writes tell the frame, 19 stage the blank cylinder, 6 tell that; a read for the search; 6 writes
-    // tell the changed cylinder; a read, and two writes with a sync each, for the record.
+    // As for one record: the frame is told, 19 writes stage the blank cylinder, and that is told; a read for the search; the
+    // changed cylinder is told; a read, and two writes with a sync each, for the record.
     Ending {
         last: ASSIGNED,
         entries: 2,
@@ -312,8 +312,7 @@ const ENDINGS: &[Ending] = &[
         rest: STOPPED,
         left: FIRST,
     },
-    // A read for the search, 6 writes that tell the changed cylinder; a read, and two writes with a sync each, for the
-    // record.
+    // A read for the search; the changed cylinder is told; a read, and two writes with a sync each, for the record.
     Ending {
         last: RESEARCHED,
         entries: 5,

@@ -1,10 +1,14 @@
 // How many items of a site's log the steps of a session make, so many calls of the devices as well.
 
-/// A row is created: each copy is marked, filled and opened.
-pub const CREATE_ITEMS: u64 = 6;
+/// All units are synced, before a site is opened.
+pub const SYNC_ITEMS: u64 = 1;
 
-/// A row is changed: each copy is rewritten.
-pub const CHANGE_ITEMS: u64 = 6;
+/// A row is created: each copy is marked, and then each is filled and opened, with a sync behind each of these writes.
+pub const CREATE_ITEMS: u64 = 12;
+
+/// A row is changed: each copy is closed and synced; it is filled, its slots are closed, and both are synced; it is opened
+/// and synced.
+pub const CHANGE_ITEMS: u64 = 14;
 
 /// The tracks of a cylinder are written where they are copied to.
 pub const TRACK_ITEMS: u64 = 19;

@@ -1,7 +1,7 @@
 //! Sessions of the core and jobs on it, worked out by hand, as tests: each answer of hosts and recorders, alone and under
 //! the lock, what stops leave, and devices that fail.
 //!
-//! Nothing stands on this crate. What the built program shows is checked by `checks/`.
+//! Nothing stands on this crate. What the built program shows is checked by `tests/`.
 #![tactic(auto)]
 
 #[cfg(test)]

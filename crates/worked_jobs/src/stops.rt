@@ -2,7 +2,8 @@
 ghost use Rattle.std.specs.Prelude.{◌≤◌};
 
 use crate::items::{
-    APPEND_ITEMS, CHANGE_ITEMS, CREATE_ITEMS, FORMAT_ITEMS, STAGE_ITEMS, TRACK_ITEMS, UPDATE_ITEMS,
+    APPEND_ITEMS, CHANGE_ITEMS, CREATE_ITEMS, FORMAT_ITEMS, STAGE_ITEMS, SYNC_ITEMS, TRACK_ITEMS,
+    UPDATE_ITEMS,
 };
 use crate::jobs::{
     FOUR_VOLUMES, ONE_VOLUME, REPLACEMENT, THREE_HOSTS, THREE_HOSTS_LEFT, WRITE_AND_READ,
@@ -15,9 +16,11 @@ use mss_base::{BLOCK_BYTES, Site};
 use std::alloc::Global;
 
 // The moments behind the steps of a session on one volume. A record is there once its gate was opened, before the sync.
-const ASSIGNED: u64 = CREATE_ITEMS + CHANGE_ITEMS;
+const CREATED: u64 = SYNC_ITEMS + CREATE_ITEMS;
 
-const STAGED: u64 = CREATE_ITEMS + STAGE_ITEMS;
+const ASSIGNED: u64 = CREATED + CHANGE_ITEMS;
+
+const STAGED: u64 = CREATED + STAGE_ITEMS;
 
 const CHANGED: u64 = STAGED + CHANGE_ITEMS;
 
@@ -156,10 +159,13 @@ const UPDATE: &str = "mss 1 frames 1 recorders 1\n\
     end\n\
     done\n";
 
-/// The update is the write behind the appended record, and a sync.
+/// The units are synced again behind the appended record.
+const TAKEN_UP: u64 = APPENDED + SYNC_ITEMS;
+
+/// The update is the write behind that, and a sync.
 const TORN_UPDATE: &[Stops] = &[Stops {
-    first: APPENDED,
-    last: APPENDED,
+    first: TAKEN_UP,
+    last: TAKEN_UP,
     job: ONE_VOLUME,
     begins: "MSS REPORT 1\nvolume 0 VOL001\n",
     ends: "\nvolume 0 VOL001\n\
@@ -169,8 +175,8 @@ const TORN_UPDATE: &[Stops] = &[Stops {
 }];
 
 const UPDATED: &[Stops] = &[Stops {
-    first: APPENDED + 1,
-    last: APPENDED + UPDATE_ITEMS,
+    first: TAKEN_UP + 1,
+    last: TAKEN_UP + UPDATE_ITEMS,
     job: ONE_VOLUME,
     begins: "MSS REPORT 1\nvolume 0 VOL001\n",
     ends: "\nvolume 0 VOL001\n\
@@ -201,7 +207,7 @@ fn other_updated(alloc: Global) -> Option<Option<u64>> {
     let site = updated(
         alloc,
         failing_site(alloc, NONE_FAILS)?,
-        APPENDED + UPDATE_ITEMS,
+        TAKEN_UP + UPDATE_ITEMS,
     )?;
     Some(other_update(alloc, &site))
 }
@@ -225,16 +231,9 @@ const ROW_CHANGE: &[Stops] = &[Stops {
 const WRITTEN: Marks = Marks {
     writes: APPENDED,
     entries: &[
-        CREATE_ITEMS,
-        CREATE_ITEMS,
-        STAGED,
-        APPENDED,
-        APPENDED,
-        APPENDED,
-        APPENDED,
-        APPENDED,
+        CREATED, CREATED, STAGED, APPENDED, APPENDED, APPENDED, APPENDED, APPENDED,
     ],
-    changes: &[CREATE_ITEMS, ASSIGNED, STAGED, CHANGED],
+    changes: &[CREATED, ASSIGNED, STAGED, CHANGED],
 };
 
 /// The first moment that leaves something else of this job.
@@ -284,7 +283,7 @@ const THREE_RECORDS: &str = "mss 1 frames 1 recorders 1\n\
 const FORMATTING: Marks = Marks {
     writes: THREE_APPENDED + FORMAT_ITEMS,
     entries: &[
-        CREATE_ITEMS,
+        CREATED,
         STAGED,
         APPENDED,
         APPENDED + APPEND_ITEMS,
@@ -293,7 +292,7 @@ const FORMATTING: Marks = Marks {
         THREE_APPENDED,
         THREE_APPENDED + FORMAT_ITEMS,
     ],
-    changes: &[CREATE_ITEMS, ASSIGNED, STAGED, CHANGED],
+    changes: &[CREATED, ASSIGNED, STAGED, CHANGED],
 };
 
 /// Behind the three records the gate of the second is closed and synced; that of the third is closed, the new record is
@@ -415,7 +414,7 @@ const REPLACED: &[Stops] = &[
     },
 ];
 
-/// Destaged, freed, assigned and staged: 19 tracks twice, and four changes of a row with six writes each.
+/// Destaged, freed, assigned and staged: 19 tracks twice, and four changes of a row.
 const FIRST_REPLACED: &[Stops] = &[Stops {
     first: APPENDED,
     last: REPLACED_ONCE,
@@ -434,8 +433,8 @@ fn filled(alloc: Global, byte: u8, count: usize) -> Option<Vec<u8>> {
 const REPLACING: Marks = Marks {
     writes: RETURNED,
     entries: &[
-        CREATE_ITEMS,
-        CREATE_ITEMS,
+        CREATED,
+        CREATED,
         STAGED,
         APPENDED,
         APPENDED,
@@ -447,7 +446,7 @@ const REPLACING: Marks = Marks {
         RETURNED,
     ],
     changes: &[
-        CREATE_ITEMS,
+        CREATED,
         ASSIGNED,
         STAGED,
         CHANGED,
@@ -483,7 +482,7 @@ fn a_stop_at_each_write_of_replacements_leaves_what_was_answered(rt: HostRuntime
     assert_eq!(rt; other_replaced(rt.alloc()), Some(None));
 }
 
-const FOUR_CREATED: u64 = 4 * CREATE_ITEMS;
+const FOUR_CREATED: u64 = SYNC_ITEMS + 4 * CREATE_ITEMS;
 
 const THREE_STAGED: u64 = FOUR_CREATED + 3 * STAGE_ITEMS;
 
@@ -619,9 +618,9 @@ const TURNING: Marks = Marks {
         ALL_WRITTEN,
     ],
     changes: &[
-        CREATE_ITEMS,
-        2 * CREATE_ITEMS,
-        3 * CREATE_ITEMS,
+        CREATED,
+        SYNC_ITEMS + 2 * CREATE_ITEMS,
+        SYNC_ITEMS + 3 * CREATE_ITEMS,
         FOUR_CREATED,
         FOUR_CREATED + CHANGE_ITEMS,
         FOUR_CREATED + 2 * CHANGE_ITEMS,
@@ -646,7 +645,7 @@ fn stops_of_three_hosts_leave_what_was_answered(rt: HostRuntime) {
         THREE_HOSTS,
         &TURNING,
         &tears,
-        10,
+        17,
         THREE_HOSTS_SHOWN,
     );
     assert_eq!(rt; other, Some(None));

@@ -144,14 +144,14 @@ fn one_unreadable_copy_changes_nothing_and_two_are_told(rt: HostRuntime) -> Resu
     run(&rt, rt.alloc(), OLD, LOST)
 }
 
-// A restart of blank devices creates the volume, and its console tells that with its mark. Where the row
-// has another serial, it is refused, and nothing is written.
+// A restart syncs blank devices and creates the volume, and its console tells that with its mark. Where the row
+// has another serial, it is refused, and nothing is written behind the sync.
 const RESTARTS: &str = "\
-restart 3 VOL004 -> 3 VOL004 0 1 12 0 0 none 12 create VOL004 0 1
+restart 3 VOL004 -> 3 VOL004 0 1 13 0 0 none 13 create VOL004 0 1
 
 put table A 3 VOL009 0 1
 restart 3 VOL004 -> differs 3 VOL009 VOL004
-writes -> 1";
+writes -> 2";
 
 #[test]
 fn restarts_blank_devices_and_refuses_another_serial(rt: HostRuntime) -> Result<(), Fail> {

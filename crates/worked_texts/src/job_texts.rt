@@ -1,4 +1,4 @@
-// The first worked job, read and written. Which lines are refused, `checks/refusals` shows.
+// The first worked job, read and written. Which lines are refused, `tests/test_refused_jobs.py` shows.
 use crate::written::written;
 use job_text::read_job;
 use mss_base::Bytes;
