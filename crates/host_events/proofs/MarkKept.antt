@@ -12,6 +12,7 @@ use Rattle.volume_table.specs.Listed.{HasRow, listed, with_changed}
 use Rattle.volume_table.specs.Row.{RowValue}
 use Rattle.volume_table.specs.Changes.{IsAllowed, effect, with_state as state_set}
 use Rattle.volume_table.specs.declared.changes.Change.TheVariants.{Changed}
+use Rattle.table_pair.specs.declared.change.TheConstants.{CHANGE_WRITES}
 use Rattle.table_pair.specs.Pair.{HoldsRow}
 use Rattle.fault_queue.specs.declared.queue.Request.{Request}
 use Rattle.fault_queue.specs.declared.queue.RequestState.TheVariants.{Ready}
@@ -85,7 +86,7 @@ module _ (S : Type 0) {C : Type 0} (g : Ghosts S) {u : CoreValue S C} (v : CoreV
     pub holds_row : g.tells → ForSome (listed u.rows volume) (λ r. HoldsRow r volume (content (g.told mid)))
     holds_row tl r at = subst (λ (s : SiteLog). HoldsRow r volume (content s)) (sym (reserves.log tl)) (((kept.whole.told tl).going on.goes.going).copies volume r at)
 
-    module _ (x : S) (may : MayWrite g 6 mid x) (counts : g.tells → g.writes x ≡ length (g.told x).log)
+    module _ (x : S) (may : MayWrite g CHANGE_WRITES mid x) (counts : g.tells → g.writes x ≡ length (g.told x).log)
         (moments : g.tells → ForSome (listed u.rows volume) (λ r. Rewrites volume (effect (Changed cylinder) r) (g.told mid) (g.told x)))
         (rows : List (Option RowValue)) (rows_is : rows ≡ with_changed volume (Changed cylinder) u.rows) where
       abbrev old : DevicesSeen

@@ -21,13 +21,13 @@ use crate::rule::host_rule;
 use crate::run::run;
 use crate::wait::{ask, hold};
 use channel_commands::Call;
-use ckd_track::FORMAT_ITEMS;
 use core_state::{Core, HostRule, Waiting};
 use mss_base::{HostNo, Site};
+use table_pair::CHANGE_WRITES;
 use victim_choice::Choose;
 
-/// How many items of the log a host's event makes at most: those of a format. A change of a row makes fewer.
-pub const EVENT_ITEMS: u32 = FORMAT_ITEMS;
+/// How many items of the log a host's event makes at most: those of a change of a row. A format makes fewer.
+pub const EVENT_ITEMS: u32 = CHANGE_WRITES;
 
 /// Does what the first rule that a host's call meets says, and answers the host.
 ///
