@@ -106,10 +106,22 @@ const WRITES: &str = "\
 1D 000500030200000158 0C ! 08 W 01
 @ t 0 98 2 41424358 ok
 
-# a format of a record whose gate is shut closes the later ones first; it fails at the write of the record
+# a format of a record whose gate is shut makes five items: it fails at the write that closes the later gates
+07 000000050007 0C
+31 0005000700 4C
+1D 000500070100000158 0C ! 02 W 01
+@ t 0 102 0 - ok
+
+# at that of the record
 07 000000050007 0C
 31 0005000700 4C
 1D 000500070100000158 0C ! 03 W 01
+@ t 0 102 0 - ok
+
+# at the sync of both
+07 000000050007 0C
+31 0005000700 4C
+1D 000500070100000158 0C ! 04 W 01
 @ t 0 102 0 - ok
 
 # at the write that opens the gate, which is its fourth item
