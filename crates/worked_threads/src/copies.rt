@@ -168,10 +168,10 @@ const STOPPED: &str = "MSS REPORT 1\n\
     STOPPED 1\n\
     host 1 false [0]\n";
 
-// The recorder's first write, which gives the frame to the page, fails behind the 136 calls of the restart.
+// The recorder's first write, which gives the frame to the page, fails behind the 143 calls of the restart.
 #[test]
 fn a_failed_write_ends_the_run(rt: HostRuntime) -> Result<(), Fail> {
-    let failing = [SiteFault::Call(137)];
+    let failing = [SiteFault::Call(144)];
     let status = tells(&rt, ONE_SEARCH, &OpenGate, &failing, STOPPED)?;
     assert_eq!(rt; status, Status::Stopped);
     Ok(())
