@@ -7,6 +7,7 @@ use Rattle.ckd_plain.specs.Checks.{admitted}
 use Rattle.ckd_plain.specs.Plain.{fresh_host}
 use Rattle.mss_base.specs.Firsts.{first_below}
 use Rattle.accessors.specs.Rails.{rail_start}
+use Rattle.table_pair.specs.Slots.{no_slots}
 use Rattle.volume_table.specs.Row.{RowValue}
 use Rattle.fault_queue.specs.declared.queue.RequestState.{RequestState}
 use Rattle.fault_queue.specs.declared.queue.RequestState.TheVariants.{Queued, Ready}
@@ -32,6 +33,7 @@ core state = record {
   chooser = tt;
   config = record { frames = 1; recorders = 1; volumes = [] };
   rows = Some (row (Some 0) 2) ∷ Some (row None 1) ∷ replicate 30 None;
+  used = replicate 32 no_slots;
   owners = Some (0, 0) ∷ [];
   moving = false ∷ [];
   recency = 0 ∷ [];

@@ -4,11 +4,9 @@ use Rattle.std.specs.Prelude.{vec_len}
 use Rattle.mss_base.specs.Configs.{ConfigData, VolumeData}
 use Rattle.mss_base.specs.Content.{SiteLog, content}
 use Rattle.mss_base.specs.declared.block.TheConstants.{BLOCK_BYTES}
-use Rattle.volume_table.specs.Row.{RowValue}
 use Rattle.volume_table.specs.Listed.{AreRows, listed}
 use Rattle.shown_volumes.specs.Shown.{RowsOf}
 use Rattle.mss_restart.specs.Opening.{missing, IsOpened, AreHeld}
-use Rattle.mss_restart.specs.Usable.{AreUsableFor}
 use Rattle.mss_restart.specs.declared.creations.Creation.{Creation}
 use Rattle.mss_restart.specs.declared.opening.Opened.{Opened}
 use Rattle.mss_restart.proofs.Creating.{AreRising}
@@ -23,24 +21,26 @@ use Rattle.core_state.specs.declared.session.Message.{Message}
 use Rattle.staging_adapter.specs.Frames.{FramesData}
 use Rattle.accessors.specs.Rails.{RailData, rail_start}
 use Rattle.std.proofs.lemmas.List.{length-replicate}
-use Rattle.mss_restart.specs.Answers.{CreatesCounted}
+use Rattle.mss_restart.specs.Answers.{CreatesCounted, IsUsable}
 use Rattle.core_restart.specs.declared.parts.Parts.{Parts}
 use Rattle.core_state.proofs.Begun.{begun, whole_begun}
 use Rattle.core_state.proofs.CountedFacts.{counted_begun}
 use Rattle.core_restart.specs.Owners.{AreOwners}
 use Rattle.core_restart.specs.Console.{creations_of, HaveRows, TellCreations}
+use Rattle.core_restart.specs.Opening.{opened_in}
 use Rattle.core_restart.specs.Parts.{AreParts, MayBegin}
 use Rattle.core_restart.specs.Begins.{Begins}
 use Rattle.core_restart.proofs.OwnerFacts.{are_owned}
 use Rattle.core_restart.proofs.ConsoleFacts.{HaveNone, AreApart, missing_apart, missing_none, few_missing, as_many, have_rows, all_done, leads, all_allowed, handed_are}
 
 -- a core in which nothing has happened is one of its parts
-begins_is : {S C : Type 0} (config : ConfigData) (chooser : C) (writes faults : ℕ) (v : CoreValue S C) → Begins config chooser writes faults v → v ≡ begun v.site chooser config v.store v.rows v.owners v.console writes faults
+begins_is : {S C : Type 0} (config : ConfigData) (chooser : C) (writes faults : ℕ) (v : CoreValue S C) → Begins config chooser writes faults v → v ≡ begun v.site chooser config v.store v.rows v.used v.owners v.console writes faults
 begins_is config chooser writes faults v is = λ i. record {
   site = v.site;
   chooser = is.chooser_ i;
   config = is.config_ i;
   rows = v.rows;
+  used = v.used;
   owners = v.owners;
   moving = is.moving_ i;
   recency = is.recency_ i;
@@ -61,20 +61,20 @@ begins_is config chooser writes faults v is = λ i. record {
 
 module _ (tells : Type 0) (told : SiteLog) (writes faults : ℕ) (config : ConfigData) (rising : AreRising config.volumes) where
   -- each created volume has a row
-  pub rows_made : (rows : List (Option RowValue)) (made : List Creation) → MayBegin tells told writes config rows made → HaveRows (listed rows) made
-  rows_made rows made ready =
+  pub rows_made : (opened : Opened) → MayBegin tells told writes config opened → HaveRows (listed opened.rows) opened.creations.items
+  rows_made opened ready =
       let c = ready.counted in
-      have_rows (missing c.before config.volumes) c.before (listed rows) made ready.written writes c.creates (missing_apart c.before config.volumes rising) c.counted
+      have_rows (missing c.before config.volumes) c.before (listed opened.rows) opened.creations.items ready.written writes c.creates (missing_apart c.before config.volumes rising) c.counted
 
   -- and each configured volume was created once at most
-  pub few_made : (rows : List (Option RowValue)) (made : List Creation) → MayBegin tells told writes config rows made → length made ≤ length config.volumes
-  few_made rows made ready =
+  pub few_made : (opened : Opened) → MayBegin tells told writes config opened → length opened.creations.items ≤ length config.volumes
+  few_made opened ready =
       let c = ready.counted in
       let few = few_missing c.before config.volumes in
-      let same = as_many (missing c.before config.volumes) made ready.written writes c.counted in
+      let same = as_many (missing c.before config.volumes) opened.creations.items ready.written writes c.counted in
       omega (arith, few, same)
 
-  module _ {S C : Type 0} (chooser : C) (v : CoreValue S C) (is : Begins config chooser writes faults v) (ready : MayBegin tells told writes config v.rows (creations_of v.console)) where
+  module _ {S C : Type 0} (chooser : C) (v : CoreValue S C) (is : Begins config chooser writes faults v) (ready : MayBegin tells told writes config (opened_in v)) where
     abbrev before : RowsOf
     before = ready.counted.before
 
@@ -109,9 +109,10 @@ module _ (tells : Type 0) (told : SiteLog) (writes faults : ℕ) (config : Confi
       whole : IsWhole tells told v
       whole =
           subst (IsWhole tells told) (sym (begins_is config chooser writes faults v is))
-          (whole_begun S C tells told v.site chooser config v.store is.at_home v.rows v.owners writes faults v.console (are_owned config.frames v.rows ready.rows_ v.owners is.owners_) at_end
-          (λ tl. (ready.opened tl).shows.sound) (λ tl. sym (ready.opened tl).rows_are)
-          (λ tl. subst (λ (r : RowsOf). AreHeld r (content told)) (sym (ready.opened tl).rows_are) (ready.opened tl).held)
+          (whole_begun S C tells told v.site chooser config v.store is.at_home v.rows v.used v.owners writes faults v.console (are_owned config.frames v.rows ready.rows_ v.owners is.owners_) at_end
+          (λ tl. (ready.opened_ tl).shows.sound) (λ tl. sym (ready.opened_ tl).rows_are)
+          (λ tl. subst (λ (r : RowsOf). AreHeld r (content told)) (sym (ready.opened_ tl).rows_are) (ready.opened_ tl).held)
+          ready.used_ (λ tl. (ready.opened_ tl).slots_)
           (λ tl. subst (λ (n : ℕ). AllDone n v.console) (at_end tl) done) (λ tl. allowed) (λ tl. leads_now))
 
       pub kept_begun : (room : ℕ) → room ≡ BLOCK_BYTES → IsKept tells told writes faults room v
@@ -124,12 +125,13 @@ module _ (tells : Type 0) (told : SiteLog) (writes faults : ℕ) (config : Confi
 -- ---- its parts
 
 -- a core of its parts, and of a session
-abbrev pub core_of : {S C : Type 0} → S → C → Parts → List (Option RowValue) → FramesData → RailData → SessionData → CoreValue S C
-core_of site chooser parts rows frames rail d = record {
+abbrev pub core_of : {S C : Type 0} → S → C → Parts → Opened → FramesData → RailData → SessionData → CoreValue S C
+core_of site chooser parts opened frames rail d = record {
   site = site;
   chooser = chooser;
   config = parts.config;
-  rows = rows;
+  rows = opened.rows;
+  used = opened.used.items;
   owners = frames.owners;
   moving = frames.moving;
   recency = parts.recency;
@@ -148,16 +150,17 @@ core_of site chooser parts rows frames rail d = record {
   stopped = d.stopped;
 }
 
-module _ {S C : Type 0} (site : S) (chooser kept : C) (parts : Parts) (rows : List (Option RowValue)) (frames : FramesData) (rail : RailData) (d : SessionData) (console : List Message) (writes faults : ℕ)
-    (are : AreParts parts.config parts) (kept_is : kept ≡ chooser) (owners : AreOwners (length parts.frames.owners) (listed rows) frames.owners) (moving : frames.moving ≡ parts.frames.moving) (rail_is : rail ≡ rail_start)
-    (tells_console : TellCreations (listed rows) console) (is : d ≡ session.begun console writes faults) where
-  pub begins_of : Begins parts.config chooser writes faults (core_of site kept parts rows frames rail d)
+module _ {S C : Type 0} (site : S) (chooser kept : C) (parts : Parts) (opened : Opened) (frames : FramesData) (rail : RailData) (d : SessionData) (console : List Message) (writes faults : ℕ)
+    (are : AreParts parts.config parts) (kept_is : kept ≡ chooser) (places : length opened.used.items ≡ 32) (owners : AreOwners (length parts.frames.owners) (listed opened.rows) frames.owners) (moving : frames.moving ≡ parts.frames.moving) (rail_is : rail ≡ rail_start)
+    (tells_console : TellCreations (listed opened.rows) console) (is : d ≡ session.begun console writes faults) where
+  pub begins_of : Begins parts.config chooser writes faults (core_of site kept parts opened frames rail d)
   begins_of = record {
     config_ = refl;
     chooser_ = kept_is;
+    used_ = places;
     owners_ =
         let count : length parts.frames.owners ≡ parts.config.frames = ap (λ (f : FramesData). length f.owners) are.frames_ ∙ length-replicate {A = Option (ℕ × ℕ)} parts.config.frames None in
-        subst (λ (n : ℕ). AreOwners n (listed rows) frames.owners) count owners;
+        subst (λ (n : ℕ). AreOwners n (listed opened.rows) frames.owners) count owners;
     moving_ = moving ∙ ap (λ (f : FramesData). f.moving) are.frames_;
     recency_ = are.recency_;
     no_requests = are.requests_;
@@ -168,28 +171,36 @@ module _ {S C : Type 0} (site : S) (chooser kept : C) (parts : Parts) (rows : Li
     fresh = are.hosts_;
     no_entries = ap (λ (x : SessionData). x.history) is;
     no_marks = ap (λ (x : SessionData). x.marks) is;
-    created = subst (λ (ms : List Message). TellCreations (listed rows) ms) (sym (ap (λ (x : SessionData). x.console) is)) tells_console;
+    created = subst (λ (ms : List Message). TellCreations (listed opened.rows) ms) (sym (ap (λ (x : SessionData). x.console) is)) tells_console;
     no_events = ap (λ (x : SessionData). x.events) is;
     first_write_ = ap (λ (x : SessionData). x.first_write) is;
     first_faults_ = ap (λ (x : SessionData). x.first_faults) is;
     going = ap (λ (x : SessionData). x.stopped) is;
   }
 
-  pub kept_of : (tells : Type 0) (told : SiteLog) → AreRising parts.config.volumes → (made : List Creation) → creations_of console ≡ made → MayBegin tells told writes parts.config rows made → (tells → writes ≡ length told.log)
-      → IsKept tells told writes faults (vec_len parts.buffer) (core_of site kept parts rows frames rail d)
-  kept_of tells told rising made made_is ready at_end =
-      let same : creations_of d.console ≡ made = ap (λ (x : SessionData). creations_of x.console) is ∙ made_is in
-      kept_begun tells told writes faults parts.config rising chooser (core_of site kept parts rows frames rail d) begins_of (subst (λ (ms : List Creation). MayBegin tells told writes parts.config rows ms) (sym same) ready) at_end
+  pub kept_of : (tells : Type 0) (told : SiteLog) → AreRising parts.config.volumes → creations_of console ≡ opened.creations.items → MayBegin tells told writes parts.config opened → (tells → writes ≡ length told.log)
+      → IsKept tells told writes faults (vec_len parts.buffer) (core_of site kept parts opened frames rail d)
+  kept_of tells told rising made_is ready at_end =
+      let same : creations_of d.console ≡ opened.creations.items = ap (λ (x : SessionData). creations_of x.console) is ∙ made_is in
+      kept_begun tells told writes faults parts.config rising chooser (core_of site kept parts opened frames rail d) begins_of (record {
+        rows_ = ready.rows_;
+        used_ = ready.used_;
+        written = ready.written;
+        counted = subst (λ (ms : List Creation). CreatesCounted parts.config ready.written writes (listed opened.rows) ms) (sym same) ready.counted;
+        from = ready.from;
+        opened_ = ready.opened_;
+      }) at_end
       (vec_len parts.buffer) are.buffer_
 
 -- an opening that was answered is one to begin from
-pub may_begin : (tells : Type 0) (config : ConfigData) (old new : DevicesSeen) (opened : Opened) → length opened.rows ≡ 32 → AreRows opened.rows → AreUsableFor config (listed opened.rows)
-    → CreatesCounted config old.writes new.writes (listed opened.rows) opened.creations.items → (tells → IsOpened config (content old.told) (content new.told) opened.rows)
-    → MayBegin tells new.told new.writes config opened.rows opened.creations.items
+pub may_begin : (tells : Type 0) (config : ConfigData) (old new : DevicesSeen) (opened : Opened) → length opened.rows ≡ 32 → AreRows opened.rows → IsUsable config opened
+    → CreatesCounted config old.writes new.writes (listed opened.rows) opened.creations.items → (tells → IsOpened config (content old.told) (content new.told) opened.rows opened.used.items)
+    → MayBegin tells new.told new.writes config opened
 may_begin tells config old new opened places are_rows usable counted is = record {
-  rows_ = record { places = places; are_rows = are_rows; below = usable.usable.frames_below; once = usable.usable.frames_once };
+  rows_ = record { places = places; are_rows = are_rows; below = usable.rows_.usable.frames_below; once = usable.rows_.usable.frames_once };
+  used_ = usable.used_;
   written = old.writes;
   counted = counted;
   from = content old.told;
-  opened = is;
+  opened_ = is;
 }

@@ -76,7 +76,7 @@ unsynced_taken tells config old new refused is = refusal_taken config old new re
 pub telling : (tells : Type 0) → tells → (config : ConfigData) (old new : DevicesSeen) (answer : Result Opened Refused) → OpensSynced tells config old new answer → OpensSynced (Unit {0}) config old new answer
 telling tells t config old new answer is = record {
   synced = is.synced;
-  sync = record { told = λ _. is.sync.told t; later = is.sync.later; unfailed = is.sync.unfailed };
+  sync = record { told = λ _. is.sync.told t; made = is.sync.made; later = is.sync.later; unfailed = is.sync.unfailed };
   told = λ _. is.told t;
   any = is.any;
 }

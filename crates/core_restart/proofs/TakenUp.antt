@@ -16,6 +16,7 @@ use Rattle.ckd_plain.specs.Plain.{plain, serial_in, start_of}
 use Rattle.ckd_plain.specs.History.{EntryData, left_by as state_left, next, after}
 use Rattle.ckd_plain.specs.Near.{IsNear, unchanged, completed, data_overwritten, key_data_overwritten, ended_before}
 use Rattle.volume_table.specs.Row.{RowValue}
+use Rattle.table_pair.specs.declared.copy.SlotsUsed.{SlotsUsed}
 use Rattle.shown_volumes.specs.declared.refused.Refused.{Refused}
 use Rattle.shown_volumes.specs.Shown.{RowsOf, rows_of, shown}
 use Rattle.shown_volumes.specs.Sound.{IsSound, HasSerialsAsked}
@@ -97,7 +98,7 @@ none_missing_there vs c there = none_missing vs (rows_of c) (λ v serial is. row
 -- ---- a core that began
 
 module _ {S C : Type 0} (config : ConfigData) (old new : DevicesSeen)
-    (chooser : C) (core : CoreValue S C) (rows : List (Option RowValue)) (opened : IsOpened config (content old.told) (content new.told) rows)
+    (chooser : C) (core : CoreValue S C) (rows : List (Option RowValue)) (used : List SlotsUsed) (opened : IsOpened config (content old.told) (content new.told) rows used)
     (is : Begins config chooser new.writes new.faults core) (at_end : new.writes ≡ length new.told.log) where
   all_written : written_after new.told.start (take core.first_write new.told.log) ≡ content new.told
   all_written =
@@ -118,11 +119,11 @@ module _ {S C : Type 0} (config : ConfigData) (old new : DevicesSeen)
   core_taken = record { faultless = λ none quiet. tt; begins = begins_with }
 
 -- a core that began on a site
-pub begun_taken : {S C : Type 0} (g : Ghosts S) (config asked : ConfigData) (chooser : C) (old : DevicesSeen) (site : S) (core : CoreValue S C) (rows : List (Option RowValue)) → core.site ≡ site → asked ≡ config
-    → Begins asked chooser (g.writes site) (g.faults site) core → IsOpened config (content old.told) (content (g.told site)) rows → g.writes site ≡ length (g.told site).log → TakesUp config old (seen_site g core.site) (Ok core)
-begun_taken g config asked chooser old site core rows site_is asked_is is opened at_end =
+pub begun_taken : {S C : Type 0} (g : Ghosts S) (config asked : ConfigData) (chooser : C) (old : DevicesSeen) (site : S) (core : CoreValue S C) (rows : List (Option RowValue)) (used : List SlotsUsed) → core.site ≡ site → asked ≡ config
+    → Begins asked chooser (g.writes site) (g.faults site) core → IsOpened config (content old.told) (content (g.told site)) rows used → g.writes site ≡ length (g.told site).log → TakesUp config old (seen_site g core.site) (Ok core)
+begun_taken g config asked chooser old site core rows used site_is asked_is is opened at_end =
     subst (λ s. TakesUp config old (seen_site g s) (Ok core)) (sym site_is)
-    (core_taken config old (seen_site g site) chooser core rows opened (subst (λ (x : ConfigData). Begins x chooser (g.writes site) (g.faults site) core) asked_is is) at_end)
+    (core_taken config old (seen_site g site) chooser core rows used opened (subst (λ (x : ConfigData). Begins x chooser (g.writes site) (g.faults site) core) asked_is is) at_end)
 
 -- a restart that isn't disturbed
 pub taken_up : {S C : Type 0} (config : ConfigData) (c : Content) (volumes : Volumes) → IsFaultless config c → shown_for config c ≡ volumes → (old new : DevicesSeen) (answer : Answer S C) → RestartsOver config c old new answer → IsTakenUp config volumes new.told answer

@@ -1,5 +1,5 @@
 -- The core with which a session begins.
-use Rattle.std.specs.Prelude.{◌≡◌, ℕ, false, [], replicate, None}
+use Rattle.std.specs.Prelude.{◌≡◌, ℕ, false, [], length, replicate, None}
 use Rattle.mss_base.specs.Configs.{ConfigData}
 use Rattle.volume_table.specs.Listed.{listed}
 use Rattle.ckd_plain.specs.Plain.{fresh_host}
@@ -12,12 +12,14 @@ use Rattle.core_restart.specs.Console.{TellCreations}
 
 -- Nothing has happened: no entry, no event, no request, no task. The recorders are empty, each
 -- cartridge is in its cell, the accessors are at the ends of their rail. A frame belongs to the page
--- that has it by the rows, none moves, and frame 0 is the least recently touched. The console tells
--- which volumes were created, and nothing else. So many writes and faults were counted by now.
+-- that has it by the rows, none moves, and frame 0 is the least recently touched. There is a count of
+-- slots in use for each of the 32 volumes. The console tells which volumes were created, and nothing
+-- else. So many writes and faults were counted by now.
 pub record Begins {S C : Type 0} (config : ConfigData) (chooser : C) (writes faults : ℕ)
     (core : CoreValue S C) : Type 0 where
   pub config_ : core.config ≡ config
   pub chooser_ : core.chooser ≡ chooser
+  pub used_ : length core.used ≡ 32
   pub owners_ : AreOwners config.frames (listed core.rows) core.owners
   pub moving_ : core.moving ≡ replicate config.frames false
   pub recency_ : core.recency ≡ untouched config.frames

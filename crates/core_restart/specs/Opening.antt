@@ -1,5 +1,5 @@
 -- What restart makes of a site, and what it answers.
-use Rattle.std.specs.Prelude.{◌≡◌, ◌⊎◌, ◌≤◌, ℕ, [], ◌∷◌, Result, Ok, Err}
+use Rattle.std.specs.Prelude.{◌≡◌, ◌⊎◌, ◌≤◌, [], ◌∷◌, Result, Ok, Err}
 use Rattle.mss_base.specs.Configs.{ConfigData}
 use Rattle.mss_base.specs.Content.{Got, synced_all, unsynced}
 use Rattle.mss_base.specs.Counts.{Rises}
@@ -15,12 +15,20 @@ abbrev pub site_of : {S C : Type 0} → Result (CoreValue S C) (S × Refused) �
 site_of (Ok core) = core.site
 site_of (Err refused) = refused.0
 
--- the rows of the core, and the creations that its console tells; no room is told
+-- the rows of the core, with their slots in use, and the creations that its console tells; no room
+-- is told
 abbrev pub opened_in : {S C : Type 0} → CoreValue S C → Opened
 opened_in core = record {
   rows = core.rows;
+  used = record { items = core.used; spare = 0 };
   creations = record { items = creations_of core.console; spare = 0 };
 }
+
+-- a core has what was opened
+pub record HasOpened {S C : Type 0} (opened : Opened) (core : CoreValue S C) : Type 0 where
+  pub rows_ : core.rows ≡ opened.rows
+  pub used_ : core.used ≡ opened.used.items
+  pub creations_ : creations_of core.console ≡ opened.creations.items
 
 -- what was opened, or why the site is refused
 abbrev pub answer_of : {S C : Type 0} → Result (CoreValue S C) (S × Refused)
@@ -47,12 +55,14 @@ OpensAny config old new answer =
 -- all units were synced, and that was all
 pub record SyncsAll (tells : Type 0) (old new : DevicesSeen) : Type 0 where
   pub told : tells → Got (synced_all ∷ []) old.told new.told
+  pub made : Rises old.writes new.writes
   pub later : old.writes ≤ new.writes
   pub unfailed : new.faults ≡ old.faults
 
 -- the sync failed, and made nothing firm
 pub record FailsSync (tells : Type 0) (old new : DevicesSeen) : Type 0 where
   pub told : tells → Got (unsynced ∷ []) old.told new.told
+  pub tried : Rises old.writes new.writes
   pub later : old.writes ≤ new.writes
   pub failed : Rises old.faults new.faults
 

@@ -1,15 +1,14 @@
 -- What a core needs of memory beside its rows, and from what it can begin.
-use Rattle.std.specs.Prelude.{◌≡◌, ◌≤◌, ℕ, List, [], length, replicate, Option, None, vec_len}
+use Rattle.std.specs.Prelude.{◌≡◌, ◌≤◌, ℕ, [], length, replicate, None, vec_len}
 use Rattle.mss_base.specs.Configs.{ConfigData}
 use Rattle.mss_base.specs.Content.{Content, SiteLog, content}
 use Rattle.mss_base.specs.declared.block.TheConstants.{BLOCK_BYTES}
-use Rattle.volume_table.specs.Row.{RowValue}
 use Rattle.volume_table.specs.Listed.{listed}
 use Rattle.ckd_plain.specs.Plain.{fresh_host}
 use Rattle.cartridge_store.specs.Places.{place_of, home_of}
 use Rattle.staging_adapter.specs.Frames.{free_frames}
 use Rattle.victim_choice.specs.Order.{untouched}
-use Rattle.mss_restart.specs.declared.creations.Creation.{Creation}
+use Rattle.mss_restart.specs.declared.opening.Opened.{Opened}
 use Rattle.mss_restart.specs.Opening.{IsOpened}
 use Rattle.mss_restart.specs.Answers.{CreatesCounted}
 use Rattle.core_restart.specs.declared.parts.Parts.{Parts}
@@ -29,11 +28,13 @@ pub record AreParts (config : ConfigData) (parts : Parts) : Type 0 where
   pub console_ : parts.console.items ≡ []
   pub room : length config.volumes ≤ parts.console.spare
 
--- an opened site, of which so many writes were made by now: its rows, and the creations behind them
+-- an opened site, of which so many writes were made by now: its rows, with a count of slots for each
+-- of the 32 volumes, and the creations behind them
 pub record MayBegin (tells : Type 0) (told : SiteLog) (writes : ℕ) (config : ConfigData)
-    (rows : List (Option RowValue)) (made : List Creation) : Type 0 where
-  pub rows_ : HaveFrames config.frames rows
+    (opened : Opened) : Type 0 where
+  pub rows_ : HaveFrames config.frames opened.rows
+  pub used_ : length opened.used.items ≡ 32
   pub written : ℕ
-  pub counted : CreatesCounted config written writes (listed rows) made
+  pub counted : CreatesCounted config written writes (listed opened.rows) opened.creations.items
   pub from : Content
-  pub opened : tells → IsOpened config from (content told) rows
+  pub opened_ : tells → IsOpened config from (content told) opened.rows opened.used.items

@@ -5,8 +5,14 @@ ghost use Rattle.mss_restart.specs.Creations.{WritesOn};
 ghost use Rattle.core_state.specs.SessionData.{begun};
 ghost use Rattle.core_state.specs.Sessions.{session_data};
 ghost use Rattle.core_restart.specs.Begins.{Begins};
-ghost use Rattle.core_restart.specs.Console.{creations_of};
-ghost use Rattle.core_restart.specs.Opening.{IsUnsynced, Restarts, SyncsAll, answer_of, site_of};
+ghost use Rattle.core_restart.specs.Opening.{
+  HasOpened,
+  IsUnsynced,
+  Restarts,
+  SyncsAll,
+  answer_of,
+  site_of,
+};
 ghost use Rattle.core_restart.specs.Parts.{AreParts, MayBegin};
 ghost use Rattle.core_restart.specs.TakingUp.{TakesUp};
 ghost use Rattle.core_state.specs.CoreValue.{seen_site};
@@ -15,9 +21,9 @@ use crate::console::tell_creations;
 use crate::owners::own_frames;
 use crate::parts::Parts;
 use accessors::Rail;
-use core_state::{Core, MessageList, Rows, Session};
+use core_state::{Core, MessageList, Session};
 use mss_base::{Config, Site};
-use mss_restart::{Creation, Opened, Refused, open_rows};
+use mss_restart::{Opened, Refused, open_rows};
 use std::alloc::Global;
 use victim_choice::{Choose, Chooser};
 
@@ -32,19 +38,16 @@ fn session_of<S: Site>(alloc: Global, site: &S, console: MessageList) -> Session
 fn begin<S: Site, C: Choose>(
     alloc: Global,
     site: S,
-    rows: Rows,
-    creations: &[Creation],
+    opened: Opened,
     parts: Parts,
     chooser: C,
 ) -> Core<S, C>
     requires able { C.can_choose chooser }
     requires parts { AreParts parts.config parts }
-    requires opened { MayBegin S.tells (S.told site) (S.writes site)
-        parts.config rows creations.now }
+    requires opened { MayBegin S.tells (S.told site) (S.writes site) parts.config opened }
     ensures begins { Begins parts.config chooser (S.writes site) (S.faults site) result }
     ensures site { result.site ≡ site }
-    ensures rows { result.rows ≡ rows }
-    ensures creations { creations_of result.console ≡ creations.now }
+    ensures opened { HasOpened opened result }
 {
     let Parts {
         config,
@@ -60,8 +63,8 @@ fn begin<S: Site, C: Choose>(
     } = parts;
     // The numbers of its volumes rise, which a body knows of a configuration that it looks into.
     let _volumes = &config.volumes;
-    own_frames(&mut frames, &rows);
-    tell_creations(&mut console, &rows, creations);
+    own_frames(&mut frames, &opened.rows);
+    tell_creations(&mut console, &opened.rows, opened.creations.as_slice());
     let session = session_of(alloc, &site, console);
     Core {
         config,
@@ -69,7 +72,8 @@ fn begin<S: Site, C: Choose>(
         site,
         alloc,
         buffer,
-        rows,
+        rows: opened.rows,
+        used: opened.used,
         frames,
         recency,
         requests,
@@ -138,10 +142,8 @@ pub fn restart<S: Site, C: Choose + Drop>(
     match open_rows(alloc, site, config) {
         Err(refusal) => Err(refusal),
         Ok((site, opened)) => {
-            let Opened { rows, creations } = opened;
-            rows.look();
-            let creations = creations.as_slice();
-            Ok(begin(alloc, site, rows, creations, parts, chooser))
+            opened.rows.look();
+            Ok(begin(alloc, site, opened, parts, chooser))
         }
     }
 }

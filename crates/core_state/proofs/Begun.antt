@@ -7,7 +7,9 @@ use Rattle.mss_base.specs.Content.{Content, SiteLog, Tear, content, image, after
 use Rattle.ckd_plain.specs.declared.host.HostState.{HostState}
 use Rattle.ckd_plain.specs.Plain.{fresh_host}
 use Rattle.volume_table.specs.Row.{RowValue}
+use Rattle.table_pair.specs.declared.copy.SlotsUsed.{SlotsUsed}
 use Rattle.table_pair.specs.Pair.{HoldsRow}
+use Rattle.table_pair.specs.Slots.{AreUsed}
 use Rattle.shown_volumes.specs.Shown.{RowsOf, rows_of, shown}
 use Rattle.shown_volumes.specs.Sound.{IsSound}
 use Rattle.core_state.specs.declared.session.Message.{Message}
@@ -42,12 +44,13 @@ unfolding IsDistinct
 none_twice = tt
 
 -- frames with their owners, no tasks, no requests, hosts at a session's start, no entries
-abbrev pub begun : {S C : Type 0} → S → C → ConfigData → List Place → List (Option RowValue) → List (Option (ℕ × ℕ)) → List Message → ℕ → ℕ → CoreValue S C
-begun site chooser config store rows owners console first faults = record {
+abbrev pub begun : {S C : Type 0} → S → C → ConfigData → List Place → List (Option RowValue) → List SlotsUsed → List (Option (ℕ × ℕ)) → List Message → ℕ → ℕ → CoreValue S C
+begun site chooser config store rows used owners console first faults = record {
   site = site;
   chooser = chooser;
   config = config;
   rows = rows;
+  used = used;
   owners = owners;
   moving = replicate config.frames false;
   recency = untouched config.frames;
@@ -66,12 +69,13 @@ begun site chooser config store rows owners console first faults = record {
   stopped = None;
 }
 
-module _ (S C : Type 0) (tells : Type 0) (s : SiteLog) (x : S) (chooser : C) (config : ConfigData) (store : List Place) (homes : (c : ℕ) → place_of store c ≡ home_of c) (rows : List (Option RowValue)) (owners : List (Option (ℕ × ℕ))) (first faults : ℕ) (console : List Message)
+module _ (S C : Type 0) (tells : Type 0) (s : SiteLog) (x : S) (chooser : C) (config : ConfigData) (store : List Place) (homes : (c : ℕ) → place_of store c ≡ home_of c) (rows : List (Option RowValue)) (used : List SlotsUsed) (owners : List (Option (ℕ × ℕ))) (first faults : ℕ) (console : List Message)
     (owned : AreOwned config.frames rows owners) (at_end : tells → first ≡ length s.log) (sound : tells → IsSound config.frames (content s)) (rows_are : tells → rows_of (content s) ≡ listed rows)
     (copies : tells → (volume : ℕ) (r : RowValue) → listed rows volume ≡ Some r → HoldsRow r volume (content s))
+    (places : length used ≡ 32) (slots : tells → AreUsed used (content s))
     (messages : tells → AllDone (length s.log) console) (allowed : tells → AllAllowed (handed_rows (listed rows) console) console) (told : tells → rows_after (handed_rows (listed rows) console) console ≡ listed rows) where
   abbrev v : CoreValue S C
-  v = begun x chooser config store rows owners console first faults
+  v = begun x chooser config store rows used owners console first faults
 
   fresh : (h : ℕ) → host_at v.hosts h ≡ fresh_host
   fresh zero = refl
@@ -88,10 +92,11 @@ module _ (S C : Type 0) (tells : Type 0) (s : SiteLog) (x : S) (chooser : C) (co
       let parts = and_parts (is_on volume (host_at v.hosts h).mounted) _ is in
       false≢true (ap (λ (z : HostState). is_on volume z.mounted) (sym (fresh h)) ∙ parts.0)
 
-  kept : IsCore (begun x chooser config store rows owners console first faults)
+  kept : IsCore (begun x chooser config store rows used owners console first faults)
   kept = record {
     places = owned.places;
     are_rows = owned.are_rows;
+    used_ = places;
     hosts_ = length-replicate {A = HostState} 8 fresh_host;
     requests_ = none_twice;
     owners_ = owned.owners_;
@@ -135,7 +140,7 @@ module _ (S C : Type 0) (tells : Type 0) (s : SiteLog) (x : S) (chooser : C) (co
   opens : (tl : tells) → shown (content s) ≡ shown (written_after s.start (take first s.log))
   opens tl = ap shown (sym (front tl))
 
-  pub whole_begun : IsWhole tells s (begun x chooser config store rows owners console first faults)
+  pub whole_begun : IsWhole tells s (begun x chooser config store rows used owners console first faults)
   whole_begun = make_whole kept (λ tl. record {
     began = let e = at_end tl in omega (arith, e);
     entries = tt;
@@ -156,6 +161,7 @@ module _ (S C : Type 0) (tells : Type 0) (s : SiteLog) (x : S) (chooser : C) (co
       shows = opens tl;
       rows_ = rows_are tl;
       copies = copies tl;
+      slots_ = slots tl;
       told = ap (λ (r : RowsOf). rows_after r console) (handed tl) ∙ told tl;
       served = λ n task is. absurd (no_task n task is);
     };

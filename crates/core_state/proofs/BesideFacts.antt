@@ -30,6 +30,7 @@ module _ {S C : Type 0} (v : CoreValue S C) (recency : List ℕ) (recorders : Li
   core_beside core is = record {
     places = core.places;
     are_rows = core.are_rows;
+    used_ = core.used_;
     hosts_ = core.hosts_;
     requests_ = core.requests_;
     owners_ = core.owners_;
@@ -54,13 +55,13 @@ module _ {S C : Type 0} (v : CoreValue S C) (recency : List ℕ) (recorders : Li
     legal = told.legal;
     stops = told.stops;
     agrees = told.agrees;
-    going = λ none. let g = told.going none in record { no_stop = g.no_stop; hosts_ = g.hosts_; shows = g.shows; rows_ = g.rows_; copies = g.copies; told = g.told; served = g.served };
+    going = λ none. let g = told.going none in record { no_stop = g.no_stop; hosts_ = g.hosts_; shows = g.shows; rows_ = g.rows_; copies = g.copies; slots_ = g.slots_; told = g.told; served = g.served };
   }
 
   pub whole_beside : (tells : Type 0) (s : SiteLog) → IsWhole tells s v → length recorders ≡ v.config.recorders → (v.stopped ≡ None → IsBeside v.config.frames v.config.recorders recency recorders store)
       → IsWhole tells s (record v { recency = recency; recorders = recorders; store = store; rail = rail; events = events })
   whole_beside tells s whole long is = record {
-    shaped = let k = whole.shaped in record { rows_ = k.rows_; hosts_ = k.hosts_; owners_ = k.owners_; moving_ = k.moving_; tasks_ = k.tasks_; recorders_ = long; few = k.few; marked = k.marked };
+    shaped = let k = whole.shaped in record { rows_ = k.rows_; used_ = k.used_; hosts_ = k.hosts_; owners_ = k.owners_; moving_ = k.moving_; tasks_ = k.tasks_; recorders_ = long; few = k.few; marked = k.marked };
     kept = λ none. core_beside (whole.kept none) (is none);
     told = λ tl. told_beside s (whole.told tl);
   }

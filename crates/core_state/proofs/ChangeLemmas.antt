@@ -8,7 +8,9 @@ use Rattle.ckd_track.specs.Data.{Volumes}
 use Rattle.ckd_plain.specs.Data.{State}
 use Rattle.ckd_plain.specs.History.{EntryData, after, next, IsLegal}
 use Rattle.volume_table.specs.Row.{RowValue}
+use Rattle.table_pair.specs.declared.copy.SlotsUsed.{SlotsUsed}
 use Rattle.table_pair.specs.Pair.{HoldsRow}
+use Rattle.table_pair.specs.Slots.{AreUsed}
 use Rattle.shown_volumes.specs.Shown.{RowsOf, rows_of, shown, SameTables}
 use Rattle.shown_volumes.specs.Sound.{SoundAs}
 use Rattle.core_state.specs.declared.session.Message.{Message}
@@ -18,10 +20,10 @@ use Rattle.core_state.specs.CoreValue.{CoreValue}
 use Rattle.core_state.specs.declared.task.Task.{Task}
 use Rattle.volume_table.specs.Listed.{listed}
 use Rattle.core_state.specs.Served.{AreServed}
-use Rattle.core_state.specs.Entered.{worked}
+use Rattle.core_state.specs.Entered.{with_used, worked}
 use Rattle.core_state.specs.IsCore.{AllUpTo, AllDone, IsGoing, IsTold, opening_of, handed_to}
 use Rattle.core_state.proofs.StopsLemmas.{stops_again, stops_shown}
-use Rattle.core_state.proofs.EntryLemmas.{up_to-more, done-more, start_same, opening_same, rows_same_tables, holds_same_tables}
+use Rattle.core_state.proofs.EntryLemmas.{up_to-more, done-more, start_same, opening_same, rows_same_tables, holds_same_tables, used_same_tables}
 use Rattle.fault_queue.specs.Requests.{RequestsData}
 
 rows_after-push : (rows : RowsOf) (ms : List Message) (m : Message) → rows_after rows (ms ++ m ∷ []) ≡ with_change (rows_after rows ms) m
@@ -61,7 +63,7 @@ module _ (S : Type 0) {C : Type 0} (s t : SiteLog) (v : CoreValue S C) (x : S) (
     (mark : m.mark ≡ length t.log) (grows : length s.log < length t.log) (no_create : (volume : ℕ) → creates volume m ≡ false)
     (allowed : IsAllowedIn (listed v.rows) m.volume m.change (listed v.rows m.volume) × (m.freed ≡ freed_by (listed v.rows) m.volume m.change))
     (changes : with_change (listed v.rows) m ≡ listed rows) (rows_are : rows_of (content t) ≡ listed rows)
-    (copies : (volume : ℕ) (r : RowValue) → listed rows volume ≡ Some r → HoldsRow r volume (content t))
+    (copies : (volume : ℕ) (r : RowValue) → listed rows volume ≡ Some r → HoldsRow r volume (content t)) (used : List SlotsUsed) (slots : AreUsed used (content t))
     (owners : List (Option (ℕ × ℕ))) (moving : List Bool) (requests : RequestsData) (tasks : List (Option Task)) (served : AreServed (content t) (listed rows) tasks) where
   going : IsGoing s v
   going = told.going open_
@@ -81,7 +83,7 @@ module _ (S : Type 0) {C : Type 0} (s t : SiteLog) (v : CoreValue S C) (x : S) (
   told_rows : rows_after (handed_to s v) (v.console ++ m ∷ []) ≡ listed rows
   told_rows = rows_after-push (handed_to s v) v.console m ∙ ap (λ (q : RowsOf). with_change q m) going.told ∙ changes
 
-  pub told_change : IsTold t (worked v x rows (v.console ++ m ∷ []) owners moving requests tasks)
+  pub told_change : IsTold t (worked (with_used used v) x rows (v.console ++ m ∷ []) owners moving requests tasks)
   told_change = record {
     began = omega (arith, told.began, grows);
     entries = up_to-more (length s.log) (length t.log) v.marks (omega (arith, grows)) told.entries;
@@ -104,6 +106,7 @@ module _ (S : Type 0) {C : Type 0} (s t : SiteLog) (v : CoreValue S C) (x : S) (
       shows = stops_shown v.config.frames (after (opening_of s v) v.history).volumes s t writes_ ∙ ap (λ (y : State). (after y v.history).volumes) (sym began);
       rows_ = rows_are;
       copies = copies;
+      slots_ = slots;
       told = ap (λ (q : RowsOf). rows_after q (v.console ++ m ∷ [])) handed ∙ told_rows;
       served = served;
     };
@@ -147,6 +150,7 @@ module _ (S : Type 0) {C : Type 0} (s t : SiteLog) (v : CoreValue S C) (x : S) (
       shows = stops_shown v.config.frames (after (opening_of s v) v.history).volumes s t writes_now ∙ ap (λ (y : State). (after y v.history).volumes) (sym began_);
       rows_ = rows_same_tables (content s) (content t) same ∙ going_.rows_;
       copies = λ volume r is. holds_same_tables (content s) (content t) same r volume (going_.copies volume r is);
+      slots_ = used_same_tables (content s) (content t) same v.used going_.slots_;
       told = ap (λ (rows : RowsOf). rows_after rows v.console) handed_ ∙ going_.told;
       served = served;
     };

@@ -8,6 +8,7 @@ use Rattle.ckd_plain.specs.declared.host.HostState.{HostState}
 use Rattle.ckd_plain.specs.Data.{State}
 use Rattle.ckd_plain.specs.History.{IsLegal}
 use Rattle.volume_table.specs.Row.{RowValue, IsRow, state_of}
+use Rattle.table_pair.specs.declared.copy.SlotsUsed.{SlotsUsed}
 use Rattle.std.specs.Option.{ForSome}
 use Rattle.shown_volumes.specs.Shown.{RowsOf, rows_of, shown}
 use Rattle.shown_volumes.specs.Sound.{SoundAs, frame_in}
@@ -26,7 +27,7 @@ use Rattle.core_state.specs.StopRule.{opening, StopsWell}
 use Rattle.core_state.specs.Agrees.{AllAllowed, AllAgree, rows_at, handed_rows}
 use Rattle.core_state.specs.IsCore.{IsCore, IsPlaced, IsTold, IsGoing, opening_of, handed_to}
 use Rattle.core_state.specs.Fitting.{IsFit}
-use Rattle.core_state.specs.Entered.{worked}
+use Rattle.core_state.specs.Entered.{with_used, worked}
 use Rattle.core_state.proofs.StopsLemmas.{stops_again}
 use Rattle.core_state.proofs.EntryLemmas.{up_to-more, done-more, start_same, opening_same}
 use Rattle.fault_queue.proofs.RequestFacts.{request_same, request_other, once_put}
@@ -102,12 +103,35 @@ asked_again S v core h q asked state = record {
   on_mounted = mounted_still S v core h q asked state;
 }
 
+-- other slots are in use
+pub core_used : (S : Type 0) {C : Type 0} (v : CoreValue S C) → IsCore v → (used : List SlotsUsed) → length used ≡ 32 → IsCore (with_used used v)
+core_used S v core used places = record {
+  places = core.places;
+  are_rows = core.are_rows;
+  used_ = places;
+  hosts_ = core.hosts_;
+  requests_ = core.requests_;
+  owners_ = core.owners_;
+  moving_ = core.moving_;
+  few = core.few;
+  marked = core.marked;
+  alone = core.alone;
+  on_mounted = core.on_mounted;
+  framed = core.framed;
+  owned = core.owned;
+  waiting = core.waiting;
+  fit = core.fit;
+  beside = core.beside;
+  tasks_ = core.tasks_;
+}
+
 pub core_work : (S : Type 0) {C : Type 0} (v : CoreValue S C) → IsCore v → (x : S) (rows : List (Option RowValue)) (console : List Message) (owners : List (Option (ℕ × ℕ))) (moving : List Bool) (requests : RequestsData) (tasks : List (Option Task))
     → AreOwned v.config.frames rows owners → length moving ≡ v.config.frames → AreAsked v.hosts requests → AreWaiting (listed rows) requests → AreTasks v.config.frames (listed rows) moving requests v.hosts tasks
     → IsFit v.config.recorders rows requests v.hosts tasks → IsCore (worked v x rows console owners moving requests tasks)
 core_work S v core x rows console owners moving requests tasks owned long asked waits are fit = record {
   places = owned.places;
   are_rows = owned.are_rows;
+  used_ = core.used_;
   hosts_ = core.hosts_;
   requests_ = asked.once;
   owners_ = owned.owners_;
@@ -135,7 +159,7 @@ told_same S s v x owners moving requests tasks told served = record {
   legal = told.legal;
   stops = told.stops;
   agrees = told.agrees;
-  going = λ none. let g = told.going none in record { no_stop = g.no_stop; hosts_ = g.hosts_; shows = g.shows; rows_ = g.rows_; copies = g.copies; told = g.told; served = served none };
+  going = λ none. let g = told.going none in record { no_stop = g.no_stop; hosts_ = g.hosts_; shows = g.shows; rows_ = g.rows_; copies = g.copies; slots_ = g.slots_; told = g.told; served = served none };
 }
 
 -- ---- a core that a failed write stops in work: the change wasn't made, and no more is said of what its devices hold
@@ -175,6 +199,7 @@ pub core_stopped : (S : Type 0) {C : Type 0} (v : CoreValue S C) → IsCore v �
 core_stopped S v core x fault = record {
   places = core.places;
   are_rows = core.are_rows;
+  used_ = core.used_;
   hosts_ = core.hosts_;
   requests_ = core.requests_;
   owners_ = core.owners_;

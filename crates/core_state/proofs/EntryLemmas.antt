@@ -13,7 +13,9 @@ use Rattle.ckd_plain.specs.History.{EntryData, after, next, IsStopped, IsLegal}
 use Rattle.ckd_plain.proofs.Histories.{after-append, IsLegal-push, HasNoStop-push}
 use Rattle.volume_table.specs.Row.{RowValue}
 use Rattle.table_pair.specs.Copies.{copy_at}
+use Rattle.table_pair.specs.declared.copy.SlotsUsed.{SlotsUsed}
 use Rattle.table_pair.specs.Pair.{HoldsRow, IsOpenWith, row_of_copies}
+use Rattle.table_pair.specs.Slots.{HasSlots, AreUsed}
 use Rattle.shown_volumes.specs.Shown.{RowsOf, told_row, rows_of, shown, SameTables}
 use Rattle.core_state.specs.declared.session.Message.{Message}
 use Rattle.core_state.specs.declared.task.Task.{Task}
@@ -78,6 +80,15 @@ module _ (c d : Content) (same : SameTables c d) where
         b = subst (λ (x : List ℕ). IsOpenWith r (copy_at x)) (sym (same TableB volume refl)) h.b;
       }
 
+  pub slots_same_tables : (used : SlotsUsed) (volume : ℕ) → HasSlots used volume c → HasSlots used volume d
+  slots_same_tables used volume has = record {
+    a = ap (λ (x : List ℕ). length (copy_at x).slots) (same TableA volume refl) ∙ has.a;
+    b = ap (λ (x : List ℕ). length (copy_at x).slots) (same TableB volume refl) ∙ has.b;
+  }
+
+  pub used_same_tables : (used : List SlotsUsed) → AreUsed used c → AreUsed used d
+  used_same_tables used are = λ volume low. slots_same_tables _ volume (are volume low)
+
 -- ---- the core
 
 module _ (S : Type 0) {C : Type 0} (s t : SiteLog) (v : CoreValue S C) (x : S) (e : EntryData) (m : ℕ) (hosts : List HostState) (requests : RequestsData) (tasks : List (Option Task)) (stopped : Option ℕ)
@@ -128,6 +139,7 @@ module _ (S : Type 0) {C : Type 0} (s t : SiteLog) (v : CoreValue S C) (x : S) (
           shows = left.shows ∙ ap (λ (y : State). y.volumes) (sym after_is);
           rows_ = rows_same_tables (content s) (content t) left.tables ∙ going.rows_;
           copies = λ volume r is. holds_same_tables (content s) (content t) left.tables r volume (going.copies volume r is);
+          slots_ = used_same_tables (content s) (content t) left.tables v.used going.slots_;
           told = ap (λ (rows : RowsOf). rows_after rows v.console) handed ∙ going.told;
           served = left.served;
         };

@@ -7,6 +7,7 @@ use Rattle.ckd_plain.specs.Checks.{admitted}
 use Rattle.ckd_plain.specs.Effects.{effect, search, read, write_}
 use Rattle.ckd_plain.specs.Index.{pass_index, next_within, next_record, same_record, to_home}
 use Rattle.mss_base.specs.Firsts.{first_below}
+use Rattle.table_pair.specs.Slots.{no_slots}
 use Rattle.volume_table.specs.Row.{blank_row}
 use Rattle.volume_table.specs.declared.changes.Change.TheVariants.{Assign, Free, Staged}
 use Rattle.accessors.specs.Rails.{rail_start}
@@ -29,6 +30,7 @@ world = record {
     chooser = tt;
     config = record { frames = 2; recorders = 1; volumes = volumes };
     rows = Some (blank_row (serial 0x31) 0 1) ∷ Some (blank_row (serial 0x32) 2 3) ∷ Some (blank_row (serial 0x33) 4 5) ∷ replicate 29 None;
+    used = replicate 32 no_slots;
     owners = replicate 2 None;
     moving = replicate 2 false;
     recency = 0 ∷ 1 ∷ [];

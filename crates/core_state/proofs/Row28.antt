@@ -7,6 +7,7 @@ use Rattle.ckd_plain.specs.Checks.{admitted}
 use Rattle.ckd_plain.specs.Effects.{effect, search, read, write_}
 use Rattle.ckd_plain.specs.Index.{pass_index, next_within, next_record, same_record, to_home}
 use Rattle.mss_base.specs.Firsts.{first_below}
+use Rattle.table_pair.specs.Slots.{no_slots}
 use Rattle.volume_table.specs.Row.{blank_row}
 use Rattle.accessors.specs.Rails.{rail_start}
 use Rattle.core_state.specs.declared.session.Event.TheVariants.{Host, Work}
@@ -29,6 +30,7 @@ core = record {
   chooser = tt;
   config = record { frames = 1; recorders = 1; volumes = (0, serial) ∷ [] };
   rows = Some (blank_row serial 0 1) ∷ replicate 31 None;
+  used = replicate 32 no_slots;
   owners = None ∷ [];
   moving = false ∷ [];
   recency = 0 ∷ [];

@@ -12,7 +12,9 @@ use Rattle.mss_base.proofs.Moments.{ended_with}
 use Rattle.volume_table.specs.Row.{RowValue}
 use Rattle.volume_table.specs.Changes.{effect}
 use Rattle.volume_table.specs.declared.changes.Change.{Change}
+use Rattle.table_pair.specs.declared.copy.SlotsUsed.{SlotsUsed}
 use Rattle.table_pair.specs.Copies.{copy_at}
+use Rattle.table_pair.specs.Slots.{AreUsed, HasSlots, IsChanged, no_slots, used_after, used_at, with_used_after}
 use Rattle.table_pair.specs.Pair.{HoldsRow, IsOpenWith, row_of_copies, is_table, ChangesRow, OldOrNew}
 use Rattle.table_pair.proofs.PairFacts.{held_row}
 use Rattle.shown_volumes.specs.Shown.{RowsOf, told_row, rows_of}
@@ -24,7 +26,7 @@ use Rattle.core_state.specs.CoreValue.{CoreValue}
 use Rattle.volume_table.specs.Listed.{listed}
 use Rattle.core_state.specs.IsCore.{IsCore, IsTold, IsGoing}
 use Rattle.core_state.specs.Served.{AreServed}
-use Rattle.core_state.specs.Entered.{worked}
+use Rattle.core_state.specs.Entered.{with_used, worked}
 use Rattle.core_state.specs.Agrees.{with_change, changed, creates, IsAllowedIn, message_of}
 use Rattle.core_state.proofs.ChangeLemmas.{told_change}
 use Rattle.fault_queue.specs.Requests.{RequestsData}
@@ -55,7 +57,7 @@ module _ (S : Type 0) {C : Type 0} (s t : SiteLog) (v : CoreValue S C) (x : S) (
     (allowed : IsAllowedIn (listed v.rows) volume change (Some r))
     (may : MayChange v.config.frames volume (effect change r) (content s))
     (writes : Writes (ChangesRow volume (OldOrNew volume (effect change r) (content s)) (content s)) s t)
-    (holds : HoldsRow (effect change r) volume (content t)) (at_end : mark ≡ length t.log) (grows : length s.log < length t.log)
+    (after : IsChanged (effect change r) (used_after (used_at v.used volume)) volume s t) (at_end : mark ≡ length t.log) (grows : length s.log < length t.log)
     (owners : List (Option (ℕ × ℕ))) (moving : List Bool) (requests : RequestsData) (tasks : List (Option Task))
     (served : AreServed (content t) (listed (slice_set v.rows volume (Some (effect change r)))) tasks) where
   abbrev new : RowValue
@@ -75,7 +77,7 @@ module _ (S : Type 0) {C : Type 0} (s t : SiteLog) (v : CoreValue S C) (x : S) (
 
   rows_at_ : (w : ℕ) → rows_of (content t) w ≡ listed (slice_set v.rows volume (Some new)) w
   rows_at_ w = elim (eqb_tells w volume) [
-    | inl e ↦ ap (rows_of (content t)) e.1 ∙ cond-true _ _ _ (lt-ltb volume 32 low) ∙ ap told_row (held_row new volume (content t) holds) ∙ sym (row_set v.rows volume new fits w ∙ cond-true _ _ _ e.0)
+    | inl e ↦ ap (rows_of (content t)) e.1 ∙ cond-true _ _ _ (lt-ltb volume 32 low) ∙ ap told_row (held_row new volume (content t) after.holds) ∙ sym (row_set v.rows volume new fits w ∙ cond-true _ _ _ e.0)
     | inr e ↦
         let other = turned volume w e.0 in
         (λ i. cond (nat_lt w 32) (told_row (row_of_copies (copy_at (last.others TableA w other i)) (copy_at (last.others TableB w other i)))) None)
@@ -87,7 +89,7 @@ module _ (S : Type 0) {C : Type 0} (s t : SiteLog) (v : CoreValue S C) (x : S) (
     | inl e ↦
         let o : Some new ≡ Some q = sym (row_set v.rows volume new fits w ∙ cond-true _ _ _ e.0) ∙ is in
         let same : new ≡ q = cc in
-        subst (λ (z : ℕ). HoldsRow q z (content t)) (sym e.1) (subst (λ (y : RowValue). HoldsRow y volume (content t)) same holds)
+        subst (λ (z : ℕ). HoldsRow q z (content t)) (sym e.1) (subst (λ (y : RowValue). HoldsRow y volume (content t)) same after.holds)
     | inr e ↦
         let other = turned volume w e.0 in
         let h = going.copies w q (sym (row_set v.rows volume new fits w ∙ cond-false _ _ _ e.0) ∙ is) in
@@ -97,19 +99,37 @@ module _ (S : Type 0) {C : Type 0} (s t : SiteLog) (v : CoreValue S C) (x : S) (
         }
   ]
 
+  listed_ : volume < length v.used
+  listed_ = let p = core.used_ in omega (arith, p)
+
+  slots_at : AreUsed (with_used_after volume v.used) (content t)
+  slots_at w below = elim (eqb_tells w volume) [
+    | inl e ↦
+        let now : used_at (with_used_after volume v.used) volume ≡ used_after (used_at v.used volume) = get_or-set_same v.used volume (used_after (used_at v.used volume)) no_slots listed_ in
+        subst (λ (z : ℕ). HasSlots (used_at (with_used_after volume v.used) z) z (content t)) (sym e.1) (subst (λ (u : SlotsUsed). HasSlots u volume (content t)) (sym now) after.slots_)
+    | inr e ↦
+        let other = turned volume w e.0 in
+        let still : used_at (with_used_after volume v.used) w ≡ used_at v.used w = get_or-set_other v.used volume w (used_after (used_at v.used volume)) no_slots e.1 in
+        let has = going.slots_ w below in
+        subst (λ (u : SlotsUsed). HasSlots u w (content t)) (sym still) (record {
+          a = ap (λ (y : List ℕ). length (copy_at y).slots) (last.others TableA w other) ∙ has.a;
+          b = ap (λ (y : List ℕ). length (copy_at y).slots) (last.others TableB w other) ∙ has.b;
+        })
+  ]
+
   changes_at : (w : ℕ) → with_change (listed v.rows) m w ≡ listed (slice_set v.rows volume (Some new)) w
   changes_at w = elim (eqb_tells w volume) [
     | inl e ↦ cond-true _ _ _ e.0 ∙ simple (listed v.rows w) ∙ ap (option_map (effect change)) (ap (listed v.rows) e.1 ∙ there) ∙ sym (row_set v.rows volume new fits w ∙ cond-true _ _ _ e.0)
     | inr e ↦ cond-false _ _ _ e.0 ∙ sym (row_set v.rows volume new fits w ∙ cond-false _ _ _ e.0)
   ]
 
-  pub told_by_change : IsTold t (worked v x (slice_set v.rows volume (Some (effect change r)))
+  pub told_by_change : IsTold t (worked (with_used (with_used_after volume v.used) v) x (slice_set v.rows volume (Some (effect change r)))
       (v.console ++ (message_of mark volume change (listed v.rows)) ∷ []) owners moving requests tasks)
   told_by_change =
       told_change S s t v x (slice_set v.rows volume (Some new)) m told open_ core.marked
       (change_moments v.config.frames volume new s t may writes) at_end grows no_create
       (subst (λ (o : Option RowValue). IsAllowedIn (listed v.rows) volume change o) (sym there) allowed, refl)
-      (fun_ext changes_at) (fun_ext rows_at_) copies_ owners moving requests tasks served
+      (fun_ext changes_at) (fun_ext rows_at_) copies_ (with_used_after volume v.used) slots_at owners moving requests tasks served
 
   -- blocks that are no table's stay
   pub blocks_stay : (unit : UnitNo) (block : ℕ) → is_table unit ≡ false → content t unit block ≡ content s unit block

@@ -10,6 +10,7 @@ use Rattle.channel_commands.specs.declared.command.WriteKind.TheVariants as writ
 use Rattle.channel_commands.specs.Data.{CallData, mount, demount, command as ask}
 use Rattle.ckd_plain.specs.Plain.{fresh_host}
 use Rattle.accessors.specs.Rails.{rail_start}
+use Rattle.table_pair.specs.Slots.{no_slots}
 use Rattle.core_state.specs.declared.rule.HostRule.TheVariants.{IsBusy, IsMoving, IsHeld, Responds, HasFailed, HasNoSpace, Faults, Marks, Runs}
 use Rattle.fault_queue.specs.declared.queue.RequestState.{RequestState}
 use Rattle.fault_queue.specs.declared.queue.RequestState.TheVariants as request
@@ -33,6 +34,7 @@ core frame state bind chained host = record {
   chooser = tt;
   config = record { frames = 1; recorders = 1; volumes = [] };
   rows = Some (record { serial = 0x56 ∷ []; first = 0; second = 1; pages = frame ∷ replicate 50 None; states = state ∷ replicate 403 0 }) ∷ replicate 31 None;
+  used = replicate 32 no_slots;
   owners = Some (0, 3) ∷ [];
   moving = false ∷ [];
   recency = 0 ∷ [];

@@ -98,8 +98,8 @@ rule_fits core h demount = other_fits core h demount refl
 rule_fits core h (break cause) = other_fits core h (break cause) refl
 
 -- the row's change over devices that tell nothing
-pub rows : (d : DevicesSeen) (volume : ℕ) (row : _) → HaveRow ⊥ volume row d d
-rows d volume row = record { write = record { moments = λ tl. absurd tl; later = omega arith }; both = λ tl. absurd tl; grown = λ tl. absurd tl; sound = refl }
+pub rows : (d : DevicesSeen) (volume : ℕ) (row : _) (used : _) → HaveRow ⊥ volume row used d d
+rows d volume row used = record { write = record { moments = λ tl. absurd tl; later = omega arith }; changed = λ tl. absurd tl; grown = λ tl. absurd tl; sound = refl }
 
 -- ---- a choice of two cores over the same devices
 
@@ -164,7 +164,7 @@ host_does w h call (host.HasFailed fault) f = (still w.core.site, refl, refl)
 host_does w h call host.HasNoSpace f = (still w.core.site, refl, refl)
 host_does w h call (host.Faults volume cylinder) f =
     (refl, (still_at w.core.site _ (site_either (is_some (request_for w.core h call)) w.core (noted (Host h) (with_request h volume cylinder request.Queued (going_on w.core h call))) w.core.site refl (going_site w.core h call)), refl))
-host_does w h call (host.Marks volume cylinder) f = (λ r is. rows w.core.site volume _, refl)
+host_does w h call (host.Marks volume cylinder) f = (λ r is. rows w.core.site volume _ _, refl)
 host_does w h call (host.Runs c volume frame) f = runs_does w h call c volume frame f
 
 -- each call of the runner is an event

@@ -105,9 +105,9 @@ module _ (core : CoreData) (recorder : ℕ) where
   takes h (Some c) e some = (0, c, refl, e, (still core.site, refl, refl))
 
   ends : (task : Task) (kind : TransferKind) (t : Transfer) → EndsIt ⊥ core recorder task kind t (end_it core recorder task kind t).0 (end_it core recorder task kind t).1
-  ends task StageBlank t = (λ r is. rows core.site t.volume _, refl, refl)
-  ends task StageCartridge t = (λ r is. rows core.site t.volume _, refl, refl)
-  ends task Destage t = (λ r is. rows core.site t.volume _, refl, refl)
+  ends task StageBlank t = (λ r is. rows core.site t.volume _ _, refl, refl)
+  ends task StageCartridge t = (λ r is. rows core.site t.volume _ _, refl, refl)
+  ends task Destage t = (λ r is. rows core.site t.volume _ _, refl, refl)
 
   abandons : (t : Option Task) → task_of core recorder ≡ t → is_some t ≡ true → WorkDoes ⊥ first_place core recorder work.Abandons (task_step core recorder work.Abandons t).0 (task_step core recorder work.Abandons t).1
   abandons None is e = absurd cc
@@ -119,11 +119,11 @@ module _ (core : CoreData) (recorder : ℕ) where
 
   frees : (volume page : ℕ) → (t : Option Task) → task_of core recorder ≡ t → is_some t ≡ true → WorkDoes ⊥ first_place core recorder (work.Frees volume page) (task_step core recorder (work.Frees volume page) t).0 (task_step core recorder (work.Frees volume page) t).1
   frees volume page None is e = absurd cc
-  frees volume page (Some task) is e = subst (λ (o : Option Task). WithTask o (λ one. TaskDoes ⊥ core recorder (work.Frees volume page) one (task_step core recorder (work.Frees volume page) (Some task)).0 (task_step core recorder (work.Frees volume page) (Some task)).1)) (sym is) (λ r is. rows core.site volume _, refl, refl)
+  frees volume page (Some task) is e = subst (λ (o : Option Task). WithTask o (λ one. TaskDoes ⊥ core recorder (work.Frees volume page) one (task_step core recorder (work.Frees volume page) (Some task)).0 (task_step core recorder (work.Frees volume page) (Some task)).1)) (sym is) (λ r is. rows core.site volume _ _, refl, refl)
 
   assigns : (volume page : ℕ) → (t : Option Task) → task_of core recorder ≡ t → is_some t ≡ true → WorkDoes ⊥ first_place core recorder (work.Assigns volume page) (task_step core recorder (work.Assigns volume page) t).0 (task_step core recorder (work.Assigns volume page) t).1
   assigns volume page None is e = absurd cc
-  assigns volume page (Some task) is e = subst (λ (o : Option Task). WithTask o (λ one. TaskDoes ⊥ core recorder (work.Assigns volume page) one (task_step core recorder (work.Assigns volume page) (Some task)).0 (task_step core recorder (work.Assigns volume page) (Some task)).1)) (sym is) (λ r is. rows core.site volume _, refl, refl)
+  assigns volume page (Some task) is e = subst (λ (o : Option Task). WithTask o (λ one. TaskDoes ⊥ core recorder (work.Assigns volume page) one (task_step core recorder (work.Assigns volume page) (Some task)).0 (task_step core recorder (work.Assigns volume page) (Some task)).1)) (sym is) (λ r is. rows core.site volume _ _, refl, refl)
 
   -- the answer of an end is the same whatever is copied
   ends_by : (x : Transfer) (task : Task) (kind : TransferKind) → WorkDoes ⊥ first_place core recorder (work.Ends x) (end_it core recorder task kind x).0 (end_it core recorder task kind x).1 ≡ WithTask (task_of core recorder) (λ one. TaskDoes ⊥ core recorder (work.Ends x) one (end_it core recorder task kind x).0 (end_it core recorder task kind x).1)

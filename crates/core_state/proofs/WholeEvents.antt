@@ -93,6 +93,7 @@ module _ (S : Type 0) {C : Type 0} (v : CoreValue S C) (core : IsCore v) (h : �
   core_entry x e m tasks fault few are long kept has unready = record {
     places = core.places;
     are_rows = core.are_rows;
+    used_ = core.used_;
     hosts_ = length_put v.hosts h host ∙ core.hosts_;
     requests_ = once_put v.requests h request core.requests_;
     owners_ = core.owners_;
@@ -127,6 +128,7 @@ pub core_stop_entry : (S : Type 0) {C : Type 0} (v : CoreValue S C) → IsCore v
 core_stop_entry S v core x e m fault few = record {
   places = core.places;
   are_rows = core.are_rows;
+  used_ = core.used_;
   hosts_ = core.hosts_;
   requests_ = core.requests_;
   owners_ = core.owners_;
@@ -166,7 +168,7 @@ whole_work S tells s v x owners moving requests tasks whole open_ owned long ask
 pub whole_change_failed : (S : Type 0) {C : Type 0} (tells : Type 0) (s t : SiteLog) (v : CoreValue S C) (x : S) (fault : ℕ) (rows : List (Option RowValue)) → IsWhole tells s v → v.stopped ≡ None → length rows ≡ 32
     → (tells → Writes (SoundAs v.config.frames (shown (content s))) s t) → IsWhole tells t (record v { site = x; rows = rows; stopped = Some fault })
 whole_change_failed S tells s t v x fault rows whole open_ long_rows writes = record {
-  shaped = let k = shaped_of (whole.kept open_) in record { rows_ = long_rows; hosts_ = k.hosts_; owners_ = k.owners_; moving_ = k.moving_; tasks_ = k.tasks_; recorders_ = k.recorders_; few = k.few; marked = k.marked };
+  shaped = let k = shaped_of (whole.kept open_) in record { rows_ = long_rows; used_ = k.used_; hosts_ = k.hosts_; owners_ = k.owners_; moving_ = k.moving_; tasks_ = k.tasks_; recorders_ = k.recorders_; few = k.few; marked = k.marked };
   kept = λ none. absurd (let z : Some fault ≡ None = none in cc);
   told = λ tl.
       let d = told_stopped S s t v x (whole.told tl) open_ (whole.kept open_).marked (writes tl) fault in

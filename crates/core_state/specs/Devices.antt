@@ -11,7 +11,8 @@ use Rattle.ckd_plain.specs.Plain.{Answer, opened, IsDone, KeepsChain}
 use Rattle.ckd_plain.specs.declared.host.HostState.{HostState}
 use Rattle.ckd_plain.specs.Effects.{prior_number}
 use Rattle.volume_table.specs.Row.{RowValue}
-use Rattle.table_pair.specs.Pair.{HoldsRow}
+use Rattle.table_pair.specs.declared.copy.SlotsUsed.{SlotsUsed}
+use Rattle.table_pair.specs.Slots.{IsChanged}
 use Rattle.track_engine.specs.Answers.{ran}
 use Rattle.track_engine.specs.Faults.{HasUnitCheck}
 use Rattle.track_engine.specs.Tracks.{tracks_at}
@@ -45,11 +46,11 @@ pub record WriteRow (tells : Type 0) (volume : ℕ) (row : RowValue) (old new : 
   pub moments : tells → Rewrites volume row old.told new.told
   pub later : old.writes ≤ new.writes
 
--- no call failed, and both have it
-pub record HaveRow (tells : Type 0) (volume : ℕ) (row : RowValue) (old new : DevicesSeen)
-    : Type 0 where
+-- no call failed, and both have it, with so many slots in use
+pub record HaveRow (tells : Type 0) (volume : ℕ) (row : RowValue) (used : SlotsUsed)
+    (old new : DevicesSeen) : Type 0 where
   pub write : WriteRow tells volume row old new
-  pub both : tells → HoldsRow row volume (content new.told)
+  pub changed : tells → IsChanged row used volume old.told new.told
   pub grown : tells → length old.told.log < length new.told.log
   pub sound : new.faults ≡ old.faults
 

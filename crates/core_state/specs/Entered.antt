@@ -7,6 +7,7 @@ use Rattle.ckd_plain.specs.Data.{State}
 use Rattle.ckd_plain.specs.History.{EntryData, after, next, IsNextEntry, count_of_host}
 use Rattle.ckd_plain.specs.Near.{IsNear}
 use Rattle.volume_table.specs.Row.{RowValue}
+use Rattle.table_pair.specs.declared.copy.SlotsUsed.{SlotsUsed}
 use Rattle.shown_volumes.specs.Sound.{IsSound}
 use Rattle.core_state.specs.declared.task.Task.{Task}
 use Rattle.core_state.specs.declared.session.Message.{Message}
@@ -18,6 +19,10 @@ use Rattle.volume_table.specs.Listed.{listed}
 use Rattle.core_state.specs.IsCore.{opening_of}
 use Rattle.core_state.specs.Served.{AreServed}
 use Rattle.fault_queue.specs.Requests.{RequestsData}
+
+-- with other slots in use
+abbrev pub with_used : {S C : Type 0} → List SlotsUsed → CoreValue S C → CoreValue S C
+with_used used v = record v { used = used }
 
 -- the core with an entry at the end of its history
 abbrev pub entered : {S C : Type 0} → CoreValue S C → S → EntryData → ℕ → List HostState

@@ -14,6 +14,7 @@ use Rattle.volume_table.specs.Row.{RowValue}
 use Rattle.volume_table.specs.Changes.{effect}
 use Rattle.volume_table.specs.Listed.{listed}
 use Rattle.volume_table.specs.declared.changes.Change.TheVariants as change
+use Rattle.table_pair.specs.Slots.{used_after, used_at}
 use Rattle.fault_queue.specs.declared.queue.RequestState.TheVariants as request
 use Rattle.core_state.specs.declared.session.Event.TheVariants.{Host}
 use Rattle.core_state.specs.declared.rule.Waiting.{Waiting}
@@ -104,7 +105,8 @@ abbrev pub MarksIt : Type 0 → CoreData → ℕ → CallData → VolumeCylinder
     → Type 0
 MarksIt tells core h call at marked core' =
     ForSome (listed core.rows at.volume)
-    (λ r. HaveRow tells at.volume (effect (change.Changed at.cylinder) r) core.site core'.site)
+    (λ r. HaveRow tells at.volume (effect (change.Changed at.cylinder) r)
+    (used_after (used_at core.used at.volume)) core.site core'.site)
     × (core' ≡ noted (Host h) (touching (at.volume, page_of at.cylinder)
     (with_request h at.volume at.cylinder request.Ready
     (with_change at.volume (change.Changed at.cylinder)

@@ -5,6 +5,7 @@ use Rattle.ckd_plain.specs.Data.{State}
 use Rattle.ckd_plain.specs.History.{after, IsLegal, HasNoStop}
 use Rattle.volume_table.specs.Row.{RowValue, IsRow}
 use Rattle.table_pair.specs.Pair.{HoldsRow}
+use Rattle.table_pair.specs.Slots.{AreUsed}
 use Rattle.shown_volumes.specs.Shown.{RowsOf, rows_of, shown}
 use Rattle.shown_volumes.specs.Sound.{frame_in}
 use Rattle.core_state.specs.declared.session.Message.{Message}
@@ -38,6 +39,7 @@ IsPlaced host q = (is_on q.volume host.mounted ≡ true) × (host.cylinder ≡ q
 pub record IsCore {S C : Type 0} (v : CoreValue S C) : Type 0 where
   pub places : length v.rows ≡ 32
   pub are_rows : (volume : ℕ) (r : RowValue) → listed v.rows volume ≡ Some r → IsRow r
+  pub used_ : length v.used ≡ 32
   pub hosts_ : length v.hosts ≡ 8
   pub requests_ : IsOnce v.requests
   pub owners_ : length v.owners ≡ v.config.frames
@@ -66,8 +68,8 @@ handed_to site v =
     handed_rows (rows_of (written_after site.start (take v.first_write site.log))) v.console
 
 -- what a core that isn't stopped keeps of what its devices hold: its host states and the volumes
--- that they show are those after the history, its rows are theirs, and what is half copied stands
--- there
+-- that they show are those after the history, its rows are theirs, with their slots, and what is
+-- half copied stands there
 pub record IsGoing {S C : Type 0} (site : SiteLog) (v : CoreValue S C) : Type 0 where
   pub no_stop : HasNoStop v.history
   pub hosts_ : (after (opening_of site v) v.history).host ≡ host_at v.hosts
@@ -75,6 +77,7 @@ pub record IsGoing {S C : Type 0} (site : SiteLog) (v : CoreValue S C) : Type 0 
   pub rows_ : rows_of (content site) ≡ listed v.rows
   pub copies : (volume : ℕ) (r : RowValue) → listed v.rows volume ≡ Some r
       → HoldsRow r volume (content site)
+  pub slots_ : AreUsed v.used (content site)
   pub told : rows_after (handed_to site v) v.console ≡ listed v.rows
   pub served : AreServed (content site) (listed v.rows) v.tasks
 

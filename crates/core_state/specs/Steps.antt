@@ -7,6 +7,7 @@ use Rattle.ckd_plain.specs.declared.host.HostState.{HostState}
 use Rattle.ckd_plain.specs.History.{EntryData, count_of_host}
 use Rattle.volume_table.specs.Listed.{listed, with_changed}
 use Rattle.volume_table.specs.declared.changes.Change.{Change}
+use Rattle.table_pair.specs.Slots.{with_used_after}
 use Rattle.fault_queue.specs.declared.queue.RequestState.{RequestState}
 use Rattle.fault_queue.specs.declared.queue.RequestState.TheVariants as request
 use Rattle.fault_queue.specs.Requests.{request_of, with_state, without_request}
@@ -50,10 +51,11 @@ with_entry h call reply fault core = record core {
 abbrev pub with_row : ℕ → Change → CoreData → CoreData
 with_row volume change core = record core { rows = with_changed volume change core.rows }
 
--- and with its message, whose mark is the count of writes
+-- and with its slots, and its message, whose mark is the count of writes
 abbrev pub with_change : ℕ → Change → CoreData → CoreData
 with_change volume change core =
     record (with_row volume change core) {
+      used = with_used_after volume core.used;
       console =
           core.console ++ message_of core.site.writes volume change (listed core.rows) ∷ [];
     }

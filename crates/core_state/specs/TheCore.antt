@@ -11,6 +11,7 @@ use Rattle.core_state.specs.SessionData.{data_of}
 -- the lengths of its lists, which also a stopped core keeps
 pub record IsShaped {S C : Type 0} (v : CoreValue S C) : Type 0 where
   pub rows_ : length v.rows ≡ 32
+  pub used_ : length v.used ≡ 32
   pub hosts_ : length v.hosts ≡ 8
   pub owners_ : length v.owners ≡ v.config.frames
   pub moving_ : length v.moving ≡ v.config.frames

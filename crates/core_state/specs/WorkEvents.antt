@@ -5,6 +5,7 @@ use Rattle.volume_table.specs.Changes.{effect}
 use Rattle.volume_table.specs.Listed.{listed}
 use Rattle.volume_table.specs.declared.changes.Change.{Change}
 use Rattle.volume_table.specs.declared.changes.Change.TheVariants as change
+use Rattle.table_pair.specs.Slots.{used_after, used_at}
 use Rattle.fault_queue.specs.declared.queue.RequestState.TheVariants as request
 use Rattle.transfers.specs.Copies.{moved_on}
 use Rattle.transfers.specs.declared.transfer.Transfer.{Transfer}
@@ -44,7 +45,8 @@ abbrev pub ChangesThen : Type 0 → CoreData → WorkKind → ℕ → ℕ → Ch
     → WorkAnswer → CoreData → Type 0
 ChangesThen tells core what recorder volume change after (Did did) core' =
     ForSome (listed core.rows volume)
-    (λ r. HaveRow tells volume (effect change r) core.site core'.site)
+    (λ r. HaveRow tells volume (effect change r) (used_after (used_at core.used volume))
+    core.site core'.site)
     × (did ≡ what)
     × (core' ≡ noted (Work recorder)
     (after (with_change volume change (record core { site = core'.site }))))

@@ -34,8 +34,8 @@
 //! - `stops`: a stop at any moment since the first write, inside a write too, leaves sound content
 //!   that shows the volumes after the answered entries, or what the next one may have made of them.
 //! - `going`, while it isn't stopped: the devices show the volumes after the history, the hosts are
-//!   those after it, both copies of each row hold the row, and a half-done transfer has copied what
-//!   it says (`served`).
+//!   those after it, both copies of each row hold the row, with so many slots in use as the core
+//!   counts, and a half-done transfer has copied what it says (`served`).
 //!
 //! Lemmas that the layers above cite, all in `proofs/`: a whole core after an event is
 //! `WholeEvents`, `BesideFacts`, `Moved` and `Begun`, of `EntryLemmas`, `CoreWork`, `RowEvents`,

@@ -16,6 +16,7 @@ use recording_devices::Recorder;
 use staging_adapter::Frames;
 use std::alloc::Global;
 use std::marker::Model;
+use table_pair::SlotsUsedList;
 use victim_choice::{Choose, Chooser, Recency};
 use volume_table::Rows;
 
@@ -39,6 +40,8 @@ pub struct Core<S: Site, C: Choose> {
     /// Room for the block of one track.
     pub buffer: Vec<u8>,
     pub rows: Rows,
+    /// How many slots of the copies of each row are in use.
+    pub used: SlotsUsedList,
     pub frames: Frames,
     pub recency: Recency,
     pub requests: Queue,
@@ -62,6 +65,7 @@ impl<S: Site, C: Choose> Model for Core<S, C> {
       chooser = c.chooser;
       config = c.config;
       rows = c.rows;
+      used = c.used.items;
       owners = c.frames.owners;
       moving = c.frames.moving;
       recency = c.recency;
@@ -87,6 +91,7 @@ impl<S: Site, C: Choose> Model for Core<S, C> {
           chooser = c.chooser;
           config = c.config;
           rows = c.rows;
+          used = c.used.items;
           owners = c.frames.owners;
           moving = c.frames.moving;
           recency = c.recency;
@@ -213,6 +218,7 @@ impl<S: Site, C: Choose + Drop> Core<S, C> {
             alloc: _,
             buffer: _,
             rows,
+            used: _,
             frames: _,
             recency: _,
             requests: _,

@@ -46,9 +46,9 @@ use Rattle.host_events.proofs.RuleFacts.{rule_goes, rule_stopped, rule_marks, On
 
 -- ---- a part of the core that waits and marks leave
 
--- c with the devices, requests, events, rows, messages and tasks of d
+-- c with the devices, requests, events, rows and their slots, messages and tasks of d
 abbrev pub other_than : CoreData → CoreData → CoreData
-other_than c d = record c { site = d.site; requests = d.requests; events = d.events; rows = d.rows; console = d.console; tasks = d.tasks }
+other_than c d = record c { site = d.site; requests = d.requests; events = d.events; rows = d.rows; used = d.used; console = d.console; tasks = d.tasks }
 
 module _ (core : CoreData) (h : ℕ) (call : CallData) where
   -- what holds with the host's request, and without it, holds of the core that goes on

@@ -1,19 +1,20 @@
 -- At the rule that marks a cylinder: what the change asks for, and that its outcomes are the event and keep the core.
-use Rattle.std.proofs.Common.{◌≡◌, inl, inr, ℕ, ◌/◌, ◌≤◌, ◌<◌, Bool, true, false, cond, ◌&&◌, List, [], ◌∷◌, ◌++◌, length, Option, Some, None, refl, sym, ◌∙◌, ap, subst, arith}
-use Rattle.std.specs.Prelude.{slice_set, not, is_some}
+use Rattle.std.proofs.Common.{◌≡◌, inl, inr, ℕ, ◌/◌, ◌≤◌, ◌<◌, Bool, true, false, cond, ◌&&◌, List, [], ◌∷◌, ◌++◌, length, Option, Some, None, Ok, Err, refl, sym, ◌∙◌, ap, subst, arith}
+use Rattle.std.specs.Prelude.{Result, OnOk, OnErr, slice_set, not, is_some}
 use Rattle.std.specs.Option.{ForSome, option_map}
 use Rattle.std.proofs.lemmas.Bool.{cond-false, eqb-true}
 use Rattle.mss_base.specs.Content.{SiteLog, content}
 use Rattle.mss_base.specs.Counts.{Rises}
-use Rattle.mss_base.specs.Sites.{MayWrite}
+use Rattle.mss_base.specs.Sites.{WritesAtMost}
 use Rattle.mss_base.specs.declared.site.Site.{Ghosts}
 use Rattle.channel_commands.specs.Data.{CallData, stopped}
 use Rattle.volume_table.specs.Listed.{HasRow, listed, with_changed}
 use Rattle.volume_table.specs.Row.{RowValue}
 use Rattle.volume_table.specs.Changes.{IsAllowed, effect, with_state as state_set}
 use Rattle.volume_table.specs.declared.changes.Change.TheVariants.{Changed}
-use Rattle.table_pair.specs.declared.change.TheConstants.{CHANGE_WRITES}
-use Rattle.table_pair.specs.Pair.{HoldsRow}
+use Rattle.table_pair.specs.declared.change.TheConstants.{CHANGE_ITEMS}
+use Rattle.table_pair.specs.declared.copy.SlotsUsed.{SlotsUsed}
+use Rattle.table_pair.specs.Slots.{IsChanged, used_after, used_at, with_used_after}
 use Rattle.fault_queue.specs.declared.queue.Request.{Request}
 use Rattle.fault_queue.specs.declared.queue.RequestState.TheVariants.{Ready}
 use Rattle.fault_queue.specs.Requests.{RequestsData, request_of, with_state, put_request}
@@ -23,13 +24,13 @@ use Rattle.core_state.specs.declared.task.Task.{Task}
 use Rattle.core_state.specs.Agrees.{message_of}
 use Rattle.core_state.specs.CoreValue.{CoreValue, CoreData, DevicesSeen, seen, seen_site}
 use Rattle.core_state.specs.Counted.{IsEntryBehind}
-use Rattle.core_state.specs.Entered.{entered, worked}
+use Rattle.core_state.specs.Entered.{entered, with_used, worked}
 use Rattle.core_state.specs.HostEvents.{HostDoes, marked, halts}
 use Rattle.core_state.specs.HostRules.{request_for, host_rule}
 use Rattle.core_state.specs.MakingRoom.{Reserves}
 use Rattle.core_state.specs.IsCore.{IsCore}
 use Rattle.core_state.specs.Pins.{page_of, is_on}
-use Rattle.core_state.specs.Rows.{Rewrites}
+use Rattle.core_state.specs.Rows.{HaveListed, Rewrites, WritesRow}
 use Rattle.core_state.specs.SessionData.{SessionData, data_of, of_parts, with_stop, with_last_event, with_last_message}
 use Rattle.core_state.specs.Steps.{entry_of, noted, with_change, ends_request, going_on, with_request, touching}
 use Rattle.core_state.specs.Tasks.{touched_all}
@@ -37,6 +38,7 @@ use Rattle.core_state.specs.TheCore.{IsWhole, IsKept}
 use Rattle.core_state.proofs.BesideFacts.{whole_noted, counted_noted}
 use Rattle.core_state.proofs.CountedFacts.{counted_request, counted_message, counted_halt}
 use Rattle.core_state.proofs.HostFacts.{IsHost}
+use Rattle.core_state.proofs.RowOwners.{listed_low}
 use Rattle.core_state.proofs.RuleWalks.{none_some}
 use Rattle.host_events.specs.Parts.{ready_for}
 use Rattle.host_events.specs.Replies.{with_reply}
@@ -83,11 +85,16 @@ module _ (S : Type 0) {C : Type 0} (g : Ghosts S) {u : CoreValue S C} (v : CoreV
   going_same = cond-false _ _ _ ends_none
 
   module _ (mid : S) (reserves : Reserves g u.site mid) where
-    pub holds_row : g.tells → ForSome (listed u.rows volume) (λ r. HoldsRow r volume (content (g.told mid)))
-    holds_row tl r at = subst (λ (s : SiteLog). HoldsRow r volume (content s)) (sym (reserves.log tl)) (((kept.whole.told tl).going on.goes.going).copies volume r at)
+    pub has_listed : g.tells → HaveListed u.rows u.used volume (content (g.told mid))
+    has_listed tl =
+        let going = (kept.whole.told tl).going on.goes.going in
+        subst (λ (s : SiteLog). HaveListed u.rows u.used volume (content s)) (sym (reserves.log tl)) (record {
+          holds = λ r at. going.copies volume r at;
+          slots_ = going.slots_ volume (listed_low S u core volume on.r on.there);
+        })
 
-    module _ (x : S) (may : MayWrite g CHANGE_WRITES mid x) (counts : g.tells → g.writes x ≡ length (g.told x).log)
-        (moments : g.tells → ForSome (listed u.rows volume) (λ r. Rewrites volume (effect (Changed cylinder) r) (g.told mid) (g.told x)))
+    module _ {T E : Type 0} (result : Result T E) (x : S) (site_ : WritesAtMost g CHANGE_ITEMS mid x result) (counts : g.tells → g.writes x ≡ length (g.told x).log)
+        (copies : g.tells → ForSome (listed u.rows volume) (λ r. WritesRow volume (effect (Changed cylinder) r) (used_after (used_at u.used volume)) (g.told mid) (g.told x) result))
         (rows : List (Option RowValue)) (rows_is : rows ≡ with_changed volume (Changed cylinder) u.rows) where
       abbrev old : DevicesSeen
       old = seen_site g u.site
@@ -96,13 +103,13 @@ module _ (S : Type 0) {C : Type 0} (g : Ghosts S) {u : CoreValue S C} (v : CoreV
       new = seen_site g x
 
       more : g.writes u.site ≤ g.writes x
-      more = subst (λ (n : ℕ). n ≤ g.writes x) reserves.unwritten may.written
+      more = subst (λ (n : ℕ). n ≤ g.writes x) reserves.unwritten site_.devices.written
 
       later : g.faults u.site ≤ g.faults x
-      later = subst (λ (n : ℕ). n ≤ g.faults x) reserves.same may.later
+      later = subst (λ (n : ℕ). n ≤ g.faults x) reserves.same site_.devices.later
 
       moments_ : g.tells → (r : RowValue) → listed u.rows volume ≡ Some r → Rewrites volume (effect (Changed cylinder) r) (g.told u.site) (g.told x)
-      moments_ tl r at = subst (λ (s : SiteLog). Rewrites volume (effect (Changed cylinder) r) s (g.told x)) (reserves.log tl) (moments tl r at)
+      moments_ tl r at = subst (λ (s : SiteLog). Rewrites volume (effect (Changed cylinder) r) s (g.told x)) (reserves.log tl) (copies tl r at).moments
 
       abbrev rows_now : List (Option RowValue)
       rows_now = slice_set u.rows volume (Some (state_set cylinder 4 on.r))
@@ -112,32 +119,42 @@ module _ (S : Type 0) {C : Type 0} (g : Ghosts S) {u : CoreValue S C} (v : CoreV
 
       -- ---- the change is written
 
-      module _ (done : g.tells → ForSome (listed u.rows volume) (λ r. HoldsRow (effect (Changed cylinder) r) volume (content (g.told x)))) (grown : g.tells → length (g.told mid).log < length (g.told x).log) (sound : g.faults x ≡ g.faults mid)
+      module _ (value : T) (ok : result ≡ Ok value) (used : List SlotsUsed) (used_is : used ≡ with_used_after volume u.used)
           (requests : RequestsData) (requests_is : requests ≡ cond (is_some (request_of u.requests h)) (with_state h Ready u.requests) (u.requests ++ (h, ready_for volume cylinder) ∷ []))
           (tasks : List (Option Task)) (tasks_is : tasks ≡ touched_all volume (cylinder / 8) u.tasks)
           (d : SessionData) (d_is : d ≡ with_last_event (Host h) (with_last_message (message_of (g.writes x) volume (Changed cylinder) (listed u.rows)) (data_of u))) where
         grown_ : g.tells → length (g.told u.site).log < length (g.told x).log
-        grown_ tl = subst (λ (s : SiteLog). length s.log < length (g.told x).log) (reserves.log tl) (grown tl)
+        grown_ tl =
+            subst (λ (s : SiteLog). length s.log < length (g.told x).log) (reserves.log tl)
+            (subst (λ (y : Result T E). OnOk y (length (g.told mid).log < length (g.told x).log)) ok (copies tl on.r on.there).grown)
+
+        changed_ : g.tells → (r : RowValue) → listed u.rows volume ≡ Some r → IsChanged (effect (Changed cylinder) r) (used_after (used_at u.used volume)) volume (g.told u.site) (g.told x)
+        changed_ tl r at =
+            subst (λ (s : SiteLog). IsChanged (effect (Changed cylinder) r) (used_after (used_at u.used volume)) volume s (g.told x)) (reserves.log tl)
+            (subst (λ (y : Result T E). OnOk y (IsChanged (effect (Changed cylinder) r) (used_after (used_at u.used volume)) volume (g.told mid) (g.told x))) ok (copies tl r at).changed)
 
         sound_ : g.faults x ≡ g.faults u.site
-        sound_ = sound ∙ reserves.same
+        sound_ = subst (λ (y : Result T E). OnOk y (g.faults x ≡ g.faults mid)) ok site_.cause.same ∙ reserves.same
 
         abbrev d_now : SessionData
         d_now = with_last_event (Host h) (with_last_message (message_of (g.writes x) volume (Changed cylinder) (listed u.rows)) (data_of u))
 
+        abbrev now : CoreValue S C
+        now = with_used (with_used_after volume u.used) u
+
         abbrev put : RequestsData
         put = put_request u.requests h (Some (ready_for volume cylinder))
 
-        kept_path : of_parts u x rows u.owners u.moving requests tasks u.hosts d ≡ of_parts u x rows_now u.owners u.moving put (touched_all volume (cylinder / 8) u.tasks) u.hosts d_now
-        kept_path = λ i. of_parts u x ((rows_is ∙ rows_set) i) u.owners u.moving ((requests_is ∙ ready_put h (ready_for volume cylinder) u.requests same_request) i) (tasks_is i) u.hosts (d_is i)
+        kept_path : of_parts (with_used used u) x rows u.owners u.moving requests tasks u.hosts d ≡ of_parts now x rows_now u.owners u.moving put (touched_all volume (cylinder / 8) u.tasks) u.hosts d_now
+        kept_path = λ i. of_parts (with_used (used_is i) u) x ((rows_is ∙ rows_set) i) u.owners u.moving ((requests_is ∙ ready_put h (ready_for volume cylinder) u.requests same_request) i) (tasks_is i) u.hosts (d_is i)
 
-        whole_ : IsWhole g.tells (g.told x) (of_parts u x rows_now u.owners u.moving put (touched_all volume (cylinder / 8) u.tasks) u.hosts d_now)
+        whole_ : IsWhole g.tells (g.told x) (of_parts now x rows_now u.owners u.moving put (touched_all volume (cylinder / 8) u.tasks) u.hosts d_now)
         whole_ = whole_noted g.tells (g.told x)
-            (worked u x rows_now (u.console ++ message_of (g.writes x) volume (Changed cylinder) (listed u.rows) ∷ []) u.owners u.moving put (touched_all volume (cylinder / 8) u.tasks)) (u.events ++ Host h ∷ [])
+            (worked now x rows_now (u.console ++ message_of (g.writes x) volume (Changed cylinder) (listed u.rows) ∷ []) u.owners u.moving put (touched_all volume (cylinder / 8) u.tasks)) (u.events ++ Host h ∷ [])
             (whole_marked S g.tells (g.told u.site) u kept.whole on.goes.going h low_host volume cylinder on.bind on.mounted on.r on.there low_cylinder on.staged on.asks.free on.quiet on.cylinder_ (g.told x) x (g.writes x)
-            (λ tl. moments_ tl on.r on.there) (λ tl. done tl on.r on.there) counts grown_)
+            (λ tl. moments_ tl on.r on.there) (λ tl. changed_ tl on.r on.there) counts grown_)
 
-        pub marked_kept : IsKept g.tells (g.told x) (g.writes x) (g.faults x) room (of_parts u x rows u.owners u.moving requests tasks u.hosts d)
+        pub marked_kept : IsKept g.tells (g.told x) (g.writes x) (g.faults x) room (of_parts (with_used used u) x rows u.owners u.moving requests tasks u.hosts d)
         marked_kept = subst (IsKept g.tells (g.told x) (g.writes x) (g.faults x) room) (sym kept_path) (record {
           whole = whole_;
           counted = counted_noted (g.writes x) (g.faults x) put _ (u.events ++ Host h ∷ [])
@@ -147,34 +164,37 @@ module _ (S : Type 0) {C : Type 0} (g : Ghosts S) {u : CoreValue S C} (v : CoreV
           buffer = kept.buffer;
         })
 
-        pub marked_event : HostDoes g.tells (seen g v) h call (Marks volume cylinder) marked (seen g (of_parts u x rows u.owners u.moving requests tasks u.hosts d))
-        marked_event = subst (λ (z : CoreValue S C). HostDoes g.tells (seen g z) h call (Marks volume cylinder) marked (seen g (of_parts u x rows u.owners u.moving requests tasks u.hosts d))) view (
+        pub marked_event : HostDoes g.tells (seen g v) h call (Marks volume cylinder) marked (seen g (of_parts (with_used used u) x rows u.owners u.moving requests tasks u.hosts d))
+        marked_event = subst (λ (z : CoreValue S C). HostDoes g.tells (seen g z) h call (Marks volume cylinder) marked (seen g (of_parts (with_used used u) x rows u.owners u.moving requests tasks u.hosts d))) view (
           (λ r at. record {
             write = record { moments = λ tl. moments_ tl r at; later = more };
-            both = λ tl. done tl r at;
+            changed = λ tl. changed_ tl r at;
             grown = grown_;
             sound = sound_;
           }),
           ap (λ (z : CoreValue S C). seen g z)
-              (λ i. of_parts u x (rows_is i) u.owners u.moving (requests_is i) (tasks_is i) u.hosts (d_is i))
+              (λ i. of_parts (with_used (used_is i) u) x (rows_is i) u.owners u.moving (requests_is i) (tasks_is i) u.hosts (d_is i))
               ∙ ap (λ (k : CoreData). noted (Host h) (touching (volume, page_of cylinder) (with_request h volume cylinder Ready (with_change volume (Changed cylinder) (record k { site = new }))))) (sym going_same),
         )
 
       -- ---- a write of the devices failed
 
-      module _ (rises : Rises (g.faults mid) (g.faults x)) (wrote : Rises (g.writes mid) (g.writes x)) (requests : RequestsData) (requests_is : requests ≡ u.requests) (fault : ℕ) (fault_is : fault ≡ g.faults x)
+      module _ (e : E) (err : result ≡ Err e) (used : List SlotsUsed) (used_is : used ≡ u.used) (requests : RequestsData) (requests_is : requests ≡ u.requests) (fault : ℕ) (fault_is : fault ≡ g.faults x)
           (d : SessionData) (d_is : d ≡ with_reply h call stopped (Some fault) (g.writes x) (with_stop (g.faults x) (data_of u))) where
         abbrev d_stopped : SessionData
         d_stopped = with_reply h call stopped (Some (g.faults x)) (g.writes x) (with_stop (g.faults x) (data_of u))
 
         rises_ : Rises (g.faults u.site) (g.faults x)
-        rises_ = subst (λ (n : ℕ). Rises n (g.faults x)) reserves.same rises
+        rises_ = subst (λ (n : ℕ). Rises n (g.faults x)) reserves.same (subst (λ (y : Result T E). OnErr y (Rises (g.faults mid) (g.faults x))) err site_.cause.failed)
+
+        wrote_ : Rises (g.writes u.site) (g.writes x)
+        wrote_ = subst (λ (n : ℕ). Rises n (g.writes x)) reserves.unwritten (subst (λ (y : Result T E). OnErr y (Rises (g.writes mid) (g.writes x))) err site_.counted)
 
         d_path : d ≡ d_stopped
         d_path = d_is ∙ ap (λ (n : ℕ). with_reply h call stopped (Some n) (g.writes x) (with_stop (g.faults x) (data_of u))) fault_is
 
-        stop_path : of_parts u x rows u.owners u.moving requests u.tasks u.hosts d ≡ of_parts u x rows_now u.owners u.moving u.requests u.tasks u.hosts d_stopped
-        stop_path = λ i. of_parts u x ((rows_is ∙ rows_set) i) u.owners u.moving (requests_is i) u.tasks u.hosts (d_path i)
+        stop_path : of_parts (with_used used u) x rows u.owners u.moving requests u.tasks u.hosts d ≡ of_parts u x rows_now u.owners u.moving u.requests u.tasks u.hosts d_stopped
+        stop_path = λ i. of_parts (with_used (used_is i) u) x ((rows_is ∙ rows_set) i) u.owners u.moving (requests_is i) u.tasks u.hosts (d_path i)
 
         abbrev stop_entered : CallData → CoreValue S C
         stop_entered k = record (entered u x (entry_of u.history h k stopped (Some (g.faults x))) (g.writes x) u.hosts u.requests u.tasks (Some (g.faults x))) { rows = slice_set u.rows volume (Some (state_set cylinder 4 on.r)) }
@@ -188,7 +208,7 @@ module _ (S : Type 0) {C : Type 0} (g : Ghosts S) {u : CoreValue S C} (v : CoreV
         behind : IsEntryBehind u.history (entry_of u.history h call stopped (Some (g.faults x)))
         behind = record { number = refl; fault = ((λ some_. refl), (λ keeps. refl)) }
 
-        pub unmarked_kept : IsKept g.tells (g.told x) (g.writes x) (g.faults x) room (of_parts u x rows u.owners u.moving requests u.tasks u.hosts d)
+        pub unmarked_kept : IsKept g.tells (g.told x) (g.writes x) (g.faults x) room (of_parts (with_used used u) x rows u.owners u.moving requests u.tasks u.hosts d)
         unmarked_kept = subst (IsKept g.tells (g.told x) (g.writes x) (g.faults x) room) (sym stop_path) (record {
           whole = whole_stopped;
           counted = counted_noted (g.writes x) (g.faults x) u.requests _ (u.events ++ Host h ∷ [])
@@ -197,12 +217,12 @@ module _ (S : Type 0) {C : Type 0} (g : Ghosts S) {u : CoreValue S C} (v : CoreV
           buffer = kept.buffer;
         })
 
-        pub unmarked_event : HostDoes g.tells (seen g v) h call (Marks volume cylinder) (halts fault) (seen g (of_parts u x rows u.owners u.moving requests u.tasks u.hosts d))
-        unmarked_event = subst (λ (z : CoreValue S C). HostDoes g.tells (seen g z) h call (Marks volume cylinder) (halts fault) (seen g (of_parts u x rows u.owners u.moving requests u.tasks u.hosts d))) view (
+        pub unmarked_event : HostDoes g.tells (seen g v) h call (Marks volume cylinder) (halts fault) (seen g (of_parts (with_used used u) x rows u.owners u.moving requests u.tasks u.hosts d))
+        unmarked_event = subst (λ (z : CoreValue S C). HostDoes g.tells (seen g z) h call (Marks volume cylinder) (halts fault) (seen g (of_parts (with_used used u) x rows u.owners u.moving requests u.tasks u.hosts d))) view (
           (λ r at. record {
             write = record { moments = λ tl. moments_ tl r at; later = more };
-            wrote = subst (λ (n : ℕ). Rises n (g.writes x)) reserves.unwritten wrote;
+            wrote = wrote_;
             cause = record { count = fault_is; rises = rises_ };
           }),
-          ap (λ (z : CoreValue S C). seen g z) (λ i. of_parts u x (rows_is i) u.owners u.moving (requests_is i) u.tasks u.hosts (d_path i)),
+          ap (λ (z : CoreValue S C). seen g z) (λ i. of_parts (with_used (used_is i) u) x (rows_is i) u.owners u.moving (requests_is i) u.tasks u.hosts (d_path i)),
         )

@@ -8,6 +8,7 @@ use Rattle.ckd_plain.specs.declared.unit_check.UnitCheck.TheVariants as check
 use Rattle.volume_table.specs.Changes.{effect}
 use Rattle.volume_table.specs.Listed.{listed}
 use Rattle.volume_table.specs.declared.changes.Change.TheVariants as change
+use Rattle.table_pair.specs.Slots.{used_after, used_at}
 use Rattle.fault_queue.specs.declared.queue.RequestState.TheVariants as request
 use Rattle.core_state.specs.declared.session.Event.TheVariants.{Host}
 use Rattle.core_state.specs.declared.rule.Waiting.TheVariants.{Busy, Fault, Held}
@@ -26,7 +27,7 @@ IsReplied tells core h call fault answer core' = StillHold tells core.site core'
 
 abbrev pub IsMarked : Type 0 → CoreData → ℕ → CallData → ℕ → ℕ → CoreData → Type 0
 IsMarked tells core h call volume cylinder core' =
-    ForSome (listed core.rows volume) (λ r. HaveRow tells volume (effect (change.Changed cylinder) r) core.site core'.site)
+    ForSome (listed core.rows volume) (λ r. HaveRow tells volume (effect (change.Changed cylinder) r) (used_after (used_at core.used volume)) core.site core'.site)
     × (core' ≡ noted (Host h) (touching (volume, page_of cylinder) (with_request h volume cylinder request.Ready (with_change volume (change.Changed cylinder) (record (going_on core h call) { site = core'.site })))))
 
 abbrev pub IsUnmarked : Type 0 → CoreData → ℕ → CallData → ℕ → ℕ → ℕ → CoreData → Type 0

@@ -3,7 +3,6 @@ use Rattle.std.proofs.Common.{◌≡◌, ◌≢◌, ◌⊎◌, inl, inr, ℕ, �
 use Rattle.std.specs.Prelude.{nat_le, nat_lt, is_some, IsSome, not, if◌then◌else◌, ◌==◌}
 use Rattle.std.specs.Option.{option_map, option_and_then, unwrap_or}
 use Rattle.std.proofs.lemmas.Bool.{leb-true, leb-false, ltb-true, ltb-false, false≢true, eq-eqb, eqb-true, eqb-false, both_ways, not-true, and_parts, cases_lt, cond_both}
-use Rattle.mss_base.specs.Content.{SiteLog}
 use Rattle.mss_base.specs.Firsts.{where_so, ◌or◌}
 use Rattle.mss_base.proofs.FirstFacts.{map_none, none_where, none_is, chain_none, chained_none}
 use Rattle.mss_base.specs.declared.site.Site.{Ghosts}
@@ -529,6 +528,7 @@ pub core_seen : {S C : Type 0} (g : Ghosts S) (v : CoreValue S C) → IsCore v �
 core_seen g v core = record {
   places = core.places;
   are_rows = core.are_rows;
+  used_ = core.used_;
   hosts_ = core.hosts_;
   requests_ = core.requests_;
   owners_ = core.owners_;

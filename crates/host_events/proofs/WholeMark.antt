@@ -18,10 +18,11 @@ use Rattle.core_state.specs.Steps.{entry_of}
 use Rattle.core_state.proofs.WholeEvents.{whole_halt}
 use Rattle.host_events.specs.Parts.{ready_for}
 use Rattle.volume_table.specs.Row.{RowValue, IsRow, frame_of, state_of}
-use Rattle.volume_table.specs.Changes.{IsAllowed, with_state}
+use Rattle.volume_table.specs.Changes.{with_state}
 use Rattle.volume_table.specs.declared.changes.Change.TheVariants.{Changed}
 use Rattle.volume_table.proofs.RowLemmas.{row-with_state}
-use Rattle.table_pair.specs.Pair.{HoldsRow, ChangesRow, OldOrNew}
+use Rattle.table_pair.specs.Pair.{ChangesRow, OldOrNew}
+use Rattle.table_pair.specs.Slots.{IsChanged, used_after, used_at, with_used_after}
 use Rattle.shown_volumes.specs.Shown.{RowsOf, shown}
 use Rattle.shown_volumes.specs.Sound.{IsSound, SoundAs}
 use Rattle.shown_volumes.specs.Changing.{MayChange}
@@ -42,14 +43,14 @@ use Rattle.core_state.specs.Running.{IsNotBusy, IsNotAwaited}
 use Rattle.core_state.specs.IsCore.{IsCore, IsPlaced}
 use Rattle.core_state.specs.TheCore.{IsWhole}
 use Rattle.core_state.proofs.Making.{make_whole}
-use Rattle.core_state.specs.Entered.{worked, entered, Enters, plain_of}
+use Rattle.core_state.specs.Entered.{with_used, worked, entered, Enters, plain_of}
 use Rattle.std.proofs.lemmas.List.{length-set}
 use Rattle.core_state.proofs.RuleWalks.{some_is, none_some}
 use Rattle.core_state.proofs.HostTasks.{tasks_touched, was_touched}
 use Rattle.host_events.proofs.HostServed.{served_touched}
 use Rattle.core_state.proofs.HostRequests.{asked_own, waiting_put, tasks_with_request}
 use Rattle.core_state.proofs.CoreFacts.{sound_of}
-use Rattle.core_state.proofs.CoreWork.{core_work}
+use Rattle.core_state.proofs.CoreWork.{core_used, core_work}
 use Rattle.core_state.proofs.RowEvents.{told_by_change, blocks_stay, row_put}
 use Rattle.core_state.proofs.Others.{or_true, state_task, state_served, state_waiting}
 use Rattle.core_state.proofs.RowOwners.{owned_states, listed_low}
@@ -143,34 +144,30 @@ module _ (S : Type 0) {C : Type 0} (tells : Type 0) (s : SiteLog) (v : CoreValue
             (ap (takes volume (cylinder / 8)) (ap (λ (t : Task). t.victim) (sym w.is) ∙ victim) ∙ and_from (volume == volume) (cylinder / 8 == cylinder / 8) (eq-eqb volume volume refl) (eq-eqb (cylinder / 8) (cylinder / 8) refl));
       }))
 
-  pub mark_allowed : IsAllowed (Changed cylinder) r
-  mark_allowed = staged
-
   pub mark_may : tells → MayChange v.config.frames volume (with_state cylinder 4 r) (content s)
   mark_may tl =
       let told = whole.told tl in
       allowed_may v.config.frames volume (Changed cylinder) r (content s) (sound_of S s v told) (ap (λ (k : RowsOf). k volume) (told.going open_).rows_ ∙ there) (core.are_rows volume r there) staged tt
 
-  -- the row that both copies hold
-  pub mark_holds : tells → HoldsRow r volume (content s)
-  mark_holds tl = ((whole.told tl).going open_).copies volume r there
+  used_long : length (with_used_after volume v.used) ≡ 32
+  used_long = length-set v.used volume (used_after (used_at v.used volume)) ∙ core.used_
 
   pub whole_marked : cylinder ≡ (host_at v.hosts h).cylinder → (t : SiteLog) (x : S) (mark : ℕ)
-      → (tells → Writes (ChangesRow volume (OldOrNew volume (with_state cylinder 4 r) (content s)) (content s)) s t) → (tells → HoldsRow (with_state cylinder 4 r) volume (content t))
+      → (tells → Writes (ChangesRow volume (OldOrNew volume (with_state cylinder 4 r) (content s)) (content s)) s t) → (tells → IsChanged (with_state cylinder 4 r) (used_after (used_at v.used volume)) volume s t)
       → (tells → mark ≡ length t.log) → (tells → length s.log < length t.log)
-      → IsWhole tells t (worked v x (slice_set v.rows volume (Some (with_state cylinder 4 r))) (v.console ++ (record { mark = mark; volume = volume; change = Changed cylinder; freed = None }) ∷ [])
+      → IsWhole tells t (worked (with_used (with_used_after volume v.used) v) x (slice_set v.rows volume (Some (with_state cylinder 4 r))) (v.console ++ (record { mark = mark; volume = volume; change = Changed cylinder; freed = None }) ∷ [])
       v.owners v.moving (put_request v.requests h (Some (ready_for volume cylinder))) (touched_all volume (cylinder / 8) v.tasks))
-  whole_marked under t x mark writes holds at_end grows = make_whole (core_work S v core x rows _ v.owners v.moving requests _ (owned_states S v core volume cylinder 4 r there low_volume row) core.moving_
+  whole_marked under t x mark writes changed at_end grows = make_whole (core_work S (with_used (with_used_after volume v.used) v) (core_used S v core (with_used_after volume v.used) used_long) x rows _ v.owners v.moving requests _ (owned_states S v core volume cylinder 4 r there low_volume row) core.moving_
       (asked_own S v core h low (Some (ready_for volume cylinder)) free (λ q is. subst (IsPlaced (host_at v.hosts h)) (some_is _ q is) (ap (is_on volume) mounted ∙ eq-eqb volume volume refl, sym under)))
       waiting
       (tasks_touched v.config.frames (listed rows) v.moving requests v.hosts v.tasks
       (tasks_with_request v.config.frames (listed rows) v.moving v.requests v.hosts v.tasks tasks_now h (Some (ready_for volume cylinder)) core.requests_ quiet not_ready) volume (cylinder / 8))
       fit_marked)
       (λ tl.
-      told_by_change S s t v x core (whole.told tl) open_ volume mark (Changed cylinder) r there low_volume (λ o. refl) (λ w. refl) (staged, tt) (mark_may tl) (writes tl) (holds tl) (at_end tl) (grows tl) v.owners v.moving requests _
+      told_by_change S s t v x core (whole.told tl) open_ volume mark (Changed cylinder) r there low_volume (λ o. refl) (λ w. refl) (staged, tt) (mark_may tl) (writes tl) (changed tl) (at_end tl) (grows tl) v.owners v.moving requests _
       (served_touched (listed rows) (content t) v.tasks volume (cylinder / 8)
       (λ m task is. state_served S v core volume cylinder 4 r there low_volume (content s) (content t)
-      (λ unit block none. blocks_stay S s t v x core (whole.told tl) open_ volume mark (Changed cylinder) r there low_volume (λ o. refl) (λ w. refl) (staged, tt) (mark_may tl) (writes tl) (holds tl) (at_end tl) (grows tl) v.owners v.moving v.requests []
+      (λ unit block none. blocks_stay S s t v x core (whole.told tl) open_ volume mark (Changed cylinder) r there low_volume (λ o. refl) (λ w. refl) (staged, tt) (mark_may tl) (writes tl) (changed tl) (at_end tl) (grows tl) v.owners v.moving v.requests []
       (λ k z zz. absurd (no_task z zz)) unit block none)
       v.moving v.requests task (core.tasks_.each m task is) (not_copied m task is) (((whole.told tl).going open_).served m task is))))
     where
@@ -225,6 +222,7 @@ module _ (S : Type 0) {C : Type 0} (tells : Type 0) (s : SiteLog) (v : CoreValue
         record {
           shaped = let k = w.shaped in record {
             rows_ = length-set v.rows volume (Some (with_state cylinder 4 r)) ∙ k.rows_;
+            used_ = k.used_;
             hosts_ = k.hosts_;
             owners_ = k.owners_;
             moving_ = k.moving_;

@@ -23,11 +23,11 @@ use crate::wait::{ask, hold};
 use channel_commands::Call;
 use core_state::{Core, HostRule, Waiting};
 use mss_base::{HostNo, Site};
-use table_pair::CHANGE_WRITES;
+use table_pair::CHANGE_ITEMS;
 use victim_choice::Choose;
 
 /// How many items of the log a host's event makes at most: those of a change of a row. A format makes fewer.
-pub const EVENT_ITEMS: u32 = CHANGE_WRITES;
+pub const EVENT_ITEMS: u32 = CHANGE_ITEMS;
 
 /// Does what the first rule that a host's call meets says, and answers the host.
 ///

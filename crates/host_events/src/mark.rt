@@ -16,7 +16,7 @@ use channel_commands::{Call, Reply};
 use core_state::{Core, Event, touch_all, write_change};
 use fault_queue::{Queue, Request, RequestState};
 use mss_base::{Cylinder, Failed, HostNo, NoMemory, Site, VolumeNo};
-use table_pair::CHANGE_WRITES;
+use table_pair::CHANGE_ITEMS;
 use victim_choice::Choose;
 use volume_table::Change;
 
@@ -75,7 +75,7 @@ pub fn mark<S: Site, C: Choose>(
     requires rule { host_rule core.old host (call_of call.now) ≡ Marks volume cylinder }
     ensures event { HostStep S.Site core.old host call.now (Marks volume cylinder) result core.new }
     ensures chooser { core.new.chooser ≡ core.old.chooser }
-    ensures devices { MayWrite S.Site CHANGE_WRITES core.old.site core.new.site }
+    ensures devices { MayWrite S.Site CHANGE_ITEMS core.old.site core.new.site }
     ensures room { IsUntold (told_of result) → S.spare core.old.site ≤ S.spare core.new.site }
     ensures only_reads_fail { (but : UnitNo → Bool) → S.never_fails_but core.old.site but
         → GoesOn (told_of result) }
@@ -84,7 +84,7 @@ pub fn mark<S: Site, C: Choose>(
     // there before the row changes.
     let session = &mut core.session;
     let site = &mut core.site;
-    let Ok(copy) = prepare(core.alloc, session, site, call, CHANGE_WRITES) else {
+    let Ok(copy) = prepare(core.alloc, session, site, call, CHANGE_ITEMS) else {
         return HostAnswer::Memory;
     };
     let had = core.requests.of(host).is_some();
@@ -95,6 +95,7 @@ pub fn mark<S: Site, C: Choose>(
     match write_change(
         &mut core.site,
         &mut core.rows,
+        &mut core.used,
         &mut core.session,
         volume,
         &change,

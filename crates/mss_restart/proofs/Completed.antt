@@ -11,6 +11,7 @@ use Rattle.ckd_track.specs.Data.{Volumes}
 use Rattle.volume_table.specs.Row.{RowValue}
 use Rattle.table_pair.specs.Pair.{known}
 use Rattle.table_pair.specs.Repairs.{HoldsToldRow}
+use Rattle.table_pair.specs.declared.copy.SlotsUsed.{SlotsUsed}
 use Rattle.shown_volumes.specs.Shown.{RowsOf, rows_of, shown}
 use Rattle.shown_volumes.specs.Sound.{IsSound, SoundAs}
 use Rattle.shown_volumes.specs.Faults.{first_fault}
@@ -50,20 +51,21 @@ module _ (rows : List (Option RowValue)) (s mid : SiteLog) (long : length rows �
         then (ShowsFront frames (missing (listed rows) volumes) (shown (content s))) s mid now (no_front frames (missing (listed rows) volumes) (shown (content s)) s mid (repaired frames sound))
         (subst (λ (x : Volumes). Writes (ShowsFront frames (missing (listed rows) volumes) x) mid now) is.same (created frames is.sound))
 
-    pub created_since : (d : Content) (after : List (Option RowValue)) → AreCreated volumes (content mid) d rows after → AreCreated volumes (content s) d rows after
-    created_since d after made = record {
+    pub created_since : (d : Content) (after : List (Option RowValue)) (used : List SlotsUsed) → AreCreated volumes (content mid) d rows after used → AreCreated volumes (content s) d rows after used
+    created_since d after used made = record {
       created = made.created;
       are = made.are;
       held = made.held;
+      slots_ = made.slots_;
       shows = λ frames sound.
           let is = at_mid frames sound in
           subst (λ (x : Volumes). SoundAs frames (with_blanks (missing (listed rows) volumes) x) d) is.same (made.shows frames is.sound);
     }
 
 -- what is opened
-pub opened : (config : ConfigData) (c d : Content) (before rows : List (Option RowValue)) → AreRising config.volumes → length before ≡ 32 → RowsAre before c → first_fault config.frames (serial_in config.volumes) c ≡ None
-    → length rows ≡ 32 → AreCreated config.volumes c d before rows → IsOpened config c d rows
-opened config c d before rows rising long are none rows_long made =
+pub opened : (config : ConfigData) (c d : Content) (before rows : List (Option RowValue)) (used : List SlotsUsed) → AreRising config.volumes → length before ≡ 32 → RowsAre before c → first_fault config.frames (serial_in config.volumes) c ≡ None
+    → length rows ≡ 32 → AreCreated config.volumes c d before rows used → IsOpened config c d rows used
+opened config c d before rows used rising long are none rows_long made =
     let was : listed before ≡ rows_of c = rows_listed before c long are in
     let is : listed rows ≡ rows_of d = rows_listed rows d rows_long made.are in
     let sound = sound_from_none config.frames (serial_in config.volumes) c none in
@@ -74,6 +76,7 @@ opened config c d before rows rising long are none rows_long made =
       shows = subst (λ (x : RowsOf). SoundAs config.frames (with_blanks (missing x config.volumes) (shown c)) d) was (made.shows config.frames sound.0);
       rows_are = is;
       held = subst (λ (x : RowsOf). AreHeld x d) is made.held;
+      slots_ = made.slots_;
       created = created;
       asked = creates_asked config.volumes (rows_of c) (rows_of d) rising sound.1 created;
       kept = creates_kept config.volumes (rows_of c) (rows_of d) rising created;

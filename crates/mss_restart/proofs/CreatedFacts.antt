@@ -9,6 +9,7 @@ use Rattle.mss_base.proofs.Moments.{ended_with}
 use Rattle.volume_table.specs.Row.{RowValue, blank_row}
 use Rattle.table_pair.specs.Copies.{copy_at}
 use Rattle.table_pair.specs.Pair.{known, IsOpenWith, HoldsRow, ChangesRow, NoneOrNew}
+use Rattle.table_pair.specs.Slots.{HasSlots, no_slots}
 use Rattle.table_pair.proofs.PairFacts.{held_row}
 use Rattle.shown_volumes.specs.Shown.{RowsOf, shown}
 use Rattle.shown_volumes.specs.Sound.{IsSound}
@@ -18,6 +19,7 @@ use Rattle.volume_table.specs.Listed.{listed}
 use Rattle.mss_restart.specs.Cartridges.{IsLowestFree}
 use Rattle.mss_restart.specs.Opening.{RowsAre, AreHeld, IsNewRow, HasNewRow, IsCreated}
 use Rattle.mss_restart.proofs.FreshFacts.{is_fresh, rows_with}
+use Rattle.mss_restart.proofs.SlotFacts.{slots_with}
 
 -- a list with another row of one volume
 pub listed_set : (rows : List (Option RowValue)) (volume : ℕ) (row : RowValue) → volume < length rows → listed (set rows volume (Some row)) ≡ with_row volume row (listed rows)
@@ -74,8 +76,8 @@ module _ (before : List (Option RowValue)) (s t : SiteLog) (are : RowsAre before
         second = subst (λ (n : ℕ). IsLowestFree (listed before) (Some n) row.second) first_is (subst (λ (n : ℕ). IsLowestFree (listed before) (Some first) n) second_is two);
       }
 
-  pub created_of : HoldsRow row volume (content t) → (rows : List (Option RowValue)) → rows ≡ set before volume (Some row) → IsCreated volume serial (content s) (content t) before rows
-  created_of holds rows set_is =
+  pub created_of : HoldsRow row volume (content t) → HasSlots no_slots volume (content t) → (rows : List (Option RowValue)) → rows ≡ set before volume (Some row) → IsCreated volume serial (content s) (content t) before rows
+  created_of holds unused rows set_is =
       let now : listed rows ≡ with_row volume row (listed before) = ap listed set_is ∙ listed_set before volume row (omega (arith, long, low)) in
       record {
         row = row;
@@ -83,6 +85,7 @@ module _ (before : List (Option RowValue)) (s t : SiteLog) (are : RowsAre before
         now = now;
         are = subst (λ (x : List (Option RowValue)). RowsAre x (content t)) (sym set_is) (rows_with before (content s) (content t) volume row (NoneOrNew volume row) are long low within holds);
         held = λ held. subst (λ (x : RowsOf). AreHeld x (content t)) (sym now) (held_with (listed before) (content s) (content t) volume row (NoneOrNew volume row) within holds held);
+        slots_ = λ used places are_used v v_low. slots_with volume (NoneOrNew volume row) (content s) (content t) within used no_slots (omega (arith, places, low)) unused v (λ _. are_used v v_low);
         shows = λ frames sound.
             blank_new frames volume first second serial (content s) (content t) sound fresh (NoneOrNew volume row) within (held_row row volume (content t) holds ∙ ap (λ (r : RowValue). known (Some r) false) is);
       }

@@ -13,6 +13,8 @@ use Rattle.mss_base.specs.Content.{Content, SiteLog, content, Writes}
 use Rattle.mss_base.proofs.Moments.{started, then, weaker}
 use Rattle.ckd_track.specs.Data.{Volumes}
 use Rattle.volume_table.specs.Row.{RowValue}
+use Rattle.table_pair.specs.declared.copy.SlotsUsed.{SlotsUsed}
+use Rattle.table_pair.specs.Slots.{AreUsed}
 use Rattle.shown_volumes.specs.Shown.{RowsOf, shown}
 use Rattle.shown_volumes.specs.Sound.{IsSound, SoundAs}
 use Rattle.shown_volumes.specs.Changing.{WithOrWithout, with_row, with_blank}
@@ -20,31 +22,29 @@ use Rattle.std.proofs.Math.Seq.{drop-cons}
 use Rattle.volume_table.specs.Listed.{listed}
 use Rattle.mss_restart.specs.Creations.{RepairsOthers}
 use Rattle.mss_restart.proofs.OtherRows.{nothing_else, others_then, others_of, is_apart}
-use Rattle.mss_restart.specs.Opening.{RowsAre, AreHeld, missing, with_blanks, ShowsFront, IsNewRow, Creates, IsCreated, AreCreated}
+use Rattle.mss_restart.specs.Opening.{AreKnown, missing, with_none_used, with_blanks, ShowsFront, IsNewRow, Creates, IsCreated, AreCreated}
 
 abbrev pub AreRising : List VolumeData → Type 0
 AreRising vs = IsStrictlySortedBy nat_cmp (map (λ v. v.0) vs)
 
 -- the rows of these volumes are to come, those before them are done
-pub record IsCreating (all : List VolumeData) (start : RowsOf) (begun now : SiteLog) (rows : List (Option RowValue)) (rest : List VolumeData) : Type 0 where
+pub record IsCreating (all : List VolumeData) (start : RowsOf) (begun now : SiteLog) (rows : List (Option RowValue)) (used : List SlotsUsed) (rest : List VolumeData) : Type 0 where
   pub made : List VolumeData
   pub order : made ++ missing (listed rows) rest ≡ missing start all
   pub moments : (frames : ℕ) → IsSound frames (content begun) → Writes (ShowsFront frames (missing start all) (shown (content begun))) begun now
   pub shows : (frames : ℕ) → IsSound frames (content begun) → SoundAs frames (with_blanks made (shown (content begun))) (content now)
-  pub are : RowsAre rows (content now)
-  pub held : AreHeld (listed rows) (content now)
+  pub known : AreKnown rows used (content now)
   pub created : Creates made start (listed rows)
   pub others : RepairsOthers (missing start all) begun now
 
-pub nothing_created : (all : List VolumeData) (s : SiteLog) (rows : List (Option RowValue)) → RowsAre rows (content s) → AreHeld (listed rows) (content s) → IsCreating all (listed rows) s s rows all
-nothing_created all s rows are held = record {
+pub nothing_created : (all : List VolumeData) (s : SiteLog) (rows : List (Option RowValue)) (used : List SlotsUsed) → AreKnown rows used (content s) → IsCreating all (listed rows) s s rows used all
+nothing_created all s rows used known = record {
   made = [];
   order = refl;
   moments = λ frames sound.
       started (ShowsFront frames (missing (listed rows) all) (shown (content s))) s (record { sound = sound; made = []; later = missing (listed rows) all; order = refl; same = refl });
   shows = λ frames sound. record { sound = sound; same = refl };
-  are = are;
-  held = held;
+  known = known;
   created = refl;
   others = nothing_else (missing (listed rows) all) s s refl;
 }
@@ -73,16 +73,15 @@ pub creates_last : (vs : List VolumeData) (v : VolumeData) (start mid last : Row
 creates_last [] v start mid last row made is_new now = (row, (subst (λ (x : RowsOf). IsNewRow x v.1 row) made is_new, now ∙ ap (with_row v.0 row) made))
 creates_last (w ∷ vs) v start mid last row made is_new now = (made.0, (made.1.0, creates_last vs v (with_row w.0 made.0 start) mid last row made.1.1 is_new now))
 
-module _ (all : List VolumeData) (start : RowsOf) (begun mid : SiteLog) (rows : List (Option RowValue)) (v : VolumeData) (rest : List VolumeData) (so_far : IsCreating all start begun mid rows (v ∷ rest)) where
+module _ (all : List VolumeData) (start : RowsOf) (begun mid : SiteLog) (rows : List (Option RowValue)) (used : List SlotsUsed) (v : VolumeData) (rest : List VolumeData) (so_far : IsCreating all start begun mid rows used (v ∷ rest)) where
   -- it has a row
-  pub passed_over : is_some (listed rows v.0) ≡ true → IsCreating all start begun mid rows rest
+  pub passed_over : is_some (listed rows v.0) ≡ true → IsCreating all start begun mid rows used rest
   passed_over has = record {
     made = so_far.made;
     order = ap (λ (vs : List VolumeData). so_far.made ++ vs) (sym (cond-true _ _ _ has)) ∙ so_far.order;
     moments = so_far.moments;
     shows = so_far.shows;
-    are = so_far.are;
-    held = so_far.held;
+    known = so_far.known;
     created = so_far.created;
     others = so_far.others;
   }
@@ -123,8 +122,9 @@ module _ (all : List VolumeData) (start : RowsOf) (begun mid : SiteLog) (rows : 
           (weaker (λ d. IsSound frames d × WithOrWithout v.0 v.1 (shown (content mid)) (shown d)) (ShowsFront frames (missing start all) (shown (content begun))) (within frames sound) mid now
           (moments frames (so_far.shows frames sound).sound))
 
-      pub created_too : RepairsOthers (v ∷ []) mid now → (after : List (Option RowValue)) → IsCreated v.0 v.1 (content mid) (content now) rows after → AllByRecursion (λ w. v.0 < w.0) rest → IsCreating all start begun now after rest
-      created_too others after one above = record {
+      pub created_too : RepairsOthers (v ∷ []) mid now → (after : List (Option RowValue)) (used_after : List SlotsUsed) → IsCreated v.0 v.1 (content mid) (content now) rows after → length used ≡ 32 → used_after ≡ with_none_used v.0 used
+          → AllByRecursion (λ w. v.0 < w.0) rest → IsCreating all start begun now after used_after rest
+      created_too others after used_after one places used_is above = record {
         made = so_far.made ++ v ∷ [];
         order = ap (λ (r : RowsOf). (so_far.made ++ v ∷ []) ++ missing r rest) one.now ∙ ap (λ (vs : List VolumeData). (so_far.made ++ v ∷ []) ++ vs) (missing_past v.0 one.row (listed rows) rest above) ∙ front_with;
         moments = moments_on;
@@ -132,20 +132,24 @@ module _ (all : List VolumeData) (start : RowsOf) (begun mid : SiteLog) (rows : 
             let at_mid = so_far.shows frames sound in
             let done = one.shows frames at_mid.sound in
             record { sound = done.sound; same = done.same ∙ ap (with_blank v.0 v.1) at_mid.same ∙ sym (blanks_last so_far.made v (shown (content begun))) };
-        are = one.are;
-        held = one.held so_far.held;
+        known = record {
+          told = one.are;
+          held = one.held so_far.known.held;
+          slots_ = subst (λ (xs : List SlotsUsed). AreUsed xs (content now)) (sym used_is) (one.slots_ used places so_far.known.slots_);
+        };
         created = creates_last so_far.made v start (listed rows) (listed after) one.row so_far.created one.is_new one.now;
         others = others_on now others;
       }
 
 -- none are to come
-pub all_created : (all : List VolumeData) (s t : SiteLog) (before rows : List (Option RowValue)) → IsCreating all (listed before) s t rows [] → AreCreated all (content s) (content t) before rows
-all_created all s t before rows is =
+pub all_created : (all : List VolumeData) (s t : SiteLog) (before rows : List (Option RowValue)) (used : List SlotsUsed) → IsCreating all (listed before) s t rows used [] → AreCreated all (content s) (content t) before rows used
+all_created all s t before rows used is =
     let whole : is.made ≡ missing (listed before) all = sym (append-nil is.made) ∙ is.order in
     record {
       created = subst (λ (vs : List VolumeData). Creates vs (listed before) (listed rows)) whole is.created;
-      are = is.are;
-      held = is.held;
+      are = is.known.told;
+      held = is.known.held;
+      slots_ = is.known.slots_;
       shows = λ frames sound. subst (λ (vs : List VolumeData). SoundAs frames (with_blanks vs (shown (content s))) (content t)) whole (is.shows frames sound);
     }
 

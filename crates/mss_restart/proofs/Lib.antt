@@ -4,6 +4,7 @@ pub mod RowLemmas
 pub mod ReadRows
 pub mod SurveyFacts
 pub mod Surveyed
+pub mod SlotFacts
 pub mod Repaired
 pub mod OtherRows
 pub mod Pigeons

@@ -1,13 +1,12 @@
 -- Where each copy tells its row alone, it does so after whole repairs and whole creations.
-use Rattle.std.proofs.Common.{◌≡◌, inl, inr, ℕ, zero, suc, ◌<◌, ◌==◌, true, false, List, [], ◌∷◌, Option, Some, None, Result, Ok, Err, sym, ◌∙◌, ap, subst}
+use Rattle.std.proofs.Common.{◌≡◌, inl, inr, ℕ, zero, suc, ◌<◌, ◌==◌, false, List, [], ◌∷◌, Some, None, Result, Ok, Err, sym, ◌∙◌, ap, subst}
 use Rattle.std.proofs.lemmas.Bool.{cases_Bool, eqb-true}
 use Rattle.mss_base.specs.Configs.{ConfigData, VolumeData}
 use Rattle.mss_base.specs.Content.{Content, SiteLog, content}
 use Rattle.mss_base.specs.declared.place.UnitNo.TheVariants.{TableA, TableB}
 use Rattle.mss_base.proofs.Moments.{ended_with}
-use Rattle.volume_table.specs.Row.{RowValue}
 use Rattle.table_pair.specs.Copies.{copy_at}
-use Rattle.table_pair.specs.Pair.{row_of, known, IsOpenWith, ChangesRow, NoneOrNew}
+use Rattle.table_pair.specs.Pair.{known, IsOpenWith, ChangesRow, NoneOrNew}
 use Rattle.table_pair.specs.Repairs.{KeepsRow}
 use Rattle.table_pair.proofs.PairFacts.{held_row, closed_row}
 use Rattle.shown_volumes.specs.declared.refused.Refused.{Refused}
@@ -15,7 +14,7 @@ use Rattle.shown_volumes.specs.declared.refused.Refused.TheVariants.{Stopped, Me
 use Rattle.shown_volumes.specs.Shown.{RowsOf}
 use Rattle.mss_restart.specs.Creations.{SameCopies, IsRepair, AreRepaired, IsCreation, AreCreations}
 use Rattle.mss_restart.specs.Answers.{Opens, OpensWhole}
-use Rattle.mss_restart.specs.OneCopy.{AreUnmade, IsPaired, ArePaired, StayPaired}
+use Rattle.mss_restart.specs.OneCopy.{IsPaired, ArePaired, StayPaired}
 use Rattle.mss_restart.specs.declared.creations.Creation.{Creation}
 use Rattle.mss_restart.specs.declared.opening.Opened.{Opened}
 

@@ -1,5 +1,5 @@
 -- One repair after another.
-use Rattle.std.proofs.Common.{◌≡◌, ℕ, suc, ◌+◌, ◌<◌, Err, List, ◌==◌, inl, inr, refl, sym, ◌∙◌, ap, subst, arith}
+use Rattle.std.proofs.Common.{◌≡◌, ℕ, suc, ◌+◌, ◌<◌, false, Err, List, length, set, ◌==◌, inl, inr, refl, sym, ◌∙◌, ap, subst, arith}
 use Rattle.std.proofs.lemmas.Bool.{cases_Bool, cases_lt, eqb-true, eq-eqb, false≢true}
 use Rattle.mss_base.specs.Content.{SiteLog, content, Writes}
 use Rattle.mss_base.specs.declared.place.UnitNo.TheVariants.{TableA, TableB}
@@ -8,6 +8,8 @@ use Rattle.ckd_track.specs.Data.{Volumes}
 use Rattle.table_pair.specs.Copies.{copy_at}
 use Rattle.table_pair.specs.Pair.{row_of, row_of_copies, ChangesRow, HoldsRow, IsOpenWith}
 use Rattle.table_pair.specs.Repairs.{KeepsRow, HoldsToldRow}
+use Rattle.table_pair.specs.declared.copy.SlotsUsed.{SlotsUsed}
+use Rattle.table_pair.specs.Slots.{HasSlots, used_at}
 use Rattle.mss_base.specs.Sites.{MayWrite}
 use Rattle.mss_base.specs.declared.site.Site.{Ghosts}
 use Rattle.shown_volumes.specs.declared.refused.Refused.{Refused}
@@ -16,6 +18,7 @@ use Rattle.mss_restart.specs.Creations.{IsStop, WritesOn, IsRepair, AreRepaired,
 use Rattle.shown_volumes.specs.Shown.{shown}
 use Rattle.shown_volumes.specs.Sound.{IsSound, SoundAs}
 use Rattle.shown_volumes.proofs.MomentFacts.{repair_moments}
+use Rattle.mss_restart.proofs.SlotFacts.{slots_with}
 
 -- at each moment since then a sound content shows the same, and the rows are the same now
 pub record IsRepaired (begun now : SiteLog) : Type 0 where
@@ -24,6 +27,13 @@ pub record IsRepaired (begun now : SiteLog) : Type 0 where
 
 pub nothing_repaired : (s : SiteLog) → IsRepaired s s
 nothing_repaired s = record { moments = λ frames sound. started (SoundAs frames (shown (content s))) s (record { sound = sound; same = refl }); rows = λ v. refl }
+
+-- one of the first, and not the last of them
+before_last : (volume n v : ℕ) → volume ≡ n → v < n + 1 → (volume == v) ≡ false → v < n
+before_last volume n v here lt other = elim (cases_lt v n) [
+  | inl below ↦ below
+  | inr from ↦ let e : volume ≡ v = omega (arith, here, lt, from) in absurd (false≢true (sym other ∙ eq-eqb volume v e))
+]
 
 module _ (begun mid now : SiteLog) (volume : ℕ) (so_far : IsRepaired begun mid) (one : Writes (ChangesRow volume (KeepsRow volume (content mid)) (content mid)) mid now) where
   change : ChangesRow volume (KeepsRow volume (content mid)) (content mid) (content now)
@@ -53,16 +63,21 @@ module _ (begun mid now : SiteLog) (volume : ℕ) (so_far : IsRepaired begun mid
         let e : volume ≡ v = eqb-true volume v same in
         subst (λ (x : ℕ). HoldsRow row x (content now)) e (one_held row (so_far.rows volume ∙ ap (row_of (content begun)) e ∙ told))
     | inr other ↦
-        let apart : v < n = elim (cases_lt v n) [
-          | inl below ↦ below
-          | inr from ↦ let e : volume ≡ v = omega (arith, here, lt, from) in absurd (false≢true (sym other ∙ eq-eqb volume v e))
-        ] in
-        let was = before v apart row told in
+        let was = before v (before_last volume n v here lt other) row told in
         record {
           a = subst (λ (b : List ℕ). IsOpenWith row (copy_at b)) (sym (change.others TableA v other)) was.a;
           b = subst (λ (b : List ℕ). IsOpenWith row (copy_at b)) (sym (change.others TableB v other)) was.b;
         }
   ]
+
+  -- so many slots are in use, with those of this row
+  pub slots_too : (n : ℕ) (before used : List SlotsUsed) (one_used : SlotsUsed) → n < length before → ((v : ℕ) → v < n → HasSlots (used_at before v) v (content mid)) → volume ≡ n → HasSlots one_used volume (content now) → used ≡ set before n one_used
+      → (v : ℕ) → v < n + 1 → HasSlots (used_at used v) v (content now)
+  slots_too n before used one_used long slots here has used_is v lt =
+      let with_it =
+      slots_with volume (KeepsRow volume (content mid)) (content mid) (content now) change before one_used (omega (arith, here, long)) has v
+      (λ other. slots v (before_last volume n v here lt other)) in
+      subst (λ (xs : List SlotsUsed). HasSlots (used_at xs v) v (content now)) (sym used_is) (subst (λ (k : ℕ). HasSlots (used_at (set before k one_used) v) v (content now)) here with_it)
 
 -- ---- each repair to its end
 

@@ -1,5 +1,5 @@
 -- What opening answers.
-use Rattle.std.specs.Prelude.{◌≡◌, ◌⊎◌, ◌<◌, ◌≤◌, ℕ, List, [], Some, None, Result, Ok, Err, IfOk, IfErr}
+use Rattle.std.specs.Prelude.{◌≡◌, ◌⊎◌, ◌<◌, ◌≤◌, ℕ, List, [], length, Some, None, Result, Ok, Err, IfOk, IfErr}
 use Rattle.mss_base.specs.Configs.{ConfigData}
 use Rattle.mss_base.specs.Content.{Content, SiteLog, content, Writes}
 use Rattle.mss_base.specs.Counts.{IsFaultSince, IsFaultWithin}
@@ -41,7 +41,7 @@ RefusesAs before now config old new e = (new ≡ old) × Surveys before now conf
 
 -- what opening answers
 abbrev pub Opens : ℕ → ℕ → ConfigData → SiteLog → SiteLog → Result Opened Refused → Type 0
-Opens before now config old new (Ok opened) = IsOpened config (content old) (content new) opened.rows
+Opens before now config old new (Ok opened) = IsOpened config (content old) (content new) opened.rows opened.used.items
 Opens before now config old new (Err e) = RefusesAs before now config old new e
 
 -- without a failed call opening answers rows exactly where the content has no fault, and else its first fault
@@ -106,10 +106,15 @@ pub record Counters : Type 0 where
 abbrev pub counters : {S : Type 0} → Ghosts S → S → S → Counters
 counters g old new = record { written = g.writes old; writes = g.writes new; before = g.faults old; now = g.faults new }
 
--- of every site: the rows can be used, and each configured volume has one; the creations are told with rising counts of
--- writes; what a refusal leaves, and which counts it keeps
+-- the rows can be used, each configured volume has one, and there is a count of slots for each of the 32 volumes
+pub record IsUsable (config : ConfigData) (opened : Opened) : Type 0 where
+  pub rows_ : AreUsableFor config (listed opened.rows)
+  pub used_ : length opened.used.items ≡ 32
+
+-- of every site: what was opened can be used; the creations are told with rising counts of writes; what a refusal leaves,
+-- and which counts it keeps
 pub record AnswersOpening (config : ConfigData) (counts : Counters) (answer : Result Opened Refused) : Type 0 where
-  pub usable : IfOk answer (λ opened. AreUsableFor config (listed opened.rows))
+  pub usable : IfOk answer (IsUsable config)
   pub counted : MakesCounted config counts.written counts.writes answer
   pub refused : IfErr answer (RefusalLeaves counts.written counts.writes counts.before counts.now)
   pub kept : KeepsOpening counts.before counts.now answer

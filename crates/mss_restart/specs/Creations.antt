@@ -1,5 +1,5 @@
 -- Repairs and creations, each written to its end.
-use Rattle.std.specs.Prelude.{◌≡◌, ◌≢◌, ◌≤◌, ℕ, zero, suc, List, [], ◌∷◌, ◌++◌, length, Option, Result, Ok, Err, OnOk}
+use Rattle.std.specs.Prelude.{◌≡◌, ◌≢◌, ◌≤◌, ◌<◌, ℕ, zero, suc, List, [], ◌∷◌, ◌++◌, length, Option, Result, Ok, Err, OnOk}
 use Rattle.std.specs.List.{AllByRecursion}
 use Rattle.mss_base.specs.Sound.{StaysSound}
 use Rattle.mss_base.specs.Configs.{VolumeData}
@@ -11,6 +11,8 @@ use Rattle.volume_table.specs.Row.{RowValue}
 use Rattle.volume_table.specs.Listed.{listed}
 use Rattle.table_pair.specs.Pair.{ChangesRow, NoneOrNew, HoldsRow}
 use Rattle.table_pair.specs.Repairs.{NeedsNoRepair, KeepsRow, KeepsMarks, HoldsToldRow}
+use Rattle.table_pair.specs.Slots.{AreUsed}
+use Rattle.table_pair.specs.declared.copy.SlotsUsed.{SlotsUsed}
 use Rattle.shown_volumes.specs.declared.refused.Refused.{Refused}
 use Rattle.shown_volumes.specs.declared.refused.Refused.TheVariants.{Stopped, Memory}
 use Rattle.shown_volumes.specs.Shown.{RowsOf, shown}
@@ -42,6 +44,11 @@ pub record IsRepair (volume : ℕ) (old new : SiteLog) : Type 0 where
   pub marks : Writes (KeepsMarks volume (content old)) old new
   pub held : HoldsToldRow volume (content old) (content new)
   pub alone : NeedsNoRepair volume (content old) → new ≡ old
+
+-- the row that each volume told, if any, stands in both copies now, and so many of their slots are in use
+pub record AreEqual (used : List SlotsUsed) (old new : Content) : Type 0 where
+  pub held : (volume : ℕ) → volume < 32 → HoldsToldRow volume old new
+  pub slots_ : AreUsed used new
 
 -- both copies of a volume's row are as they were
 pub record SameCopies (volume : ℕ) (old now : Content) : Type 0 where
@@ -110,11 +117,12 @@ CreatesWhole volumes made rows last old new (Err Memory) = IsFrontCreated volume
 CreatesWhole volumes made rows last old new (Err e) = Unit {0}
 
 -- creations of the volumes of a list that had no row, over a site that tells: what a sound content shows at each moment,
--- and that no other row is more than repaired; what is made where none failed, and that each was written to its end
-pub record CreatesVolumes {T : Type 0} (volumes : List VolumeData) (made : List Creation) (before after : List (Option RowValue)) (old new : SiteLog) (result : Result T Refused) : Type 0 where
+-- and that no other row is more than repaired; what is made where none failed, with so many slots in use, and that each was
+-- written to its end
+pub record CreatesVolumes {T : Type 0} (volumes : List VolumeData) (made : List Creation) (before after : List (Option RowValue)) (used : List SlotsUsed) (old new : SiteLog) (result : Result T Refused) : Type 0 where
   pub moments : (frames : ℕ) → IsSound frames (content old) → Writes (ShowsFront frames (missing (listed before) volumes) (shown (content old))) old new
   pub others : RepairsOthers (missing (listed before) volumes) old new
-  pub created : OnOk result (AreCreated volumes (content old) (content new) before after)
+  pub created : OnOk result (AreCreated volumes (content old) (content new) before after used)
   pub complete : CreatesWhole (missing (listed before) volumes) made (listed before) (listed after) old new result
 
 -- what repairs and then creations leave

@@ -16,6 +16,7 @@ ghost use Rattle.mss_restart.specs.Opening.{
   IsCreated,
   RowsAre,
   missing,
+  with_none_used,
 };
 ghost use Rattle.mss_restart.specs.Creations.{
   AreCounted,
@@ -31,7 +32,7 @@ use crate::cartridges::lowest_free;
 use mss_base::{Listed, Serial, Site, VolumeNo};
 use shown_volumes::Refused;
 use std::alloc::Global;
-use table_pair::{CHANGE_WRITES, create_row};
+use table_pair::{CHANGE_ITEMS, SlotsUsed, SlotsUsedList, create_row};
 use volume_table::{Rows, VolumeRow};
 
 /// A volume that was created, and how many writes the site counted behind the last one of its creation.
@@ -76,7 +77,7 @@ fn create_volume<S: Site>(
     let first = lowest_free(rows, None);
     let second = lowest_free(rows, Some(first));
     let row = VolumeRow::blank(alloc, serial, first, second)?;
-    site.reserve(CHANGE_WRITES)?;
+    site.reserve(CHANGE_ITEMS)?;
     if create_row(site, volume, &row).is_err() {
         return Err(Refused::Stopped {
             fault: site.faults(),
@@ -89,21 +90,33 @@ fn create_volume<S: Site>(
     })
 }
 
-/// Creates each volume of a list that has no row, in order, and says what it created. A sound content stays sound at each
-/// moment, and shows its volumes with a front of the new ones. After want of memory no creation stands half done.
+/// Puts that the copies of a new row have no slots in use.
+fn put_none(used: &mut SlotsUsedList, volume: VolumeNo)
+    requires { length used.old.items ≡ 32 }
+    ensures { used.new.items ≡ with_none_used volume used.old.items }
+{
+    used.set(usize::from(volume.get()), SlotsUsed::none());
+}
+
+/// Creates each volume of a list that has no row, in order, and says what it created. The copies of a new row have no
+/// slots in use. A sound content stays sound at each moment, and shows its volumes with a front of the new ones. After want
+/// of memory no creation stands half done.
 pub fn create_volumes<S: Site>(
     alloc: Global,
     site: &mut S,
     rows: &mut Rows,
+    used: &mut SlotsUsedList,
     creations: &mut Creations,
     volumes: &[(VolumeNo, Serial)],
 ) -> Result<(), Refused>
     requires none { creations.old.items ≡ [] }
     requires room { length volumes.now ≤ creations.old.spare }
     requires rising { IsStrictlySortedBy nat_cmp (map (λ v. v.0) volumes.now) }
-    requires known { S.tells → AreKnown rows.old (content (S.told site.old)) }
+    requires known { S.tells → AreKnown rows.old used.old.items (content (S.told site.old)) }
+    requires places { length used.old.items ≡ 32 }
     ensures told { S.tells → CreatesVolumes volumes.now creations.new.items rows.old rows.new
-        (S.told site.old) (S.told site.new) result }
+        used.new.items (S.told site.old) (S.told site.new) result }
+    ensures places { length used.new.items ≡ 32 }
     ensures rows { OnOk result (Creates (missing (listed rows.old) volumes.now)
         (listed rows.old) (listed rows.new)) }
     ensures counted { OnOk result (AreCounted (S.writes site.old) (S.writes site.new)
@@ -116,6 +129,7 @@ pub fn create_volumes<S: Site>(
         let missing = rows.row(entry.0).is_none();
         if missing {
             creations.push(create_volume(alloc, site, rows, entry.0, entry.1)?);
+            put_none(used, entry.0);
         }
     }
     Ok(())

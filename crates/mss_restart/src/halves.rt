@@ -57,7 +57,7 @@ pub fn half_among(rows: &Rows, cartridge: CartridgeNo, count: u8) -> Option<Half
 }
 
 /// The fault of a half, if an earlier one has the same cartridge.
-fn half_fault(rows: &Rows, volume: VolumeNo, second: bool) -> Option<Refused>
+pub fn half_fault(rows: &Rows, volume: VolumeNo, second: bool) -> Option<Refused>
     ensures { result ≡ half_fault (listed rows.now) volume second }
 {
     let Some(cartridge) = cartridge_of(rows, volume, second) else {

@@ -1,5 +1,5 @@
 //! The survey of a site: the rows of its volumes, or the first fault of what it holds. And its opening: the rows are
-//! repaired, and volumes that have none get one.
+//! repaired and their slots in use counted, and volumes that have none get one.
 //!
 //! The layers above rely on `survey` and on `open_rows`, which answer over every content and every failing device. The
 //! survey writes nothing. Where no read failed its answer is exactly `first_fault` of `shown_volumes`; where one failed
@@ -8,6 +8,9 @@
 //! takes memory for the rows and for two blocks, and reads each block that is shown once. Where each copy of a row
 //! tells it alone, one unit of the table that can't be read changes nothing (`specs/OneCopy.antt`); lemmas on it,
 //! which the layers above cite, are `proofs/OneCopy.antt` and `proofs/OneTable.antt`.
+//!
+//! `serial_asked`, `serial_fault`, `half_fault`, `page_fault` and `check_track_of` look at one item each, for a list of all
+//! that is wrong; a proof above may cite `ListedFacts` (what a blank cylinder and a volume without a row lack).
 #![tactic(auto)]
 
 mod cartridges;
@@ -21,6 +24,10 @@ mod surveying;
 mod tracks;
 
 pub use creations::{Creation, Creations};
+pub use halves::half_fault;
 pub use opening::{Opened, open_rows};
+pub use pages::page_fault;
+pub use rows::{serial_asked, serial_fault};
 pub use shown_volumes::{Half, Refused};
 pub use surveying::survey;
+pub use tracks::check_track_of;

@@ -7,7 +7,7 @@ ghost use Rattle.shown_volumes.specs.Shown.{shown, rows_of};
 ghost use Rattle.shown_volumes.specs.Sound.{IsSound};
 ghost use Rattle.shown_volumes.specs.Faults.{first_fault};
 ghost use Rattle.volume_table.specs.Listed.{listed};
-ghost use Rattle.mss_restart.specs.Usable.{AreUsable, AreUsableFor};
+ghost use Rattle.mss_restart.specs.Usable.{AreUsable};
 ghost use Rattle.mss_restart.specs.Opening.{
   AreCreated,
   Creates,
@@ -26,6 +26,7 @@ ghost use Rattle.mss_restart.specs.Creations.{
 };
 ghost use Rattle.mss_restart.specs.Answers.{
   AnswersOpening,
+  IsUsable,
   KeepsOpening,
   MakesCounted,
   Opens,
@@ -45,12 +46,15 @@ use crate::surveying::survey_rows;
 use mss_base::{Config, Site};
 use shown_volumes::Refused;
 use std::alloc::Global;
+use table_pair::{SlotsUsed, SlotsUsedList};
 use volume_table::Rows;
 
 /// The rows of an opened site, and the volumes that were created in the opening.
 #[derive(Drop)]
 pub struct Opened {
     pub rows: Rows,
+    /// How many slots of the copies of each row are in use.
+    pub used: SlotsUsedList,
     pub creations: Creations,
 }
 
@@ -84,16 +88,19 @@ fn complete_rows<S: Site>(
     site: &mut S,
     config: &Config,
     rows: &mut Rows,
+    used: &mut SlotsUsedList,
     creations: &mut Creations,
 ) -> Result<(), Refused>
     requires none { creations.old.items ≡ [] }
     requires room { length config.now.volumes ≤ creations.old.spare }
+    requires places { length used.old.items ≡ 32 }
     requires told { S.tells → RowsAre rows.old (content (S.told site.old)) }
     ensures moments { S.tells → (frames : ℕ) → IsSound frames (content (S.told site.old)) → Writes
         (ShowsFront frames (missing (listed rows.old) config.now.volumes)
         (shown (content (S.told site.old)))) (S.told site.old) (S.told site.new) }
     ensures created { S.tells → OnOk result (AreCreated config.now.volumes
-        (content (S.told site.old)) (content (S.told site.new)) rows.old rows.new) }
+        (content (S.told site.old)) (content (S.told site.new)) rows.old rows.new used.new.items) }
+    ensures places { length used.new.items ≡ 32 }
     ensures complete { S.tells → CompletesWhole (missing (listed rows.old) config.now.volumes)
         creations.new.items (listed rows.old) (listed rows.new)
         (S.told site.old) (S.told site.new) result }
@@ -108,8 +115,9 @@ fn complete_rows<S: Site>(
     ensures devices { WritesOn S.Site site.old site.new }
 {
     rows.look();
-    repair_rows(alloc, site)?;
-    create_volumes(alloc, site, rows, creations, config.volumes.as_slice())
+    let volumes = config.volumes.as_slice();
+    repair_rows(alloc, site, used)?;
+    create_volumes(alloc, site, rows, used, creations, volumes)
 }
 
 /// Opens the rows of a site that is lent.
@@ -127,7 +135,7 @@ fn open_lent<S: Site>(alloc: Global, site: &mut S, config: &Config) -> Result<Op
         (missing (rows_of (content (S.told site.old))) config.now.volumes)
         (S.told site.old) (S.told site.new) }
     ensures untouched { S.tells → WritesIfFaultless config.now (S.told site.old) (S.told site.new) }
-    ensures usable { IfOk result (λ opened. AreUsableFor config.now (listed opened.rows)) }
+    ensures usable { IfOk result (IsUsable config.now) }
     ensures counted { MakesCounted config.now (S.writes site.old) (S.writes site.new) result }
     ensures refused { IfErr result (RefusalLeaves (S.writes site.old) (S.writes site.new)
         (S.faults site.old) (S.faults site.new)) }
@@ -139,11 +147,16 @@ fn open_lent<S: Site>(alloc: Global, site: &mut S, config: &Config) -> Result<Op
     let _volumes = &config.volumes;
     let mut creations = Creations::new(alloc);
     creations.reserve(config.volumes.as_slice().len())?;
+    let mut used = SlotsUsedList::of(alloc, &[SlotsUsed::none(); 32])?;
     let mut rows = known_rows(alloc, site, config)?;
     rows.look();
-    complete_rows(alloc, site, config, &mut rows, &mut creations)?;
+    complete_rows(alloc, site, config, &mut rows, &mut used, &mut creations)?;
     rows.look();
-    Ok(Opened { rows, creations })
+    Ok(Opened {
+        rows,
+        used,
+        creations,
+    })
 }
 
 /// Opens the rows of a site: surveys it, makes the two copies of each row equal, and creates the volumes of the

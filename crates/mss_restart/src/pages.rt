@@ -87,7 +87,7 @@ fn frame_fault(
 }
 
 /// The fault of a page, if it has a frame at fault.
-fn page_fault(frames: u16, rows: &Rows, volume: VolumeNo, page: Page) -> Option<Refused>
+pub fn page_fault(frames: u16, rows: &Rows, volume: VolumeNo, page: Page) -> Option<Refused>
     ensures { result ≡ page_fault frames (listed rows.now) volume page }
 {
     let Some(frame) = frame_in(rows, volume, page) else {

@@ -1,25 +1,33 @@
 // The copies of each row made equal.
-ghost use Rattle.std.specs.Prelude.{◌≡◌, ◌<◌, ℕ, [], Err, OnOk};
+ghost use Rattle.std.specs.Prelude.{◌≡◌, ℕ, [], Err, OnOk, length};
 ghost use Rattle.mss_base.specs.Content.{content, Writes};
 ghost use Rattle.table_pair.specs.Pair.{row_of};
-ghost use Rattle.table_pair.specs.Repairs.{FailsNever, HoldsToldRow, KeepsRepairFault};
+ghost use Rattle.table_pair.specs.Repairs.{FailsNever, KeepsRepairFault};
+ghost use Rattle.table_pair.specs.declared.copy.SlotsUsed.{SlotsUsed};
 ghost use Rattle.table_pair.specs.declared.copy.RepairFault.TheVariants as trouble;
 ghost use Rattle.shown_volumes.specs.declared.refused.Refused.TheVariants.{Memory};
 ghost use Rattle.shown_volumes.specs.Shown.{shown};
 ghost use Rattle.shown_volumes.specs.Sound.{IsSound, SoundAs};
-ghost use Rattle.mss_restart.specs.Creations.{IsStop, RepairsOthers, RepairsWhole, StopsAlone, WritesOn};
+ghost use Rattle.mss_restart.specs.Creations.{
+  AreEqual,
+  IsStop,
+  RepairsOthers,
+  RepairsWhole,
+  StopsAlone,
+  WritesOn,
+};
 ghost use Rattle.mss_restart.specs.Survey.{IsNoFailure, NeverFails, TellsNoFailure};
 
 use mss_base::{Site, volume_at};
 use shown_volumes::Refused;
 use std::alloc::Global;
-use table_pair::{RepairFault, repair};
+use table_pair::{RepairFault, SlotsUsedList, repair};
 
 /// Why copies weren't made equal.
 fn refused_repair(fault: RepairFault) -> Refused
     ensures kept { (before now : ℕ)
-        → KeepsRepairFault {T = Unit {0}} before now (Err fault) → IsStop before now result }
-    ensures works { FailsNever {T = Unit {0}} (Err fault) → IsNoFailure result }
+        → KeepsRepairFault {T = SlotsUsed} before now (Err fault) → IsStop before now result }
+    ensures works { FailsNever {T = SlotsUsed} (Err fault) → IsNoFailure result }
     ensures memory { result ≡ Memory → fault ≡ trouble.Memory }
 {
     match fault {
@@ -28,17 +36,23 @@ fn refused_repair(fault: RepairFault) -> Refused
     }
 }
 
-/// Makes the two copies of each row equal, and open with it. The rows stay, and a sound content shows the same at each
-/// moment; so do the made marks, and copies that need no repair. After want of memory each repair that was begun was
-/// written to its end.
-pub fn repair_rows<S: Site>(alloc: Global, site: &mut S) -> Result<(), Refused>
+/// Makes the two copies of each row equal, and open with it, and counts their slots in use. The rows stay, and a sound
+/// content shows the same at each moment; so do the made marks, and copies that need no repair. After want of memory each
+/// repair that was begun was written to its end.
+pub fn repair_rows<S: Site>(
+    alloc: Global,
+    site: &mut S,
+    used: &mut SlotsUsedList,
+) -> Result<(), Refused>
+    requires places { length used.old.items ≡ 32 }
     ensures moments { S.tells → (frames : ℕ) → IsSound frames (content (S.told site.old))
         → Writes (SoundAs frames (shown (content (S.told site.old))))
         (S.told site.old) (S.told site.new) }
     ensures rows { S.tells → (volume : ℕ)
         → row_of (content (S.told site.new)) volume ≡ row_of (content (S.told site.old)) volume }
-    ensures held { S.tells → OnOk result ((volume : ℕ) → volume < 32
-        → HoldsToldRow volume (content (S.told site.old)) (content (S.told site.new))) }
+    ensures equal { S.tells → OnOk result
+        (AreEqual used.new.items (content (S.told site.old)) (content (S.told site.new))) }
+    ensures places { length used.new.items ≡ 32 }
     ensures complete { S.tells → RepairsWhole (S.told site.old) (S.told site.new) result }
     ensures others { S.tells → RepairsOthers [] (S.told site.old) (S.told site.new) }
     ensures stops { StopsAlone (S.faults site.old) (S.faults site.new) result }
@@ -46,8 +60,9 @@ pub fn repair_rows<S: Site>(alloc: Global, site: &mut S) -> Result<(), Refused>
     ensures devices { WritesOn S.Site site.old site.new }
 {
     for number in 0..32 {
-        if let Err(fault) = repair(alloc, site, volume_at(number)) {
-            return Err(refused_repair(fault));
+        match repair(alloc, site, volume_at(number)) {
+            Ok(slots) => used.set(usize::from(number), slots),
+            Err(fault) => return Err(refused_repair(fault)),
         }
     }
     Ok(())

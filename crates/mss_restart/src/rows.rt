@@ -38,7 +38,7 @@ pub struct RowsRead {
 }
 
 /// The serial that is asked of a volume, if one is.
-fn serial_asked(volumes: &[(VolumeNo, Serial)], volume: VolumeNo) -> Option<Serial>
+pub fn serial_asked(volumes: &[(VolumeNo, Serial)], volume: VolumeNo) -> Option<Serial>
     ensures { result ≡ serial_in volumes.now volume }
 {
     for entry in volumes {
@@ -50,7 +50,11 @@ fn serial_asked(volumes: &[(VolumeNo, Serial)], volume: VolumeNo) -> Option<Seri
 }
 
 /// The fault of a row's serial, if it isn't the one that is asked.
-fn serial_fault(volume: VolumeNo, row: &Option<VolumeRow>, asked: Option<Serial>) -> Option<Refused>
+pub fn serial_fault(
+    volume: VolumeNo,
+    row: &Option<VolumeRow>,
+    asked: Option<Serial>,
+) -> Option<Refused>
     ensures { result ≡ serial_fault volume row.now asked }
 {
     let Some(row) = row else {

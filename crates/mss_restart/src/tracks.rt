@@ -136,7 +136,7 @@ fn frame_of_staged(row: &VolumeRow, cylinder: Cylinder) -> FrameNo
 }
 
 /// Checks a track of a row.
-fn check_track_of<S: Site>(
+pub fn check_track_of<S: Site>(
     site: &mut S,
     row: &VolumeRow,
     volume: VolumeNo,

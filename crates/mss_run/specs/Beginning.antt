@@ -24,6 +24,7 @@ no_core = record {
   chooser = tt;
   config = record { frames = 0; recorders = 0; volumes = [] };
   rows = [];
+  used = [];
   owners = [];
   moving = [];
   recency = [];

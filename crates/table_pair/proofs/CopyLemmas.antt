@@ -1,5 +1,5 @@
 -- What a write into a block does to the copy in it.
-use Rattle.std.proofs.Common.{◌≡◌, ℕ, zero, suc, ◌+◌, ◌≤◌, Bool, false, not, ◌==◌, List, [], ◌∷◌, length, get_or, take, drop, refl, sym, ◌∙◌, ap, arith}
+use Rattle.std.proofs.Common.{◌≡◌, ℕ, zero, suc, ◌+◌, ◌≤◌, nat_lt, Bool, false, not, ◌==◌, List, [], ◌∷◌, length, get_or, take, drop, refl, sym, ◌∙◌, ap, arith}
 use Rattle.std.proofs.lemmas.List.{take-take}
 use Rattle.mss_base.specs.Content.{splice}
 use Rattle.mss_base.proofs.ContentLemmas.{get_or-splice_below, get_or-splice_above, get_or-splice_in}
@@ -7,7 +7,8 @@ use Rattle.volume_table.specs.Grammar.{body}
 use Rattle.volume_table.proofs.SpellingLemmas.{body_splice}
 use Rattle.table_journal.specs.Slots.{slots}
 use Rattle.table_journal.proofs.SlotFacts.{slots_behind, slots_cleared}
-use Rattle.table_pair.specs.Copies.{CopyView, copy_at}
+use Rattle.table_pair.proofs.SlotLemmas.{none_counted}
+use Rattle.table_pair.specs.Copies.{CopyView, copy_at, HasGates}
 
 drop-splice : (at n : ℕ) (bytes block : List ℕ) → at + length bytes ≤ n → drop n (splice at bytes block) ≡ drop n block
 unfolding splice
@@ -97,6 +98,14 @@ spelled_of block = refl
 pub slots_of : (block : List ℕ) → (copy_at block).slots ≡ slots block
 unfolding copy_at
 slots_of block = refl
+
+-- slots that were counted in a block are those of its copy
+pub counted : (block : List ℕ) (n : ℕ) → n ≡ length (slots block) → length (copy_at block).slots ≡ n
+counted block n is = ap (λ (xs : List (List ℕ)). length xs) (slots_of block) ∙ sym is
+
+-- the gates of a copy whose block was read
+pub gates_read : (block : List ℕ) (count : ℕ) → count ≡ length (slots block) → HasGates (record { is_open = get_or block 0 0 == 193; has_slots = nat_lt 0 count }) (copy_at block)
+gates_read block count is = record { own = gate_of block; slots_ = λ none. slots_of block ∙ none_counted (slots block) (ap (λ (n : ℕ). nat_lt 0 n) (sym is) ∙ none) }
 
 -- a copy without slots
 pub no_slot : (c : CopyView) → c.slots ≡ [] → record c { slots = [] } ≡ c

@@ -1,5 +1,5 @@
 -- The moments of a creation.
-use Rattle.std.proofs.Common.{◌≡◌, ◌⊎◌, inl, inr, true, false, List, get_or, ℕ, Some, None, Ok, sym, ◌∙◌, ap, subst}
+use Rattle.std.proofs.Common.{◌≡◌, ◌⊎◌, inl, inr, true, false, Bool, List, [], get_or, length, ℕ, Some, None, Result, Ok, sym, ◌∙◌, ap, subst}
 use Rattle.mss_base.specs.declared.place.BlockPlace.{BlockPlace}
 use Rattle.mss_base.specs.Content.{SiteLog, content, Settles, Writes}
 use Rattle.mss_base.proofs.Settling.{settles_then}
@@ -9,11 +9,13 @@ use Rattle.table_pair.specs.declared.copy.TableCopy.TheVariants as copy
 use Rattle.table_pair.specs.Places.{place_of}
 use Rattle.table_pair.specs.Copies.{CopyView, byte_on, copy_on, marked, filled, IsFilling, IsRewriting, WritesCopy}
 use Rattle.table_pair.specs.Pair.{known, row_of_copies, HoldsRow, AreClosed, AreMade, AreMarked, StaysCopy, ChangesRow, NoneOrNew}
+use Rattle.table_pair.specs.Creating.{MarksCopy, FillsCopy}
+use Rattle.table_pair.specs.Slots.{HasSlots, IsChanged, no_slots}
 use Rattle.table_pair.proofs.PairFacts.{row_by_a, row_by_none}
 use Rattle.table_pair.proofs.PairLemmas.{copy_a, copy_b, ChangesPair, InPair, kept_a, kept_b, from_a, from_b, pair_then, pair_row, block_a_kept, block_b_kept}
 use Rattle.table_pair.proofs.StayLemmas.{stays, stays_as, stays_marked, stays_filled, stays_rewriting, stays_since, rewriting_made}
 use Rattle.table_pair.proofs.WriteLemmas.{copy_weaker}
-use Rattle.table_pair.proofs.ChangeLemmas.{Rewritten, open_filled, open_as}
+use Rattle.table_pair.proofs.ChangingLemmas.{open_filled, open_as}
 
 abbrev pub Marking : CopyView → CopyView → Type 0
 Marking old now = (now ≡ old) ⊎ (now ≡ marked old)
@@ -22,6 +24,12 @@ Marking old now = (now ≡ old) ⊎ (now ≡ marked old)
 pub record Marked (at : BlockPlace) (s t : SiteLog) : Type 0 where
   pub moments : WritesCopy at (Marking (copy_on s at)) s t
   pub done : copy_on t at ≡ marked (copy_on s at)
+  pub firm : Settles s t
+
+-- a copy was rewritten, or filled, to its end
+pub record Rewritten (at : BlockPlace) (bytes : List ℕ) (s t : SiteLog) : Type 0 where
+  pub moments : WritesCopy at (IsRewriting bytes (copy_on s at)) s t
+  pub done : copy_on t at ≡ filled bytes (copy_on s at)
   pub firm : Settles s t
 
 stays_marking : (old now : CopyView) → Marking old now → StaysCopy old now
@@ -154,8 +162,8 @@ module _ (volume : ℕ) (row : RowValue) (bytes : List ℕ) (spelled : decode by
           b4 : copy_b volume s4 ≡ filled bytes (marked b)
           b4 = fourth.done ∙ ap (filled bytes) b3
 
-          pub created : HoldsRow row volume (content s4)
-          created = record {
+          both_hold : HoldsRow row volume (content s4)
+          both_hold = record {
             a = open_as row (copy_a volume s4) (filled bytes (marked a)) a4 (open_filled row bytes (marked a) spelled);
             b = open_as row (copy_b volume s4) (filled bytes (marked b)) b4 (open_filled row bytes (marked b) spelled);
           }
@@ -163,8 +171,14 @@ module _ (volume : ℕ) (row : RowValue) (bytes : List ℕ) (spelled : decode by
           pub both_made : AreMade volume (content s4)
           both_made = record { a = ap (λ (c : CopyView). c.is_made) a4; b = ap (λ (c : CopyView). c.is_made) b4 }
 
+          pub none_used : HasSlots no_slots volume (content s4)
+          none_used = record { a = ap (λ (c : CopyView). length c.slots) a4; b = ap (λ (c : CopyView). length c.slots) b4 }
+
           pub all_firm : Settles s s4
           all_firm = settles_then s s3 s4 firm_three fourth.firm
+
+          pub is_created : IsChanged row no_slots volume s s4
+          is_created = record { holds = both_hold; slots_ = none_used; firm = all_firm }
 
 -- what becomes of the two marks, from one write to the next
 module _ (volume : ℕ) (P1 P2 P3 P4 : CopyView → Type 0) (s s1 s2 s3 s4 : SiteLog)
@@ -185,3 +199,60 @@ module _ (volume : ℕ) (P1 P2 P3 P4 : CopyView → Type 0) (s s1 s2 s3 s4 : Sit
     a = λ none. ap mark_in (block_a_kept volume P4 s3 s4 w4) ∙ third ∙ ap mark_in (block_a_kept volume P2 s1 s2 w2) ∙ first none;
     b = λ none. fourth ∙ ap mark_in (block_b_kept volume P3 s2 s3 w3) ∙ second (ap mark_in (block_b_kept volume P1 s s1 w1) ∙ none);
   }
+
+-- ---- so where a row is created, call by call
+
+marked_by : {E : Type 0} {at : BlockPlace} {s t : SiteLog} {has : Bool} → MarksCopy {E = E} at s t (Ok has) → Marked at s t
+marked_by is = record { moments = is.moments; done = is.done; firm = is.firm }
+
+filled_by : {T E : Type 0} {at : BlockPlace} {bytes : List ℕ} {s t : SiteLog} {value : T} → FillsCopy {T = T} {E = E} bytes at s t (Ok value) → Rewritten at bytes s t
+filled_by {at = at} {bytes = bytes} {s = s} {t = t} is = record { moments = as_rewriting at bytes s t is.moments; done = is.done; firm = is.firm }
+
+-- a copy was written at a place that was told
+pub marks_at : {E : Type 0} {at p : BlockPlace} {s t : SiteLog} {r : Result Bool E} → MarksCopy at s t r → at ≡ p → MarksCopy p s t r
+marks_at {s = s} {t = t} {r = r} marks is = subst (λ (q : BlockPlace). MarksCopy q s t r) is marks
+
+pub fills_at : {T E : Type 0} {bytes : List ℕ} {at p : BlockPlace} {s t : SiteLog} {r : Result T E} → FillsCopy bytes at s t r → at ≡ p → FillsCopy bytes p s t r
+fills_at {bytes = bytes} {s = s} {t = t} {r = r} fills is = subst (λ (q : BlockPlace). FillsCopy bytes q s t r) is fills
+
+abbrev pub Creates : ℕ → RowValue → SiteLog → SiteLog → Type 0
+Creates volume row s t = Writes (ChangesRow volume (NoneOrNew volume row) (content s)) s t
+
+module _ {volume : ℕ} {row : RowValue} (bytes : List ℕ) (spelled : decode bytes ≡ Ok row) {E : Type 0} (s : SiteLog) (none : AreClosed volume (content s)) where
+  pub marking_a : {s1 : SiteLog} {r : Result Bool E} → MarksCopy (place_of copy.A volume) s s1 r → Creates volume row s s1
+  marking_a {s1} is = to_row volume row bytes spelled s none s1 (first_pair volume row bytes spelled s none s1 is.moments)
+
+  module _ {s1 : SiteLog} {has_a : Bool} (first : MarksCopy {E = E} (place_of copy.A volume) s s1 (Ok has_a)) where
+    pub marking_b : {s2 : SiteLog} {r : Result Bool E} → MarksCopy (place_of copy.B volume) s1 s2 r → Creates volume row s s2
+    marking_b {s2} is = to_row volume row bytes spelled s none s2 (second_pair volume row bytes spelled s none s1 (marked_by first) s2 is.moments)
+
+    module _ {s2 : SiteLog} {has_b : Bool} (second : MarksCopy {E = E} (place_of copy.B volume) s1 s2 (Ok has_b)) where
+      pub closed_a : (copy_a volume s2).is_open ≡ false
+      closed_a = a_closed volume row bytes spelled s none s1 (marked_by first) s2 (marked_by second)
+
+      pub none_a : has_a ≡ false → (copy_a volume s2).slots ≡ []
+      none_a is = a_slots volume row bytes spelled s none s1 (marked_by first) s2 (marked_by second) ∙ first.none is
+
+      pub filling_a : {T : Type 0} {s3 : SiteLog} {r : Result T E} → FillsCopy bytes (place_of copy.A volume) s2 s3 r → Creates volume row s s3
+      filling_a {s3 = s3} is = to_row volume row bytes spelled s none s3
+          (third_pair volume row bytes spelled s none s1 (marked_by first) s2 (marked_by second) s3 (as_rewriting (place_of copy.A volume) bytes s2 s3 is.moments))
+
+      module _ {T : Type 0} {s3 : SiteLog} {value : T} (third : FillsCopy {T = T} {E = E} bytes (place_of copy.A volume) s2 s3 (Ok value)) where
+        pub closed_b : (copy_b volume s3).is_open ≡ false
+        closed_b = b_closed volume row bytes spelled s none s1 (marked_by first) s2 (marked_by second) s3 (filled_by third)
+
+        pub none_b : has_b ≡ false → (copy_b volume s3).slots ≡ []
+        none_b is = b_slots volume row bytes spelled s none s1 (marked_by first) s2 (marked_by second) s3 (filled_by third) ∙ second.none is
+
+        pub filling_b : {s4 : SiteLog} {r : Result T E} → FillsCopy bytes (place_of copy.B volume) s3 s4 r → Creates volume row s s4
+        filling_b {s4} is = to_row volume row bytes spelled s none s4
+            (fourth_pair volume row bytes spelled s none s1 (marked_by first) s2 (marked_by second) s3 (filled_by third) s4 (as_rewriting (place_of copy.B volume) bytes s3 s4 is.moments))
+
+        module _ {s4 : SiteLog} {other : T} (fourth : FillsCopy {T = T} {E = E} bytes (place_of copy.B volume) s3 s4 (Ok other)) where
+          pub created : IsChanged row no_slots volume s s4
+          created = is_created volume row bytes spelled s none s1 (marked_by first) s2 (marked_by second) s3 (filled_by third) s4 (filled_by fourth)
+
+          pub created_marks : AreMarked volume (content s) (content s4)
+          created_marks =
+              both_marked volume (Marking (copy_a volume s)) (Marking (copy_b volume s1)) (IsFilling bytes (copy_a volume s2)) (IsFilling bytes (copy_b volume s3)) s s1 s2 s3 s4 first.moments second.moments third.moments fourth.moments first.mark second.mark third.mark fourth.mark
+              (both_made volume row bytes spelled s none s1 (marked_by first) s2 (marked_by second) s3 (filled_by third) s4 (filled_by fourth))

@@ -5,6 +5,7 @@ pub mod WriteLemmas
 pub mod PairFacts
 pub mod PairLemmas
 pub mod StayLemmas
+pub mod ChangingLemmas
 pub mod ChangeLemmas
 pub mod CreateLemmas
 pub mod FollowLemmas

@@ -1,5 +1,5 @@
 -- The moments of a repair.
-use Rattle.std.proofs.Common.{◌≡◌, inl, inr, true, false, ℕ, List, Option, Some, Result, Ok, Err, refl, sym, ◌∙◌, ap, subst}
+use Rattle.std.proofs.Common.{◌≡◌, inl, inr, true, false, ℕ, List, length, Some, Result, Ok, Err, refl, sym, ◌∙◌, ap, subst}
 use Rattle.std.specs.Prelude.{IsOk}
 use Rattle.mss_base.specs.Content.{SiteLog, content, Settles, Writes, ChangesBlock}
 use Rattle.mss_base.specs.declared.place.UnitNo.TheVariants.{TableA, TableB}
@@ -9,18 +9,19 @@ use Rattle.volume_table.specs.Row.{RowValue}
 use Rattle.volume_table.specs.Grammar.{decode}
 use Rattle.table_pair.specs.declared.copy.TableCopy.{TableCopy}
 use Rattle.table_pair.specs.declared.copy.TableCopy.TheVariants as copy
-use Rattle.table_pair.specs.declared.repairs.Stale.{Stale}
+use Rattle.table_pair.specs.declared.repairs.Found.{Found}
 use Rattle.table_pair.specs.declared.write.Gates.{Gates}
 use Rattle.table_pair.specs.Places.{place_of}
+use Rattle.table_pair.specs.Slots.{HasSlots}
 use Rattle.table_pair.specs.Copies.{CopyView, copy_at, copy_on, filled, HasGates, IsRewriting, WritesCopy}
 use Rattle.table_pair.specs.Pair.{known, row_of_copies, HoldsRow, ChangesRow}
-use Rattle.table_pair.specs.Repairs.{NeedNoRepair, NeedsNoRepair, IsBehind, one_of, MayBeStale, MayBeStaleOn, KeepsRow, KeepsMarks, HoldsToldRow, KeepsRepairFault}
+use Rattle.table_pair.specs.Repairs.{NeedNoRepair, NeedsNoRepair, IsBehind, one_of, IsFound, IsFoundOn, KeepsRow, KeepsMarks, HoldsToldRow, LosesSlots, KeepsRepairFault}
 use Rattle.table_pair.specs.declared.copy.RepairFault.{RepairFault}
 use Rattle.table_pair.specs.declared.copy.RepairFault.TheVariants.{Memory}
 use Rattle.table_pair.proofs.PairFacts.{row_by_a, row_by_b, one_row}
 use Rattle.table_pair.proofs.PairLemmas.{copy_a, copy_b, InPair, kept_a, kept_b, from_a, from_b, pair_row, row_unwritten}
 use Rattle.table_pair.proofs.StayLemmas.{stays, stays_rewriting, rewriting_keeps_mark}
-use Rattle.table_pair.proofs.ChangeLemmas.{open_filled, open_as}
+use Rattle.table_pair.proofs.ChangingLemmas.{open_filled, open_as}
 
 module _ (volume : ℕ) (s t : SiteLog) where
   abbrev a : CopyView
@@ -99,6 +100,18 @@ module _ (volume : ℕ) (s t : SiteLog) where
       b = open_as row (copy_b volume t) (filled bytes b) done (open_filled row bytes b spelled);
     }
 
+    -- the rewritten one has no slots
+    pub follow_slots : (which : TableCopy) → WritesCopy (place_of which volume) (IsRewriting bytes (copy_on s (place_of which volume))) s t
+        → copy_on t (place_of which volume) ≡ filled bytes (copy_on s (place_of which volume)) → LosesSlots which volume (content s) (content t)
+    follow_slots copy.A w done used has = record {
+      a = ap (λ (c : CopyView). length c.slots) done;
+      b = ap (λ (c : CopyView). length c.slots) (kept_b volume (IsRewriting bytes a) s t w) ∙ has.b;
+    }
+    follow_slots copy.B w done used has = record {
+      a = ap (λ (c : CopyView). length c.slots) (kept_a volume (IsRewriting bytes b) s t w) ∙ has.a;
+      b = ap (λ (c : CopyView). length c.slots) done;
+    }
+
     pub follow_told : (which : TableCopy) → IsBehind which row a b → HoldsRow row volume (content t) → HoldsToldRow volume (content s) (content t)
     follow_told which behind holds other told =
         subst (λ (r : RowValue). HoldsRow r volume (content t)) (one_row row other false false (sym (told_row which behind) ∙ told)) holds
@@ -113,8 +126,11 @@ gates_on copy.A volume s gates has = has
 gates_on copy.B volume s gates has = has
 
 -- what was read of two copies is so of them
-pub stale_on : (stale : Option Stale) (volume : ℕ) (s : SiteLog) (a b : List ℕ) → content s TableA volume ≡ a → content s TableB volume ≡ b → MayBeStale stale (copy_at a) (copy_at b) → MayBeStaleOn stale volume (content s)
-stale_on stale volume s a b is_a is_b found = subst (λ (p : List ℕ × List ℕ). MayBeStale stale (copy_at p.0) (copy_at p.1)) (λ i. (sym is_a i, sym is_b i)) found
+pub found_on : (found : Found) (volume : ℕ) (s : SiteLog) (a b : List ℕ) → content s TableA volume ≡ a → content s TableB volume ≡ b → IsFound found (copy_at a) (copy_at b) → IsFoundOn found volume (content s)
+found_on found volume s a b is_a is_b is = subst (λ (p : List ℕ × List ℕ). IsFound found (copy_at p.0) (copy_at p.1)) (λ i. (sym is_a i, sym is_b i)) is
+
+pub found_slots : (found : Found) (volume : ℕ) (s r : SiteLog) → r ≡ s → IsFoundOn found volume (content s) → HasSlots found.used volume (content r)
+found_slots found volume s r same is = subst (λ (q : SiteLog). HasSlots found.used volume (content q)) (sym same) (record { a = is.used_a; b = is.used_b })
 
 -- what a call that wrote nothing before keeps
 pub firm_since : (s r t : SiteLog) → r ≡ s → Settles r t → Settles s t

@@ -1,7 +1,9 @@
 -- What stays of a copy while it is written.
 use Rattle.std.proofs.Common.{◌≡◌, inl, inr, true, List, ℕ, refl, sym, ◌∙◌, ap, subst}
 use Rattle.table_pair.specs.Copies.{CopyView, marked, filled, IsRewriting}
+use Rattle.volume_table.specs.Row.{RowValue}
 use Rattle.table_pair.specs.Pair.{StaysCopy}
+use Rattle.table_pair.specs.Changing.{IsChanging}
 
 pub stays : (c : CopyView) → StaysCopy c c
 stays c = record { made = λ is. is }
@@ -20,6 +22,9 @@ stays_rewriting bytes old now is = elim is [
   | inl same ↦ stays_as old now same
   | inr filling ↦ record { made = λ made. filling.made ∙ made }
 ]
+
+pub stays_changing : (row : RowValue) (old now : CopyView) → IsChanging row old now → StaysCopy old now
+stays_changing row old now is = record { made = λ made. is.made ∙ made }
 
 -- of what was marked, what stays stays of the copy before
 pub stays_since : (old now : CopyView) → StaysCopy (marked old) now → StaysCopy old now

@@ -1,13 +1,16 @@
 -- When copies need no repair, which one is to be rewritten, and what a failed repair keeps.
-use Rattle.std.specs.Prelude.{◌≡◌, ◌≢◌, ◌⊎◌, ◌≤◌, ℕ, false, Option, Some, None, Result, Ok, Err}
+use Rattle.std.specs.Prelude.{◌≡◌, ◌≢◌, ◌⊎◌, ◌≤◌, ℕ, false, length, Option, Some, None, Result, Ok, Err}
 use Rattle.mss_base.specs.Content.{Content}
 use Rattle.mss_base.specs.declared.place.UnitNo.TheVariants.{TableA, TableB}
 use Rattle.volume_table.specs.Row.{RowValue}
 use Rattle.table_pair.specs.declared.copy.TableCopy.{TableCopy}
 use Rattle.table_pair.specs.declared.repairs.Stale.{Stale}
+use Rattle.table_pair.specs.declared.repairs.Found.{Found}
 use Rattle.table_pair.specs.declared.copy.TableCopy.TheVariants as copy
 use Rattle.table_pair.specs.Copies.{CopyView, copy_at, HasGates}
 use Rattle.table_pair.specs.Pair.{row_of, row_of_copies, known, IsOpenWith, HoldsRow}
+use Rattle.table_pair.specs.declared.copy.SlotsUsed.{SlotsUsed}
+use Rattle.table_pair.specs.Slots.{HasSlots, without_slots}
 use Rattle.mss_base.specs.Counts.{IsFaultSince}
 use Rattle.mss_base.specs.Sound.{StaysSound}
 use Rattle.mss_base.specs.declared.site.Site.{Ghosts}
@@ -52,8 +55,14 @@ MayBeStale (Some stale) a b = IsStale stale a b
 abbrev pub IsStaleOn : Stale → ℕ → Content → Type 0
 IsStaleOn stale volume c = IsStale stale (copy_at (c TableA volume)) (copy_at (c TableB volume))
 
-abbrev pub MayBeStaleOn : Option Stale → ℕ → Content → Type 0
-MayBeStaleOn stale volume c = MayBeStale stale (copy_at (c TableA volume)) (copy_at (c TableB volume))
+-- what two copies are found to be: what is to be repaired, if anything, and how many of their slots are in use
+pub record IsFound (found : Found) (a b : CopyView) : Type 0 where
+  pub stale : MayBeStale found.stale a b
+  pub used_a : length a.slots ≡ found.used.a
+  pub used_b : length b.slots ≡ found.used.b
+
+abbrev pub IsFoundOn : Found → ℕ → Content → Type 0
+IsFoundOn found volume c = IsFound found (copy_at (c TableA volume)) (copy_at (c TableB volume))
 
 -- the row stays
 abbrev pub KeepsRow : ℕ → Content → Content → Type 0
@@ -63,6 +72,10 @@ KeepsRow volume old new = row_of new volume ≡ row_of old volume
 pub record KeepsMarks (volume : ℕ) (old new : Content) : Type 0 where
   pub a : (copy_at (new TableA volume)).is_made ≡ (copy_at (old TableA volume)).is_made
   pub b : (copy_at (new TableB volume)).is_made ≡ (copy_at (old TableB volume)).is_made
+
+-- a copy has no slots any more, and the other one those that it had
+abbrev pub LosesSlots : TableCopy → ℕ → Content → Content → Type 0
+LosesSlots which volume old new = (used : SlotsUsed) → HasSlots used volume old → HasSlots (without_slots which used) volume new
 
 -- the row that was told, if any, stands in both copies
 abbrev pub HoldsToldRow : ℕ → Content → Content → Type 0

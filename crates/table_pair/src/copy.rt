@@ -2,7 +2,7 @@
 ghost use Rattle.std.specs.Prelude.{◌≡◌};
 ghost use Rattle.table_pair.specs.Places.{place_of};
 
-use mss_base::{BlockPlace, NoMemory, UnitNo, VolumeNo};
+use mss_base::{BlockPlace, Listed, NoMemory, UnitNo, VolumeNo};
 use std::alloc::AllocError;
 use volume_table::{RowFault, VolumeRow};
 
@@ -26,6 +26,37 @@ pub fn place_of(copy: TableCopy, volume: VolumeNo) -> BlockPlace
         block: volume.get() as u32,
     }
 }
+
+/// How many slots of each copy of a row are in use, 0 to 1,984.
+#[derive(Clone, Copy, Debug, PartialEq, Eq)]
+pub struct SlotsUsed {
+    pub a: u16,
+    pub b: u16,
+}
+
+impl SlotsUsed {
+    ghost use Rattle.table_pair.specs.Slots.{no_slots, without_slots};
+
+    /// None of either copy.
+    pub fn none() -> Self
+        ensures { result ≡ no_slots }
+    {
+        SlotsUsed { a: 0, b: 0 }
+    }
+
+    /// After a copy was rewritten, which leaves it without slots.
+    pub fn without(self, copy: TableCopy) -> Self
+        ensures { result ≡ without_slots copy self }
+    {
+        match copy {
+            TableCopy::A => SlotsUsed { a: 0, ..self },
+            TableCopy::B => SlotsUsed { b: 0, ..self },
+        }
+    }
+}
+
+/// How many slots of the copies of each of the 32 volumes are in use, by number.
+pub type SlotsUsedList = Listed<SlotsUsed>;
 
 /// A row, or none. Where one copy couldn't be read and the row is known all the same, `unread` is the site's count of
 /// faults after that read.

@@ -1,18 +1,55 @@
 // Creating a row.
-ghost use Rattle.std.specs.Prelude.{◌≡◌, ◌≤◌, ℕ, Bool, false, IsOk, OnOk};
-ghost use Rattle.mss_base.specs.Content.{content, Settles, Writes};
+ghost use Rattle.std.specs.Prelude.{◌≡◌, ◌≤◌, ℕ, Bool, false, [], length, IsOk, OnOk};
+ghost use Rattle.mss_base.specs.Content.{content, Writes};
 ghost use Rattle.mss_base.specs.Counts.{HasCause};
-ghost use Rattle.mss_base.specs.Sites.{MayWrite};
+ghost use Rattle.mss_base.specs.Sites.{MayWrite, WritesAtMost};
 ghost use Rattle.mss_base.specs.declared.place.UnitNo.{UnitNo};
 ghost use Rattle.mss_base.specs.declared.place.UnitNo.TheVariants.{TableA, TableB};
-ghost use Rattle.table_pair.specs.Pair.{ChangesRow, NoneOrNew, HoldsRow, AreClosed, AreMarked};
+ghost use Rattle.table_pair.specs.Copies.{copy_on};
+ghost use Rattle.table_pair.specs.Creating.{FillsCopy, MarksCopy};
+ghost use Rattle.table_pair.specs.Places.{place_of, unit_of};
+ghost use Rattle.table_pair.specs.Pair.{ChangesRow, NoneOrNew, AreClosed, AreMarked};
 ghost use Rattle.table_pair.specs.Repairs.{NeedsNoRepair};
+ghost use Rattle.table_pair.specs.Slots.{IsChanged, no_slots};
 
-use crate::change::CHANGE_WRITES;
+use crate::change::CHANGE_ITEMS;
 use crate::copy::{TableCopy, place_of};
-use crate::write::{fill_copy, mark_copy};
-use mss_base::{Failed, Site, VolumeNo};
-use volume_table::{BODY, BODY_END, ROW_BYTES, VolumeRow, encode_row};
+use crate::write::{FILL_ITEMS, fill_copy, mark_copy};
+use mss_base::{FIRM_ITEMS, Failed, Site, VolumeNo};
+use volume_table::{BODY, BODY_BYTES, BODY_END, ROW_BYTES, VolumeRow, encode_row};
+
+/// Sets the made mark of the one copy of a volume's row or of the other, and tells whether it has slots.
+fn mark_one<S: Site>(site: &mut S, copy: TableCopy, volume: VolumeNo) -> Result<bool, Failed>
+    requires room { FIRM_ITEMS ≤ S.spare site.old }
+    ensures marks { S.tells → MarksCopy (place_of copy volume)
+        (S.told site.old) (S.told site.new) result }
+    ensures devices { MayWrite S.Site FIRM_ITEMS site.old site.new }
+    ensures cause { HasCause (S.faults site.old) (S.faults site.new) result }
+    ensures works { (but : UnitNo → Bool) → S.never_fails_but site.old but
+        → but (unit_of copy) ≡ false → IsOk result }
+{
+    mark_copy(site, &place_of(copy, volume))
+}
+
+/// Fills the one copy of a volume's row or the other, which is closed.
+fn fill_one<S: Site>(
+    site: &mut S,
+    copy: TableCopy,
+    volume: VolumeNo,
+    has_slots: bool,
+    body: &[u8],
+) -> Result<(), Failed>
+    requires long { length body.now ≡ BODY_BYTES }
+    requires closed { S.tells → (copy_on (S.told site.old) (place_of copy volume)).is_open ≡ false }
+    requires none { S.tells → has_slots ≡ false
+        → (copy_on (S.told site.old) (place_of copy volume)).slots ≡ [] }
+    requires room { FILL_ITEMS ≤ S.spare site.old }
+    ensures fills { S.tells → FillsCopy body.now (place_of copy volume)
+        (S.told site.old) (S.told site.new) result }
+    ensures site_ { WritesAtMost S.Site FILL_ITEMS site.old site.new result }
+{
+    fill_copy(site, &place_of(copy, volume), has_slots, body)
+}
 
 /// Gives a volume its row. Both copies are closed before, and open with the row and marked as made after.
 ///
@@ -20,18 +57,18 @@ use volume_table::{BODY, BODY_END, ROW_BYTES, VolumeRow, encode_row};
 /// row or the new one, which is firm once it is done. Where it fails, the site's count of faults has risen.
 pub fn create_row<S: Site>(site: &mut S, volume: VolumeNo, row: &VolumeRow) -> Result<(), Failed>
     requires none { S.tells → AreClosed volume (content (S.told site.old)) }
-    requires room { CHANGE_WRITES ≤ S.spare site.old }
+    requires room { CHANGE_ITEMS ≤ S.spare site.old }
 
     ensures moments { S.tells → Writes
         (ChangesRow volume (NoneOrNew volume row.now) (content (S.told site.old)))
         (S.told site.old) (S.told site.new) }
-    ensures done { S.tells → OnOk result (HoldsRow row.now volume (content (S.told site.new))) }
+    ensures done { S.tells → OnOk result
+        (IsChanged row.now no_slots volume (S.told site.old) (S.told site.new)) }
     ensures settled { S.tells → OnOk result (NeedsNoRepair volume (content (S.told site.new))) }
     ensures marks { S.tells → OnOk result
         (AreMarked volume (content (S.told site.old)) (content (S.told site.new))) }
-    ensures firm { S.tells → OnOk result (Settles (S.told site.old) (S.told site.new)) }
 
-    ensures devices { MayWrite S.Site CHANGE_WRITES site.old site.new }
+    ensures devices { MayWrite S.Site CHANGE_ITEMS site.old site.new }
     ensures cause { HasCause (S.faults site.old) (S.faults site.new) result }
     ensures works { (but : UnitNo → Bool) → S.never_fails_but site.old but
         → but TableA ≡ false → but TableB ≡ false → IsOk result }
@@ -39,9 +76,9 @@ pub fn create_row<S: Site>(site: &mut S, volume: VolumeNo, row: &VolumeRow) -> R
     let mut bytes = [0; ROW_BYTES];
     encode_row(row, &mut bytes);
     let body = &bytes[BODY..BODY_END];
-    let slots_a = mark_copy(site, &place_of(TableCopy::A, volume))?;
-    let slots_b = mark_copy(site, &place_of(TableCopy::B, volume))?;
-    fill_copy(site, &place_of(TableCopy::A, volume), slots_a, body)?;
-    fill_copy(site, &place_of(TableCopy::B, volume), slots_b, body)?;
+    let slots_a = mark_one(site, TableCopy::A, volume)?;
+    let slots_b = mark_one(site, TableCopy::B, volume)?;
+    fill_one(site, TableCopy::A, volume, slots_a, body)?;
+    fill_one(site, TableCopy::B, volume, slots_b, body)?;
     Ok(())
 }

@@ -81,8 +81,8 @@ fn taken(
     }
 }
 
-/// The reading table.
-fn by_table(a: CopyState, b: CopyState) -> Result<RowRead, RowTrouble>
+/// The reading table: the row that two copies tell, if they tell one.
+pub fn by_table(a: CopyState, b: CopyState) -> Result<RowRead, RowTrouble>
     ensures told { Tells result (reading (seen a) (seen b)) }
     ensures kept { (before now : ℕ) → KeepBoth before now a b → KeepsCount before now result }
     ensures there { seen a ≢ unread → seen b ≢ unread → MissesNone result }

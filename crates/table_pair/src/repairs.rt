@@ -6,14 +6,16 @@ ghost use Rattle.mss_base.specs.declared.place.UnitNo.TheVariants.{TableA, Table
 ghost use Rattle.table_pair.specs.Copies.{copy_at};
 ghost use Rattle.table_pair.specs.Pair.{ChangesRow};
 ghost use Rattle.table_pair.specs.Reads.{IsReadable};
-ghost use Rattle.table_pair.specs.Repairs.{NeedsNoRepair, TellsRow, MayBeStale, IsStaleOn, MayBeStaleOn, KeepsRow, KeepsMarks, HoldsToldRow, KeepsRepairFault, GotRoom, LeavesSite, FailsNever};
+ghost use Rattle.table_pair.specs.Repairs.{NeedsNoRepair, TellsRow, MayBeStale, IsStaleOn, IsFound, IsFoundOn, KeepsRow, KeepsMarks, HoldsToldRow, LosesSlots, KeepsRepairFault, GotRoom, LeavesSite, FailsNever};
+ghost use Rattle.table_pair.specs.Slots.{HasSlots};
 ghost use Rattle.table_pair.specs.declared.copy.RepairFault.TheVariants.{Memory};
 
-use crate::copy::{CopyState, RepairFault, TableCopy, place_of};
+use crate::copy::{CopyState, RepairFault, SlotsUsed, TableCopy, place_of};
 use crate::read::copy_state;
 use crate::write::{COPY_ITEMS, GATE, Gates, gates_of, rewrite_copy};
 use mss_base::{BLOCK_BYTES, BlockPlace, Failed, NoMemory, OPEN, Site, VolumeNo};
 use std::alloc::Global;
+use table_journal::read_slots;
 use volume_table::{BODY, BODY_END, ROW_BYTES, VolumeRow, encode_row};
 
 /// A copy that hasn't the row which the other one tells, its gates, and that row.
@@ -22,6 +24,15 @@ pub struct Stale {
     pub copy: TableCopy,
     pub gates: Gates,
     pub row: VolumeRow,
+}
+
+/// What two copies are found to be.
+#[derive(Drop)]
+pub struct Found {
+    /// What has to be rewritten, if anything.
+    pub stale: Option<Stale>,
+    /// How many of their slots are in use.
+    pub used: SlotsUsed,
 }
 
 fn is_open(block: &[u8]) -> bool
@@ -95,6 +106,20 @@ fn stale_copy(alloc: Global, a: &[u8], b: &[u8]) -> Result<Option<Stale>, NoMemo
     }))
 }
 
+/// What two blocks that were read are found to be.
+fn found_in(alloc: Global, a: &[u8], b: &[u8]) -> Result<Found, NoMemory>
+    requires a { length a.now ≡ BLOCK_BYTES }
+    requires b { length b.now ≡ BLOCK_BYTES }
+    ensures { IfOk result (λ found. IsFound found (copy_at a.now) (copy_at b.now)) }
+{
+    let stale = stale_copy(alloc, a, b)?;
+    let used = SlotsUsed {
+        a: read_slots(a),
+        b: read_slots(b),
+    };
+    Ok(Found { stale, used })
+}
+
 /// Rewrites a stale copy with the row of the other one.
 fn follow<S: Site>(site: &mut S, volume: VolumeNo, stale: &Stale) -> Result<(), Failed>
     requires stale { S.tells → IsStaleOn stale.now volume (content (S.told site.old)) }
@@ -107,6 +132,8 @@ fn follow<S: Site>(site: &mut S, volume: VolumeNo, stale: &Stale) -> Result<(), 
     ensures done { S.tells → OnOk result
         (HoldsToldRow volume (content (S.told site.old)) (content (S.told site.new))) }
     ensures settled { S.tells → OnOk result (NeedsNoRepair volume (content (S.told site.new))) }
+    ensures emptied { S.tells → OnOk result
+        (LosesSlots stale.now.copy volume (content (S.told site.old)) (content (S.told site.new))) }
     ensures needed { S.tells → NeedsNoRepair volume (content (S.told site.old)) → ⊥ }
     ensures firm { S.tells → OnOk result (Settles (S.told site.old) (S.told site.new)) }
     ensures site_ { WritesAtMost S.Site COPY_ITEMS site.old site.new result }
@@ -134,13 +161,9 @@ fn read_block<S: Site>(site: &mut S, at: &BlockPlace, block: &mut [u8]) -> Resul
 }
 
 /// Takes room for a rewriting, reads both copies, and finds what has to be rewritten, if anything.
-fn find_stale<S: Site>(
-    alloc: Global,
-    site: &mut S,
-    volume: VolumeNo,
-) -> Result<Option<Stale>, RepairFault>
-    ensures found { S.tells → IfOk result (λ stale.
-        MayBeStaleOn stale volume (content (S.told site.old))) }
+fn find_stale<S: Site>(alloc: Global, site: &mut S, volume: VolumeNo) -> Result<Found, RepairFault>
+    ensures found { S.tells → IfOk result (λ found.
+        IsFoundOn found volume (content (S.told site.old))) }
     ensures room { OnOk result (COPY_ITEMS ≤ S.spare site.new) }
     ensures reads { GotRoom S.Site site.old site.new }
     ensures kept { KeepsRepairFault (S.faults site.old) (S.faults site.new) result }
@@ -152,16 +175,21 @@ fn find_stale<S: Site>(
     let mut b = vec![in alloc; 0u8; BLOCK_BYTES]?;
     read_block(site, &place_of(TableCopy::A, volume), &mut a)?;
     read_block(site, &place_of(TableCopy::B, volume), &mut b)?;
-    let stale = stale_copy(alloc, &a, &b)?;
-    Ok(stale)
+    let found = found_in(alloc, &a, &b)?;
+    Ok(found)
 }
 
 /// Makes the two copies of a volume's row tell the same, where one of them tells a row: the row that `read_row` tells
-/// stands in both after that, firm. Elsewhere, and where both hold it, nothing is written.
+/// stands in both after that, firm. Elsewhere, and where both hold it, nothing is written. Gives how many slots of the
+/// copies are in use then.
 ///
 /// It makes at most four writes and three syncs, for which it takes the room itself. The row is the same at every
 /// moment, and so are the made marks. After want of memory the devices are as they were.
-pub fn repair<S: Site>(alloc: Global, site: &mut S, volume: VolumeNo) -> Result<(), RepairFault>
+pub fn repair<S: Site>(
+    alloc: Global,
+    site: &mut S,
+    volume: VolumeNo,
+) -> Result<SlotsUsed, RepairFault>
     ensures moments { S.tells → Writes
         (ChangesRow volume (KeepsRow volume (content (S.told site.old))) (content (S.told site.old)))
         (S.told site.old) (S.told site.new) }
@@ -169,6 +197,8 @@ pub fn repair<S: Site>(alloc: Global, site: &mut S, volume: VolumeNo) -> Result<
         (S.told site.old) (S.told site.new) }
     ensures done { S.tells → OnOk result
         (HoldsToldRow volume (content (S.told site.old)) (content (S.told site.new))) }
+    ensures used { S.tells → IfOk result (λ used.
+        HasSlots used volume (content (S.told site.new))) }
     ensures settled { S.tells → OnOk result (NeedsNoRepair volume (content (S.told site.new))) }
     ensures untouched { S.tells → NeedsNoRepair volume (content (S.told site.old))
         → S.told site.new ≡ S.told site.old }
@@ -179,11 +209,12 @@ pub fn repair<S: Site>(alloc: Global, site: &mut S, volume: VolumeNo) -> Result<
     ensures works { IsReadable S.Site site.old TableA
         → IsReadable S.Site site.old TableB → FailsNever result }
 {
-    let Some(stale) = find_stale(alloc, site, volume)? else {
-        return Ok(());
+    let Found { stale, used } = find_stale(alloc, site, volume)?;
+    let Some(stale) = stale else {
+        return Ok(used);
     };
     match follow(site, volume, &stale) {
-        Ok(()) => Ok(()),
+        Ok(()) => Ok(used.without(stale.copy)),
         Err(Failed) => Err(RepairFault::Failed {
             fault: site.faults(),
         }),

@@ -44,6 +44,7 @@ pub struct Gates {
 }
 
 /// The gates of a copy whose block was read.
+#[tactic(auto, using(crate::proofs::CopyLemmas::gates_read))]
 pub fn gates_of(block: &[u8]) -> Gates
     requires { length block.now ≡ BLOCK_BYTES }
     ensures { HasGates result (copy_at block.now) }

@@ -7,8 +7,9 @@ use Rattle.std.proofs.lemmas.List.{length-set}
 use Rattle.mss_base.specs.Content.{SiteLog, content}
 use Rattle.volume_table.specs.Row.{RowValue, IsRow, frame_of}
 use Rattle.volume_table.specs.Listed.{listed, with_changed}
-use Rattle.volume_table.specs.Changes.{IsAllowed, effect, with_frame}
+use Rattle.volume_table.specs.Changes.{IsAllowed, with_frame}
 use Rattle.volume_table.specs.declared.changes.Change.TheVariants.{Assign}
+use Rattle.table_pair.specs.Slots.{with_used_after}
 use Rattle.shown_volumes.specs.Shown.{RowsOf}
 use Rattle.shown_volumes.specs.Sound.{frame_in}
 use Rattle.shown_volumes.specs.Changing.{IsReady}
@@ -19,7 +20,14 @@ use Rattle.transfers.specs.declared.transfer.Transfer.{Transfer}
 use Rattle.core_state.specs.declared.task.Task.{Task}
 use Rattle.core_state.specs.declared.session.Event.TheVariants.{Work}
 use Rattle.core_state.specs.Agrees.{message_of}
-use Rattle.core_state.specs.CoreValue.{CoreValue}
+use Rattle.mss_base.specs.declared.site.Site.{Ghosts}
+use Rattle.victim_choice.specs.declared.choose.Candidate.{Candidate}
+use Rattle.core_state.specs.declared.rule.WorkAnswer.{WorkAnswer}
+use Rattle.core_state.specs.declared.rule.WorkAnswer.TheVariants.{Did}
+use Rattle.core_state.specs.declared.rule.WorkKind.TheVariants as work
+use Rattle.core_state.specs.declared.rule.WorkRule.TheVariants.{Assigns}
+use Rattle.core_state.specs.CoreValue.{CoreValue, seen}
+use Rattle.core_state.specs.WorkEvents.{WithTask, TaskDoes, WorkDoes}
 use Rattle.core_state.specs.SessionData.{data_of}
 use Rattle.core_state.specs.Pins.{task_at, owner_at}
 use Rattle.core_state.specs.Tasks.{IsTask, HasFrame, IsNowhere}
@@ -37,7 +45,7 @@ use Rattle.core_state.proofs.Others.{given_waits, given_waiting, frames_apart, r
 use Rattle.core_state.proofs.Fitting.{ready_row, row_still, fit_same}
 use Rattle.work_events.proofs.OwnTask.{own_moving, own_waits, own_frame, place_in, rows_now, served_now}
 use Rattle.work_events.proofs.RuleFacts.{MayAssignPage}
-use Rattle.work_events.proofs.ChangedRows.{IsRewritten, IsDueChange, may_now, kept_changed}
+use Rattle.work_events.proofs.ChangedRows.{HasRewritten, HaveChanged, IsDueChange, IsDone, with_slot, core_slot, may_now, kept_changed}
 use Rattle.victim_choice.specs.Order.{touched}
 use Rattle.work_events.proofs.KeptFacts.{kept_touched}
 
@@ -148,11 +156,11 @@ module _ (S : Type 0) {C : Type 0} (tells : Type 0) (s : SiteLog) (v : CoreValue
         page_in None = 0
         page_in (Some z) = z.1
 
-    pub whole_assigned : (tells → IsRewritten s wanted.volume (with_frame (wanted.cylinder / 8) old.frame r) t mark)
-        → IsWhole tells t (worked v x (slice_set v.rows wanted.volume (Some (with_frame (wanted.cylinder / 8) old.frame r)))
+    pub whole_assigned : (tells → HasRewritten s v wanted.volume (Assign (wanted.cylinder / 8) old.frame) t mark r)
+        → IsWhole tells t (worked (with_slot wanted.volume v) x (slice_set v.rows wanted.volume (Some (with_frame (wanted.cylinder / 8) old.frame r)))
         (v.console ++ message_of mark wanted.volume (Assign (wanted.cylinder / 8) old.frame) (listed v.rows) ∷ [])
         (slice_set v.owners old.frame (Some (wanted.volume, wanted.cylinder / 8))) v.moving v.requests v.tasks)
-    whole_assigned changed = make_whole (core_work S v core x give_rows _ give_owners v.moving v.requests v.tasks owned_a core.moving_ (asked_of S v core)
+    whole_assigned changed = make_whole (core_work S (with_slot wanted.volume v) (core_slot S v core wanted.volume) x give_rows _ give_owners v.moving v.requests v.tasks owned_a core.moving_ (asked_of S v core)
         (given_waiting S v core wanted.volume (wanted.cylinder / 8) old.frame r there low_a none inside_a nowhere_a)
         (record { each = each_a; frames_once = core.tasks_.frames_once; hosts_once = core.tasks_.hosts_once; moved = core.tasks_.moved; awaited = core.tasks_.awaited })
         (fit_same v.config.recorders v.rows give_rows v.requests v.hosts v.tasks v.tasks core.fit refl (row_still v.rows wanted.volume r (with_frame (wanted.cylinder / 8) old.frame r) there (place_in S v core n old at wanted wants wanted.volume low_a))
@@ -160,10 +168,32 @@ module _ (S : Type 0) {C : Type 0} (tells : Type 0) (s : SiteLog) (v : CoreValue
         (λ tl.
         let c = changed tl in
         let may = may_now S tells s v whole open_ wanted.volume (Assign (wanted.cylinder / 8) old.frame) r there give_allowed give_ready tl in
-        told_by_change S s t v x core (whole.told tl) open_ wanted.volume mark (Assign (wanted.cylinder / 8) old.frame) r there low_a (λ o. refl) (λ k. refl) (give_allowed, nowhere_a) may c.writes c.holds c.at_end c.grows give_owners v.moving v.requests v.tasks
+        told_by_change S s t v x core (whole.told tl) open_ wanted.volume mark (Assign (wanted.cylinder / 8) old.frame) r there low_a (λ o. refl) (λ k. refl) (give_allowed, nowhere_a) may c.writes c.changed c.at_end c.grows give_owners v.moving v.requests v.tasks
         (λ m task is. given_served S v core wanted.volume (wanted.cylinder / 8) old.frame r there low_a none inside_a nowhere_a (content s) (content t)
-        (λ unit block nt. blocks_stay S s t v x core (whole.told tl) open_ wanted.volume mark (Assign (wanted.cylinder / 8) old.frame) r there low_a (λ o. refl) (λ k. refl) (give_allowed, nowhere_a) may c.writes c.holds c.at_end c.grows v.owners v.moving v.requests [] (λ k z zz. absurd (none_some z zz)) unit block nt)
+        (λ unit block nt. blocks_stay S s t v x core (whole.told tl) open_ wanted.volume mark (Assign (wanted.cylinder / 8) old.frame) r there low_a (λ o. refl) (λ k. refl) (give_allowed, nowhere_a) may c.writes c.changed c.at_end c.grows v.owners v.moving v.requests [] (λ k z zz. absurd (none_some z zz)) unit block nt)
         task (core.tasks_.each m task is) (served_now S tells s v whole open_ tl m task is)))
+
+-- ---- the core that is left, and that it is the event's
+
+-- the frame was used last
+abbrev pub assigned : {S C : Type 0} → CoreValue S C → ℕ → Task → ℕ → ℕ → S → ℕ → CoreValue S C
+assigned v n old volume page x mark = record v {
+  site = x;
+  rows = with_changed volume (Assign page old.frame) v.rows;
+  used = with_used_after volume v.used;
+  console = v.console ++ message_of mark volume (Assign page old.frame) (listed v.rows) ∷ [];
+  owners = slice_set v.owners old.frame (Some (volume, page));
+  recency = touched old.frame v.recency;
+  events = v.events ++ Work n ∷ [];
+}
+
+pub assigned_does : {S C : Type 0} (g : Ghosts S) (may : List Candidate → ℕ → Type 0) (v w : CoreValue S C) (n : ℕ) (old : Task) (volume page : ℕ) (answer : WorkAnswer)
+    → answer ≡ Did work.Assign → task_at v.tasks n ≡ Some old → HaveChanged g v volume (Assign page old.frame) w.site → w ≡ assigned v n old volume page w.site (g.writes w.site)
+    → WorkDoes g.tells may (seen g v) n (Assigns volume page) answer (seen g w)
+assigned_does {S} {C} g may v w n old volume page answer is at have path =
+    subst (λ (a : WorkAnswer). WorkDoes g.tells may (seen g v) n (Assigns volume page) a (seen g w)) (sym is)
+    (subst (λ (o : Option Task). WithTask o (λ task. TaskDoes g.tells (seen g v) n (Assigns volume page) task (Did work.Assign) (seen g w))) (sym at)
+    (have, refl, ap (λ (z : CoreValue S C). seen g z) path))
 
 -- ---- the change is due, and with it the core is kept
 
@@ -178,35 +208,17 @@ module _ (S : Type 0) {C : Type 0} (tells : Type 0) (s : SiteLog) (v : CoreValue
 module _ (S : Type 0) {C : Type 0} (tells : Type 0) (s t : SiteLog) (writes faults later_writes later room : ℕ) (v : CoreValue S C) (kept : IsKept tells s writes faults room v) (open_ : v.stopped ≡ None) (n : ℕ) (old : Task) (q : Request) (serves : Serves v n old q)
     (x : S) (more : writes ≤ later_writes) (le : faults ≤ later)
   where
-    -- the frame was used last
-    abbrev after : ℕ → ℕ → CoreValue S C
-    after volume page = record v {
-      site = x;
-      rows = with_changed volume (Assign page old.frame) v.rows;
-      console = v.console ++ message_of later_writes volume (Assign page old.frame) (listed v.rows) ∷ [];
-      owners = slice_set v.owners old.frame (Some (volume, page));
-      recency = touched old.frame v.recency;
-      events = v.events ++ Work n ∷ [];
-    }
-
-    kept_given : MayAssign v old q → (tells → (r : RowValue) → listed v.rows q.volume ≡ Some r → IsRewritten s q.volume (effect (Assign (q.cylinder / 8) old.frame) r) t later_writes)
-        → IsKept tells t later_writes later room (after q.volume (q.cylinder / 8))
+    kept_given : MayAssign v old q → IsDone tells s v q.volume (Assign (q.cylinder / 8) old.frame) t later_writes
+        → IsKept tells t later_writes later room (assigned v n old q.volume (q.cylinder / 8) x later_writes)
     kept_given may done_ =
         kept_touched tells t later_writes later room _ old.frame ((kept.whole.kept open_).tasks_.each n old serves.at).low
         (kept_changed S tells s t writes faults later_writes later room v kept open_ n x q.volume (Assign (q.cylinder / 8) old.frame) more le may.r may.there (slice_set v.owners old.frame (Some (q.volume, q.cylinder / 8))) v.moving v.requests v.tasks
         (whole_assigned S tells s v kept.whole open_ n old serves.at q serves.asked t x later_writes may.free may.bare may.r may.there may.none may.low may.row (λ tl. done_ tl may.r may.there))
         (counted_message writes faults later_writes later v.requests (data_of v) kept.counted more le (message_of later_writes q.volume (Assign (q.cylinder / 8) old.frame) (listed v.rows)) (omega arith)))
 
-    pub kept_assigned : (volume page : ℕ) → MayAssignPage v volume page old q → (tells → (r : RowValue) → listed v.rows volume ≡ Some r → IsRewritten s volume (effect (Assign page old.frame) r) t later_writes)
-        → IsKept tells t later_writes later room (record v {
-          site = x;
-          rows = with_changed volume (Assign page old.frame) v.rows;
-          console = v.console ++ message_of later_writes volume (Assign page old.frame) (listed v.rows) ∷ [];
-          owners = slice_set v.owners old.frame (Some (volume, page));
-          recency = touched old.frame v.recency;
-          events = v.events ++ Work n ∷ [];
-        })
+    pub kept_assigned : (volume page : ℕ) → MayAssignPage v volume page old q → IsDone tells s v volume (Assign page old.frame) t later_writes
+        → IsKept tells t later_writes later room (assigned v n old volume page x later_writes)
     kept_assigned volume page (volume_is, page_is, may) =
-        subst (λ (k : ℕ). (tells → (r : RowValue) → listed v.rows k ≡ Some r → IsRewritten s k (effect (Assign page old.frame) r) t later_writes) → IsKept tells t later_writes later room (after k page)) (sym volume_is)
-        (subst (λ (k : ℕ). (tells → (r : RowValue) → listed v.rows q.volume ≡ Some r → IsRewritten s q.volume (effect (Assign k old.frame) r) t later_writes) → IsKept tells t later_writes later room (after q.volume k)) (sym page_is)
+        subst (λ (k : ℕ). IsDone tells s v k (Assign page old.frame) t later_writes → IsKept tells t later_writes later room (assigned v n old k page x later_writes)) (sym volume_is)
+        (subst (λ (k : ℕ). IsDone tells s v q.volume (Assign k old.frame) t later_writes → IsKept tells t later_writes later room (assigned v n old q.volume k x later_writes)) (sym page_is)
         (kept_given may))

@@ -5,11 +5,13 @@ use Rattle.std.specs.Option.{option_map, ForSome}
 use Rattle.std.proofs.lemmas.List.{length-set}
 use Rattle.mss_base.specs.Content.{SiteLog, content}
 use Rattle.mss_base.specs.Counts.{IsFaultSince}
+use Rattle.mss_base.specs.declared.site.Site.{Ghosts}
 use Rattle.volume_table.specs.Row.{RowValue}
 use Rattle.volume_table.specs.Listed.{listed, with_changed}
 use Rattle.volume_table.specs.Changes.{IsAllowed, effect}
 use Rattle.volume_table.specs.declared.changes.Change.{Change}
-use Rattle.table_pair.specs.Pair.{HoldsRow}
+use Rattle.table_pair.specs.declared.copy.SlotsUsed.{SlotsUsed}
+use Rattle.table_pair.specs.Slots.{IsChanged, used_after, used_at, with_used_after}
 use Rattle.shown_volumes.specs.Shown.{RowsOf}
 use Rattle.shown_volumes.specs.Changing.{MayChange, IsReady}
 use Rattle.shown_volumes.proofs.AllowedFacts.{allowed_may}
@@ -18,31 +20,46 @@ use Rattle.fault_queue.specs.Requests.{RequestsData}
 use Rattle.core_state.specs.declared.task.Task.{Task}
 use Rattle.core_state.specs.declared.session.Event.TheVariants.{Work}
 use Rattle.core_state.specs.Agrees.{message_of}
-use Rattle.core_state.specs.CoreValue.{CoreValue}
+use Rattle.core_state.specs.CoreValue.{CoreValue, seen_site}
+use Rattle.core_state.specs.Devices.{HaveRow}
 use Rattle.core_state.specs.Counted.{IsCounted}
 use Rattle.core_state.specs.SessionData.{data_of, with_last_message}
 use Rattle.core_state.specs.Rows.{Rewrites}
+use Rattle.core_state.specs.IsCore.{IsCore}
 use Rattle.core_state.specs.TheCore.{IsWhole, IsKept}
-use Rattle.core_state.specs.Entered.{worked}
+use Rattle.core_state.specs.Entered.{with_used, worked}
+use Rattle.core_state.proofs.CoreWork.{core_used}
 use Rattle.core_state.proofs.WholeEvents.{whole_change_failed}
 use Rattle.core_state.proofs.CountedFacts.{counted_stop}
 use Rattle.work_events.proofs.KeptFacts.{kept_noted}
 use Rattle.work_events.proofs.OwnTask.{sound_now, rows_now}
 
 -- what the devices hold once a row is changed
-pub record IsRewritten (s : SiteLog) (volume : ℕ) (row : RowValue) (t : SiteLog) (mark : ℕ) : Type 0 where
+pub record IsRewritten (s : SiteLog) (volume : ℕ) (row : RowValue) (used : SlotsUsed) (t : SiteLog) (mark : ℕ) : Type 0 where
   pub writes : Rewrites volume row s t
-  pub holds : HoldsRow row volume (content t)
+  pub changed : IsChanged row used volume s t
   pub at_end : mark ≡ length t.log
   pub grows : length s.log < length t.log
 
-pub rewritten : (volume : ℕ) (row : RowValue) (s mid t : SiteLog) (mark : ℕ) → mid ≡ s → Rewrites volume row mid t → HoldsRow row volume (content t) → mark ≡ length t.log → length mid.log < length t.log → IsRewritten s volume row t mark
-rewritten volume row s mid t mark same writes holds at_end grows = record {
-  writes = subst (λ (z : SiteLog). Rewrites volume row z t) same writes;
-  holds = holds;
-  at_end = at_end;
-  grows = subst (λ (z : SiteLog). length z.log < length t.log) same grows;
-}
+-- the row that a change leaves of this one, from a core that has so many slots in use
+abbrev pub HasRewritten : {S C : Type 0} → SiteLog → CoreValue S C → ℕ → Change → SiteLog → ℕ → RowValue → Type 0
+HasRewritten s v volume change t mark r = IsRewritten s volume (effect change r) (used_after (used_at v.used volume)) t mark
+
+-- the change is done of the volume's row, whichever it is
+abbrev pub IsDone : {S C : Type 0} → Type 0 → SiteLog → CoreValue S C → ℕ → Change → SiteLog → ℕ → Type 0
+IsDone tells s v volume change t mark = tells → ForSome (listed v.rows volume) (HasRewritten s v volume change t mark)
+
+-- the devices have the change, as they are seen
+abbrev pub HaveChanged : {S C : Type 0} → Ghosts S → CoreValue S C → ℕ → Change → S → Type 0
+HaveChanged g v volume change x =
+    ForSome (listed v.rows volume) (λ r. HaveRow g.tells volume (effect change r) (used_after (used_at v.used volume)) (seen_site g v.site) (seen_site g x))
+
+-- a core with the slots that are in use after a change
+abbrev pub with_slot : {S C : Type 0} → ℕ → CoreValue S C → CoreValue S C
+with_slot volume v = with_used (with_used_after volume v.used) v
+
+pub core_slot : (S : Type 0) {C : Type 0} (v : CoreValue S C) → IsCore v → (volume : ℕ) → IsCore (with_slot volume v)
+core_slot S v core volume = core_used S v core (with_used_after volume v.used) (length-set v.used volume (used_after (used_at v.used volume)) ∙ core.used_)
 
 -- a change that a volume's row may have, and for which the devices are ready
 pub record IsDueChange {S C : Type 0} (tells : Type 0) (s : SiteLog) (v : CoreValue S C) (volume : ℕ) (change : Change) : Type 0 where
@@ -75,10 +92,10 @@ module _ (S : Type 0) {C : Type 0} (tells : Type 0) (s t : SiteLog) (writes faul
 
   -- it is done: the message is told
   pub kept_changed : (r : RowValue) → listed v.rows volume ≡ Some r → (owners : List (Option (ℕ × ℕ))) (moving : List Bool) (requests : RequestsData) (tasks : List (Option Task))
-      → IsWhole tells t (worked v x (slice_set v.rows volume (Some (effect change r))) (v.console ++ message_of later_writes volume change (listed v.rows) ∷ []) owners moving requests tasks)
+      → IsWhole tells t (worked (with_slot volume v) x (slice_set v.rows volume (Some (effect change r))) (v.console ++ message_of later_writes volume change (listed v.rows) ∷ []) owners moving requests tasks)
       → IsCounted later_writes later requests (with_last_message (message_of later_writes volume change (listed v.rows)) (data_of v))
-      → IsKept tells t later_writes later room (record (worked v x (with_changed volume change v.rows) (v.console ++ message_of later_writes volume change (listed v.rows) ∷ []) owners moving requests tasks) { events = v.events ++ Work n ∷ [] })
+      → IsKept tells t later_writes later room (record (worked (with_slot volume v) x (with_changed volume change v.rows) (v.console ++ message_of later_writes volume change (listed v.rows) ∷ []) owners moving requests tasks) { events = v.events ++ Work n ∷ [] })
   kept_changed r there owners moving requests tasks whole counted =
-      subst (λ (rows : List (Option RowValue)). IsKept tells t later_writes later room (record (worked v x rows (v.console ++ message_of later_writes volume change (listed v.rows) ∷ []) owners moving requests tasks) { events = v.events ++ Work n ∷ [] }))
+      subst (λ (rows : List (Option RowValue)). IsKept tells t later_writes later room (record (worked (with_slot volume v) x rows (v.console ++ message_of later_writes volume change (listed v.rows) ∷ []) owners moving requests tasks) { events = v.events ++ Work n ∷ [] }))
       (sym (rows_changed v.rows volume change r there))
-      (kept_noted tells t later_writes later room (worked v x (slice_set v.rows volume (Some (effect change r))) (v.console ++ message_of later_writes volume change (listed v.rows) ∷ []) owners moving requests tasks) (v.events ++ Work n ∷ []) whole counted kept.buffer)
+      (kept_noted tells t later_writes later room (worked (with_slot volume v) x (slice_set v.rows volume (Some (effect change r))) (v.console ++ message_of later_writes volume change (listed v.rows) ∷ []) owners moving requests tasks) (v.events ++ Work n ∷ []) whole counted kept.buffer)

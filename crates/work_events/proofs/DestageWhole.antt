@@ -1,12 +1,13 @@
 -- A core stays whole where a cylinder that was destaged is no longer changed.
-use Rattle.std.proofs.Common.{◌≡◌, ◌≢◌, inl, ℕ, ◌/◌, ◌≤◌, ◌<◌, Bool, false, [], ◌∷◌, ◌++◌, Option, Some, None, refl, sym, ◌∙◌, ap, subst, arith}
+use Rattle.std.proofs.Common.{◌≡◌, ◌≢◌, inl, ℕ, ◌/◌, ◌≤◌, ◌<◌, Bool, false, List, [], ◌∷◌, ◌++◌, Option, Some, None, refl, sym, ◌∙◌, ap, subst, arith}
 use Rattle.std.specs.Prelude.{slice_set, is_some}
 use Rattle.mss_base.specs.Content.{SiteLog, content}
 use Rattle.volume_table.specs.Row.{RowValue, frame_of, state_of}
 use Rattle.volume_table.specs.Listed.{listed, with_changed}
-use Rattle.volume_table.specs.Changes.{IsAllowed, effect, with_state}
+use Rattle.volume_table.specs.Changes.{IsAllowed, with_state}
 use Rattle.volume_table.specs.declared.changes.Change.TheVariants.{Destaged}
 use Rattle.volume_table.proofs.RowLemmas.{row-with_state}
+use Rattle.table_pair.specs.Slots.{with_used_after}
 use Rattle.shown_volumes.specs.Changing.{IsReady}
 use Rattle.fault_queue.specs.declared.queue.Request.{Request}
 use Rattle.fault_queue.specs.Requests.{request_of}
@@ -17,7 +18,14 @@ use Rattle.transfers.specs.Dues.{due_state}
 use Rattle.core_state.specs.declared.task.Task.{Task}
 use Rattle.core_state.specs.declared.session.Event.TheVariants.{Work}
 use Rattle.core_state.specs.Agrees.{message_of}
-use Rattle.core_state.specs.CoreValue.{CoreValue}
+use Rattle.mss_base.specs.declared.site.Site.{Ghosts}
+use Rattle.victim_choice.specs.declared.choose.Candidate.{Candidate}
+use Rattle.core_state.specs.declared.rule.WorkAnswer.{WorkAnswer}
+use Rattle.core_state.specs.declared.rule.WorkAnswer.TheVariants.{Did}
+use Rattle.core_state.specs.declared.rule.WorkKind.TheVariants as work
+use Rattle.core_state.specs.declared.rule.WorkRule.TheVariants.{Ends}
+use Rattle.core_state.specs.CoreValue.{CoreValue, seen}
+use Rattle.core_state.specs.WorkEvents.{EndsIt, WithTask, TaskDoes, WorkDoes}
 use Rattle.core_state.specs.SessionData.{data_of}
 use Rattle.core_state.specs.Pins.{task_at}
 use Rattle.core_state.specs.Tasks.{IsTask, IsTransfer}
@@ -37,7 +45,7 @@ use Rattle.core_state.proofs.CountedFacts.{counted_message}
 use Rattle.core_state.proofs.Others.{state_waiting, cylinders_apart, state_task, state_served}
 use Rattle.core_state.proofs.Fitting.{ready_row, row_still, staged_still}
 use Rattle.work_events.proofs.OwnTask.{own_moving, own_waits, own_frame, own_transfer, fit_on, served_put, place_in, served_now}
-use Rattle.work_events.proofs.ChangedRows.{IsRewritten, IsDueChange, may_now, kept_changed}
+use Rattle.work_events.proofs.ChangedRows.{HasRewritten, HaveChanged, IsDueChange, IsDone, with_slot, core_slot, may_now, kept_changed}
 
 module _ (S : Type 0) {C : Type 0} (tells : Type 0) (s : SiteLog) (v : CoreValue S C) (whole : IsWhole tells s v) (open_ : v.stopped ≡ None) (n : ℕ) (old : Task) (at : task_at v.tasks n ≡ Some old) (wanted : Request) (wants : request_of v.requests old.host ≡ Some wanted) where
   core : IsCore v
@@ -106,10 +114,10 @@ module _ (S : Type 0) {C : Type 0} (tells : Type 0) (s : SiteLog) (v : CoreValue
         let its_ = core.tasks_.each m task is in
         state_task S v core transfer.volume transfer.cylinder 3 r there low v.moving v.moving v.requests v.requests task its_ its_.moves refl (λ same waits. not_waiting r _ waits) (differs m task other is)
 
-    pub whole_destaged : (tells → IsRewritten s transfer.volume (with_state transfer.cylinder 3 r) t mark)
-        → IsWhole tells t (worked v x (slice_set v.rows transfer.volume (Some (with_state transfer.cylinder 3 r)))
+    pub whole_destaged : (tells → HasRewritten s v transfer.volume (Destaged transfer.cylinder) t mark r)
+        → IsWhole tells t (worked (with_slot transfer.volume v) x (slice_set v.rows transfer.volume (Some (with_state transfer.cylinder 3 r)))
         (v.console ++ message_of mark transfer.volume (Destaged transfer.cylinder) (listed v.rows) ∷ []) v.owners v.moving v.requests (slice_set v.tasks n (Some (record old { transfer = None }))))
-    whole_destaged changed = make_whole (core_work S v core x (slice_set v.rows transfer.volume (Some (with_state transfer.cylinder 3 r))) _ v.owners v.moving v.requests _
+    whole_destaged changed = make_whole (core_work S (with_slot transfer.volume v) (core_slot S v core transfer.volume) x (slice_set v.rows transfer.volume (Some (with_state transfer.cylinder 3 r))) _ v.owners v.moving v.requests _
         (owned_states S v core transfer.volume transfer.cylinder 3 r there low (row-with_state transfer.cylinder 3 r (core.are_rows transfer.volume r there) its.due.cylinder_in (omega arith) (λ _. ap is_some framed))) core.moving_ (asked_of S v core)
         (state_waiting S v core transfer.volume transfer.cylinder 3 r there low (λ h q asked queued same waits. not_waiting r _ waits))
         (tasks_go_on v.config.frames (listed v.rows) _ v.moving v.requests v.hosts v.tasks core.tasks_ n old done_task at refl refl own_task other_task)
@@ -119,12 +127,33 @@ module _ (S : Type 0) {C : Type 0} (tells : Type 0) (s : SiteLog) (v : CoreValue
         (λ tl.
         let c = changed tl in
         let may = may_now S tells s v whole open_ transfer.volume (Destaged transfer.cylinder) r there four destage_ready tl in
-        told_by_change S s t v x core (whole.told tl) open_ transfer.volume mark (Destaged transfer.cylinder) r there low (λ o. refl) (λ w. refl) (four, tt) may c.writes c.holds c.at_end c.grows v.owners v.moving v.requests _
+        told_by_change S s t v x core (whole.told tl) open_ transfer.volume mark (Destaged transfer.cylinder) r there low (λ o. refl) (λ w. refl) (four, tt) may c.writes c.changed c.at_end c.grows v.owners v.moving v.requests _
         (served_put S v core n old at wanted wants (content t) (listed (slice_set v.rows transfer.volume (Some (with_state transfer.cylinder 3 r)))) (Some done_task)
         (λ task e u k copies_ there_. let e' : ◌≡◌ {A = Option Transfer} None (Some u) = ap (λ (z : Task). z.transfer) (some_is done_task task e) ∙ copies_ in absurd cc)
         (λ m task other is. state_served S v core transfer.volume transfer.cylinder 3 r there low (content s) (content t)
-        (λ unit block none. blocks_stay S s t v x core (whole.told tl) open_ transfer.volume mark (Destaged transfer.cylinder) r there low (λ o. refl) (λ w. refl) (four, tt) may c.writes c.holds c.at_end c.grows v.owners v.moving v.requests [] (λ k z zz. absurd (none_some z zz)) unit block none)
+        (λ unit block none. blocks_stay S s t v x core (whole.told tl) open_ transfer.volume mark (Destaged transfer.cylinder) r there low (λ o. refl) (λ w. refl) (four, tt) may c.writes c.changed c.at_end c.grows v.owners v.moving v.requests [] (λ k z zz. absurd (none_some z zz)) unit block none)
         v.moving v.requests task (core.tasks_.each m task is) (differs m task other is) (served_now S tells s v whole open_ tl m task is))))
+
+-- ---- the core that is left, and that it is the event's
+
+abbrev pub destaged : {S C : Type 0} → CoreValue S C → ℕ → Task → Transfer → S → ℕ → CoreValue S C
+destaged v n old transfer x mark = record v {
+  site = x;
+  rows = with_changed transfer.volume (Destaged transfer.cylinder) v.rows;
+  used = with_used_after transfer.volume v.used;
+  console = v.console ++ message_of mark transfer.volume (Destaged transfer.cylinder) (listed v.rows) ∷ [];
+  tasks = slice_set v.tasks n (Some (record old { transfer = None }));
+  events = v.events ++ Work n ∷ [];
+}
+
+pub destaged_does : {S C : Type 0} (g : Ghosts S) (may : List Candidate → ℕ → Type 0) (v w : CoreValue S C) (n : ℕ) (old : Task) (transfer : Transfer) (answer : WorkAnswer) → transfer.kind ≡ Destage
+    → answer ≡ Did work.End → task_at v.tasks n ≡ Some old → HaveChanged g v transfer.volume (Destaged transfer.cylinder) w.site → w ≡ destaged v n old transfer w.site (g.writes w.site)
+    → WorkDoes g.tells may (seen g v) n (Ends transfer) answer (seen g w)
+destaged_does {S} {C} g may v w n old transfer answer destages is at have path =
+    subst (λ (a : WorkAnswer). WorkDoes g.tells may (seen g v) n (Ends transfer) a (seen g w)) (sym is)
+    (subst (λ (o : Option Task). WithTask o (λ task. TaskDoes g.tells (seen g v) n (Ends transfer) task (Did work.End) (seen g w))) (sym at)
+    (subst (λ (k : TransferKind). EndsIt g.tells (seen g v) n old k transfer (Did work.End) (seen g w)) (sym destages)
+    (have, refl, ap (λ (z : CoreValue S C). seen g z) path)))
 
 -- ---- the change is due, and with it the core is kept
 
@@ -147,14 +176,8 @@ module _ (S : Type 0) {C : Type 0} (tells : Type 0) (s t : SiteLog) (writes faul
   due : IsDueChange tells s v transfer.volume (Destaged transfer.cylinder)
   due = due_destaged S tells s v kept.whole open_ n old q serves transfer may
 
-  pub kept_destaged : (tells → (r : RowValue) → listed v.rows transfer.volume ≡ Some r → IsRewritten s transfer.volume (effect (Destaged transfer.cylinder) r) t later_writes)
-      → IsKept tells t later_writes later room (record v {
-        site = x;
-        rows = with_changed transfer.volume (Destaged transfer.cylinder) v.rows;
-        console = v.console ++ message_of later_writes transfer.volume (Destaged transfer.cylinder) (listed v.rows) ∷ [];
-        tasks = slice_set v.tasks n (Some (record old { transfer = None }));
-        events = v.events ++ Work n ∷ [];
-      })
+  pub kept_destaged : IsDone tells s v transfer.volume (Destaged transfer.cylinder) t later_writes
+      → IsKept tells t later_writes later room (destaged v n old transfer x later_writes)
   kept_destaged done_ =
       kept_changed S tells s t writes faults later_writes later room v kept open_ n x transfer.volume (Destaged transfer.cylinder) more le due.r due.there v.owners v.moving v.requests (slice_set v.tasks n (Some (record old { transfer = None })))
       (whole_destaged S tells s v kept.whole open_ n old serves.at q serves.asked t x later_writes transfer may.copies may.kind may.all_ may.untouched due.r due.there (λ tl. done_ tl due.r due.there))

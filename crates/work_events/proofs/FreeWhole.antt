@@ -7,9 +7,10 @@ use Rattle.std.proofs.lemmas.List.{length-set}
 use Rattle.mss_base.specs.Content.{SiteLog, content}
 use Rattle.volume_table.specs.Row.{RowValue, frame_of, state_of}
 use Rattle.volume_table.specs.Listed.{listed, with_changed}
-use Rattle.volume_table.specs.Changes.{IsAllowed, effect, without_frame}
+use Rattle.volume_table.specs.Changes.{IsAllowed, without_frame}
 use Rattle.volume_table.specs.declared.changes.Change.TheVariants.{Free}
 use Rattle.volume_table.proofs.RowLemmas.{row-without_frame}
+use Rattle.table_pair.specs.Slots.{with_used_after}
 use Rattle.shown_volumes.specs.Sound.{frame_in}
 use Rattle.fault_queue.specs.declared.queue.Request.{Request}
 use Rattle.fault_queue.specs.declared.queue.RequestState.TheVariants.{Ready}
@@ -18,7 +19,14 @@ use Rattle.transfers.specs.declared.transfer.Transfer.{Transfer}
 use Rattle.core_state.specs.declared.task.Task.{Task}
 use Rattle.core_state.specs.declared.session.Event.TheVariants.{Work}
 use Rattle.core_state.specs.Agrees.{message_of}
-use Rattle.core_state.specs.CoreValue.{CoreValue}
+use Rattle.mss_base.specs.declared.site.Site.{Ghosts}
+use Rattle.victim_choice.specs.declared.choose.Candidate.{Candidate}
+use Rattle.core_state.specs.declared.rule.WorkAnswer.{WorkAnswer}
+use Rattle.core_state.specs.declared.rule.WorkAnswer.TheVariants.{Did}
+use Rattle.core_state.specs.declared.rule.WorkKind.TheVariants as work
+use Rattle.core_state.specs.declared.rule.WorkRule.TheVariants.{Frees}
+use Rattle.core_state.specs.CoreValue.{CoreValue, seen}
+use Rattle.core_state.specs.WorkEvents.{WithTask, TaskDoes, WorkDoes}
 use Rattle.core_state.specs.SessionData.{data_of}
 use Rattle.core_state.specs.Pins.{task_at, owner_at}
 use Rattle.core_state.specs.Tasks.{IsTask, HasFrame, IsNowhere}
@@ -37,7 +45,7 @@ use Rattle.core_state.proofs.CountedFacts.{counted_message}
 use Rattle.core_state.proofs.Others.{freed_waits, freed_waiting, frames_apart, freed_none, freed_other, freed_from, freed_keeps, freed_task, freed_served}
 use Rattle.core_state.proofs.Fitting.{ready_row, row_still, staged_left}
 use Rattle.work_events.proofs.OwnTask.{own_moving, own_waits, own_frame, fit_on, served_put, place_in, served_now}
-use Rattle.work_events.proofs.ChangedRows.{IsRewritten, IsDueChange, may_now, kept_changed}
+use Rattle.work_events.proofs.ChangedRows.{HasRewritten, HaveChanged, IsDueChange, IsDone, with_slot, core_slot, may_now, kept_changed}
 
 module _ (S : Type 0) {C : Type 0} (tells : Type 0) (s : SiteLog) (v : CoreValue S C) (whole : IsWhole tells s v) (open_ : v.stopped ≡ None) (n : ℕ) (old : Task) (at : task_at v.tasks n ≡ Some old) (wanted : Request) (wants : request_of v.requests old.host ≡ Some wanted) where
   core : IsCore v
@@ -125,10 +133,10 @@ module _ (S : Type 0) {C : Type 0} (tells : Type 0) (s : SiteLog) (v : CoreValue
     pub free_allowed : IsAllowed (Free w.1) r
     free_allowed = (ap is_some has_f, unchanged)
 
-    pub whole_freed : (tells → IsRewritten s w.0 (without_frame w.1 r) t mark)
-        → IsWhole tells t (worked v x (slice_set v.rows w.0 (Some (without_frame w.1 r)))
+    pub whole_freed : (tells → HasRewritten s v w.0 (Free w.1) t mark r)
+        → IsWhole tells t (worked (with_slot w.0 v) x (slice_set v.rows w.0 (Some (without_frame w.1 r)))
         (v.console ++ message_of mark w.0 (Free w.1) (listed v.rows) ∷ []) (slice_set v.owners old.frame None) v.moving v.requests (slice_set v.tasks n (Some (record old { victim = None }))))
-    whole_freed changed = make_whole (core_work S v core x free_rows _ (slice_set v.owners old.frame None) v.moving v.requests _ owned_f core.moving_ (asked_of S v core) (freed_waiting S v core w.0 w.1 old.frame r there low_f has_f)
+    whole_freed changed = make_whole (core_work S (with_slot w.0 v) (core_slot S v core w.0) x free_rows _ (slice_set v.owners old.frame None) v.moving v.requests _ owned_f core.moving_ (asked_of S v core) (freed_waiting S v core w.0 w.1 old.frame r there low_f has_f)
         (tasks_go_on v.config.frames (listed v.rows) _ v.moving v.requests v.hosts v.tasks core.tasks_ n old free_task at refl refl own_f
         (λ m task other is. freed_task S v core w.0 w.1 old.frame r there low_f has_f task (core.tasks_.each m task is) (frames_apart S v core n old at m task other is)))
         (fit_on S v core n old at wanted wants free_task (inr refl) refl _ (row_still v.rows w.0 r (without_frame w.1 r) there (place_in S v core n old at wanted wants w.0 low_f))
@@ -136,12 +144,33 @@ module _ (S : Type 0) {C : Type 0} (tells : Type 0) (s : SiteLog) (v : CoreValue
         (λ tl.
         let c = changed tl in
         let may = may_now S tells s v whole open_ w.0 (Free w.1) r there free_allowed (λ _. tt) tl in
-        told_by_change S s t v x core (whole.told tl) open_ w.0 mark (Free w.1) r there low_f (λ o. refl) (λ k. refl) (free_allowed, tt) may c.writes c.holds c.at_end c.grows (slice_set v.owners old.frame None) v.moving v.requests _
+        told_by_change S s t v x core (whole.told tl) open_ w.0 mark (Free w.1) r there low_f (λ o. refl) (λ k. refl) (free_allowed, tt) may c.writes c.changed c.at_end c.grows (slice_set v.owners old.frame None) v.moving v.requests _
         (served_put S v core n old at wanted wants (content t) (listed free_rows) (Some free_task)
         (λ task e u k copies_ there_. let e' : ◌≡◌ {A = Option Transfer} None (Some u) = sym bare ∙ ap (λ (z : Task). z.transfer) (some_is free_task task e) ∙ copies_ in absurd cc)
         (λ m task other is. freed_served S v core w.0 w.1 old.frame r there low_f has_f (content s) (content t)
-        (λ unit block none. blocks_stay S s t v x core (whole.told tl) open_ w.0 mark (Free w.1) r there low_f (λ o. refl) (λ k. refl) (free_allowed, tt) may c.writes c.holds c.at_end c.grows v.owners v.moving v.requests [] (λ k z zz. absurd (none_some z zz)) unit block none)
+        (λ unit block none. blocks_stay S s t v x core (whole.told tl) open_ w.0 mark (Free w.1) r there low_f (λ o. refl) (λ k. refl) (free_allowed, tt) may c.writes c.changed c.at_end c.grows v.owners v.moving v.requests [] (λ k z zz. absurd (none_some z zz)) unit block none)
         task (core.tasks_.each m task is) (frames_apart S v core n old at m task other is) (served_now S tells s v whole open_ tl m task is))))
+
+-- ---- the core that is left, and that it is the event's
+
+abbrev pub freed : {S C : Type 0} → CoreValue S C → ℕ → Task → ℕ → ℕ → S → ℕ → CoreValue S C
+freed v n old volume page x mark = record v {
+  site = x;
+  rows = with_changed volume (Free page) v.rows;
+  used = with_used_after volume v.used;
+  console = v.console ++ message_of mark volume (Free page) (listed v.rows) ∷ [];
+  owners = slice_set v.owners old.frame None;
+  tasks = slice_set v.tasks n (Some (record old { victim = None }));
+  events = v.events ++ Work n ∷ [];
+}
+
+pub freed_does : {S C : Type 0} (g : Ghosts S) (may : List Candidate → ℕ → Type 0) (v w : CoreValue S C) (n : ℕ) (old : Task) (volume page : ℕ) (answer : WorkAnswer)
+    → answer ≡ Did work.Free → task_at v.tasks n ≡ Some old → HaveChanged g v volume (Free page) w.site → w ≡ freed v n old volume page w.site (g.writes w.site)
+    → WorkDoes g.tells may (seen g v) n (Frees volume page) answer (seen g w)
+freed_does {S} {C} g may v w n old volume page answer is at have path =
+    subst (λ (a : WorkAnswer). WorkDoes g.tells may (seen g v) n (Frees volume page) a (seen g w)) (sym is)
+    (subst (λ (o : Option Task). WithTask o (λ task. TaskDoes g.tells (seen g v) n (Frees volume page) task (Did work.Free) (seen g w))) (sym at)
+    (have, refl, ap (λ (z : CoreValue S C). seen g z) path))
 
 -- ---- the change is due, and with it the core is kept
 
@@ -153,15 +182,8 @@ module _ (S : Type 0) {C : Type 0} (tells : Type 0) (s : SiteLog) (v : CoreValue
 module _ (S : Type 0) {C : Type 0} (tells : Type 0) (s t : SiteLog) (writes faults later_writes later room : ℕ) (v : CoreValue S C) (kept : IsKept tells s writes faults room v) (open_ : v.stopped ≡ None) (n : ℕ) (old : Task) (q : Request) (serves : Serves v n old q)
     (x : S) (more : writes ≤ later_writes) (le : faults ≤ later)
     (volume page : ℕ) (may : MayFree v old volume page) where
-  pub kept_freed : (tells → (r : RowValue) → listed v.rows volume ≡ Some r → IsRewritten s volume (effect (Free page) r) t later_writes)
-      → IsKept tells t later_writes later room (record v {
-        site = x;
-        rows = with_changed volume (Free page) v.rows;
-        console = v.console ++ message_of later_writes volume (Free page) (listed v.rows) ∷ [];
-        owners = slice_set v.owners old.frame None;
-        tasks = slice_set v.tasks n (Some (record old { victim = None }));
-        events = v.events ++ Work n ∷ [];
-      })
+  pub kept_freed : IsDone tells s v volume (Free page) t later_writes
+      → IsKept tells t later_writes later room (freed v n old volume page x later_writes)
   kept_freed done_ =
       kept_changed S tells s t writes faults later_writes later room v kept open_ n x volume (Free page) more le may.r may.there (slice_set v.owners old.frame None) v.moving v.requests (slice_set v.tasks n (Some (record old { victim = None })))
       (whole_freed S tells s v kept.whole open_ n old serves.at q serves.asked t x later_writes (volume, page) may.takes_ may.bare may.r may.there may.unchanged may.untouched (λ tl. done_ tl may.r may.there))

@@ -14,6 +14,7 @@ pub mod TrackCopies
 pub mod OwnTask
 pub mod CopyWhole
 pub mod ChangedRows
+pub mod RowSteps
 pub mod DestageWhole
 pub mod StageWhole
 pub mod FreeWhole

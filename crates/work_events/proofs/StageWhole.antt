@@ -1,15 +1,16 @@
 -- A core stays whole where the cylinder that is asked for is staged, and its task ends.
-use Rattle.std.proofs.Common.{◌≡◌, ◌≢◌, ◌⊎◌, inl, inr, ℕ, ◌+◌, ◌/◌, ◌≤◌, ◌<◌, false, ◌==◌, [], ◌∷◌, ◌++◌, length, Option, Some, None, refl, sym, ◌∙◌, ap, subst, arith}
+use Rattle.std.proofs.Common.{◌≡◌, ◌≢◌, ◌⊎◌, inl, inr, ℕ, ◌+◌, ◌/◌, ◌≤◌, ◌<◌, false, ◌==◌, List, [], ◌∷◌, ◌++◌, length, Option, Some, None, refl, sym, ◌∙◌, ap, subst, arith}
 use Rattle.std.specs.Prelude.{slice_set, is_some}
 use Rattle.std.proofs.lemmas.Bool.{cond-true, eq-eqb}
 use Rattle.std.proofs.lemmas.List.{length-set}
 use Rattle.mss_base.specs.Content.{SiteLog, content}
 use Rattle.volume_table.specs.Row.{RowValue, frame_of, state_of}
 use Rattle.volume_table.specs.Listed.{listed, with_changed}
-use Rattle.volume_table.specs.Changes.{IsAllowed, effect, with_state}
+use Rattle.volume_table.specs.Changes.{IsAllowed, with_state}
 use Rattle.volume_table.specs.declared.changes.Change.TheVariants.{Staged}
 use Rattle.volume_table.proofs.RowLemmas.{row-with_state}
 use Rattle.volume_table.proofs.RowFacts.{state-with_state}
+use Rattle.table_pair.specs.Slots.{with_used_after}
 use Rattle.shown_volumes.specs.Changing.{IsReady}
 use Rattle.shown_volumes.proofs.OutsideFacts.{page_names}
 use Rattle.fault_queue.specs.declared.queue.Request.{Request}
@@ -23,7 +24,14 @@ use Rattle.transfers.specs.Dues.{due_state}
 use Rattle.core_state.specs.declared.task.Task.{Task}
 use Rattle.core_state.specs.declared.session.Event.TheVariants.{Work}
 use Rattle.core_state.specs.Agrees.{message_of}
-use Rattle.core_state.specs.CoreValue.{CoreValue}
+use Rattle.mss_base.specs.declared.site.Site.{Ghosts}
+use Rattle.victim_choice.specs.declared.choose.Candidate.{Candidate}
+use Rattle.core_state.specs.declared.rule.WorkAnswer.{WorkAnswer}
+use Rattle.core_state.specs.declared.rule.WorkAnswer.TheVariants.{Did}
+use Rattle.core_state.specs.declared.rule.WorkKind.TheVariants as work
+use Rattle.core_state.specs.declared.rule.WorkRule.TheVariants.{Ends}
+use Rattle.core_state.specs.CoreValue.{CoreValue, seen}
+use Rattle.core_state.specs.WorkEvents.{EndsIt, WithTask, TaskDoes, WorkDoes}
 use Rattle.core_state.specs.SessionData.{data_of, with_last_message}
 use Rattle.core_state.specs.Pins.{task_at}
 use Rattle.core_state.specs.Tasks.{AreWaiting, IsChosen, IsTask, IsTransfer, HasFrame}
@@ -45,7 +53,7 @@ use Rattle.core_state.proofs.Others.{requests_once, state_waiting, frames_apart,
 use Rattle.core_state.proofs.Fitting.{ready_ended, ready_row, row_still, staged_still, fit_put}
 use Rattle.work_events.proofs.OwnTask.{own_moving, own_transfer, asked_now, long_now, ended_task, fits_n, served_put, place_in, served_now}
 use Rattle.work_events.proofs.RuleFacts.{MayEnd}
-use Rattle.work_events.proofs.ChangedRows.{IsRewritten, IsDueChange, may_now, kept_changed}
+use Rattle.work_events.proofs.ChangedRows.{HasRewritten, HaveChanged, IsDueChange, IsDone, with_slot, core_slot, may_now, kept_changed}
 
 module _ (S : Type 0) {C : Type 0} (tells : Type 0) (s : SiteLog) (v : CoreValue S C) (whole : IsWhole tells s v) (open_ : v.stopped ≡ None) (n : ℕ) (old : Task) (at : task_at v.tasks n ≡ Some old) (wanted : Request) (wants : request_of v.requests old.host ≡ Some wanted) where
   core : IsCore v
@@ -163,11 +171,11 @@ module _ (S : Type 0) {C : Type 0} (tells : Type 0) (s : SiteLog) (v : CoreValue
           ];
         }
 
-    pub whole_staged : (tells → IsRewritten s transfer.volume (with_state transfer.cylinder (state_of r transfer.cylinder + 2) r) t mark)
-        → IsWhole tells t (worked v x (slice_set v.rows transfer.volume (Some (with_state transfer.cylinder (state_of r transfer.cylinder + 2) r)))
+    pub whole_staged : (tells → HasRewritten s v transfer.volume (Staged transfer.cylinder) t mark r)
+        → IsWhole tells t (worked (with_slot transfer.volume v) x (slice_set v.rows transfer.volume (Some (with_state transfer.cylinder (state_of r transfer.cylinder + 2) r)))
         (v.console ++ message_of mark transfer.volume (Staged transfer.cylinder) (listed v.rows) ∷ []) v.owners (slice_set v.moving old.frame false)
         (put_request v.requests old.host (Some (record wanted { state = Ready }))) (slice_set v.tasks n None))
-    whole_staged changed = make_whole (core_work S v core x (slice_set v.rows transfer.volume (Some staged_row)) _ v.owners _ _ _
+    whole_staged changed = make_whole (core_work S (with_slot transfer.volume v) (core_slot S v core transfer.volume) x (slice_set v.rows transfer.volume (Some staged_row)) _ v.owners _ _ _
         (owned_states S v core transfer.volume transfer.cylinder (state_of r transfer.cylinder + 2) r there low_s
         (row-with_state transfer.cylinder (state_of r transfer.cylinder + 2) r (core.are_rows transfer.volume r there) its_s.due.cylinder_in (omega (arith, unstaged_)) (λ _. ap is_some framed_s))) (long_now S v core n old at wanted wants) (asked_now S v core n old at wanted wants Ready)
         (waiting_again (listed (slice_set v.rows transfer.volume (Some staged_row))) v.requests old.host wanted Ready core.requests_ waiting_s (λ queued. let e : Ready ≡ Queued = queued in absurd cc))
@@ -176,11 +184,38 @@ module _ (S : Type 0) {C : Type 0} (tells : Type 0) (s : SiteLog) (v : CoreValue
         (λ tl.
         let c = changed tl in
         let may = may_now S tells s v whole open_ transfer.volume (Staged transfer.cylinder) r there stage_allowed stage_ready tl in
-        told_by_change S s t v x core (whole.told tl) open_ transfer.volume mark (Staged transfer.cylinder) r there low_s (λ o. refl) (λ w. refl) (stage_allowed, tt) may c.writes c.holds c.at_end c.grows v.owners _ _ _
+        told_by_change S s t v x core (whole.told tl) open_ transfer.volume mark (Staged transfer.cylinder) r there low_s (λ o. refl) (λ w. refl) (stage_allowed, tt) may c.writes c.changed c.at_end c.grows v.owners _ _ _
         (served_put S v core n old at wanted wants (content t) (listed (slice_set v.rows transfer.volume (Some staged_row))) None (λ task e. absurd (none_some task e))
         (λ m task other is. state_served S v core transfer.volume transfer.cylinder (state_of r transfer.cylinder + 2) r there low_s (content s) (content t)
-        (λ unit block none. blocks_stay S s t v x core (whole.told tl) open_ transfer.volume mark (Staged transfer.cylinder) r there low_s (λ o. refl) (λ w. refl) (stage_allowed, tt) may c.writes c.holds c.at_end c.grows v.owners v.moving v.requests [] (λ k z zz. absurd (none_some z zz)) unit block none)
+        (λ unit block none. blocks_stay S s t v x core (whole.told tl) open_ transfer.volume mark (Staged transfer.cylinder) r there low_s (λ o. refl) (λ w. refl) (stage_allowed, tt) may c.writes c.changed c.at_end c.grows v.owners v.moving v.requests [] (λ k z zz. absurd (none_some z zz)) unit block none)
         v.moving v.requests task (core.tasks_.each m task is) (differs_s m task other is) (served_now S tells s v whole open_ tl m task is))))
+
+-- ---- the core that is left, and that it is the event's
+
+abbrev pub staged : {S C : Type 0} → CoreValue S C → ℕ → Task → Transfer → S → ℕ → CoreValue S C
+staged v n old transfer x mark = record v {
+  site = x;
+  rows = with_changed transfer.volume (Staged transfer.cylinder) v.rows;
+  used = with_used_after transfer.volume v.used;
+  console = v.console ++ message_of mark transfer.volume (Staged transfer.cylinder) (listed v.rows) ∷ [];
+  moving = slice_set v.moving old.frame false;
+  requests = put_state old.host Ready v.requests;
+  tasks = slice_set v.tasks n None;
+  events = v.events ++ Work n ∷ [];
+}
+
+pub staged_does : {S C : Type 0} (g : Ghosts S) (may : List Candidate → ℕ → Type 0) (v w : CoreValue S C) (n : ℕ) (old : Task) (transfer : Transfer) (answer : WorkAnswer) → transfer.kind ≢ Destage
+    → answer ≡ Did work.End → task_at v.tasks n ≡ Some old → HaveChanged g v transfer.volume (Staged transfer.cylinder) w.site → w ≡ staged v n old transfer w.site (g.writes w.site)
+    → WorkDoes g.tells may (seen g v) n (Ends transfer) answer (seen g w)
+staged_does {S} {C} g may v w n old transfer answer other is at have path =
+    subst (λ (a : WorkAnswer). WorkDoes g.tells may (seen g v) n (Ends transfer) a (seen g w)) (sym is)
+    (subst (λ (o : Option Task). WithTask o (λ task. TaskDoes g.tells (seen g v) n (Ends transfer) task (Did work.End) (seen g w))) (sym at)
+    (by_kind transfer.kind refl))
+  where
+    by_kind : (k : TransferKind) → transfer.kind ≡ k → EndsIt g.tells (seen g v) n old k transfer (Did work.End) (seen g w)
+    by_kind StageBlank same = (have, refl, ap (λ (z : CoreValue S C). seen g z) path)
+    by_kind StageCartridge same = (have, refl, ap (λ (z : CoreValue S C). seen g z) path)
+    by_kind Destage same = absurd (other same)
 
 -- ---- the change is due, and with it the core is kept
 
@@ -203,20 +238,12 @@ module _ (S : Type 0) {C : Type 0} (tells : Type 0) (s t : SiteLog) (writes faul
   due : IsDueChange tells s v transfer.volume (Staged transfer.cylinder)
   due = due_staged S tells s v kept.whole open_ n old q serves transfer may
 
-  pub kept_staged : (tells → (r : RowValue) → listed v.rows transfer.volume ≡ Some r → IsRewritten s transfer.volume (effect (Staged transfer.cylinder) r) t later_writes)
-      → IsKept tells t later_writes later room (record v {
-        site = x;
-        rows = with_changed transfer.volume (Staged transfer.cylinder) v.rows;
-        console = v.console ++ message_of later_writes transfer.volume (Staged transfer.cylinder) (listed v.rows) ∷ [];
-        moving = slice_set v.moving old.frame false;
-        requests = put_state old.host Ready v.requests;
-        tasks = slice_set v.tasks n None;
-        events = v.events ++ Work n ∷ [];
-      })
+  pub kept_staged : IsDone tells s v transfer.volume (Staged transfer.cylinder) t later_writes
+      → IsKept tells t later_writes later room (staged v n old transfer x later_writes)
   kept_staged done_ =
       let put : put_state old.host Ready v.requests ≡ put_request v.requests old.host (Some (record q { state = Ready })) = with_state_is v.requests old.host q Ready serves.asked in
       let message = message_of later_writes transfer.volume (Staged transfer.cylinder) (listed v.rows) in
-      subst (λ (z : RequestsData). IsKept tells t later_writes later room (record (worked v x (with_changed transfer.volume (Staged transfer.cylinder) v.rows) (v.console ++ message ∷ []) v.owners (slice_set v.moving old.frame false) z (slice_set v.tasks n None)) { events = v.events ++ Work n ∷ [] })) (sym put)
+      subst (λ (z : RequestsData). IsKept tells t later_writes later room (record (worked (with_slot transfer.volume v) x (with_changed transfer.volume (Staged transfer.cylinder) v.rows) (v.console ++ message ∷ []) v.owners (slice_set v.moving old.frame false) z (slice_set v.tasks n None)) { events = v.events ++ Work n ∷ [] })) (sym put)
       (kept_changed S tells s t writes faults later_writes later room v kept open_ n x transfer.volume (Staged transfer.cylinder) more le due.r due.there v.owners (slice_set v.moving old.frame false) (put_request v.requests old.host (Some (record q { state = Ready }))) (slice_set v.tasks n None)
       (whole_staged S tells s v kept.whole open_ n old serves.at q serves.asked t x later_writes transfer may.copies may.kind may.all_ due.r due.there (λ tl. done_ tl due.r due.there))
       (counted_request later_writes later later_writes later v.requests (with_last_message message (data_of v))

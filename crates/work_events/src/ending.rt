@@ -11,7 +11,7 @@ use crate::parts::{did, end_task, put_task, served, stop};
 use core_state::{Core, Task, WorkAnswer, WorkKind, make_room, write_change};
 use fault_queue::RequestState;
 use mss_base::{RecorderNo, Site};
-use table_pair::CHANGE_WRITES;
+use table_pair::CHANGE_ITEMS;
 use transfers::{Transfer, TransferKind};
 use victim_choice::Choose;
 use volume_table::Change;
@@ -27,12 +27,12 @@ fn end_destage<S: Site, C: Choose>(
     requires kind { transfer.kind ≡ Destage }
     ensures event { WorkStep S.Site C.Choose core.old recorder (Ends transfer) result core.new }
     ensures chooser { core.new.chooser ≡ core.old.chooser }
-    ensures devices { MayWrite S.Site CHANGE_WRITES core.old.site core.new.site }
+    ensures devices { MayWrite S.Site CHANGE_ITEMS core.old.site core.new.site }
     ensures works { (but : UnitNo → Bool) → S.never_fails_but core.old.site but
         → core.new.stopped ≡ core.old.stopped }
 {
     let (task, _request) = served(core, recorder);
-    if make_room(&mut core.session, &mut core.site, CHANGE_WRITES).is_err() {
+    if make_room(&mut core.session, &mut core.site, CHANGE_ITEMS).is_err() {
         return WorkAnswer::Memory;
     }
     let volume = transfer.volume;
@@ -42,6 +42,7 @@ fn end_destage<S: Site, C: Choose>(
     match write_change(
         &mut core.site,
         &mut core.rows,
+        &mut core.used,
         &mut core.session,
         volume,
         &change,
@@ -69,12 +70,12 @@ fn end_stage<S: Site, C: Choose>(
     requires kind { transfer.kind ≢ Destage }
     ensures event { WorkStep S.Site C.Choose core.old recorder (Ends transfer) result core.new }
     ensures chooser { core.new.chooser ≡ core.old.chooser }
-    ensures devices { MayWrite S.Site CHANGE_WRITES core.old.site core.new.site }
+    ensures devices { MayWrite S.Site CHANGE_ITEMS core.old.site core.new.site }
     ensures works { (but : UnitNo → Bool) → S.never_fails_but core.old.site but
         → core.new.stopped ≡ core.old.stopped }
 {
     let (task, _request) = served(core, recorder);
-    if make_room(&mut core.session, &mut core.site, CHANGE_WRITES).is_err() {
+    if make_room(&mut core.session, &mut core.site, CHANGE_ITEMS).is_err() {
         return WorkAnswer::Memory;
     }
     let volume = transfer.volume;
@@ -84,6 +85,7 @@ fn end_stage<S: Site, C: Choose>(
     match write_change(
         &mut core.site,
         &mut core.rows,
+        &mut core.used,
         &mut core.session,
         volume,
         &change,
@@ -115,7 +117,7 @@ pub fn end<S: Site, C: Choose>(
     requires fits { recorder < core.old.config.recorders }
     ensures event { WorkStep S.Site C.Choose core.old recorder (Ends transfer) result core.new }
     ensures chooser { core.new.chooser ≡ core.old.chooser }
-    ensures devices { MayWrite S.Site CHANGE_WRITES core.old.site core.new.site }
+    ensures devices { MayWrite S.Site CHANGE_ITEMS core.old.site core.new.site }
     ensures works { (but : UnitNo → Bool) → S.never_fails_but core.old.site but
         → core.new.stopped ≡ core.old.stopped }
 {

@@ -18,7 +18,7 @@ use crate::picking::{abandon, pick, pick_victim};
 use crate::rule::work_rule;
 use core_state::{Core, WorkAnswer, WorkRule};
 use mss_base::{RecorderNo, Site};
-use table_pair::CHANGE_WRITES;
+use table_pair::CHANGE_ITEMS;
 use victim_choice::Choose;
 
 /// Does what the first rule that applies to a recorder says, one step of work, and answers what it
@@ -34,7 +34,7 @@ pub fn work_event<S: Site, C: Choose>(core: &mut Core<S, C>, recorder: RecorderN
     ensures event { WorkEvent S.tells (C.may core.old.chooser)
         (seen S.Site core.old) recorder result (seen S.Site core.new) }
     ensures chooser { core.new.chooser ≡ core.old.chooser }
-    ensures devices { MayWrite S.Site CHANGE_WRITES core.old.site core.new.site }
+    ensures devices { MayWrite S.Site CHANGE_ITEMS core.old.site core.new.site }
     ensures only_reads_fail { (but : UnitNo → Bool) → S.never_fails_but core.old.site but
         → core.new.stopped ≡ core.old.stopped }
     ensures works { (but : UnitNo → Bool) (t : Transfer) → S.never_fails_but core.old.site but

@@ -12,7 +12,7 @@ use crate::parts::{did, put_task, served, stop};
 use core_state::{Core, Task, WorkAnswer, WorkKind, make_room, write_change};
 use mss_base::{FrameNo, Page, RecorderNo, Site, VolumeNo};
 use staging_adapter::Frames;
-use table_pair::CHANGE_WRITES;
+use table_pair::CHANGE_ITEMS;
 use victim_choice::{Choose, Recency};
 use volume_table::Change;
 
@@ -45,18 +45,19 @@ pub fn free<S: Site, C: Choose>(
     requires fits { recorder < core.old.config.recorders }
     ensures event { WorkStep S.Site C.Choose core.old recorder (Frees volume page) result core.new }
     ensures chooser { core.new.chooser ≡ core.old.chooser }
-    ensures devices { MayWrite S.Site CHANGE_WRITES core.old.site core.new.site }
+    ensures devices { MayWrite S.Site CHANGE_ITEMS core.old.site core.new.site }
     ensures works { (but : UnitNo → Bool) → S.never_fails_but core.old.site but
         → core.new.stopped ≡ core.old.stopped }
 {
     let (task, _request) = served(core, recorder);
-    if make_room(&mut core.session, &mut core.site, CHANGE_WRITES).is_err() {
+    if make_room(&mut core.session, &mut core.site, CHANGE_ITEMS).is_err() {
         return WorkAnswer::Memory;
     }
     let change = Change::Free { page };
     match write_change(
         &mut core.site,
         &mut core.rows,
+        &mut core.used,
         &mut core.session,
         volume,
         &change,
@@ -88,12 +89,12 @@ pub fn assign<S: Site, C: Choose>(
     ensures event { WorkStep S.Site C.Choose core.old recorder
         (Assigns volume page) result core.new }
     ensures chooser { core.new.chooser ≡ core.old.chooser }
-    ensures devices { MayWrite S.Site CHANGE_WRITES core.old.site core.new.site }
+    ensures devices { MayWrite S.Site CHANGE_ITEMS core.old.site core.new.site }
     ensures works { (but : UnitNo → Bool) → S.never_fails_but core.old.site but
         → core.new.stopped ≡ core.old.stopped }
 {
     let (task, _request) = served(core, recorder);
-    if make_room(&mut core.session, &mut core.site, CHANGE_WRITES).is_err() {
+    if make_room(&mut core.session, &mut core.site, CHANGE_ITEMS).is_err() {
         return WorkAnswer::Memory;
     }
     let frame = task.frame;
@@ -101,6 +102,7 @@ pub fn assign<S: Site, C: Choose>(
     match write_change(
         &mut core.site,
         &mut core.rows,
+        &mut core.used,
         &mut core.session,
         volume,
         &change,

@@ -6,9 +6,8 @@ pub const SYNC_ITEMS: u64 = 1;
 /// A row is created: each copy is marked, and then each is filled and opened, with a sync behind each of these writes.
 pub const CREATE_ITEMS: u64 = 12;
 
-/// A row is changed: each copy is closed and synced; it is filled, its slots are closed, and both are synced; it is opened
-/// and synced.
-pub const CHANGE_ITEMS: u64 = 14;
+/// A row is changed: each copy gets a slot, by its body and then by its gate, and each of these writes is synced.
+pub const CHANGE_ITEMS: u64 = 8;
 
 /// The tracks of a cylinder are written where they are copied to.
 pub const TRACK_ITEMS: u64 = 19;

@@ -1,5 +1,6 @@
 // Changes of a row with their messages, over devices of which a call may fail, and what a session
 // is told.
+ghost use Rattle.std.specs.Prelude.{◌≡◌, IfSome, length};
 
 use crate::lines::answers::Told;
 use crate::lines::runs::assert_told;
@@ -9,6 +10,7 @@ use core_state::{Entry, Event, MessageList, Rows, Session, write_change};
 use memory_devices::SilentSite;
 use mss_base::{CartridgeNo, FrameNo, HostNo, Page, Serial, VolumeNo};
 use std::alloc::Global;
+use table_pair::{SlotsUsed, SlotsUsedList};
 use volume_table::{Change, VolumeRow, is_allowed};
 
 fn row(alloc: Global) -> Option<VolumeRow> {
@@ -34,13 +36,24 @@ fn frame_word(frame: Option<FrameNo>) -> u64 {
     }
 }
 
+// No slot of any row is in use.
+fn no_slots(alloc: Global) -> Option<SlotsUsedList>
+    ensures { IfSome result (λ used. length used.items ≡ 32) }
+{
+    SlotsUsedList::of(alloc, &[SlotsUsed::none(); 32]).ok()
+}
+
 // Whether a change of the row of volume 7 is done.
 fn is_done(
     site: &mut SilentSite,
     rows: &mut Rows,
+    used: &mut SlotsUsedList,
     session: &mut Session,
     change: &Change,
-) -> Option<bool> {
+) -> Option<bool>
+    requires { length used.old.items ≡ 32 }
+    ensures { length used.new.items ≡ 32 }
+{
     let volume = VolumeNo::of(7)?;
     session.reserve().ok()?;
     let Some(row) = rows.row(volume) else {
@@ -49,7 +62,7 @@ fn is_done(
     if !is_allowed(row, change) {
         return None;
     }
-    Some(write_change(site, rows, session, volume, change).is_ok())
+    Some(write_change(site, rows, used, session, volume, change).is_ok())
 }
 
 // Tells it, and then the frame of the first page.
@@ -57,10 +70,14 @@ fn push_change(
     told: &mut Vec<u64>,
     site: &mut SilentSite,
     rows: &mut Rows,
+    used: &mut SlotsUsedList,
     session: &mut Session,
     change: &Change,
-) -> Option<()> {
-    let good = is_done(site, rows, session, change)?;
+) -> Option<()>
+    requires { length used.old.items ≡ 32 }
+    ensures { length used.new.items ≡ 32 }
+{
+    let good = is_done(site, rows, used, session, change)?;
     told.push(if good { code("done") } else { code("failed") })
         .ok()?;
     let Some(row) = rows.row(VolumeNo::of(7)?) else {
@@ -84,14 +101,24 @@ fn push_changes(
     told: &mut Vec<u64>,
     site: &mut SilentSite,
     rows: &mut Rows,
+    used: &mut SlotsUsedList,
     session: &mut Session,
     both: bool,
-) -> Option<()> {
+) -> Option<()>
+    requires { length used.old.items ≡ 32 }
+{
     let page = Page::of(0)?;
     let frame = FrameNo::of(3)?;
-    push_change(told, site, rows, session, &Change::Assign { page, frame })?;
+    push_change(
+        told,
+        site,
+        rows,
+        used,
+        session,
+        &Change::Assign { page, frame },
+    )?;
     if both {
-        push_change(told, site, rows, session, &Change::Free { page })?;
+        push_change(told, site, rows, used, session, &Change::Free { page })?;
     }
     push_session(told, session)
 }
@@ -104,7 +131,8 @@ fn told_of(
     both: bool,
 ) -> Told {
     let mut told = Vec::new(alloc);
-    push_changes(&mut told, site, rows, session, both)?;
+    let mut used = no_slots(alloc)?;
+    push_changes(&mut told, site, rows, &mut used, session, both)?;
     Some(told)
 }
 
@@ -123,12 +151,12 @@ fn changed(alloc: Global, failing: u64, both: bool) -> Told {
 #[test]
 fn a_change_tells_its_mark_and_the_frame_that_it_frees(rt: HostRuntime) {
     let told = changed(rt.alloc(), 0, true);
-    assert_told(&rt, rt.alloc(), told, "done 3 done none none 14 none 28 3");
+    assert_told(&rt, rt.alloc(), told, "done 3 done none none 8 none 16 3");
 }
 
 #[test]
 fn a_failed_change_stops_the_session(rt: HostRuntime) {
-    for failing in 1..15u64 {
+    for failing in 1..9u64 {
         let told = changed(rt.alloc(), failing, false);
         assert_told(&rt, rt.alloc(), told, "failed 3 1");
     }

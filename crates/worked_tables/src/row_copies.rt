@@ -194,21 +194,42 @@ fn creates_a_row_or_none(rt: HostRuntime) -> Result<(), Fail> {
     run(&rt, rt.alloc(), "", CREATIONS)
 }
 
-// A change rewrites copy A, then copy B: its gate, a sync, the body, the gate of slot 0, a sync, its gate, a sync.
+// A change appends a slot to copy A, then to copy B: its body, a sync, its gate, a sync. A copy that has none free it writes
+// whole: its gate, a sync, the body, the gate of slot 0, a sync, its gate, a sync.
 const CHANGES: &str = "\
+turns 1 2
+fail N
+assign 7 3 0 0 -> failed
+row 7 -> VOL001 1 100
+
+turns 3 8
+fail N
+assign 7 3 0 0 -> failed
+row 7 -> VOL001 1 100 frame 3
+
+fail 9
+assign 7 3 0 0
+writes -> 20
+fail 0
+has table A 7 12 xFF
+has table B 7 512 xC1
+
 turns 1 5
 fail N
-change 7 VOL001 2 100 -> failed
+assign 7 3 1984 1984 -> failed
 row 7 -> VOL001 1 100
 
 turns 6 14
 fail N
-change 7 VOL001 2 100 -> failed
-row 7 -> VOL001 2 100
+assign 7 3 1984 1984 -> failed
+row 7 -> VOL001 1 100 frame 3
 
 fail 15
-change 7 VOL001 2 100
-writes -> 26";
+assign 7 3 1984 1984
+writes -> 26
+fail 0
+has table A 7 12 3
+has table B 7 512 0";
 
 #[test]
 fn changes_a_row_or_leaves_it(rt: HostRuntime) -> Result<(), Fail> {
@@ -255,9 +276,37 @@ fn a_stop_within_a_creation_leaves_no_row_or_the_new_one(rt: HostRuntime) -> Res
     run(&rt, rt.alloc(), "create 7 VOL001 1 100", STOPPED_CREATIONS)
 }
 
-// After the twelve items of the creation: gate of A, body and gate of slot 0, gate, with three syncs; then of B. A closed
-// copy A leaves the row to copy B.
+// After the twelve items of the creation: body and gate of the slot of A, each with a sync; then of B. The new row is there
+// once the slot of A is open.
 const STOPPED_CHANGES: &str = "\
+writes -> 20
+
+turns 12 13
+stop N 0 0 row 7 -> VOL001 1 100
+stop N 1 x00 row 7 -> VOL001 1 100
+stop N 1 xC1 row 7 -> VOL001 1 100
+stop N 3 xFF00FF row 7 -> VOL001 1 100
+
+stop 14 0 0 row 7 -> VOL001 1 100
+stop 14 1 x00 row 7 -> VOL001 1 100
+stop 14 1 xC1 row 7 -> VOL001 1 100 frame 3
+stop 14 3 xFF00FF row 7 -> VOL001 1 100
+
+turns 15 20
+stop N 0 0 row 7 -> VOL001 1 100 frame 3
+stop N 1 x00 row 7 -> VOL001 1 100 frame 3
+stop N 1 xC1 row 7 -> VOL001 1 100 frame 3
+stop N 3 xFF00FF row 7 -> VOL001 1 100 frame 3";
+
+#[test]
+fn a_stop_within_a_change_leaves_the_old_row_or_the_new(rt: HostRuntime) -> Result<(), Fail> {
+    let before = "create 7 VOL001 1 100\nassign 7 3 0 0";
+    run(&rt, rt.alloc(), before, STOPPED_CHANGES)
+}
+
+// The row is written whole: gate of A, body and gate of slot 0, gate, with three syncs; then of B. A closed copy A leaves the
+// row to copy B.
+const STOPPED_REWRITINGS: &str = "\
 writes -> 26
 
 turns 12 16
@@ -268,19 +317,21 @@ stop N 3 xFF00FF row 7 -> VOL001 1 100
 
 stop 17 0 0 row 7 -> VOL001 1 100
 stop 17 1 x00 row 7 -> VOL001 1 100
-stop 17 1 xC1 row 7 -> VOL001 2 100
+stop 17 1 xC1 row 7 -> VOL001 1 100 frame 3
 stop 17 3 xFF00FF row 7 -> VOL001 1 100
 
 turns 18 26
-stop N 0 0 row 7 -> VOL001 2 100
-stop N 1 x00 row 7 -> VOL001 2 100
-stop N 1 xC1 row 7 -> VOL001 2 100
-stop N 3 xFF00FF row 7 -> VOL001 2 100";
+stop N 0 0 row 7 -> VOL001 1 100 frame 3
+stop N 1 x00 row 7 -> VOL001 1 100 frame 3
+stop N 1 xC1 row 7 -> VOL001 1 100 frame 3
+stop N 3 xFF00FF row 7 -> VOL001 1 100 frame 3";
 
 #[test]
-fn a_stop_within_a_change_leaves_the_old_row_or_the_new(rt: HostRuntime) -> Result<(), Fail> {
-    let before = "create 7 VOL001 1 100\nchange 7 VOL001 2 100";
-    run(&rt, rt.alloc(), before, STOPPED_CHANGES)
+fn a_stop_while_a_row_is_written_whole_leaves_the_old_or_the_new(
+    rt: HostRuntime,
+) -> Result<(), Fail> {
+    let before = "create 7 VOL001 1 100\nassign 7 3 1984 1984";
+    run(&rt, rt.alloc(), before, STOPPED_REWRITINGS)
 }
 
 // Slots of copy A spelled by hand: page 0 gets frame 7, and cylinder 0 is staged. Behind a closed gate none counts.
@@ -305,7 +356,7 @@ fill table A 7 513 1
 fill table A 7 516 7
 fill table A 7 520 xC1
 fill table A 7 521 3
-row 7 -> VOL001 1 100
+row 7 -> VOL001 1 100 frame 7
 fill table A 7 523 8
 row 7 -> damaged 7 A slot 1 3
 fill table A 7 510 1
@@ -317,7 +368,7 @@ fn reads_a_row_with_its_slots(rt: HostRuntime) -> Result<(), Fail> {
 }
 
 // A slot of copy A gives page 0 frame 7. Where the body of copy B says so, the rows are equal; else it is written there, and
-// copy B has no slots then. A change rewrites copy A as well.
+// copy B has no slots then.
 const SLOTS_REPAIRED: &str = "\
 fill table B 7 12 7
 writes -> 16
@@ -336,12 +387,7 @@ repair 7
 writes -> 23
 has table B 7 512 0
 has table B 7 12 7
-
-change 7 VOL001 2 100
-has table A 7 512 0
-has table A 7 12 xFF
-row 7 -> VOL001 2 100
-equal 7";
+row 7 -> VOL001 1 100 frame 7";
 
 #[test]
 fn repairs_by_rows_and_leaves_no_slots(rt: HostRuntime) -> Result<(), Fail> {

@@ -4,7 +4,7 @@ use std::test::Fail;
 
 // Page 0 has frame 7, page 50 frame 199.
 const READ: &str = "\
-row 0 -> VOL001 258 2047
+row 0 -> VOL001 258 2047 frame 7
 frame 0 0 -> 7
 frame 0 1 -> none
 frame 0 49 -> none

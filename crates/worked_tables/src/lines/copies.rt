@@ -1,16 +1,17 @@
-// Lines that read, create, change and repair the two copies of a row, and ask and change the row.
+// Lines that read, create, change and repair the two copies of a row.
 use crate::lines::answers::{Told, damaged, list, outcome, push_row, unread};
 use crate::lines::bench::Bench;
 use crate::lines::devices::{open_copy, put, room};
 use crate::lines::numbers::{cartridge, is_word, serial, volume, word};
 use crate::lines::words::code;
 use memory_devices::SiteFault;
-use mss_base::{CartridgeNo, Serial, Site, UnitNo};
+use mss_base::{CartridgeNo, FrameNo, Page, Serial, Site, UnitNo};
 use std::alloc::Global;
 use table_pair::{
-    CHANGE_WRITES, RepairFault, RowRead, RowTrouble, change_row, create_row, read_row, repair,
+    CHANGE_ITEMS, RepairFault, RowRead, RowTrouble, SlotsUsed, change_row, create_row, read_row,
+    repair,
 };
-use volume_table::VolumeRow;
+use volume_table::{Change, VolumeRow, apply, is_allowed};
 
 // The row of VOL001 on this cartridge and cartridge 100, open and made, with what a test has done to it.
 fn spoiled_copy(alloc: Global, cartridge: u16, kept: u64) -> Option<[u8; 512]> {
@@ -56,9 +57,19 @@ fn pair(alloc: Global, bench: &mut Bench, words: &[u64]) -> Option<()> {
     )
 }
 
+// The row, and the frame of its first page, if that has one.
+fn push_framed(told: &mut Vec<u64>, row: &VolumeRow) -> Option<()> {
+    push_row(told, row)?;
+    if let Some(frame) = row.frame(Page::of(0)?) {
+        told.push(code("frame")).ok()?;
+        told.push(u64::from(frame.get())).ok()?;
+    }
+    Some(())
+}
+
 fn push_read(told: &mut Vec<u64>, read: &RowRead) -> Option<()> {
     match &read.row {
-        Some(row) => push_row(told, row)?,
+        Some(row) => push_framed(told, row)?,
         None => told.push(code("none")).ok()?,
     }
     if let Some(fault) = read.unread {
@@ -88,7 +99,7 @@ fn row<S: Site>(alloc: Global, site: &mut S, words: &[u64]) -> Told {
 // `repair 3`
 fn repaired<S: Site>(alloc: Global, site: &mut S, words: &[u64]) -> Told {
     match repair(alloc, site, volume(words, 1)?) {
-        Ok(()) => outcome(alloc, true),
+        Ok(_) => outcome(alloc, true),
         Err(RepairFault::Failed { fault }) => list(alloc, &[code("failed"), fault]),
         Err(RepairFault::Memory) => None,
     }
@@ -116,14 +127,37 @@ fn new_row(alloc: Global, words: &[u64]) -> Option<VolumeRow> {
 
 fn create(alloc: Global, bench: &mut Bench, words: &[u64]) -> Option<bool> {
     let row = new_row(alloc, words)?;
-    bench.reserve(CHANGE_WRITES).ok()?;
+    bench.reserve(CHANGE_ITEMS).ok()?;
     Some(create_row(bench, volume(words, 1)?, &row).is_ok())
 }
 
-fn change(alloc: Global, bench: &mut Bench, words: &[u64]) -> Option<bool> {
-    let row = new_row(alloc, words)?;
-    bench.reserve(CHANGE_WRITES).ok()?;
-    Some(change_row(bench, volume(words, 1)?, &row).is_ok())
+fn slots(words: &[u64], at: usize) -> Option<u16> {
+    u16::try_from(word(words, at)?).ok()
+}
+
+// `assign 7 3 0 1984`: the first page of volume 7, which has the blank row of VOL001 on the cartridges 1 and 100, gets
+// frame 3. So many slots of copy A are in use, and so many of copy B.
+fn assign(alloc: Global, bench: &mut Bench, words: &[u64]) -> Option<bool> {
+    let first = CartridgeNo::of(1)?;
+    let mut row = VolumeRow::blank(
+        alloc,
+        Serial::of(*b"VOL001")?,
+        first,
+        CartridgeNo::of(100)?,
+    ).ok()?;
+    let frame = FrameNo::of(u8::try_from(word(words, 2)?).ok()?)?;
+    let page = Page::of(0)?;
+    let change = Change::Assign { page, frame };
+    if !is_allowed(&row, &change) {
+        return None;
+    }
+    apply(&mut row, &change);
+    let used = SlotsUsed {
+        a: slots(words, 3)?,
+        b: slots(words, 4)?,
+    };
+    bench.reserve(CHANGE_ITEMS).ok()?;
+    Some(change_row(bench, volume(words, 1)?, &row, &change, used).is_ok())
 }
 
 /// Does a line on the copies of a row, if it is one.
@@ -137,8 +171,8 @@ pub fn copy_line(alloc: Global, bench: &mut Bench, words: &[u64]) -> Told {
     if is_word(words, 0, "create") {
         return outcome(alloc, create(alloc, bench, words)?);
     }
-    if is_word(words, 0, "change") {
-        return outcome(alloc, change(alloc, bench, words)?);
+    if is_word(words, 0, "assign") {
+        return outcome(alloc, assign(alloc, bench, words)?);
     }
     if is_word(words, 0, "equal") {
         return outcome(alloc, equal(alloc, bench, words)?);

@@ -1,9 +1,7 @@
-use Rattle.std.proofs.Common.{◌≡◌, inl, List, Ok, Err, refl, sym, ◌∙◌, subst}
+use Rattle.std.proofs.Common.{inl, Ok, Err, refl, sym, subst}
 use Rattle.mss_base.specs.Configs.{ConfigData}
-use Rattle.mss_restart.specs.declared.creations.Creation.{Creation}
 use Rattle.shown_volumes.specs.declared.refused.Refused.TheVariants.{Memory}
 use Rattle.core_state.specs.CoreValue.{DevicesSeen, seen_site}
-use Rattle.core_restart.specs.Console.{creations_of}
 use Rattle.core_restart.specs.Opening.{OpensSynced, opened_in}
 use Rattle.core_restart.specs.Opening as made
 use Rattle.core_restart.specs.Parts.{MayBegin}
@@ -36,10 +34,9 @@ begin-requires-clause-opened g c =
     let synced = seen_site g.S.Site c.sync_site.new.site in
     let new = seen_site g.S.Site c.in-Ok-open_rows.site in
     let are = c.in-Ok-open_rows.ensures in
-    let rows = c.in-Ok-open_rows.opened.rows in
-    subst (λ (config : ConfigData). MayBegin tells new.told new.writes config rows c.as_slice-creations.result.now) (sym c.in-Ok.ensures.config_)
-    (subst (λ (made : List Creation). MayBegin tells new.told new.writes c.args.config.now rows made) (sym c.as_slice-creations.ensures)
-    (may_begin tells c.args.config.now synced new c.in-Ok-open_rows.opened c.look.ensures.places c.look.ensures.are_rows are.any.usable are.any.counted (λ tells. (are.told tells).opens)))
+    let opened = c.in-Ok-open_rows.opened in
+    subst (λ (config : ConfigData). MayBegin tells new.told new.writes config opened) (sym c.in-Ok.ensures.config_)
+    (may_begin tells c.args.config.now synced new opened c.look.ensures.places c.look.ensures.are_rows are.any.usable are.any.counted (λ tells. (are.told tells).opens))
 
 -- what is opened, or refused, is what was synced
 pub returns-in-Err-open_rows-clause-restarts : goal.returns-in-Err-open_rows-clause-restarts
@@ -68,7 +65,7 @@ returns-in-Ok-open_rows-clause-takes_up g c = λ tells.
     takes_up_before c.args.config.now old synced (seen_site g.S.Site c.begin.result.site) (Ok c.begin.result)
     (same_content old.told synced.told (c.in-Ok-sync_site.ensures.synced.told tells)) c.in-Ok-sync_site.ensures.synced.unfailed
     (begun_taken g.S.Site c.args.config.now c.in-Ok.parts.config c.args.chooser synced c.in-Ok-open_rows.site c.begin.result
-    c.in-Ok-open_rows.opened.rows c.begin.ensures.site c.in-Ok.ensures.config_ c.begin.ensures.begins (c.in-Ok-open_rows.ensures.told tells).opens (g.met.S.Site.counted c.in-Ok-open_rows.site tells))
+    c.in-Ok-open_rows.opened.rows c.in-Ok-open_rows.opened.used.items c.begin.ensures.site c.in-Ok.ensures.config_ c.begin.ensures.begins (c.in-Ok-open_rows.ensures.told tells).opens (g.met.S.Site.counted c.in-Ok-open_rows.site tells))
 
 pub returns-in-Ok-open_rows-clause-restarts : goal.returns-in-Ok-open_rows-clause-restarts
 returns-in-Ok-open_rows-clause-restarts g c =
@@ -77,12 +74,10 @@ returns-in-Ok-open_rows-clause-restarts g c =
     let are = c.in-Ok-open_rows.ensures in
     let core = c.begin.result in
     let opened = c.in-Ok-open_rows.opened in
-    let rows_are : core.rows ≡ opened.rows = c.begin.ensures.rows in
-    let made_are : creations_of core.console ≡ opened.creations.items = c.begin.ensures.creations ∙ c.as_slice-creations.ensures in
     made.opened (subst (λ (x : g.row.S.Denot). OpensSynced g.S.Site.tells c.args.config.now (seen c.args.site) (seen x) (Ok (opened_in core))) (sym c.begin.ensures.site)
     (record {
       synced = synced;
       sync = c.in-Ok-sync_site.ensures.synced;
-      told = λ tells. told_as c.args.config.now synced (seen c.in-Ok-open_rows.site) opened core.rows (creations_of core.console) rows_are made_are (are.told tells);
-      any = any_as c.args.config.now synced (seen c.in-Ok-open_rows.site) opened core.rows (creations_of core.console) rows_are made_are are.any;
+      told = λ tells. told_as c.args.config.now synced (seen c.in-Ok-open_rows.site) opened core c.begin.ensures.opened (are.told tells);
+      any = any_as c.args.config.now synced (seen c.in-Ok-open_rows.site) opened core c.begin.ensures.opened are.any;
     }))

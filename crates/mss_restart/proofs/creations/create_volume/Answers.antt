@@ -1,6 +1,7 @@
 use Rattle.std.proofs.Common.{rules, ◌<◌, ◌∙◌, refl, sym, subst}
 use Rattle.mss_base.specs.Content.{SiteLog, content, Writes}
-use Rattle.table_pair.specs.Pair.{ChangesRow, NoneOrNew, HoldsRow}
+use Rattle.table_pair.specs.Pair.{ChangesRow, NoneOrNew}
+use Rattle.table_pair.specs.Slots.{IsChanged, no_slots}
 use Rattle.volume_table.specs.Listed.{listed}
 use Rattle.mss_restart.proofs.CreatedFacts.{moments_of, created_of, listed_new, on_ok}
 use Rattle.mss_restart.proofs.Counting.{new_row}
@@ -25,12 +26,13 @@ returns-clause-moments g c = λ tells.
 
 pub returns-clause-created : goal.returns-clause-created
 returns-clause-created g c = λ tells.
+    let changed = on_ok (IsChanged c.in_ok-row.row no_slots c.args.volume (g.S.Site.told c.reserve.new.self) (g.S.Site.told c.create_row.new.site)) c.create_row.result (sym c.is_err.ensures.value ∙ c.if-is_err.false) (c.create_row.ensures.done tells) in
     created_of c.args.rows.now (g.S.Site.told c.args.site.now) (g.S.Site.told c.create_row.new.site) (c.requires.told tells) c.look.ensures.places c.args.volume c.lowest_free-first.result c.lowest_free-second.result c.args.serial c.in_ok-row.row
     (let low : c.args.volume < 32 = search rules in low) c.requires.none
     c.lowest_free-first.ensures
     c.lowest_free-second.ensures c.in_ok-row.ensures
     (subst (λ (x : SiteLog). Writes (ChangesRow c.args.volume (NoneOrNew c.args.volume c.in_ok-row.row) (content x)) x (g.S.Site.told c.create_row.new.site)) (c.reserve.ensures.told tells) (c.create_row.ensures.moments tells))
-    (on_ok (HoldsRow c.in_ok-row.row c.args.volume (content (g.S.Site.told c.create_row.new.site))) c.create_row.result (sym c.is_err.ensures.value ∙ c.if-is_err.false) (c.create_row.ensures.done tells))
+    changed.holds changed.slots_
     c.put.new.self c.put.ensures.rows
 
 pub returns-clause-row : goal.returns-clause-row
@@ -55,7 +57,7 @@ returns-clause-complete g c = λ tells.
       is_new = new.is_new;
       now = new.now;
       moments = subst (λ (x : SiteLog). Writes (ChangesRow c.args.volume (NoneOrNew c.args.volume c.in_ok-row.row) (content x)) x (g.S.Site.told c.create_row.new.site)) (c.reserve.ensures.told tells) (c.create_row.ensures.moments tells);
-      held = on_ok (HoldsRow c.in_ok-row.row c.args.volume (content (g.S.Site.told c.create_row.new.site))) c.create_row.result (sym c.is_err.ensures.value ∙ c.if-is_err.false) (c.create_row.ensures.done tells);
+      held = (on_ok (IsChanged c.in_ok-row.row no_slots c.args.volume (g.S.Site.told c.reserve.new.self) (g.S.Site.told c.create_row.new.site)) c.create_row.result (sym c.is_err.ensures.value ∙ c.if-is_err.false) (c.create_row.ensures.done tells)).holds;
       named = refl;
       count = c.writes.ensures ∙ g.met.S.Site.counted c.create_row.new.site tells;
     }

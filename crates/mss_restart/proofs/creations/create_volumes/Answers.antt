@@ -1,4 +1,4 @@
-use Rattle.std.proofs.Common.{◌≡◌, ◌∙◌, refl, sym, Err, Result, ap, subst, arith, ◌+◌, List, [], drop, not, Option}
+use Rattle.std.proofs.Common.{rules, ◌≡◌, ◌∙◌, refl, sym, Err, Result, ap, subst, arith, ◌+◌, List, [], drop, not, Option}
 use Rattle.std.specs.Prelude.{is_some}
 use Rattle.std.proofs.Math.ListN.{drop_of_length-le}
 use Rattle.mss_base.specs.Configs.{VolumeData}
@@ -15,7 +15,8 @@ use Rattle.mss_restart.proofs.creations.create_volumes.Goals.{then-missing+in_ok
 
 pub loop-entry-init : goal.loop-entry-init
 loop-entry-init g c = record {
-  creating = λ tells. nothing_created c.args.volumes.now (g.S.Site.told c.args.site.now) c.args.rows.now (c.requires.known tells).told (c.requires.known tells).held;
+  creating = λ tells. nothing_created c.args.volumes.now (g.S.Site.told c.args.site.now) c.args.rows.now c.args.used.now.items (c.requires.known tells);
+  places = c.requires.places;
   rising = c.requires.rising;
   coming = none_coming c.args.volumes.now (listed c.args.rows.now) (g.S.Site.writes c.args.site.now) c.args.creations.now.items c.requires.none;
   logged = λ tells. none_logged c.args.volumes.now (listed c.args.rows.now) (g.S.Site.told c.args.site.now) c.args.creations.now.items c.requires.none;
@@ -33,16 +34,17 @@ returns-in_err-create_volume-clause-told g c = λ tells.
     let mid = g.S.Site.told c.loop-entry.site in
     let now = g.S.Site.told c.create_volume.new.site in
     let rows = c.loop-entry.rows in
+    let used = c.loop-entry.used.items in
     let made = c.loop-entry.creations.items in
     let behind : List VolumeData = drop (c.loop-entry.entry-index + 1) all in
     let v : VolumeData = c.entry-item.result in
     let known = c.loop-entry.invariant in
     let rest = rest_is all c.loop-entry.entry-index v (omega (arith, c.loop-entry-test.true)) c.entry-item.is in
-    let creating = subst (λ (x : List VolumeData). IsCreating all start begun mid rows x) rest (known.creating tells) in
+    let creating = subst (λ (x : List VolumeData). IsCreating all start begun mid rows used x) rest (known.creating tells) in
     let fresh = ap (λ (o : Option RowValue). is_some o) (sym c.row.ensures) ∙ c.is_none-missing.ensures ∙ ap not c.if-missing.true in
-    subst (λ (r : Result (Unit {0}) Refused). CreatesVolumes all made c.args.rows.now c.create_volume.new.rows begun now r) (sym (p.1 ∙ ap Err p.2)) (record {
-      moments = moments_on all start begun mid rows v behind creating fresh now (c.create_volume.ensures.moments tells);
-      others = others_on all start begun mid rows v behind creating fresh now (c.create_volume.ensures.others tells);
+    subst (λ (r : Result (Unit {0}) Refused). CreatesVolumes all made c.args.rows.now c.create_volume.new.rows used begun now r) (sym (p.1 ∙ ap Err p.2)) (record {
+      moments = moments_on all start begun mid rows used v behind creating fresh now (c.create_volume.ensures.moments tells);
+      others = others_on all start begun mid rows used v behind creating fresh now (c.create_volume.ensures.others tells);
       created = tt;
       complete =
           memory_creates all start (listed rows) (listed c.create_volume.new.rows) begun mid now made made (drop c.loop-entry.entry-index all) c.in_err-create_volume.field-0.0
@@ -56,6 +58,7 @@ loop-entry-preserved g c =
     let begun = g.S.Site.told c.args.site.now in
     let mid = g.S.Site.told c.loop-entry.site in
     let rows = c.loop-entry.rows in
+    let used = c.loop-entry.used.items in
     let behind : List VolumeData = drop (c.loop-entry.entry-index + 1) all in
     let v : VolumeData = c.entry-item.result in
     let known = c.loop-entry.invariant in
@@ -63,11 +66,12 @@ loop-entry-preserved g c =
     let row = sym c.row.ensures in
     let rising = rising_first v behind (subst AreRising rest known.rising) in
     elim c.if-missing.branch [
-      | then-missing+in_ok-create_volume w ↦ rw (w.site-is, w.rows-is, w.creations-is) (record {
+      | then-missing+in_ok-create_volume w ↦ rw (w.site-is, w.rows-is, w.used-is, w.creations-is) (record {
         creating = λ tells.
-            created_too all start begun mid rows v behind (subst (λ (x : List VolumeData). IsCreating all start begun mid rows x) rest (known.creating tells))
+            created_too all start begun mid rows used v behind (subst (λ (x : List VolumeData). IsCreating all start begun mid rows used x) rest (known.creating tells))
             (ap (λ (o : Option RowValue). is_some o) row ∙ c.is_none-missing.ensures ∙ ap not w.if-missing.true) (g.S.Site.told w.create_volume.new.site) (w.create_volume.ensures.moments tells)
-            (w.create_volume.ensures.others tells) w.create_volume.new.rows (w.in_ok-create_volume.ensures.created tells) rising.0;
+            (w.create_volume.ensures.others tells) w.create_volume.new.rows w.put_none.new.used.items (w.in_ok-create_volume.ensures.created tells) known.places
+            w.put_none.ensures rising.0;
         coming =
             coming_on all start (listed rows) c.loop-entry.creations.items v behind (g.S.Site.writes c.args.site.now) (g.S.Site.writes c.loop-entry.site)
             (subst (λ (x : List VolumeData). AreComing all start (g.S.Site.writes c.args.site.now) (g.S.Site.writes c.loop-entry.site) (listed rows) c.loop-entry.creations.items x) rest known.coming)
@@ -79,14 +83,15 @@ loop-entry-preserved g c =
             (subst (λ (x : List VolumeData). AreLogged all start begun mid (listed rows) c.loop-entry.creations.items x) rest (known.logged tells))
             (listed w.create_volume.new.rows) w.push.new.self.items (g.S.Site.told w.create_volume.new.site) w.in_ok-create_volume.field-0 w.push.ensures.items
             (ap (λ (o : Option RowValue). is_some o) row ∙ c.is_none-missing.ensures ∙ ap not w.if-missing.true) (w.in_ok-create_volume.ensures.complete tells) rising.0;
+        places = search rules;
         rising = rising.1;
         room = omega (arith, known.room, w.push.ensures.spare);
         count = w.in_ok-create_volume.ensures.stops ∙ known.count;
         devices = written_on g.S.Site c.args.site.now c.loop-entry.site w.create_volume.new.site known.devices w.create_volume.ensures.devices;
       })
-      | else-missing w ↦ rw (w.site-is, w.rows-is, w.creations-is) (record {
+      | else-missing w ↦ rw (w.site-is, w.rows-is, w.used-is, w.creations-is) (record {
         creating = λ tells.
-            passed_over all start begun mid rows v behind (subst (λ (x : List VolumeData). IsCreating all start begun mid rows x) rest (known.creating tells))
+            passed_over all start begun mid rows used v behind (subst (λ (x : List VolumeData). IsCreating all start begun mid rows used x) rest (known.creating tells))
             (ap (λ (o : Option RowValue). is_some o) row ∙ c.is_none-missing.ensures ∙ ap not w.if-missing.false);
         coming =
             coming_past all start (listed rows) c.loop-entry.creations.items v behind (g.S.Site.writes c.args.site.now) (g.S.Site.writes c.loop-entry.site)
@@ -96,6 +101,7 @@ loop-entry-preserved g c =
             logged_past all start (listed rows) c.loop-entry.creations.items v behind begun mid
             (subst (λ (x : List VolumeData). AreLogged all start begun mid (listed rows) c.loop-entry.creations.items x) rest (known.logged tells))
             (ap (λ (o : Option RowValue). is_some o) row ∙ c.is_none-missing.ensures ∙ ap not w.if-missing.false);
+        places = known.places;
         rising = rising.1;
         room = omega (arith, known.room);
         count = known.count;
@@ -121,10 +127,11 @@ returns-clause-told g c = λ tells.
     let begun = g.S.Site.told c.args.site.now in
     let now = g.S.Site.told c.loop-entry.site in
     let known = c.loop-entry.invariant in
+    let used = c.loop-entry.used.items in
     record {
       moments = (known.creating tells).moments;
       others = (known.creating tells).others;
-      created = all_created all begun now c.args.rows.now c.loop-entry.rows (subst (λ (x : List VolumeData). IsCreating all start begun now c.loop-entry.rows x) none (known.creating tells));
+      created = all_created all begun now c.args.rows.now c.loop-entry.rows used (subst (λ (x : List VolumeData). IsCreating all start begun now c.loop-entry.rows used x) none (known.creating tells));
       complete =
           all_logged all start (listed c.loop-entry.rows) begun now c.loop-entry.creations.items
           (subst (λ (x : List VolumeData). AreLogged all start begun now (listed c.loop-entry.rows) c.loop-entry.creations.items x) none (known.logged tells));

@@ -7,9 +7,10 @@ use Rattle.mss_restart.proofs.creations.create_volumes.Given as goal
 
 abbrev pub invariant-loop-entry : goal.invariant-loop-entry
 invariant-loop-entry g l = record {
-  creating : g.S.Site.tells → IsCreating l.volumes (listed l.initial.rows) (g.S.Site.told l.initial.site) (g.S.Site.told l.site) l.rows (drop l.entry-index l.volumes);
+  creating : g.S.Site.tells → IsCreating l.volumes (listed l.initial.rows) (g.S.Site.told l.initial.site) (g.S.Site.told l.site) l.rows l.used.items (drop l.entry-index l.volumes);
   coming : AreComing l.volumes (listed l.initial.rows) (g.S.Site.writes l.initial.site) (g.S.Site.writes l.site) (listed l.rows) l.creations.items (drop l.entry-index l.volumes);
   logged : g.S.Site.tells → AreLogged l.volumes (listed l.initial.rows) (g.S.Site.told l.initial.site) (g.S.Site.told l.site) (listed l.rows) l.creations.items (drop l.entry-index l.volumes);
+  places : length l.used.items ≡ 32;
   rising : AreRising (drop l.entry-index l.volumes);
   room : length l.volumes ≤ l.creations.spare + l.entry-index;
   count : g.S.Site.faults l.site ≡ g.S.Site.faults l.initial.site;

@@ -22,7 +22,8 @@ returns-in_err-repair_rows-clause-moments g c = λ tells frames sound.
 pub create_volumes-requires-clause-known : goal.create_volumes-requires-clause-known
 create_volumes-requires-clause-known g c = λ tells. record {
   told = λ volume low. c.repair_rows.ensures.rows tells volume ∙ c.requires.told tells volume low;
-  held = rows_held c.args.rows.now (g.S.Site.told c.args.site.now) (g.S.Site.told c.repair_rows.new.site) c.look.ensures.places (c.requires.told tells) (c.in_ok-repair_rows.ensures.held tells);
+  held = rows_held c.args.rows.now (g.S.Site.told c.args.site.now) (g.S.Site.told c.repair_rows.new.site) c.look.ensures.places (c.requires.told tells) (c.in_ok-repair_rows.ensures.equal tells).held;
+  slots_ = (c.in_ok-repair_rows.ensures.equal tells).slots_;
 }
 
 pub returns-clause-moments : goal.returns-clause-moments
@@ -31,7 +32,7 @@ returns-clause-moments g c = λ tells.
     let mid = g.S.Site.told c.repair_rows.new.site in
     let now = g.S.Site.told c.create_volumes.new.site in
     let rows = c.args.rows.now in
-    let same : c.as_slice.result.now ≡ c.args.config.now.volumes = c.as_slice.ensures ∙ ap (λ (x : ConfigData). x.volumes) c.config.view_is in
+    let same : c.as_slice-volumes.result.now ≡ c.args.config.now.volumes = c.as_slice-volumes.ensures ∙ ap (λ (x : ConfigData). x.volumes) c.config.view_is in
     then_created rows s mid c.look.ensures.places (c.requires.told tells) (c.repair_rows.ensures.moments tells) c.args.config.now.volumes now
     (subst (λ (x : List VolumeData). (frames : _) → IsSound frames (content mid) → Writes (ShowsFront frames (missing (listed rows) x) (shown (content mid))) mid now) same (c.create_volumes.ensures.told tells).moments)
 
@@ -42,14 +43,15 @@ returns-clause-created g c = λ tells.
     let now = g.S.Site.told c.create_volumes.new.site in
     let rows = c.args.rows.now in
     let after = c.create_volumes.new.rows in
-    let same : c.as_slice.result.now ≡ c.args.config.now.volumes = c.as_slice.ensures ∙ ap (λ (x : ConfigData). x.volumes) c.config.view_is in
-    on_ok_too (AreCreated c.args.config.now.volumes (content mid) (content now) rows after) (AreCreated c.args.config.now.volumes (content s) (content now) rows after)
-    (created_since rows s mid c.look.ensures.places (c.requires.told tells) (c.repair_rows.ensures.moments tells) c.args.config.now.volumes (content now) after) c.create_volumes.result
-    (subst (λ (x : List VolumeData). OnOk c.create_volumes.result (AreCreated x (content mid) (content now) rows after)) same (c.create_volumes.ensures.told tells).created)
+    let used = c.create_volumes.new.used.items in
+    let same : c.as_slice-volumes.result.now ≡ c.args.config.now.volumes = c.as_slice-volumes.ensures ∙ ap (λ (x : ConfigData). x.volumes) c.config.view_is in
+    on_ok_too (AreCreated c.args.config.now.volumes (content mid) (content now) rows after used) (AreCreated c.args.config.now.volumes (content s) (content now) rows after used)
+    (created_since rows s mid c.look.ensures.places (c.requires.told tells) (c.repair_rows.ensures.moments tells) c.args.config.now.volumes (content now) after used) c.create_volumes.result
+    (subst (λ (x : List VolumeData). OnOk c.create_volumes.result (AreCreated x (content mid) (content now) rows after used)) same (c.create_volumes.ensures.told tells).created)
 
 pub create_volumes-requires-clause-room : goal.create_volumes-requires-clause-room
 create_volumes-requires-clause-room g c =
-    let same : c.as_slice.result.now ≡ c.args.config.now.volumes = c.as_slice.ensures ∙ ap (λ (x : ConfigData). x.volumes) c.config.view_is in
+    let same : c.as_slice-volumes.result.now ≡ c.args.config.now.volumes = c.as_slice-volumes.ensures ∙ ap (λ (x : ConfigData). x.volumes) c.config.view_is in
     subst (λ (x : List VolumeData). length x ≤ c.args.creations.now.spare) (sym same) c.requires.room
 
 pub returns-in_err-repair_rows-clause-complete : goal.returns-in_err-repair_rows-clause-complete
@@ -70,18 +72,18 @@ returns-clause-complete g c = λ tells.
     let rows = listed c.args.rows.now in
     let last = listed c.create_volumes.new.rows in
     let made = c.create_volumes.new.creations.items in
-    let same : c.as_slice.result.now ≡ c.args.config.now.volumes = c.as_slice.ensures ∙ ap (λ (x : ConfigData). x.volumes) c.config.view_is in
+    let same : c.as_slice-volumes.result.now ≡ c.args.config.now.volumes = c.as_slice-volumes.ensures ∙ ap (λ (x : ConfigData). x.volumes) c.config.view_is in
     creates_complete (missing rows c.args.config.now.volumes) made rows last s mid now c.create_volumes.result (c.in_ok-repair_rows.ensures.complete tells)
     (subst (λ (x : List VolumeData). CreatesWhole (missing rows x) made rows last mid now c.create_volumes.result) same (c.create_volumes.ensures.told tells).complete)
 
 pub returns-clause-rows : goal.returns-clause-rows
 returns-clause-rows g c =
-    let same : c.as_slice.result.now ≡ c.args.config.now.volumes = c.as_slice.ensures ∙ ap (λ (x : ConfigData). x.volumes) c.config.view_is in
+    let same : c.as_slice-volumes.result.now ≡ c.args.config.now.volumes = c.as_slice-volumes.ensures ∙ ap (λ (x : ConfigData). x.volumes) c.config.view_is in
     subst (λ (x : List VolumeData). OnOk c.create_volumes.result (Creates (missing (listed c.args.rows.now) x) (listed c.args.rows.now) (listed c.create_volumes.new.rows))) same c.create_volumes.ensures.rows
 
 pub returns-clause-counted : goal.returns-clause-counted
 returns-clause-counted g c =
-    let same : c.as_slice.result.now ≡ c.args.config.now.volumes = c.as_slice.ensures ∙ ap (λ (x : ConfigData). x.volumes) c.config.view_is in
+    let same : c.as_slice-volumes.result.now ≡ c.args.config.now.volumes = c.as_slice-volumes.ensures ∙ ap (λ (x : ConfigData). x.volumes) c.config.view_is in
     let begun = g.S.Site.writes c.args.site.now in
     let mid = g.S.Site.writes c.repair_rows.new.site in
     let now = g.S.Site.writes c.create_volumes.new.site in
@@ -111,6 +113,6 @@ returns-clause-others g c = λ tells.
     let now = g.S.Site.told c.create_volumes.new.site in
     let rows = listed c.args.rows.now in
     let volumes = missing rows c.args.config.now.volumes in
-    let same : c.as_slice.result.now ≡ c.args.config.now.volumes = c.as_slice.ensures ∙ ap (λ (x : ConfigData). x.volumes) c.config.view_is in
+    let same : c.as_slice-volumes.result.now ≡ c.args.config.now.volumes = c.as_slice-volumes.ensures ∙ ap (λ (x : ConfigData). x.volumes) c.config.view_is in
     others_then volumes s mid now (none_of volumes s mid (c.repair_rows.ensures.others tells))
     (subst (λ (x : List VolumeData). RepairsOthers (missing rows x) mid now) same (c.create_volumes.ensures.told tells).others)

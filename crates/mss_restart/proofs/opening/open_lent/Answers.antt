@@ -33,14 +33,22 @@ returns-clause-opens g c = λ tells.
     let now = content (g.S.Site.told c.complete_rows.new.site) in
     let before = c.in_ok-rows.rows in
     let after = c.complete_rows.new.rows in
+    let used = c.complete_rows.new.used.items in
     let volumes = c.args.config.now.volumes in
-    opened c.args.config.now (content (g.S.Site.told c.args.site.now)) now before after (subst (λ (x : ConfigData). AreRising x.volumes) c.config.view_is c.config.invariant.rising) c.look.ensures.places
+    opened c.args.config.now (content (g.S.Site.told c.args.site.now)) now before after used (subst (λ (x : ConfigData). AreRising x.volumes) c.config.view_is c.config.invariant.rising) c.look.ensures.places
     (c.in_ok-rows.ensures.known tells) (c.in_ok-rows.ensures.faultless tells) c.look-2.ensures.places
-    (subst (λ (x : SiteLog). AreCreated volumes (content x) now before after) (c.known_rows.ensures.devices.log tells) (c.in_ok-complete_rows.ensures.created tells))
+    (subst (λ (x : SiteLog). AreCreated volumes (content x) now before after used) (c.known_rows.ensures.devices.log tells) (c.in_ok-complete_rows.ensures.created tells))
 
 pub returns-in_err-reserve-clause-complete : goal.returns-in_err-reserve-clause-complete
 returns-in_err-reserve-clause-complete g c = λ tells.
     let p = err_from_is_err_and c.from_residual.result c.from_residual.ensures.1 in
+    let s = g.S.Site.told c.args.site.now in
+    subst (λ (r : Result Opened Refused). OpensWhole c.args.config.now s s r) (sym p.1)
+    (none_complete (missing (rows_of (content s)) c.args.config.now.volumes) [] (rows_of (content s)) (rows_of (content s)) s s p.0 refl)
+
+pub returns-in_err-used-clause-complete : goal.returns-in_err-used-clause-complete
+returns-in_err-used-clause-complete g c = λ tells.
+    let p = err_from_is_err_and c.from_residual-in_err-used.result c.from_residual-in_err-used.ensures.1 in
     let s = g.S.Site.told c.args.site.now in
     subst (λ (r : Result Opened Refused). OpensWhole c.args.config.now s s r) (sym p.1)
     (none_complete (missing (rows_of (content s)) c.args.config.now.volumes) [] (rows_of (content s)) (rows_of (content s)) s s p.0 refl)
@@ -93,11 +101,18 @@ pub returns-clause-untouched : goal.returns-clause-untouched
 returns-clause-untouched g c = λ tells. inr (c.in_ok-rows.ensures.faultless tells)
 
 pub returns-clause-usable : goal.returns-clause-usable
-returns-clause-usable g c =
-    usable_for c.args.config.now c.in_ok-rows.rows c.complete_rows.new.rows (subst IsConfig c.config.view_is c.config.invariant) c.look.ensures.places c.in_ok-rows.ensures.usable c.in_ok-complete_rows.ensures.rows
+returns-clause-usable g c = record {
+  rows_ = usable_for c.args.config.now c.in_ok-rows.rows c.complete_rows.new.rows (subst IsConfig c.config.view_is c.config.invariant) c.look.ensures.places c.in_ok-rows.ensures.usable c.in_ok-complete_rows.ensures.rows;
+  used_ = c.complete_rows.ensures.places;
+}
 
 pub returns-in_err-reserve-clause-others : goal.returns-in_err-reserve-clause-others
 returns-in_err-reserve-clause-others g c = λ tells.
+    let s = g.S.Site.told c.args.site.now in
+    nothing_else (missing (rows_of (content s)) c.args.config.now.volumes) s s refl
+
+pub returns-in_err-used-clause-others : goal.returns-in_err-used-clause-others
+returns-in_err-used-clause-others g c = λ tells.
     let s = g.S.Site.told c.args.site.now in
     nothing_else (missing (rows_of (content s)) c.args.config.now.volumes) s s refl
 

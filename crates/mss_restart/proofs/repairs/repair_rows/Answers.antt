@@ -1,11 +1,11 @@
-use Rattle.std.proofs.Common.{rules, ◌≡◌, ◌∙◌, ℕ, false, Err, [], refl, ap, subst, arith}
+use Rattle.std.proofs.Common.{rules, ◌≡◌, ◌∙◌, ℕ, false, Err, [], refl, ap, set, subst, arith}
 use Rattle.mss_restart.specs.Creations.{AreRepaired}
 use Rattle.mss_restart.proofs.OtherRows.{nothing_else, others_then, repair_others}
-use Rattle.mss_restart.proofs.Repaired.{nothing_repaired, repaired_too, held_too, none_repaired, one_repaired, nothing_written, written_on, may_be_written, stop_since, memory_repairs}
+use Rattle.mss_restart.proofs.Repaired.{nothing_repaired, repaired_too, held_too, slots_too, none_repaired, one_repaired, nothing_written, written_on, may_be_written, stop_since, memory_repairs}
 use Rattle.mss_restart.proofs.repairs.repair_rows.Goals as goal
 
 pub loop-number-init : goal.loop-number-init
-loop-number-init g c = record { repaired = λ tells. nothing_repaired (g.S.Site.told c.args.site.now); held = λ tells v lt. absurd (omega arith); complete = λ tells. none_repaired (g.S.Site.told c.args.site.now); others = λ tells. nothing_else [] (g.S.Site.told c.args.site.now) (g.S.Site.told c.args.site.now) refl; count = refl; devices = nothing_written g.S.Site c.args.site.now }
+loop-number-init g c = record { repaired = λ tells. nothing_repaired (g.S.Site.told c.args.site.now); held = λ tells v lt. absurd (omega arith); slots = λ tells v lt. absurd (omega arith); places = c.requires.places; complete = λ tells. none_repaired (g.S.Site.told c.args.site.now); others = λ tells. nothing_else [] (g.S.Site.told c.args.site.now) (g.S.Site.told c.args.site.now) refl; count = refl; devices = nothing_written g.S.Site c.args.site.now }
 
 pub returns-in-Err-clause-moments : goal.returns-in-Err-clause-moments
 returns-in-Err-clause-moments g c = λ tells.
@@ -35,25 +35,33 @@ returns-in-Err-clause-devices g c =
     (may_be_written g.S.Site 7 c.loop-number.site c.repair.new.site c.repair.ensures.devices)
 
 pub loop-number-preserved : goal.loop-number-preserved
-loop-number-preserved g c = record {
+loop-number-preserved g c = let place : c.from.result ≡ c.loop-number.number = search rules in record {
   repaired = λ tells.
       repaired_too (g.S.Site.told c.args.site.now) (g.S.Site.told c.loop-number.site) (g.S.Site.told c.repair.new.site) c.volume_at.result (c.loop-number.invariant.repaired tells) (c.repair.ensures.moments tells);
   held = λ tells.
       held_too (g.S.Site.told c.args.site.now) (g.S.Site.told c.loop-number.site) (g.S.Site.told c.repair.new.site) c.volume_at.result (c.loop-number.invariant.repaired tells) (c.repair.ensures.moments tells)
-      c.loop-number.number (c.loop-number.invariant.held tells) c.volume_at.ensures (c.in_default.ensures.done tells);
+      c.loop-number.number (c.loop-number.invariant.held tells) c.volume_at.ensures (c.in-Ok.ensures.done tells);
+  slots = λ tells.
+      slots_too (g.S.Site.told c.args.site.now) (g.S.Site.told c.loop-number.site) (g.S.Site.told c.repair.new.site) c.volume_at.result (c.loop-number.invariant.repaired tells) (c.repair.ensures.moments tells)
+      c.loop-number.number c.loop-number.used.items c.set.new.self.items c.in-Ok.slots (let places = c.loop-number.invariant.places in let low = c.loop-number-test.true in omega (arith, places, low)) (c.loop-number.invariant.slots tells) c.volume_at.ensures
+      (c.in-Ok.ensures.used tells) (c.set.ensures.items ∙ (λ i. set c.loop-number.used.items (place i) c.in-Ok.slots));
+  places = search rules;
   complete = λ tells.
       one_repaired c.loop-number.number c.volume_at.result (g.S.Site.told c.args.site.now) (g.S.Site.told c.loop-number.site) (g.S.Site.told c.repair.new.site) (c.loop-number.invariant.complete tells) c.volume_at.ensures
-      (record { moments = c.repair.ensures.moments tells; marks = c.repair.ensures.marks tells; held = c.in_default.ensures.done tells; alone = c.repair.ensures.untouched tells });
+      (record { moments = c.repair.ensures.moments tells; marks = c.repair.ensures.marks tells; held = c.in-Ok.ensures.done tells; alone = c.repair.ensures.untouched tells });
   others = λ tells.
       others_then [] (g.S.Site.told c.args.site.now) (g.S.Site.told c.loop-number.site) (g.S.Site.told c.repair.new.site) (c.loop-number.invariant.others tells)
       (repair_others c.volume_at.result (g.S.Site.told c.loop-number.site) (g.S.Site.told c.repair.new.site) (c.repair.ensures.moments tells) (c.repair.ensures.marks tells) (c.repair.ensures.untouched tells));
-  count = c.in_default.ensures.kept ∙ c.loop-number.invariant.count;
+  count = c.in-Ok.ensures.kept ∙ c.loop-number.invariant.count;
   devices = written_on g.S.Site c.args.site.now c.loop-number.site c.repair.new.site c.loop-number.invariant.devices
       (may_be_written g.S.Site 7 c.loop-number.site c.repair.new.site c.repair.ensures.devices);
 }
 
-pub returns-clause-held : goal.returns-clause-held
-returns-clause-held g c = λ tells v lt. c.loop-number.invariant.held tells v (omega (arith, lt, c.loop-number-test.false))
+pub returns-clause-equal : goal.returns-clause-equal
+returns-clause-equal g c = λ tells. record {
+  held = λ v lt. c.loop-number.invariant.held tells v (omega (arith, lt, c.loop-number-test.false));
+  slots_ = λ v lt. c.loop-number.invariant.slots tells v (omega (arith, lt, c.loop-number-test.false));
+}
 
 pub returns-clause-complete : goal.returns-clause-complete
 returns-clause-complete g c = λ tells.

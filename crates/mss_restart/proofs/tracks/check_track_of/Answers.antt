@@ -1,10 +1,9 @@
-use Rattle.std.proofs.Common.{◌≡◌, inl, inr, ℕ, ◌<◌, ◌≤◌, rules, refl, sym, ◌∙◌, ap, subst, arith}
+use Rattle.std.proofs.Common.{◌≡◌, inl, inr, ◌<◌, rules, sym, ◌∙◌, ap, subst, arith}
 use Rattle.std.proofs.lemmas.Result.{err_from_is_err_and}
 use Rattle.mss_base.specs.declared.place.BlockPlace.{BlockPlace}
 use Rattle.volume_table.specs.Row.{state_of}
 use Rattle.volume_table.specs.States.{state_number}
 use Rattle.table_pair.specs.Reads.{IsReadable}
-use Rattle.table_pair.proofs.SiteLemmas.{readable_on}
 use Rattle.mss_restart.proofs.TrackReads.{row_on, on_cartridge_stands, in_frame_stands}
 use Rattle.mss_restart.proofs.tracks.check_track_of.Goals as goal
 

@@ -7,7 +7,7 @@ use Rattle.table_pair.specs.Reads.{IsReadable}
 use Rattle.table_pair.specs.Repairs.{KeepsRepairFault}
 use Rattle.table_pair.proofs.FollowLemmas.{lent_back}
 use Rattle.table_pair.proofs.SiteLemmas.{got_room, room_read, readable_on}
-use Rattle.table_pair.proofs.RepairLemmas.{stale_on, kept_since, never_err}
+use Rattle.table_pair.proofs.RepairLemmas.{found_on, kept_since, never_err}
 use Rattle.table_pair.proofs.repairs.find_stale.Goals as goal
 
 pub returns-clause-found : goal.returns-clause-found
@@ -21,7 +21,7 @@ returns-clause-found g c = λ tells.
     ∙ lent_back c.read_block.new.block _ c.in_ok-a.a.len _ (c.read_block.auto.block ∙ c.deref_mut.ensures.len) c.deref.ensures.value in
     let is_b = ap (λ (q : SiteLog). content q TableB c.args.volume) (sym r1) ∙ sym (read_b ∙ ap (λ (at : BlockPlace). content (g.S.Site.told c.read_block.new.site) at.unit at.block) c.place_of-2.ensures)
     ∙ lent_back c.read_block-2.new.block _ c.in_ok-b.b.len _ (c.read_block-2.auto.block ∙ c.deref_mut-2.ensures.len) c.deref-2.ensures.value in
-    stale_on _ c.args.volume s _ _ is_a is_b c.in_ok-stale.ensures
+    found_on _ c.args.volume s _ _ is_a is_b c.in_ok-found.ensures
 
 pub returns-in_err-read_block-2-clause-kept : goal.returns-in_err-read_block-2-clause-kept
 returns-in_err-read_block-2-clause-kept g c =
@@ -75,8 +75,8 @@ returns-in_err-read_block-2-clause-reads g c =
     let r2 = room_read g.S.Site c.args.site.now c.read_block.new.site c.read_block-2.new.site r1 c.read_block-2.ensures.devices in
     r2
 
-pub returns-in_err-stale-clause-reads : goal.returns-in_err-stale-clause-reads
-returns-in_err-stale-clause-reads g c =
+pub returns-in_err-found-clause-reads : goal.returns-in_err-found-clause-reads
+returns-in_err-found-clause-reads g c =
     let r0 = got_room g.S.Site c.args.site.now c.reserve.new.self c.reserve.ensures.told c.reserve.ensures.spare c.reserve.ensures.writes c.reserve.ensures.faults c.reserve.ensures.sound in
     let r1 = room_read g.S.Site c.args.site.now c.reserve.new.self c.read_block.new.site r0 c.read_block.ensures.devices in
     let r2 = room_read g.S.Site c.args.site.now c.read_block.new.site c.read_block-2.new.site r1 c.read_block-2.ensures.devices in

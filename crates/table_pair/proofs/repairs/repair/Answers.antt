@@ -4,9 +4,12 @@ use Rattle.mss_base.specs.Counts.{Rises}
 use Rattle.mss_base.specs.Content.{SiteLog, content}
 use Rattle.table_pair.specs.Pair.{row_of}
 use Rattle.table_pair.specs.declared.repairs.Stale.{Stale}
-use Rattle.table_pair.specs.Repairs.{NeedsNoRepair, IsStaleOn, MayBeStaleOn}
+use Rattle.table_pair.specs.declared.copy.SlotsUsed.{SlotsUsed}
+use Rattle.table_pair.specs.Slots.{HasSlots}
+use Rattle.table_pair.specs.Repairs.{NeedsNoRepair, IsStaleOn, MayBeStale}
+use Rattle.table_pair.proofs.PairLemmas.{copy_a, copy_b}
 use Rattle.table_pair.proofs.SiteLemmas.{room_may, room_leaves, room_write}
-use Rattle.table_pair.proofs.RepairLemmas.{unwritten, no_marks, none_firm, none_settled, equal_hold, since, marks_since, firm_since, memory_count, never_err}
+use Rattle.table_pair.proofs.RepairLemmas.{found_slots, unwritten, no_marks, none_firm, none_settled, equal_hold, since, marks_since, firm_since, memory_count, never_err}
 use Rattle.table_pair.proofs.repairs.repair.Goals as goal
 
 pub returns-in_err-stale-clause-moments : goal.returns-in_err-stale-clause-moments
@@ -45,17 +48,21 @@ pub returns-in_err-stale-clause-memory : goal.returns-in_err-stale-clause-memory
 returns-in_err-stale-clause-memory g c = λ is.
     let p = err_from_is_err_and c.from_residual.result c.from_residual.ensures.1 in
     let told : c.from_residual.result ≡ Err c.in_err-stale.field-0.0 = p.1 ∙ (λ i. Err (p.2 i)) in
-    room_leaves g.S.Site c.args.site.now c.find_stale.new.site c.find_stale.ensures.reads (memory_count {T = Unit {0}} _ _ (Err c.in_err-stale.field-0.0) (sym told ∙ is) c.in_err-stale.ensures.kept)
+    room_leaves g.S.Site c.args.site.now c.find_stale.new.site c.find_stale.ensures.reads (memory_count {T = SlotsUsed} _ _ (Err c.in_err-stale.field-0.0) (sym told ∙ is) c.in_err-stale.ensures.kept)
 
 pub returns-in_default-clause-done : goal.returns-in_default-clause-done
 returns-in_default-clause-done g c = λ tells.
     equal_hold c.args.volume _ _
-    (subst (λ (o : Option Stale). MayBeStaleOn o c.args.volume (content (g.S.Site.told c.args.site.now))) c.in_default.is (c.in_ok-stale.ensures.found tells)) (c.find_stale.ensures.reads.log tells)
+    (subst (λ (o : Option Stale). MayBeStale o (copy_a c.args.volume (g.S.Site.told c.args.site.now)) (copy_b c.args.volume (g.S.Site.told c.args.site.now))) c.in_default.is (c.in_ok-stale.ensures.found tells).stale) (c.find_stale.ensures.reads.log tells)
 
 pub returns-in_default-clause-settled : goal.returns-in_default-clause-settled
 returns-in_default-clause-settled g c = λ tells.
     none_settled c.args.volume _ _
-    (subst (λ (o : Option Stale). MayBeStaleOn o c.args.volume (content (g.S.Site.told c.args.site.now))) c.in_default.is (c.in_ok-stale.ensures.found tells)) (c.find_stale.ensures.reads.log tells)
+    (subst (λ (o : Option Stale). MayBeStale o (copy_a c.args.volume (g.S.Site.told c.args.site.now)) (copy_b c.args.volume (g.S.Site.told c.args.site.now))) c.in_default.is (c.in_ok-stale.ensures.found tells).stale) (c.find_stale.ensures.reads.log tells)
+
+pub returns-in_default-clause-used : goal.returns-in_default-clause-used
+returns-in_default-clause-used g c = λ tells.
+    found_slots _ c.args.volume _ _ (c.find_stale.ensures.reads.log tells) (c.in_ok-stale.ensures.found tells)
 
 pub returns-in_default-clause-firm : goal.returns-in_default-clause-firm
 returns-in_default-clause-firm g c = λ tells.
@@ -65,7 +72,7 @@ pub follow-requires-clause-stale : goal.follow-requires-clause-stale
 follow-requires-clause-stale g c = λ tells.
     let r : g.S.Site.told c.find_stale.new.site ≡ g.S.Site.told c.args.site.now = c.find_stale.ensures.reads.log tells in
     subst (λ (q : SiteLog). IsStaleOn c.in-Some.stale c.args.volume (content q)) (sym r)
-    (subst (λ (o : Option Stale). MayBeStaleOn o c.args.volume (content (g.S.Site.told c.args.site.now))) c.in-Some.is (c.in_ok-stale.ensures.found tells))
+    (subst (λ (o : Option Stale). MayBeStale o (copy_a c.args.volume (g.S.Site.told c.args.site.now)) (copy_b c.args.volume (g.S.Site.told c.args.site.now))) c.in-Some.is (c.in_ok-stale.ensures.found tells).stale)
 
 pub returns-in-Ok-clause-moments : goal.returns-in-Ok-clause-moments
 returns-in-Ok-clause-moments g c = λ tells.
@@ -126,3 +133,8 @@ returns-clause-kept g c =
 pub returns-clause-works : goal.returns-clause-works
 returns-clause-works g c = λ a_readable _.
     never_err (Unit {0}) c.in-Err.field-0 ⊥ (c.in-Err.ensures.site_.works a_readable.0 (c.find_stale.ensures.reads.sound a_readable.0 a_readable.1))
+
+pub returns-in-Ok-clause-used : goal.returns-in-Ok-clause-used
+returns-in-Ok-clause-used g c = λ tells.
+    subst (λ (u : SlotsUsed). HasSlots u c.args.volume (content (g.S.Site.told c.follow.new.site))) (sym c.without.ensures)
+    (c.in-Ok.ensures.emptied tells _ (found_slots _ c.args.volume _ _ (c.find_stale.ensures.reads.log tells) (c.in_ok-stale.ensures.found tells)))

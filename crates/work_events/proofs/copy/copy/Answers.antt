@@ -9,8 +9,8 @@ use Rattle.core_state.specs.declared.session.Event.TheVariants.{Work}
 use Rattle.core_state.specs.CoreValue.{CoreValue}
 use Rattle.core_state.specs.SessionData.{data_of, of_parts, with_last_event}
 use Rattle.core_state.specs.Sessions.{session_data}
-use Rattle.core_state.proofs.Moved.{kept_moved}
 use Rattle.work_events.proofs.KeptFacts.{kept_at}
+use Rattle.work_events.proofs.RowSteps.{has_room, kept_room}
 use Rattle.work_events.proofs.RuleFacts.{rule_copies}
 use Rattle.work_events.proofs.CopyWhole.{kept_copied, kept_uncopied}
 use Rattle.core_state.specs.TheCore.{IsKept}
@@ -28,15 +28,7 @@ served-task-requires g c =
 pub invariant_of-core : goal.invariant_of-core
 invariant_of-core g c =
     let now = c.args.core.now in
-    let is = c.core.view_is in
-    let kept = kept_at g.S.Site (vec_len c.core.inside.buffer) _ now is c.core.invariant in
-    let says = rule_copies now c.args.recorder c.requires.fits kept.whole.kept c.args.transfer c.requires.rule in
-    let session : session_data c.make_room.new.session ≡ data_of now = c.make_room.ensures.session ∙ ap (λ (x : CoreValue g.row.S.Denot g.row.C.Denot). data_of x) is in
-    let x = c.make_room.new.site in
-    let path : ◌≡◌ {A = CoreValue g.row.S.Denot g.row.C.Denot} _ (record now { site = c.make_room.new.site }) = λ i. of_parts (is i) x (is i).rows (is i).owners (is i).moving (is i).requests (is i).tasks (is i).hosts (session i) in
-    subst (λ (z : CoreValue g.row.S.Denot g.row.C.Denot). IsKept g.S.Site.tells (g.S.Site.told x) (g.S.Site.writes x) (g.S.Site.faults x) (vec_len c.core.inside.buffer) z) (sym path)
-    (kept_moved g.row.S.Denot g.S.Site.tells (g.S.Site.told now.site) (g.S.Site.told x) (g.S.Site.writes now.site) (g.S.Site.faults now.site) (g.S.Site.writes x) (g.S.Site.faults x) (vec_len c.core.inside.buffer) now x (λ tl. c.make_room.ensures.site.log tl ∙ ap (λ (y : CoreValue g.row.S.Denot g.row.C.Denot). g.S.Site.told y.site) is)
-    (c.make_room.ensures.site.unwritten ∙ ap (λ (y : CoreValue g.row.S.Denot g.row.C.Denot). g.S.Site.writes y.site) is) (c.make_room.ensures.site.same ∙ ap (λ (y : CoreValue g.row.S.Denot g.row.C.Denot). g.S.Site.faults y.site) is) kept)
+    kept_room g.S.Site (has_room g.S.Site _ now c.core.view_is c.core.invariant c.make_room.new.site _ c.make_room.ensures.session c.make_room.ensures.site)
 
 pub copy_track-requires-clause-more : goal.copy_track-requires-clause-more
 copy_track-requires-clause-more g c =

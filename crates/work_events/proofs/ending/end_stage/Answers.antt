@@ -1,131 +1,104 @@
-use Rattle.std.proofs.Common.{◌≡◌, ℕ, ◌≤◌, [], ◌∷◌, ◌++◌, length, false, None, Some, refl, sym, ◌∙◌, ap, subst, arith}
+use Rattle.std.proofs.Common.{◌≡◌, length, false, None, refl, ◌∙◌, ap, arith}
 use Rattle.std.specs.Prelude.{slice_set, vec_len}
-use Rattle.mss_base.specs.Content.{SiteLog, content}
-use Rattle.mss_base.specs.Counts.{Rises}
-use Rattle.volume_table.specs.Changes.{effect}
-use Rattle.volume_table.specs.Listed.{listed, with_changed}
-use Rattle.volume_table.specs.Row.{RowValue}
 use Rattle.volume_table.specs.declared.changes.Change.TheVariants.{Staged}
-use Rattle.table_pair.specs.Pair.{HoldsRow}
 use Rattle.fault_queue.specs.declared.queue.RequestState.TheVariants.{Ready}
 use Rattle.fault_queue.specs.Requests.{with_state}
 use Rattle.core_state.specs.declared.session.Event.TheVariants.{Work}
-use Rattle.core_state.specs.Agrees.{message_of}
 use Rattle.core_state.specs.CoreValue.{CoreValue}
-use Rattle.core_state.specs.Rows.{Rewrites}
-use Rattle.core_state.specs.SessionData.{data_of, of_parts, with_last_event, with_last_message, with_stop}
+use Rattle.core_state.specs.SessionData.{data_of, of_parts, with_last_event, with_last_message}
 use Rattle.core_state.specs.Sessions.{session_data}
-use Rattle.core_state.specs.TheCore.{IsKept}
+use Rattle.core_state.specs.Agrees.{message_of}
+use Rattle.volume_table.specs.Listed.{listed}
 use Rattle.core_state.specs.Working.{MayEndStage}
-use Rattle.core_state.proofs.Moved.{kept_moved}
 use Rattle.work_events.proofs.KeptFacts.{kept_at}
-use Rattle.work_events.proofs.ChangedRows.{rewritten, kept_unchanged}
+use Rattle.work_events.proofs.RowSteps.{has_room, kept_as, kept_room, row_changed, row_held, row_stopped, row_there, slots_counted}
 use Rattle.work_events.proofs.RuleFacts.{rule_ends}
-use Rattle.work_events.proofs.StageWhole.{due_staged, kept_staged, may_stage}
+use Rattle.work_events.proofs.StageWhole.{due_staged, kept_staged, may_stage, staged, staged_does}
 use Rattle.work_events.proofs.ending.end_stage.Goals as goal
 
 pub served-task-requires : goal.served-task-requires
 served-task-requires g c =
     let now = c.args.core.now in
-    let is = c.core.view_is in
-    let kept = kept_at g.S.Site (vec_len c.core.inside.buffer) _ now is c.core.invariant in
+    let kept = kept_at g.S.Site (vec_len c.core.inside.buffer) _ now c.core.view_is c.core.invariant in
     let says = rule_ends now c.args.recorder c.requires.fits kept.whole.kept c.args.transfer c.requires.rule in
     (says.task, says.request, says.serves)
 
 pub invariant_of-core : goal.invariant_of-core
 invariant_of-core g c =
     let now = c.args.core.now in
-    let is = c.core.view_is in
-    let kept = kept_at g.S.Site (vec_len c.core.inside.buffer) _ now is c.core.invariant in
-    let says = rule_ends now c.args.recorder c.requires.fits kept.whole.kept c.args.transfer c.requires.rule in
-    let session : session_data c.make_room.new.session ≡ data_of now = c.make_room.ensures.session ∙ ap (λ (z : CoreValue g.row.S.Denot g.row.C.Denot). data_of z) is in
-    let x = c.make_room.new.site in
-    let path : ◌≡◌ {A = CoreValue g.row.S.Denot g.row.C.Denot} _ (record now { site = c.make_room.new.site }) = λ i. of_parts (is i) x (is i).rows (is i).owners (is i).moving (is i).requests (is i).tasks (is i).hosts (session i) in
-    subst (λ (z : CoreValue g.row.S.Denot g.row.C.Denot). IsKept g.S.Site.tells (g.S.Site.told x) (g.S.Site.writes x) (g.S.Site.faults x) (vec_len c.core.inside.buffer) z) (sym path)
-    (kept_moved g.row.S.Denot g.S.Site.tells (g.S.Site.told now.site) (g.S.Site.told x) (g.S.Site.writes now.site) (g.S.Site.faults now.site) (g.S.Site.writes x) (g.S.Site.faults x) (vec_len c.core.inside.buffer) now x (λ tl. c.make_room.ensures.site.log tl ∙ ap (λ (z : CoreValue g.row.S.Denot g.row.C.Denot). g.S.Site.told z.site) is)
-    (c.make_room.ensures.site.unwritten ∙ ap (λ (z : CoreValue g.row.S.Denot g.row.C.Denot). g.S.Site.writes z.site) is) (c.make_room.ensures.site.same ∙ ap (λ (z : CoreValue g.row.S.Denot g.row.C.Denot). g.S.Site.faults z.site) is) kept)
+    kept_room g.S.Site (has_room g.S.Site _ now c.core.view_is c.core.invariant c.make_room.new.site _ c.make_room.ensures.session c.make_room.ensures.site)
 
 pub write_change-requires-clause-there : goal.write_change-requires-clause-there
 write_change-requires-clause-there g c =
     let now = c.args.core.now in
-    let is = c.core.view_is in
-    let kept = kept_at g.S.Site (vec_len c.core.inside.buffer) _ now is c.core.invariant in
-    let says = rule_ends now c.args.recorder c.requires.fits kept.whole.kept c.args.transfer c.requires.rule in
+    let has = has_room g.S.Site _ now c.core.view_is c.core.invariant c.make_room.new.site _ c.make_room.ensures.session c.make_room.ensures.site in
+    let says = rule_ends now c.args.recorder c.requires.fits has.kept.whole.kept c.args.transfer c.requires.rule in
     let may : MayEndStage now c.served-task.result.0 c.args.transfer = may_stage now c.served-task.result.0 c.args.transfer c.requires.kind (says.may c.served-task.result.0 c.served-task.result.1 c.served-task.ensures.serves) in
-    let due = due_staged g.row.S.Denot g.S.Site.tells (g.S.Site.told now.site) now kept.whole says.going c.args.recorder c.served-task.result.0 c.served-task.result.1 c.served-task.ensures.serves c.args.transfer may in
-    (due.r, ap (λ (z : CoreValue g.row.S.Denot g.row.C.Denot). listed z.rows c.args.transfer.volume) is ∙ due.there, due.allowed)
+    let due = due_staged g.row.S.Denot g.S.Site.tells (g.S.Site.told now.site) now has.kept.whole says.going c.args.recorder c.served-task.result.0 c.served-task.result.1 c.served-task.ensures.serves c.args.transfer may in
+    row_there g.S.Site has c.args.transfer.volume (Staged c.args.transfer.cylinder) due says.going
+
+pub write_change-requires-clause-places : goal.write_change-requires-clause-places
+write_change-requires-clause-places g c =
+    let now = c.args.core.now in
+    slots_counted g.S.Site (has_room g.S.Site _ now c.core.view_is c.core.invariant c.make_room.new.site _ c.make_room.ensures.session c.make_room.ensures.site)
 
 pub write_change-requires-clause-held : goal.write_change-requires-clause-held
 write_change-requires-clause-held g c =
     let now = c.args.core.now in
-    let is = c.core.view_is in
-    let kept = kept_at g.S.Site (vec_len c.core.inside.buffer) _ now is c.core.invariant in
-    let says = rule_ends now c.args.recorder c.requires.fits kept.whole.kept c.args.transfer c.requires.rule in
-    let moved : g.S.Site.tells → g.S.Site.told c.make_room.new.site ≡ g.S.Site.told now.site = λ tl. c.make_room.ensures.site.log tl ∙ ap (λ (z : CoreValue g.row.S.Denot g.row.C.Denot). g.S.Site.told z.site) is in
-    λ tl r at. subst (λ (z : SiteLog). HoldsRow r c.args.transfer.volume (content z)) (sym (moved tl))
-    (((kept.whole.told tl).going says.going).copies c.args.transfer.volume r (ap (λ (z : CoreValue g.row.S.Denot g.row.C.Denot). listed z.rows c.args.transfer.volume) (sym is) ∙ at))
+    let has = has_room g.S.Site _ now c.core.view_is c.core.invariant c.make_room.new.site _ c.make_room.ensures.session c.make_room.ensures.site in
+    let says = rule_ends now c.args.recorder c.requires.fits has.kept.whole.kept c.args.transfer c.requires.rule in
+    let may : MayEndStage now c.served-task.result.0 c.args.transfer = may_stage now c.served-task.result.0 c.args.transfer c.requires.kind (says.may c.served-task.result.0 c.served-task.result.1 c.served-task.ensures.serves) in
+    let due = due_staged g.row.S.Denot g.S.Site.tells (g.S.Site.told now.site) now has.kept.whole says.going c.args.recorder c.served-task.result.0 c.served-task.result.1 c.served-task.ensures.serves c.args.transfer may in
+    row_held g.S.Site has c.args.transfer.volume (Staged c.args.transfer.cylinder) due says.going
 
 pub end_task-requires-clause-frame : goal.end_task-requires-clause-frame
 end_task-requires-clause-frame g c =
     let now = c.args.core.now in
-    let is = c.core.view_is in
-    let kept = kept_at g.S.Site (vec_len c.core.inside.buffer) _ now is c.core.invariant in
-    let says = rule_ends now c.args.recorder c.requires.fits kept.whole.kept c.args.transfer c.requires.rule in
-    let its = (kept.whole.kept says.going).tasks_.each c.args.recorder c.served-task.result.0 c.served-task.ensures.serves.at in
-    let size : length c.core.inside.frames.owners ≡ now.config.frames = ap (λ (z : CoreValue g.row.S.Denot g.row.C.Denot). length z.owners) is ∙ kept.whole.shaped.owners_ in
+    let has = has_room g.S.Site _ now c.core.view_is c.core.invariant c.make_room.new.site _ c.make_room.ensures.session c.make_room.ensures.site in
+    let says = rule_ends now c.args.recorder c.requires.fits has.kept.whole.kept c.args.transfer c.requires.rule in
+    let its = (has.kept.whole.kept says.going).tasks_.each c.args.recorder c.served-task.result.0 c.served-task.ensures.serves.at in
+    let size : length c.core.inside.frames.owners ≡ now.config.frames = ap (λ (z : CoreValue g.row.S.Denot g.row.C.Denot). length z.owners) has.is ∙ has.kept.whole.shaped.owners_ in
     let fits = its.low in
     omega (arith, size, fits)
 
 pub invariant_of-core-in-Ok : goal.invariant_of-core-in-Ok
 invariant_of-core-in-Ok g c =
     let now = c.args.core.now in
-    let is = c.core.view_is in
-    let kept = kept_at g.S.Site (vec_len c.core.inside.buffer) _ now is c.core.invariant in
-    let says = rule_ends now c.args.recorder c.requires.fits kept.whole.kept c.args.transfer c.requires.rule in
-    let session : session_data c.make_room.new.session ≡ data_of now = c.make_room.ensures.session ∙ ap (λ (z : CoreValue g.row.S.Denot g.row.C.Denot). data_of z) is in
-    let moved : g.S.Site.tells → g.S.Site.told c.make_room.new.site ≡ g.S.Site.told now.site = λ tl. c.make_room.ensures.site.log tl ∙ ap (λ (z : CoreValue g.row.S.Denot g.row.C.Denot). g.S.Site.told z.site) is in
-    let unwritten : g.S.Site.writes c.make_room.new.site ≡ g.S.Site.writes now.site = c.make_room.ensures.site.unwritten ∙ ap (λ (z : CoreValue g.row.S.Denot g.row.C.Denot). g.S.Site.writes z.site) is in
-    let sound : g.S.Site.faults c.make_room.new.site ≡ g.S.Site.faults now.site = c.make_room.ensures.site.same ∙ ap (λ (z : CoreValue g.row.S.Denot g.row.C.Denot). g.S.Site.faults z.site) is in
-    let x = c.write_change.new.site in
-    let more : g.S.Site.writes now.site ≤ g.S.Site.writes x = let w = c.write_change.ensures.devices.written in omega (arith, w, unwritten) in
-    let le : g.S.Site.faults now.site ≤ g.S.Site.faults x = let f = c.write_change.ensures.devices.later in omega (arith, f, sound) in
-    let rows : c.write_change.new.rows ≡ with_changed c.args.transfer.volume (Staged c.args.transfer.cylinder) now.rows = c.write_change.ensures.rows ∙ (λ i. with_changed c.args.transfer.volume (Staged c.args.transfer.cylinder) (is i).rows) in
-    let row = λ (r : RowValue) (at : listed now.rows c.args.transfer.volume ≡ Some r). ap (λ (z : CoreValue g.row.S.Denot g.row.C.Denot). listed z.rows c.args.transfer.volume) is ∙ at in
+    let has = has_room g.S.Site _ now c.core.view_is c.core.invariant c.make_room.new.site _ c.make_room.ensures.session c.make_room.ensures.site in
+    let says = rule_ends now c.args.recorder c.requires.fits has.kept.whole.kept c.args.transfer c.requires.rule in
     let may : MayEndStage now c.served-task.result.0 c.args.transfer = may_stage now c.served-task.result.0 c.args.transfer c.requires.kind (says.may c.served-task.result.0 c.served-task.result.1 c.served-task.ensures.serves) in
-    let message = message_of (g.S.Site.writes x) c.args.transfer.volume (Staged c.args.transfer.cylinder) (listed now.rows) in
-    let told : session_data c.did.new.session ≡ with_last_event (Work c.args.recorder) (with_last_message message (data_of now)) = c.did.ensures.told
-    ∙ ap (with_last_event (Work c.args.recorder)) (c.in-Ok.ensures.told ∙ (λ i. with_last_message (message_of (g.S.Site.writes x) c.args.transfer.volume (Staged c.args.transfer.cylinder) (listed (is i).rows)) (session i))) in
+    let is = c.core.view_is in
+    let x = c.write_change.new.site in
+    let done_ = row_changed g.S.Site has c.args.transfer.volume (Staged c.args.transfer.cylinder) x c.write_change.ensures.rows c.write_change.ensures.site_.devices _ c.in-Ok.ensures.copies _ refl c.in-Ok.ensures.used c.in-Ok.ensures.session.told (g.met.S.Site.counted x) c.in-Ok.ensures.site_.cause.same in
+    let told : session_data c.did.new.session ≡ with_last_event (Work c.args.recorder) (with_last_message (message_of (g.S.Site.writes x) c.args.transfer.volume (Staged c.args.transfer.cylinder) (listed now.rows)) (data_of now)) = c.did.ensures.told ∙ ap (with_last_event (Work c.args.recorder)) done_.told in
     let tasks : c.end_task.new.tasks.items ≡ slice_set now.tasks c.args.recorder None = c.end_task.ensures.tasks ∙ (λ i. slice_set (is i).tasks c.args.recorder None) in
     let moving : c.end_task.new.frames.moving ≡ slice_set now.moving c.served-task.result.0.frame false = ap (λ f. f.moving) c.end_task.ensures.frames ∙ (λ i. slice_set (is i).moving c.served-task.result.0.frame false) in
     let owners : c.end_task.new.frames.owners ≡ now.owners = ap (λ f. f.owners) c.end_task.ensures.frames ∙ ap (λ (z : CoreValue g.row.S.Denot g.row.C.Denot). z.owners) is in
     let requests : c.end_task.new.requests ≡ with_state c.served-task.result.0.host Ready now.requests = c.end_task.ensures.requests ∙ (λ i. with_state c.served-task.result.0.host Ready (is i).requests) in
-    let path : ◌≡◌ {A = CoreValue g.row.S.Denot g.row.C.Denot} _ (record now { site = c.write_change.new.site; rows = with_changed c.args.transfer.volume (Staged c.args.transfer.cylinder) now.rows; console = now.console ++ message_of (g.S.Site.writes c.write_change.new.site) c.args.transfer.volume (Staged c.args.transfer.cylinder) (listed now.rows) ∷ []; moving = slice_set now.moving c.served-task.result.0.frame false; requests = with_state c.served-task.result.0.host Ready now.requests; tasks = slice_set now.tasks c.args.recorder None; events = now.events ++ Work c.args.recorder ∷ [] }) = λ i. of_parts (is i) x (rows i) (owners i) (moving i) (requests i) (tasks i) (is i).hosts (told i) in
-    subst (λ (z : CoreValue g.row.S.Denot g.row.C.Denot). IsKept g.S.Site.tells (g.S.Site.told x) (g.S.Site.writes x) (g.S.Site.faults x) (vec_len c.core.inside.buffer) z) (sym path)
-    (kept_staged g.row.S.Denot g.S.Site.tells (g.S.Site.told now.site) (g.S.Site.told x) (g.S.Site.writes now.site) (g.S.Site.faults now.site) (g.S.Site.writes x) (g.S.Site.faults x) (vec_len c.core.inside.buffer) now kept says.going c.args.recorder c.served-task.result.0 c.served-task.result.1 c.served-task.ensures.serves x more le c.args.transfer may
-    (λ tl r at. rewritten c.args.transfer.volume (effect (Staged c.args.transfer.cylinder) r) (g.S.Site.told now.site) (g.S.Site.told c.make_room.new.site) (g.S.Site.told x) (g.S.Site.writes x) (moved tl) (c.write_change.ensures.moments tl r (row r at)) (c.in-Ok.ensures.done tl r (row r at)) (g.met.S.Site.counted x tl) (c.in-Ok.ensures.grown tl)))
+    kept_as g.S.Site _ x _ _
+    (kept_staged g.row.S.Denot g.S.Site.tells (g.S.Site.told now.site) (g.S.Site.told x) (g.S.Site.writes now.site) (g.S.Site.faults now.site) (g.S.Site.writes x) (g.S.Site.faults x) (vec_len c.core.inside.buffer) now has.kept says.going c.args.recorder c.served-task.result.0 c.served-task.result.1 c.served-task.ensures.serves x done_.more done_.le c.args.transfer may done_.done_)
+    (λ i. record (of_parts (is i) x (done_.rows_ i) (owners i) (moving i) (requests i) (tasks i) (is i).hosts (told i)) { used = done_.used_ i })
+
+pub returns-in-Ok-clause-event : goal.returns-in-Ok-clause-event
+returns-in-Ok-clause-event g c =
+    let now = c.args.core.now in
+    let has = has_room g.S.Site _ now c.core.view_is c.core.invariant c.make_room.new.site _ c.make_room.ensures.session c.make_room.ensures.site in
+    let is = c.core.view_is in
+    let x = c.write_change.new.site in
+    let done_ = row_changed g.S.Site has c.args.transfer.volume (Staged c.args.transfer.cylinder) x c.write_change.ensures.rows c.write_change.ensures.site_.devices _ c.in-Ok.ensures.copies _ refl c.in-Ok.ensures.used c.in-Ok.ensures.session.told (g.met.S.Site.counted x) c.in-Ok.ensures.site_.cause.same in
+    let told : session_data c.did.new.session ≡ with_last_event (Work c.args.recorder) (with_last_message (message_of (g.S.Site.writes x) c.args.transfer.volume (Staged c.args.transfer.cylinder) (listed now.rows)) (data_of now)) = c.did.ensures.told ∙ ap (with_last_event (Work c.args.recorder)) done_.told in
+    let tasks : c.end_task.new.tasks.items ≡ slice_set now.tasks c.args.recorder None = c.end_task.ensures.tasks ∙ (λ i. slice_set (is i).tasks c.args.recorder None) in
+    let moving : c.end_task.new.frames.moving ≡ slice_set now.moving c.served-task.result.0.frame false = ap (λ f. f.moving) c.end_task.ensures.frames ∙ (λ i. slice_set (is i).moving c.served-task.result.0.frame false) in
+    let owners : c.end_task.new.frames.owners ≡ now.owners = ap (λ f. f.owners) c.end_task.ensures.frames ∙ ap (λ (z : CoreValue g.row.S.Denot g.row.C.Denot). z.owners) is in
+    let requests : c.end_task.new.requests ≡ with_state c.served-task.result.0.host Ready now.requests = c.end_task.ensures.requests ∙ (λ i. with_state c.served-task.result.0.host Ready (is i).requests) in
+    let path : ◌≡◌ {A = CoreValue g.row.S.Denot g.row.C.Denot} _ (staged now c.args.recorder c.served-task.result.0 c.args.transfer x (g.S.Site.writes x)) = λ i. record (of_parts (is i) x (done_.rows_ i) (owners i) (moving i) (requests i) (tasks i) (is i).hosts (told i)) { used = done_.used_ i } in
+    staged_does g.S.Site (g.C.Choose.may now.chooser) now _ c.args.recorder c.served-task.result.0 c.args.transfer c.did.result c.requires.kind c.did.ensures.answer c.served-task.ensures.serves.at done_.have path
 
 pub invariant_of-core-in-Err : goal.invariant_of-core-in-Err
 invariant_of-core-in-Err g c =
     let now = c.args.core.now in
-    let is = c.core.view_is in
-    let kept = kept_at g.S.Site (vec_len c.core.inside.buffer) _ now is c.core.invariant in
-    let says = rule_ends now c.args.recorder c.requires.fits kept.whole.kept c.args.transfer c.requires.rule in
-    let session : session_data c.make_room.new.session ≡ data_of now = c.make_room.ensures.session ∙ ap (λ (z : CoreValue g.row.S.Denot g.row.C.Denot). data_of z) is in
-    let moved : g.S.Site.tells → g.S.Site.told c.make_room.new.site ≡ g.S.Site.told now.site = λ tl. c.make_room.ensures.site.log tl ∙ ap (λ (z : CoreValue g.row.S.Denot g.row.C.Denot). g.S.Site.told z.site) is in
-    let unwritten : g.S.Site.writes c.make_room.new.site ≡ g.S.Site.writes now.site = c.make_room.ensures.site.unwritten ∙ ap (λ (z : CoreValue g.row.S.Denot g.row.C.Denot). g.S.Site.writes z.site) is in
-    let sound : g.S.Site.faults c.make_room.new.site ≡ g.S.Site.faults now.site = c.make_room.ensures.site.same ∙ ap (λ (z : CoreValue g.row.S.Denot g.row.C.Denot). g.S.Site.faults z.site) is in
-    let x = c.write_change.new.site in
-    let more : g.S.Site.writes now.site ≤ g.S.Site.writes x = let w = c.write_change.ensures.devices.written in omega (arith, w, unwritten) in
-    let le : g.S.Site.faults now.site ≤ g.S.Site.faults x = let f = c.write_change.ensures.devices.later in omega (arith, f, sound) in
-    let rows : c.write_change.new.rows ≡ with_changed c.args.transfer.volume (Staged c.args.transfer.cylinder) now.rows = c.write_change.ensures.rows ∙ (λ i. with_changed c.args.transfer.volume (Staged c.args.transfer.cylinder) (is i).rows) in
-    let row = λ (r : RowValue) (at : listed now.rows c.args.transfer.volume ≡ Some r). ap (λ (z : CoreValue g.row.S.Denot g.row.C.Denot). listed z.rows c.args.transfer.volume) is ∙ at in
+    let has = has_room g.S.Site _ now c.core.view_is c.core.invariant c.make_room.new.site _ c.make_room.ensures.session c.make_room.ensures.site in
+    let says = rule_ends now c.args.recorder c.requires.fits has.kept.whole.kept c.args.transfer c.requires.rule in
     let may : MayEndStage now c.served-task.result.0 c.args.transfer = may_stage now c.served-task.result.0 c.args.transfer c.requires.kind (says.may c.served-task.result.0 c.served-task.result.1 c.served-task.ensures.serves) in
-    let due = due_staged g.row.S.Denot g.S.Site.tells (g.S.Site.told now.site) now kept.whole says.going c.args.recorder c.served-task.result.0 c.served-task.result.1 c.served-task.ensures.serves c.args.transfer may in
-    let told : session_data c.stop.new.session ≡ with_last_event (Work c.args.recorder) (with_stop (g.S.Site.faults x) (data_of now)) = c.stop.ensures.told
-    ∙ ap (with_last_event (Work c.args.recorder)) (c.in-Err.ensures.stopped ∙ ap (with_stop (g.S.Site.faults x)) session) in
-    let rises : Rises (g.S.Site.faults now.site) (g.S.Site.faults x) = subst (λ (k : ℕ). Rises k (g.S.Site.faults x)) sound c.in-Err.ensures.cause.failed in
-    let path : ◌≡◌ {A = CoreValue g.row.S.Denot g.row.C.Denot} _ (record now { site = c.write_change.new.site; rows = with_changed c.args.transfer.volume (Staged c.args.transfer.cylinder) now.rows; stopped = Some (g.S.Site.faults c.write_change.new.site); events = now.events ++ Work c.args.recorder ∷ [] }) =
-    λ i. of_parts (is i) x (rows i) (is i).owners (is i).moving (is i).requests (is i).tasks (is i).hosts (told i) in
-    subst (λ (z : CoreValue g.row.S.Denot g.row.C.Denot). IsKept g.S.Site.tells (g.S.Site.told x) (g.S.Site.writes x) (g.S.Site.faults x) (vec_len c.core.inside.buffer) z) (sym path)
-    (kept_unchanged g.row.S.Denot g.S.Site.tells (g.S.Site.told now.site) (g.S.Site.told x) (g.S.Site.writes now.site) (g.S.Site.faults now.site) (g.S.Site.writes x) (g.S.Site.faults x) (vec_len c.core.inside.buffer) now kept says.going c.args.recorder x c.args.transfer.volume (Staged c.args.transfer.cylinder) more le due
-    (λ tl r at. subst (λ (z : SiteLog). Rewrites c.args.transfer.volume (effect (Staged c.args.transfer.cylinder) r) z (g.S.Site.told x)) (moved tl) (c.write_change.ensures.moments tl r (row r at))) (record { count = refl; rises = rises }))
+    let due = due_staged g.row.S.Denot g.S.Site.tells (g.S.Site.told now.site) now has.kept.whole says.going c.args.recorder c.served-task.result.0 c.served-task.result.1 c.served-task.ensures.serves c.args.transfer may in
+    row_stopped g.S.Site has c.args.transfer.volume (Staged c.args.transfer.cylinder) c.write_change.new.site c.write_change.ensures.rows c.write_change.ensures.site_.devices _ c.in-Err.ensures.copies due says.going c.args.recorder c.in-Err.ensures.site_.cause.failed c.in-Err.ensures.unused c.in-Err.ensures.session.stopped c.stop.ensures.told
