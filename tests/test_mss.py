@@ -11,6 +11,7 @@ USAGE = """usage: mss serial <JOB         runs a job, and prints its report; doc
        mss policy RULES <JOB   the same, by rules of replacement; docs/POLICIES.md tells which there are
        mss threads <JOB        the same, with a thread for each host and each recorder
        mss show                lists the volumes that the jobs so far left in mss.site
+       mss audit               lists all that is wrong with mss.site; docs/SITES.md tells what to do
 """
 NO_RT = "mss: there is no rt on the PATH, which has to prove and build mss_cli first\n"
 BUILDING = "mss: proving low, crate 1 of 3, 0 minutes so far\n"

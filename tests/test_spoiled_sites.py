@@ -7,6 +7,7 @@ A case is a file of `cases/spoiled`, whose lines are done in order:
     volume V SERIAL            a volume; the first run makes them
     put FILE BLOCK PLACE HEX   these bytes come to stand there
     cut FILE LENGTH            the file ends there
+    remove FILE                it goes, if it is there
     has FILE BLOCK PLACE HEX   these bytes have to stand there
     show STATUS                a look at the site, or a run on it, ends so, and tells the lines below, each behind four
     serial STATUS              spaces; where the site is refused, its files have to be as before
@@ -17,6 +18,7 @@ from dataclasses import dataclass, field
 
 from fixtures import CASES, SiteTest, tests_of
 
+SITES = sorted((CASES / "spoiled").glob("*.site"))
 BLOCK = 16_384
 INDENT = 4 * " "
 RESTART_REFUSED = 4
@@ -70,13 +72,16 @@ def spelled_row(serial, first, second):
     return b"\xc1" + body + (1 + 404 + 43) * b"\0" + b"\x4d"
 
 
-@tests_of([(path.stem, path) for path in sorted((CASES / "spoiled").glob("*.site"))])
-class SpoiledSites(SiteTest):
-    """Sites that are refused by their first fault, untouched, or that are sound still."""
+class SiteOfCase(SiteTest):
+    """A test of a site that a case tells."""
 
-    def check(self, path):
+    def begin(self, path):
+        """Makes the site, before it is spoiled."""
         self.case = read_case(path)
         self.make()
+
+    def go_on(self):
+        """Does the lines of the case in order."""
         for step in self.case.steps:
             if isinstance(step, Run):
                 self.compare(step)
@@ -96,11 +101,14 @@ class SpoiledSites(SiteTest):
 
     def change(self, word, name, *rest):
         path = self.site / name
+        old = path.read_bytes() if path.exists() else b""
+        if word == "remove":
+            path.unlink(missing_ok=True)
+            return
         if word == "cut":
-            path.write_bytes(path.read_bytes()[: int(rest[0])])
+            path.write_bytes(old[: int(rest[0])])
             return
         at, given = BLOCK * int(rest[0]) + int(rest[1]), bytes.fromhex(rest[2])
-        old = path.read_bytes() if path.exists() else b""
         if word == "has":
             self.assertEqual(old[at : at + len(given)].hex(), given.hex(), " ".join([word, name, *rest]))
         if word == "put":
@@ -111,6 +119,15 @@ class SpoiledSites(SiteTest):
         self.assert_told(due.due(), self.told(due.command, text=self.case.job()), due.command)
         if due.status == RESTART_REFUSED:
             self.assertTrue(self.contents() == before, f"{due.command} wrote to a site that it refused")
+
+
+@tests_of([(path.stem, path) for path in SITES])
+class SpoiledSites(SiteOfCase):
+    """Sites that are refused by their first fault, untouched, or that are sound still."""
+
+    def check(self, path):
+        self.begin(path)
+        self.go_on()
 
 
 if __name__ == "__main__":

@@ -11,7 +11,7 @@ use Rattle.clap.specs.Walk.{Held, Names, Row, Step, Walk, after_step, finished, 
 use Rattle.clap.specs.Faults.{bundle_fault, built_fault, check_fault, entered_fault, flag_word_fault, other_fault, settle_fault, step_fault, defaults_fault, level_fault, walk_fault}
 use Rattle.clap.specs.Simple.{App, Shape, built, entered}
 use Rattle.command_words.specs.Options.{Text, dashes}
-use Rattle.command_words.specs.Parser.{CommandForm, app, expected_by, serial, threads, show}
+use Rattle.command_words.specs.Parser.{CommandForm, app, expected_by, serial, threads, show, audit}
 use Rattle.command_words.proofs.Walks.{IsSpelled, TopLaw, leaf}
 use Rattle.command_words.proofs.Leafs.{flags_unknown, leaf_is}
 
@@ -20,10 +20,10 @@ abbrev top : Shape
 top = record app.top { is_built = true }
 
 abbrev forms : Names
-forms = (codes "serial", []) ∷ (codes "threads", []) ∷ (codes "show", []) ∷ []
+forms = (codes "serial", []) ∷ (codes "threads", []) ∷ (codes "show", []) ∷ (codes "audit", []) ∷ []
 
 abbrev whole : App
-whole = record { top = top; subs = leaf serial.0 serial.1 ∷ leaf threads.0 threads.1 ∷ leaf show.0 show.1 ∷ [] }
+whole = record { top = top; subs = leaf serial.0 serial.1 ∷ leaf threads.0 threads.1 ∷ leaf show.0 show.1 ∷ leaf audit.0 audit.1 ∷ [] }
 
 is_built : built app ≡ whole
 is_built = refl
@@ -107,6 +107,13 @@ show_is word words spelled =
     ∙ named (codes "show") (level_fault (leaf show.0 show.1) [] nothing_held words false []) (rows_after (leaf show.0 show.1).rules [] words)
     ∙ ap (option_map (pair (codes "show"))) (leaf_is show.0 show.1 words spelled)
 
+audit_is : (word : Text) (words : List Text) → AllByRecursion IsSpelled words → judged_o (Some (codes "audit")) word words ≡ expected_by (Some audit) words
+unfolding defaults_fault
+audit_is word words spelled =
+    ap₂ (λ (ks : Kinds) (w : Walk). finishing ks w) (gone_quiet (codes "audit") [] words) (gone_walk (codes "audit") [] words)
+    ∙ named (codes "audit") (level_fault (leaf audit.0 audit.1) [] nothing_held words false []) (rows_after (leaf audit.0 audit.1).rules [] words)
+    ∙ ap (option_map (pair (codes "audit"))) (leaf_is audit.0 audit.1 words spelled)
+
 -- ---- a first word that names no command
 
 abbrev met_b : Bool → Option (Text × Option Text) → Text → Held × Step
@@ -145,21 +152,22 @@ none_is word words spelled = lost word words spelled (bytes_eq word dashes) (lon
 
 -- ---- all the words
 
-abbrev met_by : Bool → Bool → Bool → Option Text
-met_by a b c = option_map (λ (s : Text × List Text). s.0)
-    (if a || false then Some (codes "serial", []) else (if b || false then Some (codes "threads", []) else (if c || false then Some (codes "show", []) else None)))
+abbrev met_by : Bool → Bool → Bool → Bool → Option Text
+met_by a b c d = option_map (λ (s : Text × List Text). s.0)
+    (if a || false then Some (codes "serial", []) else (if b || false then Some (codes "threads", []) else (if c || false then Some (codes "show", []) else (if d || false then Some (codes "audit", []) else None))))
 
-abbrev form_by : Bool → Bool → Bool → Option CommandForm
-form_by a b c = if a then Some serial else (if b then Some threads else (if c then Some show else None))
+abbrev form_by : Bool → Bool → Bool → Bool → Option CommandForm
+form_by a b c d = if a then Some serial else (if b then Some threads else (if c then Some show else (if d then Some audit else None)))
 
-by_name : (word : Text) (words : List Text) → IsSpelled word → AllByRecursion IsSpelled words → (a b c : Bool) → judged_o (met_by a b c) word words ≡ expected_by (form_by a b c) words
-by_name word words spelled all true b c = serial_is word words all
-by_name word words spelled all false true c = threads_is word words all
-by_name word words spelled all false false true = show_is word words all
-by_name word words spelled all false false false = none_is word words spelled
+by_name : (word : Text) (words : List Text) → IsSpelled word → AllByRecursion IsSpelled words → (a b c d : Bool) → judged_o (met_by a b c d) word words ≡ expected_by (form_by a b c d) words
+by_name word words spelled all true b c d = serial_is word words all
+by_name word words spelled all false true c d = threads_is word words all
+by_name word words spelled all false false true d = show_is word words all
+by_name word words spelled all false false false true = audit_is word words all
+by_name word words spelled all false false false false = none_is word words spelled
 
 pub top_is : TopLaw
 unfolding judged walk_fault defaults_fault
 top_is [] spelled = refl
 top_is (word ∷ words) spelled =
-    by_first word words ∙ by_name word words spelled.0 spelled.1 (bytes_eq (codes "serial") word) (bytes_eq (codes "threads") word) (bytes_eq (codes "show") word)
+    by_first word words ∙ by_name word words spelled.0 spelled.1 (bytes_eq (codes "serial") word) (bytes_eq (codes "threads") word) (bytes_eq (codes "show") word) (bytes_eq (codes "audit") word)

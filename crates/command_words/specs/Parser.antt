@@ -9,7 +9,7 @@ use Rattle.clap.specs.declared.builder.action.ArgAction.TheVariants.{Set}
 use Rattle.clap.specs.declared.builder.value_parser.ValueParser.TheVariants as vp
 use Rattle.clap.specs.declared.parser.matches.ValueSource.TheVariants.{CommandLine}
 use Rattle.command_words.specs.Options.{Given, Text, given_in}
-use Rattle.command_words.specs.Words.{serial_options}
+use Rattle.command_words.specs.Words.{audit_options, serial_options}
 
 -- a command's name, and the names of its options
 abbrev pub CommandForm : Type 0
@@ -24,8 +24,11 @@ threads = (codes "threads", [])
 abbrev pub show : CommandForm
 show = (codes "show", [])
 
+abbrev pub audit : CommandForm
+audit = (codes "audit", audit_options)
+
 abbrev pub commands : List CommandForm
-commands = serial ∷ threads ∷ show ∷ []
+commands = serial ∷ threads ∷ show ∷ audit ∷ []
 
 -- ---- what the parser is told
 
@@ -50,7 +53,8 @@ bare_app = record {
 abbrev pub app : App
 app = record {
   top = record bare_app.top { is_leaf = false };
-  subs = command_shape serial ∷ command_shape threads ∷ command_shape show ∷ [];
+  subs = command_shape serial ∷ command_shape threads ∷ command_shape show ∷ command_shape audit
+      ∷ [];
 }
 
 -- ---- what it makes of the words

@@ -8,7 +8,7 @@ use Rattle.std.specs.Str.{bytes_eq}
 use Rattle.clap.specs.Lexer.{is_digit}
 use Rattle.command_words.specs.declared.command.Command.{Command}
 use Rattle.command_words.specs.declared.command.Command.TheVariants.{Serial, Policy, Threads}
-use Rattle.command_words.specs.declared.command.Command.TheVariants.{Show}
+use Rattle.command_words.specs.declared.command.Command.TheVariants.{Show, Audit}
 use Rattle.command_words.specs.Options.{Given, Text, given_in}
 use Rattle.victim_rules.specs.Texts.{rules_of}
 use Rattle.victim_rules.specs.declared.reading.RulesFault.{RulesFault}
@@ -57,11 +57,29 @@ serial_of givens = serial_by
     (setting 100000 (text_of (codes "turns") givens))
     (load_setting (text_of (codes "load") givens))
 
+-- 1 to 200 frames, and 200 where it is left out
+abbrev pub frames_setting : Option Text → Option ℕ
+frames_setting None = Some 200
+frames_setting (Some text) = number_in 1 200 text
+
+-- `audit`, where its setting is in order
+abbrev pub audit_by : Option ℕ → Option Command
+audit_by (Some frames) = Some (Audit frames)
+audit_by None = None
+
+abbrev pub audit_options : List Text
+audit_options = codes "frames" ∷ []
+
+-- what the options of `audit` mean
+abbrev pub audit_of : List Given → Option Command
+audit_of givens = audit_by (frames_setting (text_of (codes "frames") givens))
+
 -- what a command with its options means
 abbrev pub command_by : Text → List Given → Option Command
 command_by name givens =
     if bytes_eq name (codes "serial") then serial_of givens
-    else (if bytes_eq name (codes "threads") then Some Threads else Some Show)
+    else (if bytes_eq name (codes "threads") then Some Threads
+    else (if bytes_eq name (codes "show") then Some Show else audit_of givens))
 
 -- what words without rules mean, if anything: a command's name, and then its options
 abbrev pub unruled : List Text → Option Command
@@ -70,7 +88,8 @@ unruled (name ∷ words) =
     if bytes_eq (codes "serial") name then option_and_then serial_of (given_in serial_options words)
     else (if bytes_eq (codes "threads") name then option_map (λ _. Threads) (given_in [] words)
     else (if bytes_eq (codes "show") name then option_map (λ _. Show) (given_in [] words)
-    else None))
+    else (if bytes_eq (codes "audit") name
+    then option_and_then audit_of (given_in audit_options words) else None)))
 
 -- a run by rules, where `serial` is asked for otherwise
 abbrev pub with_rules : List Rule → Option Command → Option Command
@@ -101,3 +120,4 @@ IsWithin (Policy rules order turns load) =
     (turns ≤ 100000) × IfSome load (λ n. (1 ≤ n) × (n ≤ 1000))
 IsWithin Threads = ⊤
 IsWithin Show = ⊤
+IsWithin (Audit frames) = (1 ≤ frames) × (frames ≤ 200)

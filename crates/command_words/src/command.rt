@@ -26,6 +26,11 @@ pub enum Command {
     Threads,
     /// A look at the volumes.
     Show,
+    /// An audit of the site.
+    Audit {
+        /// How many frames are allowed, 1 to 200.
+        frames: u16,
+    },
 }
 
 /// Why words ask for nothing.

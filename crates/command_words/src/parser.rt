@@ -3,7 +3,7 @@ ghost use Rattle.std.specs.Prelude.{◌≡◌, ◌≢◌, [], false, map, string
 ghost use Rattle.clap.specs.Simple.{app_of, shape_of};
 ghost use Rattle.clap.specs.declared.builder.command.Command.TheViews.{out-Command as fields_of};
 ghost use Rattle.command_words.specs.Outcomes.{Parses};
-ghost use Rattle.command_words.specs.Parser.{app, bare_app, command_shape, serial};
+ghost use Rattle.command_words.specs.Parser.{app, audit, bare_app, command_shape, serial};
 
 use crate::command::CommandFault;
 use clap::error::ErrorKind;
@@ -22,6 +22,15 @@ fn serial_parser<'a>(alloc: Global) -> Result<Command<'a>, AllocError>
         .arg(order)?
         .arg(turns)?
         .arg(load)
+}
+
+/// `audit`, with its option.
+fn audit_parser<'a>(alloc: Global) -> Result<Command<'a>, AllocError>
+    ensures shape { IfOk result (λ parser. shape_of parser ≡ command_shape audit) }
+    ensures local { IfOk result (λ parser. (fields_of parser).has_globals ≡ false) }
+{
+    let frames = Arg::new(alloc, "frames").long("frames");
+    Command::new(alloc, "audit").arg(frames)
 }
 
 /// A command without options.
@@ -52,6 +61,8 @@ fn parser<'a>(alloc: Global) -> Result<Command<'a>, AllocError>
     let program = bare_parser(alloc).subcommand(serial)?;
     let program = program.subcommand(plain_parser(alloc, "threads"))?;
     let program = program.subcommand(plain_parser(alloc, "show"))?;
+    let audit = audit_parser(alloc)?;
+    let program = program.subcommand(audit)?;
     Ok(program)
 }
 

@@ -8,6 +8,7 @@ ghost use Rattle.command_words.specs.Options.{Given};
 ghost use Rattle.command_words.specs.Outcomes.{Reads};
 ghost use Rattle.command_words.specs.Parser.{expected_top, row_for};
 ghost use Rattle.command_words.specs.Words.{IsWithin, command_by, load_setting, unruled};
+ghost use Rattle.command_words.specs.Words.{audit_by, audit_of, frames_setting};
 ghost use Rattle.command_words.specs.Words.{serial_by, serial_of, setting};
 
 use crate::command::{Command, CommandFault};
@@ -21,6 +22,9 @@ const TURN_LIMIT: u64 = 100_000;
 
 /// The most programs of a load.
 const PROGRAM_LIMIT: u64 = 1000;
+
+/// As many frames as there may be.
+const FRAME_LIMIT: u64 = 200;
 
 /// A number up to a most, and 0 where it is left out.
 fn setting(most: u64, text: Option<&str>) -> Option<u64>
@@ -79,6 +83,42 @@ fn serial_of(options: &ArgMatches<'_>) -> Option<Command>
     serial_by(order, turns, load)
 }
 
+/// How many frames an audit allows, and as many as there may be where that is left out.
+fn frames_setting(text: Option<&str>) -> Option<u16>
+    ensures value { result ≡ frames_setting (option_map (λ t. t.now) text.entry) }
+    ensures within { IfSome result (λ n. (1 ≤ n) × (n ≤ 200)) }
+{
+    match text {
+        Some(text) => match number_in(1, FRAME_LIMIT, text) {
+            Some(frames) => Some(frames as u16),
+            None => None,
+        },
+        None => Some(FRAME_LIMIT as u16),
+    }
+}
+
+/// `audit`, where its setting is in order.
+fn audit_by(frames: Option<u16>) -> Option<Command>
+    requires { IfSome frames (λ n. (1 ≤ n) × (n ≤ 200)) }
+    ensures value { result ≡ audit_by frames }
+    ensures within { IfSome result IsWithin }
+{
+    let Some(frames) = frames else {
+        return None;
+    };
+    Some(Command::Audit { frames })
+}
+
+/// What the options of `audit` mean.
+fn audit_of(options: &ArgMatches<'_>) -> Option<Command>
+    ensures value { (givens : List Given) → rows_of (found_of options.now) ≡ map row_for givens
+        → result ≡ audit_of givens }
+    ensures within { IfSome result IsWithin }
+{
+    let frames = frames_setting(options.get_str("frames"));
+    audit_by(frames)
+}
+
 /// What a command with its options means.
 fn command_by(name: &str, options: &ArgMatches<'_>) -> Option<Command>
     ensures value { (givens : List Given) → rows_of (found_of options.now) ≡ map row_for givens
@@ -91,7 +131,10 @@ fn command_by(name: &str, options: &ArgMatches<'_>) -> Option<Command>
     if name == "threads" {
         return Some(Command::Threads);
     }
-    Some(Command::Show)
+    if name == "show" {
+        return Some(Command::Show);
+    }
+    audit_of(options)
 }
 
 /// What the parsed words mean.

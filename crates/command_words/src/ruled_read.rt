@@ -72,12 +72,13 @@ fn read_policy(alloc: Global, rules: &str, options: &[String]) -> Result<Command
 
 /// The command that the words behind the program's name ask for.
 ///
-/// They are `serial`, `threads` or `show`, and behind `serial` its options: `--order` of 0 to
-/// 18,446,744,073,709,551,615, `--turns` of 0 to 100,000 and `--load` of 1 to 1,000, each at most
-/// once, in any order, as two words or with `=`. Order and turns are 0 where they are left out. A
-/// number is one to twenty digits. A last word `--` means nothing. Or they are `policy`, a text of
-/// rules, as `victim_rules` reads it, and the options of `serial`. All other words are `Refused`,
-/// `help`, `--help` and `--version` too. `Memory` may come at any words.
+/// They are `serial`, `threads`, `show` or `audit`, and behind `serial` its options: `--order` of 0
+/// to 18,446,744,073,709,551,615, `--turns` of 0 to 100,000 and `--load` of 1 to 1,000, each at most
+/// once, in any order, as two words or with `=`. Order and turns are 0 where they are left out.
+/// Behind `audit` there may be `--frames` of 1 to 200, which is 200 where it is left out. A number
+/// is one to twenty digits. A last word `--` means nothing. Or they are `policy`, a text of rules,
+/// as `victim_rules` reads it, and the options of `serial`. All other words are `Refused`, `help`,
+/// `--help` and `--version` too. `Memory` may come at any words.
 pub fn read_command(alloc: Global, words: &[String]) -> Result<Command, CommandFault>
     ensures meaning { Reads result (meaning (map string_bytes words.now)) }
     ensures within { IfOk result IsWithin }

@@ -1,4 +1,5 @@
-//! The command of the simulator: a run on the site in the folder `mss.site`, over standard input and output.
+//! The command of the simulator: a run, a look or an audit of the site in the folder `mss.site`, over standard input
+//! and output.
 #![tactic(auto)]
 
 mod arguments;

@@ -9,5 +9,6 @@ pub mod Completed
 pub mod CompletedThreads
 pub mod Looked
 pub mod OneLook
+pub mod Audited
 pub mod Broken
 pub mod Obeyed

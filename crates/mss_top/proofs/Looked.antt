@@ -49,9 +49,9 @@ survey_of site found frames volumes all none told exact kept =
       kept = kept;
     }
 
-pub any_config : IsConfig (record { frames = FRAMES; recorders = 1; volumes = [] })
+pub any_config : (frames : ℕ) → 1 ≤ frames → frames ≤ FRAMES → IsConfig (record { frames = frames; recorders = 1; volumes = [] })
 unfolding IsStrictlySortedBy IsDistinct
-any_config = record { some_frames = omega arith; few_frames = omega arith; some_recorders = omega arith; few_recorders = omega arith; volumes_ = tt; rising = tt; serials = tt }
+any_config frames some few = record { some_frames = omega (arith, some); few_frames = omega (arith, few); some_recorders = omega arith; few_recorders = omega arith; volumes_ = tt; rising = tt; serials = tt }
 
 -- ---- where no call fails
 

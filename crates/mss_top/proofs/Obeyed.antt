@@ -2,7 +2,7 @@
 use Rattle.std.proofs.Common.{◌≡◌, inl, inr, ℕ, List, [], Option, Some, None, Err, refl, sym, ◌∙◌, subst}
 use Rattle.mss_base.specs.Content.{Content}
 use Rattle.command_words.specs.declared.command.Command.{Command}
-use Rattle.command_words.specs.declared.command.Command.TheVariants.{Serial, Policy, Threads, Show}
+use Rattle.command_words.specs.declared.command.Command.TheVariants.{Serial, Policy, Threads, Show, Audit}
 use Rattle.core_state.specs.declared.session.Session.{Session}
 use Rattle.report_text.specs.declared.one_line.OneLine.{OneLine}
 use Rattle.report_text.specs.declared.one_line.OneLine.TheVariants as line
@@ -15,6 +15,7 @@ use Rattle.mss_top.specs.Showing.{IsUnlisted, LooksExactly}
 use Rattle.mss_top.specs.Status.{IsLinePut}
 use Rattle.mss_top.specs.declared.status.Status.{Status}
 use Rattle.mss_top.proofs.Admitting.{refused_words}
+use Rattle.mss_top.proofs.Audited.{audit_complete, refused_audit}
 use Rattle.mss_top.proofs.Completed.{run_complete}
 use Rattle.mss_top.proofs.CompletedThreads.{threads_complete}
 use Rattle.mss_top.proofs.Looked.{look_complete}
@@ -26,6 +27,7 @@ use Rattle.victim_rules.specs.declared.rule.Rule.{Rule}
 pub whole_of : (asked : Option Command) (may : Chooses) (p : Parties) (told : Status) (session : Option Session) → Does asked may p told session → IsWhole asked p told
 whole_of None may p told session does = tt
 whole_of (Some Show) may p told session does = λ well. look_complete (Some Show) p.site p.sink well told does
+whole_of (Some (Audit frames)) may p told session does = λ well. audit_complete (Some (Audit frames)) p.site p.sink frames well told does
 whole_of (Some Threads) may p told session does = λ job well. threads_complete (Some Threads) p.input p.site p.sink job well told does.0 session does.1
 whole_of (Some (Serial order turns load)) may p told session does = λ settings job well.
     run_complete (Some (Serial order turns load)) p.input p.site p.sink settings job well told may session does
@@ -79,6 +81,7 @@ pub refused_does : (asked : Option Command) (may : Chooses) (p : Parties) (told 
 refused_does None may p told session said is untouched same none put =
     record { says = record { said = said; cause = refusal_line None said is; put = put }; unread = untouched; devices_ = same; none = none }
 refused_does (Some Show) may p told session said is untouched same none put = inl (record { said = said; cause = refused_look (Some Show) p.site said is same; put = put })
+refused_does (Some (Audit frames)) may p told session said is untouched same none put = inl (record { said = said; cause = refused_audit (Some (Audit frames)) p.site said is same; put = put })
 refused_does (Some Threads) may p told session said is untouched same none put =
     ([], ends_kept_out (Some Threads) p.input p.site p.sink told [] said session none refl (refused_threads (Some Threads) p.input said is untouched) same put)
 refused_does (Some (Serial order turns load)) may p told session said is untouched same none put =

@@ -3,6 +3,7 @@ pub mod Admission
 pub mod Status
 pub mod Ending
 pub mod Showing
+pub mod Auditing
 pub mod Serial
 pub mod Threads
 pub mod Obeying

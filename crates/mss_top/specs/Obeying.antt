@@ -4,7 +4,7 @@ use Rattle.mss_base.specs.Content.{content}
 use Rattle.mss_base.specs.declared.site.Site.{Ghosts}
 use Rattle.command_words.specs.declared.command.Command.{Command}
 use Rattle.command_words.specs.declared.command.Command.TheVariants.{Serial, Policy, Threads}
-use Rattle.command_words.specs.declared.command.Command.TheVariants.{Show}
+use Rattle.command_words.specs.declared.command.Command.TheVariants.{Show, Audit}
 use Rattle.job_text.specs.Jobs.{JobData}
 use Rattle.report_text.specs.declared.one_line.OneLine.{OneLine}
 use Rattle.report_text.specs.declared.one_line.OneLine.TheVariants as line
@@ -12,6 +12,7 @@ use Rattle.core_state.specs.declared.session.Session.{Session}
 use Rattle.mss_run.specs.Runs.{EndData}
 use Rattle.session_report.specs.Parties.{Stream, IsUntouched}
 use Rattle.job_runs.specs.Parties.{Devices}
+use Rattle.mss_top.specs.Auditing.{AuditBrokeOff, AuditsWell, EndsAudit, IsWrongPut}
 use Rattle.mss_top.specs.Ending.{SaysWhy}
 use Rattle.mss_top.specs.Serial.{Chooses, Ends, GoesWell, IsComplete, OnUnstopped, RunBrokeOff}
 use Rattle.mss_top.specs.Showing.{EndsShown, IsShown, LookBrokeOff, LooksWell}
@@ -40,11 +41,13 @@ pub record IsRefusal (p : Parties) (told : Status) (session : Option Session) : 
   pub devices_ : p.site.now ≡ p.site.was
   pub none : session ≡ None
 
--- What the words ask for is done: a look, a run in threads or a run; or they are refused. A run by
--- rules is what `serial` promises with these settings, where the rules choose.
+-- What the words ask for is done: a look, an audit, a run in threads or a run; or they are refused.
+-- A run by rules is what `serial` promises with these settings, where the rules choose.
 abbrev pub Does : Option Command → Chooses → Parties → Status → Option Session → Type 0
 Does None may p told session = IsRefusal p told session
 Does (Some Show) may p told session = EndsShown (Some Show) p.site p.sink told
+Does (Some (Audit frames)) may p told session =
+    EndsAudit (Some (Audit frames)) p.site p.sink told
 Does (Some Threads) may p told session =
     (hosts : List EndData) × EndsThreads (Some Threads) p.input p.site p.sink told hosts session
 Does (Some (Serial order turns load)) may p told session =
@@ -57,6 +60,8 @@ abbrev pub IsWhole : Option Command → Parties → Status → Type 0
 IsWhole None p told = Unit {0}
 IsWhole (Some Show) p told =
     LooksWell (Some Show) p.site p.sink → IsShown (content p.site.was.told) p.sink told
+IsWhole (Some (Audit frames)) p told = AuditsWell (Some (Audit frames)) frames p.site p.sink
+    → IsWrongPut frames (content p.site.was.told) p.sink told
 IsWhole (Some Threads) p told =
     (job : JobData) → GoesWellAtOnce (Some Threads) p.input p.site p.sink job → IsComplete told
 IsWhole (Some (Serial order turns load)) p told = (settings : Settings) (job : JobData)
@@ -66,11 +71,13 @@ IsWhole (Some (Policy rules order turns load)) p told = (settings : Settings) (j
     → GoesWell (Some (Serial order turns load)) p.input p.site p.sink settings job
     → IsComplete told
 
--- what was put broke off before a track of which a read may fail; of words that are refused none is
+-- What was put broke off before a track of which a read may fail, or an audit at such a read; of
+-- words that are refused none is.
 abbrev pub OutputBrokeOff : {S : Type 0} → Ghosts S → S → Option Command → Parties → Option Session
     → Type 0
 OutputBrokeOff g s None p session = ⊥
 OutputBrokeOff g s (Some Show) p session = LookBrokeOff g s p.site p.sink
+OutputBrokeOff g s (Some (Audit frames)) p session = AuditBrokeOff g s p.site p.sink
 OutputBrokeOff g s (Some Threads) p session =
     OnUnstopped session (ThreadsBrokeOff g s (Some Threads) p.input p.site p.sink)
 OutputBrokeOff g s (Some (Serial order turns load)) p session = OnUnstopped session

@@ -1,5 +1,5 @@
 -- Statuses, and what a status says of one line that was put.
-use Rattle.std.specs.Prelude.{◌≡◌, ℕ, ◌++◌, Ok, Err}
+use Rattle.std.specs.Prelude.{◌≡◌, ℕ, List, ◌++◌, Ok, Err}
 use Rattle.mss_base.specs.Counts.{Rises}
 use Rattle.mss_base.specs.Puts.{PutsFront}
 use Rattle.report_text.specs.OneLines.{one_line_text}
@@ -47,10 +47,14 @@ status_of end (Err (report_fault.Read fault)) = status.Stopped
 status_of end (Err report_fault.Output) = status.OutputFault
 status_of end (Err report_fault.Memory) = status.Memory
 
--- What a status says of a line: that it was put whole, and no put failed, or a front of it, since
--- the sink failed.
-pub data IsLinePut (said : OneLine) (sink : Stream) (told : Status) : Type 0 where
-  whole : told ≡ line_status said → sink.faults_now ≡ sink.faults_was
-      → (sink.tells → sink.now ≡ sink.was ++ one_line_text said) → IsLinePut said sink told
+-- What a status says of a text, behind which this one is due: that it was put whole, and no put
+-- failed, or a front of it, since the sink failed.
+pub data IsTextPut (text : List ℕ) (due : Status) (sink : Stream) (told : Status) : Type 0 where
+  whole : told ≡ due → sink.faults_now ≡ sink.faults_was
+      → (sink.tells → sink.now ≡ sink.was ++ text) → IsTextPut text due sink told
   broken : told ≡ status.OutputFault → Rises sink.faults_was sink.faults_now
-      → (sink.tells → PutsFront sink.was sink.now (one_line_text said)) → IsLinePut said sink told
+      → (sink.tells → PutsFront sink.was sink.now text) → IsTextPut text due sink told
+
+-- and of one line
+abbrev pub IsLinePut : OneLine → Stream → Status → Type 0
+IsLinePut said sink told = IsTextPut (one_line_text said) (line_status said) sink told

@@ -1,15 +1,17 @@
-//! What the program does: a whole run, and a look at the volumes.
+//! What the program does: a whole run, a look at the volumes, and an audit.
 //!
 //! `serial` does a run; its clause `ended` (`specs/Serial.antt`) is the promise of this repository. It reads the
 //! words, the job and draws the turns (`admission.rt`), and runs the job on the site by `job_runs`. `threads` does one
 //! with a thread for each host and each recorder, by `thread_runs` (`specs/Threads.antt`). `show` lists the volumes of
-//! a site (`specs/Showing.antt`). `obey` does whichever of the three the words ask for, or a run of `serial` in which
-//! rules choose (`specs/Obeying.antt`). Contracts speak of input, devices and output as parties: what each told before
-//! and after, and its counts of faults.
+//! a site (`specs/Showing.antt`), and `audit_site` all that is wrong with it, by `mss_audit` (`specs/Auditing.antt`).
+//! `obey` does whichever of the four the words ask for, or a run of `serial` in which rules choose
+//! (`specs/Obeying.antt`). Contracts speak of input, devices and output as parties: what each told before and after,
+//! and its counts of faults.
 #![tactic(auto)]
 
 mod admission;
 mod at_once;
+mod auditing;
 mod ending;
 mod input;
 mod obeying;
@@ -18,6 +20,7 @@ mod showing;
 mod status;
 
 pub use at_once::{EndedAtOnce, threads};
+pub use auditing::audit_site;
 pub use ending::Ended;
 pub use input::{InputFault, read_input};
 pub use obeying::obey;

@@ -1,10 +1,10 @@
 //! What the words ask for is done.
-ghost use Rattle.std.specs.Prelude.{◌≡◌, Bool, IfSome, None, Some, map, string_bytes};
+ghost use Rattle.std.specs.Prelude.{◌≡◌, ℕ, Bool, IfSome, None, Some, map, string_bytes};
 ghost use Rattle.mss_base.specs.Content.{content};
 ghost use Rattle.mss_base.specs.Sites.{OnlyReads};
 ghost use Rattle.mss_base.specs.declared.place.UnitNo.{UnitNo};
 ghost use Rattle.command_words.specs.Words.{IsWithin, meaning};
-ghost use Rattle.command_words.specs.declared.command.Command.TheVariants.{Show};
+ghost use Rattle.command_words.specs.declared.command.Command.TheVariants.{Show, Audit};
 ghost use Rattle.core_state.specs.Sessions.{session_data};
 ghost use Rattle.mss_restart.specs.Creations.{WritesOn};
 ghost use Rattle.session_report.specs.Parties.{sink_between, source_between};
@@ -15,6 +15,7 @@ ghost use Rattle.mss_top.specs.declared.status.Status.TheVariants.{Stopped};
 
 use crate::admission::{Settings, command_in};
 use crate::at_once::run_threads;
+use crate::auditing::audit_for;
 use crate::ending::{Ended, refuse};
 use crate::run::{policy, run_with};
 use crate::showing::look;
@@ -57,6 +58,7 @@ fn carry_out<
     ensures only_reads_fail { (but : UnitNo → Bool) → S.never_fails_but site but
         → IfSome result.session (λ s. (session_data s).stopped ≡ None) }
     ensures looks { command ≡ Show → OnlyReads S.Site site result.site }
+    ensures audits { (frames : ℕ) → command ≡ Audit frames → OnlyReads S.Site site result.site }
     ensures devices { WritesOn S.Site site result.site }
 {
     match command {
@@ -75,13 +77,14 @@ fn carry_out<
         }
         Command::Threads => run_threads(rt, input, output, site, chooser, gate).run,
         Command::Show => look(rt.alloc(), output, site),
+        Command::Audit { frames } => audit_for(rt.alloc(), frames, output, site),
     }
 }
 
-/// Does what the words ask for on the site: the run of `serial`, that run by rules, the run of `threads`, or the look of
-/// `show`.
+/// Does what the words ask for on the site: the run of `serial`, that run by rules, the run of `threads`, the look of
+/// `show`, or the audit of `audit_site`.
 ///
-/// The words are read once. What each of the three says holds here of its command, and what `serial` says of a run by
+/// The words are read once. What each of the four says holds here of its command, and what `serial` says of a run by
 /// rules, which choose in place of the chooser that is handed in. Words that ask for nothing are refused
 /// by one line, before the input is read and the site is looked at.
 pub fn obey<
@@ -118,6 +121,8 @@ pub fn obey<
     ensures only_reads_fail { (but : UnitNo → Bool) → S.never_fails_but site but
         → IfSome result.session (λ s. (session_data s).stopped ≡ None) }
     ensures looks { meaning (map string_bytes words.now) ≡ Some Show
+        → OnlyReads S.Site site result.site }
+    ensures audits { (frames : ℕ) → meaning (map string_bytes words.now) ≡ Some (Audit frames)
         → OnlyReads S.Site site result.site }
     ensures devices { WritesOn S.Site site result.site }
 {

@@ -1,5 +1,5 @@
 //! A look at the volumes of a site.
-ghost use Rattle.std.specs.Prelude.{◌≡◌, ◌≢◌, [], None, Some, map, string_bytes};
+ghost use Rattle.std.specs.Prelude.{◌≡◌, ◌≢◌, ◌≤◌, [], None, Some, map, string_bytes};
 ghost use Rattle.command_words.specs.Words.{meaning};
 ghost use Rattle.command_words.specs.declared.command.Command.TheVariants.{Show};
 ghost use Rattle.mss_base.specs.Content.{content};
@@ -28,13 +28,14 @@ use volume_table::Rows;
 /// As many frames as there may be: the devices may have a frame of any number.
 const FRAMES: u16 = 200;
 
-/// The configuration of a look: it asks for no volume.
-fn any_config(alloc: Global) -> Config
-    ensures frames { result.frames ≡ FRAMES }
+/// The configuration of a look or an audit, with 1 to 200 frames: it asks for no volume.
+pub fn any_config(alloc: Global, frames: u16) -> Config
+    requires { (1 ≤ frames) × (frames ≤ FRAMES) }
+    ensures frames { result.frames ≡ frames }
     ensures volumes { result.volumes ≡ [] }
 {
     Config {
-        frames: FRAMES,
+        frames,
         recorders: 1,
         volumes: VolumeList::new(alloc),
     }
@@ -47,7 +48,7 @@ fn survey_any<S: Site>(alloc: Global, site: &mut S) -> Result<Rows, OneLine>
         → ArePaired (content (S.told site.old)) → LooksExactly (content (S.told site.old)) result }
     ensures site { OnlyReads S.Site site.old site.new }
 {
-    match survey(alloc, site, &any_config(alloc)) {
+    match survey(alloc, site, &any_config(alloc, FRAMES)) {
         Ok(rows) => Ok(rows),
         Err(refused) => Err(refusal_line(&refused)),
     }

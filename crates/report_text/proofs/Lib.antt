@@ -1,3 +1,4 @@
 pub mod LineLemmas
 pub mod TrackTexts
 pub mod Rows
+pub mod Alike

@@ -73,3 +73,28 @@ refusal_text (refused.StagedDiffers volume cylinder head) =
 refusal_text (refused.Stopped fault) =
     codes "restart refused stopped fault " ++ decimal fault ++ codes "\n"
 refusal_text refused.Memory = codes "want of memory\n"
+
+-- what each refusal says, behind whatever begins its line; want of memory has a line of its own
+unfoldable pub refused_text : Refused → List ℕ
+refused_text (refused.RowDamaged volume copy fault) =
+    codes "volume " ++ decimal volume ++ codes " copy " ++ copy_name copy
+    ++ codes " row " ++ row_field_text fault.field ++ codes " value " ++ decimal fault.value
+    ++ codes "\n"
+refused_text (refused.RowUnread volume fault) =
+    codes "volume " ++ decimal volume ++ codes " unread fault " ++ decimal fault ++ codes "\n"
+refused_text (refused.SerialDiffers volume kept asked) =
+    codes "volume " ++ decimal volume ++ codes " serial " ++ kept ++ codes " asked " ++ asked
+    ++ codes "\n"
+refused_text (refused.CartridgeTwice cartridge first second) =
+    codes "cartridge " ++ decimal cartridge ++ codes " twice" ++ half_text first ++ half_text second
+    ++ codes "\n"
+refused_text (refused.FrameGone frame) = codes "frame " ++ decimal frame ++ codes " gone\n"
+refused_text (refused.FrameTwice frame first second) =
+    codes "frame " ++ decimal frame ++ codes " twice" ++ page_text first ++ page_text second
+    ++ codes "\n"
+refused_text (refused.TornTrack volume cylinder head) =
+    codes "torn track volume " ++ place_text volume cylinder head ++ codes "\n"
+refused_text (refused.StagedDiffers volume cylinder head) =
+    codes "staged differs volume " ++ place_text volume cylinder head ++ codes "\n"
+refused_text (refused.Stopped fault) = codes "stopped fault " ++ decimal fault ++ codes "\n"
+refused_text refused.Memory = codes "want of memory\n"

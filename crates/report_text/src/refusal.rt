@@ -10,6 +10,7 @@ ghost use Rattle.report_text.specs.Refusals.{
   page_text,
   part_text,
   refusal_text,
+  refused_text,
   row_field_text,
 };
 
@@ -19,7 +20,7 @@ use shown_volumes::{Half, Refused};
 use table_pair::TableCopy;
 use volume_table::{RowFault, RowField};
 
-// How the line of each kind of refusal begins.
+// How the line of each kind of refusal begins, and how its text does behind other words.
 
 const VOLUME: &str = "restart refused volume ";
 
@@ -33,8 +34,23 @@ const STAGED_DIFFERS: &str = "restart refused staged differs volume ";
 
 const STOPPED: &str = "restart refused stopped fault ";
 
+const OF_VOLUME: &str = "volume ";
+
+const OF_CARTRIDGE: &str = "cartridge ";
+
+const OF_FRAME: &str = "frame ";
+
+const OF_TORN_TRACK: &str = "torn track volume ";
+
+const OF_STAGED_DIFFERS: &str = "staged differs volume ";
+
+const OF_STOPPED: &str = "stopped fault ";
+
+/// What such a line says of a copy that counts and spells no row.
+const ROW: &str = " row ";
+
 /// How a line names a copy of the table.
-fn copy_name(copy: TableCopy) -> &'static str
+pub fn copy_name(copy: TableCopy) -> &'static str
     ensures { result.now ≡ copy_name copy }
 {
     match copy {
@@ -74,11 +90,12 @@ fn put_damaged<O: Sink>(
     text: &'static str,
     volume: VolumeNo,
     copy: &'static str,
+    word: &'static str,
     field: (&'static str, Option<u16>),
     value: u16,
 ) -> Result<(), Failed>
     ensures bytes { O.tells → Puts result (O.told output.old) (O.told output.new)
-        (text.now ++ decimal volume ++ codes " copy " ++ copy.now ++ codes " row "
+        (text.now ++ decimal volume ++ codes " copy " ++ copy.now ++ word.now
         ++ (field.entry.0.now ++ number_text field.entry.1) ++ codes " value " ++ decimal value
         ++ codes "\n") }
     ensures cause { HasCause (O.faults output.old) (O.faults output.new) result }
@@ -91,7 +108,7 @@ fn put_damaged<O: Sink>(
         volume_digits.format(volume.get()),
         " copy ",
         copy,
-        " row ",
+        word,
         field.0,
         digits_of(&mut place_digits, field.1),
         " value ",
@@ -101,21 +118,32 @@ fn put_damaged<O: Sink>(
     put_pieces(output, &pieces)
 }
 
-fn put_row_damaged<O: Sink>(
+/// Puts a line on a copy that spells no row, by ten calls: `text` and the volume, the copy, what `word` says of it, and the
+/// field at fault with its value.
+pub fn put_row_damaged<O: Sink>(
     output: &mut O,
     text: &'static str,
     volume: VolumeNo,
     copy: TableCopy,
+    word: &'static str,
     fault: &RowFault,
 ) -> Result<(), Failed>
     ensures bytes { O.tells → Puts result (O.told output.old) (O.told output.new)
-        (text.now ++ decimal volume ++ codes " copy " ++ copy_name copy ++ codes " row "
+        (text.now ++ decimal volume ++ codes " copy " ++ copy_name copy ++ word.now
         ++ row_field_text fault.now.field ++ codes " value " ++ decimal fault.now.value
         ++ codes "\n") }
     ensures cause { HasCause (O.faults output.old) (O.faults output.new) result }
 {
     let field = field_name(fault.field);
-    put_damaged(output, text, volume, copy_name(copy), field, fault.value)
+    put_damaged(
+        output,
+        text,
+        volume,
+        copy_name(copy),
+        word,
+        field,
+        fault.value,
+    )
 }
 
 fn put_row_unread<O: Sink>(
@@ -275,7 +303,7 @@ pub fn put_refusal<O: Sink>(output: &mut O, refused: &Refused) -> Result<(), Fai
             volume,
             copy,
             fault,
-        } => put_row_damaged(output, VOLUME, *volume, *copy, fault),
+        } => put_row_damaged(output, VOLUME, *volume, *copy, ROW, fault),
         Refused::RowUnread { volume, fault } => put_row_unread(output, VOLUME, *volume, *fault),
         Refused::SerialDiffers {
             volume,
@@ -304,6 +332,51 @@ pub fn put_refusal<O: Sink>(output: &mut O, refused: &Refused) -> Result<(), Fai
             head,
         } => put_place(output, STAGED_DIFFERS, *volume, *cylinder, *head),
         Refused::Stopped { fault } => put_numbered(output, STOPPED, *fault),
+        Refused::Memory => put_text(output, "want of memory\n"),
+    }
+}
+
+/// Puts what a refusal says, behind whatever begins its line, by at most twelve calls. It wants no memory.
+#[tactic(auto, unfolding(crate::specs::Refusals::refused_text))]
+pub fn put_refused<O: Sink>(output: &mut O, refused: &Refused) -> Result<(), Failed>
+    ensures bytes { O.tells → Puts result (O.told output.old) (O.told output.new)
+        (refused_text refused.now) }
+    ensures cause { HasCause (O.faults output.old) (O.faults output.new) result }
+{
+    match refused {
+        Refused::RowDamaged {
+            volume,
+            copy,
+            fault,
+        } => put_row_damaged(output, OF_VOLUME, *volume, *copy, ROW, fault),
+        Refused::RowUnread { volume, fault } => put_row_unread(output, OF_VOLUME, *volume, *fault),
+        Refused::SerialDiffers {
+            volume,
+            kept,
+            asked,
+        } => put_serial_differs(output, OF_VOLUME, *volume, kept, asked),
+        Refused::CartridgeTwice {
+            cartridge,
+            first,
+            second,
+        } => put_cartridge_twice(output, OF_CARTRIDGE, *cartridge, first, second),
+        Refused::FrameGone { frame } => put_frame_gone(output, OF_FRAME, *frame),
+        Refused::FrameTwice {
+            frame,
+            first,
+            second,
+        } => put_frame_twice(output, OF_FRAME, *frame, *first, *second),
+        Refused::TornTrack {
+            volume,
+            cylinder,
+            head,
+        } => put_place(output, OF_TORN_TRACK, *volume, *cylinder, *head),
+        Refused::StagedDiffers {
+            volume,
+            cylinder,
+            head,
+        } => put_place(output, OF_STAGED_DIFFERS, *volume, *cylinder, *head),
+        Refused::Stopped { fault } => put_numbered(output, OF_STOPPED, *fault),
         Refused::Memory => put_text(output, "want of memory\n"),
     }
 }

@@ -1,4 +1,4 @@
-use Rattle.std.proofs.Common.{◌≡◌, Option, Some, sym, ◌∙◌, ap, subst, arith}
+use Rattle.std.proofs.Common.{◌≡◌, inr, Option, Some, refl, sym, ◌∙◌, ap, subst, arith}
 use Rattle.command_words.specs.declared.command.Command.{Command}
 use Rattle.command_words.specs.declared.command.Command.TheVariants.{Show, Threads}
 use Rattle.job_runs.specs.Parties.{devices}
@@ -69,4 +69,27 @@ returns-in-Show-clause-devices g c = record {
   written = omega (arith, c.look.ensures.site.unwritten);
   later = c.look.ensures.site.later;
   sound = c.look.ensures.site.sound;
+}
+
+pub returns-in-Audit-clause-does : goal.returns-in-Audit-clause-does
+returns-in-Audit-clause-does g c =
+    let ran = c.audit_for in
+    let p : Parties = parties (source_between g.I.Source c.args.input.now c.args.input.now) (devices g.S.Site c.args.site ran.result.site) (sink_between g.O.Sink c.args.output.now ran.new.output) in
+    subst (λ (k : Command). Does (Some k) (g.C.Choose.may c.args.chooser) p ran.result.status ran.result.session) (sym c.in-Audit.is)
+    (inr (record { frames = c.in-Audit.frames; command = refl; audits = ran.ensures.ended }))
+
+pub returns-in-Audit-clause-unread : goal.returns-in-Audit-clause-unread
+returns-in-Audit-clause-unread g c = λ stop.
+    let ran = c.audit_for in
+    let p : Parties = parties (source_between g.I.Source c.args.input.now c.args.input.now) (devices g.S.Site c.args.site ran.result.site) (sink_between g.O.Sink c.args.output.now ran.new.output) in
+    subst (λ (k : Command). OutputBrokeOff g.S.Site c.args.site (Some k) p ran.result.session) (sym c.in-Audit.is) (ran.ensures.unread stop)
+
+pub returns-in-Audit-clause-one_copy : goal.returns-in-Audit-clause-one_copy
+returns-in-Audit-clause-one_copy g c = λ looks. absurd (let e : ◌≡◌ {A = Option Command} (Some _) (Some Show) = sym (ap (λ (k : Command). Some k) c.in-Audit.is) ∙ looks.command in cc)
+
+pub returns-in-Audit-clause-devices : goal.returns-in-Audit-clause-devices
+returns-in-Audit-clause-devices g c = record {
+  written = omega (arith, c.audit_for.ensures.site.unwritten);
+  later = c.audit_for.ensures.site.later;
+  sound = c.audit_for.ensures.site.sound;
 }

@@ -2,7 +2,7 @@ use Rattle.std.proofs.Common.{rules, ◌≡◌, Option, Some, map, string_bytes,
 use Rattle.mss_base.specs.Content.{content}
 use Rattle.command_words.specs.Words.{meaning}
 use Rattle.command_words.specs.declared.command.Command.{Command}
-use Rattle.command_words.specs.declared.command.Command.TheVariants.{Show}
+use Rattle.command_words.specs.declared.command.Command.TheVariants.{Show, Audit}
 use Rattle.job_runs.specs.Parties.{devices}
 use Rattle.session_report.specs.Parties.{sink_between, source_between}
 use Rattle.mss_top.specs.Obeying.{Does, OutputBrokeOff, Parties, parties}
@@ -39,6 +39,10 @@ returns-in-Ok-clause-one_copy g c = λ looks.
 pub returns-in-Ok-clause-looks : goal.returns-in-Ok-clause-looks
 returns-in-Ok-clause-looks g c = λ shows.
     c.carry_out.ensures.looks (let e : ◌≡◌ {A = Option Command} (Some c.in-Ok.command) (Some Show) = subst (λ (asked : Option Command). asked ≡ Some Show) c.in-Ok.ensures.asks shows in cc)
+
+pub returns-in-Ok-clause-audits : goal.returns-in-Ok-clause-audits
+returns-in-Ok-clause-audits g c = λ frames audits.
+    c.carry_out.ensures.audits frames (let e : ◌≡◌ {A = Option Command} (Some c.in-Ok.command) (Some (Audit frames)) = subst (λ (asked : Option Command). asked ≡ Some (Audit frames)) c.in-Ok.ensures.asks audits in cc)
 
 pub returns-in-Err-clause-does : goal.returns-in-Err-clause-does
 returns-in-Err-clause-does g c =

@@ -11,6 +11,6 @@ returns-clause-bytes g c = λ told.
     let place_is : c.digits_of.result.now ≡ number_text c.args.field.1 = c.digits_of.ensures in
     let value_is : c.format-2.result.now ≡ decimal c.args.value = c.format-2.ensures.text in
     subst (λ (text : List ℕ). Puts c.put_pieces.result (g.O.Sink.told c.args.output.now) (g.O.Sink.told c.put_pieces.new.output) text)
-    ((λ i. flat_map (λ (piece : List ℕ). piece) (c.args.text.now ∷ volume_is i ∷ codes " copy " ∷ c.args.copy.now ∷ codes " row " ∷ c.args.field.0.now ∷ place_is i ∷ codes " value " ∷ value_is i ∷ codes "\n" ∷ []))
-    ∙ damaged_pieces c.args.text.now (decimal c.args.volume) (codes " copy ") c.args.copy.now (codes " row ") c.args.field.0.now (number_text c.args.field.1) (codes " value ") (decimal c.args.value) (codes "\n"))
+    ((λ i. flat_map (λ (piece : List ℕ). piece) (c.args.text.now ∷ volume_is i ∷ codes " copy " ∷ c.args.copy.now ∷ c.args.word.now ∷ c.args.field.0.now ∷ place_is i ∷ codes " value " ∷ value_is i ∷ codes "\n" ∷ []))
+    ∙ damaged_pieces c.args.text.now (decimal c.args.volume) (codes " copy ") c.args.copy.now c.args.word.now c.args.field.0.now (number_text c.args.field.1) (codes " value ") (decimal c.args.value) (codes "\n"))
     (c.put_pieces.ensures.bytes told)

@@ -1,0 +1,9 @@
+use Rattle.mss_audit.specs.Listing.{joined_below}
+use Rattle.mss_audit.specs.Walks.{row_cylinder_findings}
+use Rattle.mss_audit.proofs.Inspecting.{IsListing}
+use Rattle.mss_audit.proofs.tracks.list_row.Given as goal
+
+abbrev pub invariant-loop-number : goal.invariant-loop-number
+invariant-loop-number g l =
+    IsListing g.S.Site l.initial.site l.site l.initial.findings.items l.findings.items
+    (λ c. joined_below l.number (row_cylinder_findings c l.volume l.row))
