@@ -122,7 +122,7 @@ class KilledWrites(SiteTest):
     def check(self, text):
         calls, whole = calls_of(text)
         allowed, last = moments(read_job(text), read_report(whole)), 0
-        self.assertGreater(calls["pwrite64"], 40)
+        self.assertGreater(calls["pwrite64"], 30)
         for number in range(1, calls["pwrite64"] + 1):
             ran, left, again = injected(text, "pwrite64", "signal=KILL", number)
             self.assertEqual(ran.returncode, -signal.SIGKILL, f"killed at write {number}")

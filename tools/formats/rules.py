@@ -1,4 +1,4 @@
-"""Rules of replacement, as docs/JOBS.md tells them: read from their text, and as choosers of a candidate.
+"""Rules of replacement, as docs/POLICIES.md tells them: read from their text, and as choosers of a candidate.
 
 A chooser is given the candidates, the least recently used first, and answers the place of one.
 """
