@@ -103,7 +103,7 @@ module _ (unit : UnitNo) (block n : ℕ) (a bytes : List ℕ) (few : n ≤ 96) (
 
   -- a step behind others of which nothing is loose
   step : (P : List ℕ → Type 0) → ((b : List ℕ) → P b → Formats b) → (s t u : SiteLog) → Settles s t → Run Formats s t → Run P t u → Run Formats s u
-  step P from_P s t u firm before next = block_then unit block Formats P Formats (λ b has. has) from_P s t u before next
+  step P from_P s t u firm before next = block_then unit block Formats P Formats (λ b has. has) from_P s t u firm before next
 
   pub after_two : (s t u : SiteLog) → Settles s t → Run Closing s t → Run (EndsAfter n a) t u → Run Formats s u
   after_two s t u firm one two = step (EndsAfter n a) from_ends s t u firm (after_one s t one) two

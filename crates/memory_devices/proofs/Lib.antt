@@ -1,2 +1,4 @@
 pub mod LoggedLemmas
 pub mod MemoryLemmas
+pub mod StopLemmas
+pub mod TearLemmas

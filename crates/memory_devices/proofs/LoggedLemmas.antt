@@ -1,15 +1,19 @@
 -- One more item joins a log.
-use Rattle.std.proofs.Common.{◌≡◌, ℕ, suc, ◌+◌, ◌≤◌, List, [], ◌∷◌, ◌++◌, length, take, drop, refl, sym, ◌∙◌, ap, arith, length-drop}
+use Rattle.std.proofs.Common.{◌≡◌, ℕ, suc, ◌+◌, ◌≤◌, List, [], ◌∷◌, ◌++◌, length, take, drop, Bool, ◌||◌, refl, sym, ◌∙◌, ap, arith, length-drop}
 use Rattle.std.proofs.lemmas.List.{take_all, length-take-le, take-append-le, drop-append-le, nil_from_length}
 use Rattle.mss_base.specs.Content.{Content, Item, with_item, after}
 use Rattle.mss_base.proofs.ContentLemmas.{after-append}
 use Rattle.std.specs.Prelude.{zero, slice_get, None, MatchOption}
 use Rattle.std.specs.List.{AllByRecursion}
-use Rattle.memory_devices.specs.Logged.{IsInside, IsLogged, span, item_of, items_of, sync_as, sync_of, total_length}
+use Rattle.memory_devices.specs.Logged.{IsInside, IsLogged, span, item_of, items_of, sync_as, sync_of, syncs_unit, has_sync, total_length}
+use Rattle.memory_devices.specs.Tears.{syncs, is_synced}
+use Rattle.memory_devices.specs.Redone.{redone, redone_from, redone_item}
+use Rattle.memory_devices.specs.declared.tearing.Loose.{Loose}
 use Rattle.memory_devices.specs.declared.write_log.SyncKind.{SyncKind}
 use Rattle.memory_devices.specs.declared.write_log.SyncKind.TheVariants.{OfUnit, OfAll, Failed}
 use Rattle.mss_base.specs.declared.place.UnitNo.{UnitNo}
 use Rattle.memory_devices.specs.declared.write_log.LoggedItem.{LoggedItem}
+use Rattle.memory_devices.specs.declared.write_log.LoggedItem.TheVariants.{Wrote, Synced, SyncedAll, Unsynced}
 
 pub length-items_of : (es : List LoggedItem) (bytes : List ℕ) → length (items_of es bytes) ≡ length es
 length-items_of [] bytes = refl
@@ -71,3 +75,22 @@ pub item_of_sync : (how : SyncKind) (unit : UnitNo) → item_of (sync_as how uni
 item_of_sync OfUnit unit = refl
 item_of_sync OfAll unit = refl
 item_of_sync Failed unit = refl
+
+-- which units are synced behind items doesn't depend on their bytes
+syncs_same : (unit : UnitNo) (e : LoggedItem) (bytes : List ℕ) → syncs unit (item_of e bytes) ≡ syncs_unit unit e
+syncs_same unit (Wrote place offset length) bytes = refl
+syncs_same unit (Synced u) bytes = refl
+syncs_same unit SyncedAll bytes = refl
+syncs_same unit Unsynced bytes = refl
+
+pub synced_same : (unit : UnitNo) (es : List LoggedItem) (bytes : List ℕ) → is_synced unit (items_of es bytes) ≡ has_sync unit es
+synced_same unit [] bytes = refl
+synced_same unit (e ∷ es) bytes = λ i. syncs_same unit e (take (span e) bytes) i || synced_same unit es (drop (span e) bytes) i
+
+pub redone_items : (how : Loose) (c : Content) (es : List LoggedItem) (bytes : List ℕ) → redone_from how c es bytes ≡ redone how c (items_of es bytes)
+redone_items how c [] bytes = refl
+redone_items how c (e ∷ es) bytes =
+    let rest = drop (span e) bytes in
+    let x = item_of e (take (span e) bytes) in
+    ap (λ (f : UnitNo → Bool). redone_from how (redone_item how f c x) es rest) (λ i unit. sym (synced_same unit es rest) i)
+    ∙ redone_items how (redone_item how (λ unit. is_synced unit (items_of es rest)) c x) es rest

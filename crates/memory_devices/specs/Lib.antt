@@ -4,6 +4,8 @@ pub mod Logged
 pub mod Memory
 pub mod MemorySite
 pub mod MemoryWhole
+pub mod Redone
 pub mod SiteFaults
 pub mod SilentState
 pub mod Streams
+pub mod Tears

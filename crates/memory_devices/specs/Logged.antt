@@ -1,6 +1,8 @@
 -- The items that a log in memory stands for.
-use Rattle.std.specs.Prelude.{◌≡◌, ◌≤◌, ◌+◌, ℕ, List, [], ◌∷◌, length, take, drop, Option, Some}
+use Rattle.std.specs.Prelude.{◌≡◌, ◌≤◌, ◌+◌, ℕ, Bool, List, [], ◌∷◌, length, take, drop, Option, Some}
+use Rattle.std.specs.List.{list_any}
 use Rattle.mss_base.specs.Content.{Item, write_at, wrote, synced, synced_all, unsynced}
+use Rattle.memory_devices.specs.Tears.{syncs}
 use Rattle.memory_devices.specs.declared.write_log.LoggedItem.{LoggedItem}
 use Rattle.memory_devices.specs.declared.write_log.LoggedItem.TheVariants.{Wrote, Synced, SyncedAll, Unsynced}
 use Rattle.memory_devices.specs.declared.write_log.SyncKind.{SyncKind}
@@ -56,3 +58,10 @@ abbrev pub sync_of : SyncKind → UnitNo → Item
 sync_of OfUnit unit = synced unit
 sync_of OfAll unit = synced_all
 sync_of Failed unit = unsynced
+
+-- whether one of them is a sync of this unit, or of all
+abbrev pub syncs_unit : UnitNo → LoggedItem → Bool
+syncs_unit unit x = syncs unit (item_of x [])
+
+abbrev pub has_sync : UnitNo → List LoggedItem → Bool
+has_sync unit xs = list_any (syncs_unit unit) xs

@@ -1,11 +1,13 @@
 // A site in memory.
 ghost use Rattle.std.specs.Prelude.{◌≡◌, ℕ, ◌≤◌, ◌<◌, ◌+◌, ◌++◌, [], ◌∷◌, length, option_map, vec_len, IsTrue, OnOk, OnErr, IfOk, IfErr, ◌↔◌};
 ghost use Rattle.memory_devices.specs.Memory.{held};
+ghost use Rattle.memory_devices.specs.Tears.{stopped, tear_in};
 ghost use Rattle.mss_base.specs.Zeros.{zeros};
 ghost use Rattle.mss_base.specs.Content.{after, content, image};
 ghost use Rattle.mss_base.specs.declared.place.UnitNo.{UnitNo};
 
 use crate::memory::{Blocks, block_of, read_block, reserve_blocks, write_block};
+use crate::tearing::Tear;
 use crate::write_log::{SyncKind, WriteLog};
 use indexmap::IndexMap;
 use mss_base::{BLOCK_BYTES, Block, BlockPlace, Failed, NoMemory, Site, UnitNo};
@@ -121,16 +123,18 @@ impl MemorySite {
         Ok(())
     }
 
-    /// What a stop leaves: devices with the first `moment` items, and of the next one, if it is a write, the tear in its range,
-    /// cut or padded with zeros. It begins with no writes, and no call of it fails.
+    /// What a stop leaves: devices with the writes among the first `moment` items, and the tear at each open place:
+    /// in the ranges of loose writes, and in that of the next item, if it is a write. It begins with no writes, and
+    /// no call of it fails.
     ///
     /// `NoSuchMoment` exactly where `moment` exceeds the count of the writes and syncs.
-    pub fn image(&self, moment: u64, tear: Option<&[u8]>) -> Result<MemorySite, ImageFault>
+    pub fn image(&self, moment: u64, tear: Option<&Tear>) -> Result<MemorySite, ImageFault>
         ensures within { OnOk result (moment ≤ length (told_of self.now).log) }
         ensures err { IfErr result (λ fault. (fault ≡ ImageFault.NoSuchMoment)
             ↔ (length (told_of self.now).log < moment)) }
         ensures content { IfOk result (λ site. content (told_of site)
-            ≡ image (told_of self.now) moment (option_map (λ t. t.now) tear.entry)) }
+            ≡ image (told_of self.now) moment
+            (tear_in (told_of self.now) moment (option_map (λ t. t.now) tear.entry))) }
         ensures log { IfOk result (λ site. (told_of site).log ≡ []) }
         ensures faults { IfOk result (λ site. faults_of site ≡ 0) }
         ensures failing { IfOk result (λ site. failing_of site ≡ []) }
@@ -144,10 +148,10 @@ impl MemorySite {
         }
     }
 
-    fn stopped_at(&self, moment: usize, tear: Option<&[u8]>) -> Result<MemorySite, NoMemory>
+    fn stopped_at(&self, moment: usize, tear: Option<&Tear>) -> Result<MemorySite, NoMemory>
         requires within { moment ≤ length (told_of self.now).log }
         ensures content { IfOk result (λ site. content (told_of site)
-            ≡ image (told_of self.now) moment (option_map (λ t. t.now) tear.entry)) }
+            ≡ stopped (told_of self.now) moment (option_map (λ t. t.now) tear.entry)) }
         ensures log { IfOk result (λ site. (told_of site).log ≡ []) }
         ensures faults { IfOk result (λ site. faults_of site ≡ 0) }
         ensures failing { IfOk result (λ site. failing_of site ≡ []) }
@@ -157,14 +161,13 @@ impl MemorySite {
         Self::holding(self.alloc, start, blocks)
     }
 
-    fn blocks_left(&self, moment: usize, tear: Option<&[u8]>) -> Result<Blocks, NoMemory>
+    fn blocks_left(&self, moment: usize, tear: Option<&Tear>) -> Result<Blocks, NoMemory>
         requires within { moment ≤ length (told_of self.now).log }
         ensures { IfOk result (λ blocks. held blocks
-            ≡ image (told_of self.now) moment (option_map (λ t. t.now) tear.entry)) }
+            ≡ stopped (told_of self.now) moment (option_map (λ t. t.now) tear.entry)) }
     {
         let mut blocks = self.start.clone()?;
-        self.log.replay(self.alloc, moment, &mut blocks)?;
-        self.log.tear(self.alloc, moment, tear, &mut blocks)?;
+        self.log.stop(self.alloc, moment, tear, &mut blocks)?;
         Ok(blocks)
     }
 

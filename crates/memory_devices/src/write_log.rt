@@ -1,11 +1,14 @@
 // The list of writes and syncs, with the bytes of the writes one after another.
-ghost use Rattle.std.specs.Prelude.{◌≡◌, ℕ, ◌+◌, ◌*◌, ◌-◌, ◌≤◌, ◌++◌, [], ◌∷◌, length, take, slice_get, option_map, vec_len, vec_capacity, None, MatchOption, OnOk};
+ghost use Rattle.std.specs.Prelude.{◌≡◌, ℕ, ◌+◌, ◌*◌, ◌-◌, ◌≤◌, ◌++◌, [], ◌∷◌, length, take, replicate, slice_get, option_map, vec_len, vec_capacity, None, MatchOption, OnOk};
 ghost use Rattle.std.specs.List.{AllByRecursion};
-ghost use Rattle.mss_base.specs.Content.{after, fitted, with_item, with_tear, write_at, written, wrote};
+ghost use Rattle.mss_base.specs.Content.{write_at, written, wrote};
 ghost use Rattle.memory_devices.specs.Memory.{held};
-ghost use Rattle.memory_devices.specs.Logged.{IsInside, IsLogged, item_of, items_of, span, sync_of, total_length};
+ghost use Rattle.memory_devices.specs.Logged.{IsInside, IsLogged, has_sync, item_of, span, sync_of, syncs_unit, total_length};
+ghost use Rattle.memory_devices.specs.Redone.{covered, covered_range, loosely, redone, redone_from, redone_item};
+ghost use Rattle.memory_devices.specs.Tears.{stopped};
 
 use crate::memory::{Blocks, grow_block};
+use crate::tearing::{Loose, Tear, loose_under};
 use mss_base::{BLOCK_BYTES, Block, BlockPlace, Bytes, NoMemory, UnitNo};
 use std::alloc::Global;
 use std::marker::Model;
@@ -80,32 +83,53 @@ impl WriteLog {
         self.entries.get(index)
     }
 
-    /// Does the first items again, in these blocks.
-    pub fn replay(&self, alloc: Global, count: usize, blocks: &mut Blocks) -> Result<(), NoMemory>
-        requires within { count ≤ length self.now.items }
-        ensures { OnOk result
-            (held blocks.new ≡ after (held blocks.old) (take count self.now.items)) }
+    /// What a stop leaves: does the first items again, in these blocks, with the tear where it leaves a place open.
+    pub fn stop(
+        &self,
+        alloc: Global,
+        moment: usize,
+        tear: Option<&Tear>,
+        blocks: &mut Blocks,
+    ) -> Result<(), NoMemory>
+        requires within { moment ≤ length self.now.items }
+        ensures { OnOk result (held blocks.new
+            ≡ stopped (record { start = held blocks.old; log = self.now.items }) moment
+            (option_map (λ t. t.now) tear.entry)) }
     {
-        redo_all(alloc, blocks, &self.entries[..count], &self.bytes)
+        let Some(tear) = tear else {
+            return self.replay(alloc, moment, Loose::Kept, blocks);
+        };
+        self.replay(alloc, moment, loose_under(tear), blocks)?;
+        self.tear(alloc, moment, tear, blocks)
     }
 
-    /// Leaves these bytes in the range of a write, cut or padded with zeros. Where the item isn't there or is no write, or
-    /// without bytes, nothing is done.
-    pub fn tear(
+    // Does the first items again, in these blocks.
+    fn replay(
+        &self,
+        alloc: Global,
+        count: usize,
+        how: Loose,
+        blocks: &mut Blocks,
+    ) -> Result<(), NoMemory>
+        requires within { count ≤ length self.now.items }
+        ensures { OnOk result
+            (held blocks.new ≡ redone how (held blocks.old) (take count self.now.items)) }
+    {
+        redo_all(alloc, blocks, &self.entries[..count], &self.bytes, how)
+    }
+
+    // Leaves a tear in the range of a write. Where the item isn't there or is no write, nothing is done.
+    fn tear(
         &self,
         alloc: Global,
         index: usize,
-        tear: Option<&[u8]>,
+        tear: &Tear,
         blocks: &mut Blocks,
     ) -> Result<(), NoMemory>
         ensures { OnOk result (held blocks.new
-            ≡ with_tear (held blocks.old) (slice_get self.now.items index)
-            (option_map (λ t. t.now) tear.entry)) }
+            ≡ covered (held blocks.old) (slice_get self.now.items index) tear.now) }
     {
         let Some(item) = self.get(index) else {
-            return Ok(());
-        };
-        let Some(tear) = tear else {
             return Ok(());
         };
         match item {
@@ -184,26 +208,72 @@ fn span(item: &LoggedItem) -> usize
     }
 }
 
-// Does an item again, of these bytes: a write is made, and a sync changes nothing.
+// Whether an item is a sync of this unit, or of all.
+fn syncs(item: &LoggedItem, unit: &UnitNo) -> bool
+    ensures { result ≡ syncs_unit unit.now item.now }
+{
+    match item {
+        LoggedItem::Wrote { .. } => false,
+        LoggedItem::Synced(synced) => synced == unit,
+        LoggedItem::SyncedAll => true,
+        LoggedItem::Unsynced => false,
+    }
+}
+
+// Whether a write of this unit is firm behind these items.
+fn is_synced(unit: &UnitNo, later: &[LoggedItem]) -> bool
+    ensures { result ≡ has_sync unit.now later.now }
+{
+    later.iter().any(|item| syncs(item, unit))
+}
+
+// Does an item again, of these bytes: a firm write is made, a loose one becomes what is asked, and a sync changes
+// nothing.
 fn redo(
     alloc: Global,
     blocks: &mut Blocks,
     room: &mut Vec<Block>,
     item: &LoggedItem,
     bytes: &[u8],
+    later: &[LoggedItem],
+    how: Loose,
 ) -> Result<(), NoMemory>
     requires whole { length bytes.now ≡ span item.now }
     requires inside { IsInside item.now }
-    ensures { OnOk result
-        (held blocks.new ≡ with_item (held blocks.old) (item_of item.now bytes.now)) }
+    ensures { OnOk result (held blocks.new ≡ redone_item how (λ unit. has_sync unit later.now)
+        (held blocks.old) (item_of item.now bytes.now)) }
 {
     match item {
         LoggedItem::Wrote { place, offset, .. } => {
-            grow_block(alloc, blocks, room, place, *offset, bytes)
+            if is_synced(&place.unit, later) {
+                return grow_block(alloc, blocks, room, place, *offset, bytes);
+            }
+            redo_loose(alloc, blocks, room, place, *offset, bytes, how)
         }
         LoggedItem::Synced(_) => Ok(()),
         LoggedItem::SyncedAll => Ok(()),
         LoggedItem::Unsynced => Ok(()),
+    }
+}
+
+// Makes of a loose write what becomes of those.
+fn redo_loose(
+    alloc: Global,
+    blocks: &mut Blocks,
+    room: &mut Vec<Block>,
+    place: &BlockPlace,
+    offset: u16,
+    bytes: &[u8],
+    how: Loose,
+) -> Result<(), NoMemory>
+    requires inside { offset + length bytes.now ≤ 16384 }
+    ensures { OnOk result (held blocks.new
+        ≡ loosely how (held blocks.old) (write_at place.now offset bytes.now)) }
+{
+    match how {
+        Loose::Kept => grow_block(alloc, blocks, room, place, offset, bytes),
+        Loose::Filled(byte) => fill_block(alloc, blocks, room, place, offset, bytes.len(), byte),
+        Loose::LeftOut => Ok(()),
     }
 }
 
@@ -213,18 +283,19 @@ fn redo_all(
     blocks: &mut Blocks,
     entries: &[LoggedItem],
     bytes: &[u8],
+    how: Loose,
 ) -> Result<(), NoMemory>
     requires whole { total_length entries.now ≤ length bytes.now }
     requires inside { AllByRecursion IsInside entries.now }
     ensures { OnOk result
-        (held blocks.new ≡ after (held blocks.old) (items_of entries.now bytes.now)) }
+        (held blocks.new ≡ redone_from how (held blocks.old) entries.now bytes.now) }
 {
     let mut room = Vec::new(alloc);
     let mut entries = entries;
     let mut rest = bytes;
     while let [entry, later @ ..] = entries {
         let (these, others) = rest.split_at(span(entry));
-        redo(alloc, blocks, &mut room, entry, these)?;
+        redo(alloc, blocks, &mut room, entry, these, later, how)?;
         entries = later;
         rest = others;
     }
@@ -255,20 +326,46 @@ fn put_all(to: &mut Vec<u8>, bytes: &[u8])
     }
 }
 
-// Leaves these bytes in a write's range, cut or padded with zeros.
+// Leaves a tear in a write's range.
 fn tear_block(
     alloc: Global,
     blocks: &mut Blocks,
     place: &BlockPlace,
     offset: u16,
     length: u16,
-    tear: &[u8],
+    tear: &Tear,
 ) -> Result<(), NoMemory>
     requires inside { offset + length ≤ 16384 }
-    ensures torn { OnOk result (held blocks.new ≡ written (held blocks.old)
-        (write_at place.now offset (fitted length tear.now))) }
+    ensures { OnOk result
+        (held blocks.new ≡ covered_range (held blocks.old) place.now offset length tear.now) }
 {
-    let left = Bytes::padded(alloc, length as usize, tear)?;
     let mut room = Vec::new(alloc);
-    grow_block(alloc, blocks, &mut room, place, offset, left.as_slice())
+    let length = length as usize;
+    match tear {
+        Tear::Write(bytes) => {
+            let left = Bytes::padded(alloc, length, bytes.as_slice())?;
+            grow_block(alloc, blocks, &mut room, place, offset, left.as_slice())
+        }
+        Tear::Fill(byte) => fill_block(alloc, blocks, &mut room, place, offset, length, *byte),
+        Tear::Lost => Ok(()),
+    }
+}
+
+// Fills a write's range.
+fn fill_block(
+    alloc: Global,
+    blocks: &mut Blocks,
+    room: &mut Vec<Block>,
+    place: &BlockPlace,
+    offset: u16,
+    length: usize,
+    byte: u8,
+) -> Result<(), NoMemory>
+    requires inside { offset + length ≤ 16384 }
+    ensures { OnOk result
+        (held blocks.new ≡ written (held blocks.old) (write_at place.now offset (replicate length byte))) }
+{
+    let mut filling = Vec::new(alloc);
+    filling.resize(length, byte)?;
+    grow_block(alloc, blocks, room, place, offset, &filling)
 }

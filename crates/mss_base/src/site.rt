@@ -74,7 +74,8 @@ pub trait Site {
     fn brought(&self) -> &[u8]
         ensures { result.now ≡ brought self.now };
 
-    /// Writes into a block, which lasts. After a failure the range may hold anything, and the rest of the block is as it was.
+    /// Writes into a block. A write is firm once its unit, or all, is synced behind it. After a failure the range may
+    /// hold anything, and the rest of the block is as it was.
     fn write(&mut self, unit: UnitNo, block: u32, offset: u16, bytes: &[u8]) -> Result<(), Failed>
         requires room { 1 ≤ spare self.old }
         requires some { 1 ≤ length bytes.now }

@@ -1,12 +1,12 @@
 -- What the writes of a command leave, step by step.
-use Rattle.std.proofs.Common.{◌≡◌, inl, inr, ℕ, ◌+◌, ◌-◌, List, [], ◌∷◌, ◌++◌, take, Option, Some, None, Result, Ok, Err, sym, ap, ◌∙◌, subst, arith}
-use Rattle.std.specs.Prelude.{◌&&◌, ◌==◌}
+use Rattle.std.proofs.Common.{◌≡◌, inl, inr, ℕ, ◌+◌, ◌-◌, ◌<◌, Bool, List, [], ◌∷◌, ◌++◌, take, Option, Some, None, Result, Ok, Err, sym, ap, ◌∙◌, subst, arith}
+use Rattle.std.specs.Prelude.{◌&&◌, ◌==◌, if◌then◌else◌}
 use Rattle.mss_base.specs.declared.place.UnitNo.{UnitNo}
 use Rattle.mss_base.specs.declared.place.BlockPlace.{BlockPlace}
 use Rattle.mss_base.specs.Content.{SiteLog, content, same_unit, Settles, Writes, ChangesBlock}
-use Rattle.mss_base.proofs.Moments.{block_weaker, ended_with}
+use Rattle.mss_base.proofs.Moments.{block_started, block_weaker, ended_with}
 use Rattle.mss_base.proofs.Settling.{settles_none}
-use Rattle.std.proofs.lemmas.Bool.{cases_Bool, and_parts, eqb-true}
+use Rattle.std.proofs.lemmas.Bool.{cases_Bool, and_parts, eqb-true, lt-ltb}
 use Rattle.channel_commands.specs.declared.command.Command.{Command}
 use Rattle.channel_commands.specs.declared.command.Command.TheVariants as command
 use Rattle.channel_commands.specs.declared.command.WriteKind.TheVariants as write
@@ -20,13 +20,14 @@ use Rattle.ckd_plain.specs.declared.unit_check.Refusal.{Refusal}
 use Rattle.ckd_plain.specs.Effects.{Effect, Outcome, DONE, effect_with}
 use Rattle.ckd_plain.specs.Views.{effect_of}
 use Rattle.track_engine.specs.declared.find.RecordPlace.{RecordPlace}
+use Rattle.track_engine.specs.declared.place.CylinderPlace.{CylinderPlace}
 use Rattle.track_engine.specs.declared.place.NotDone.{NotDone}
 use Rattle.track_engine.specs.declared.place.NotDone.TheVariants.{Refused, Fault}
 use Rattle.track_engine.specs.declared.place.EngineFault.{EngineFault}
 use Rattle.track_engine.specs.declared.place.EngineFault.TheVariants.{ReadFailed, WriteFailed, Memory}
 use Rattle.track_engine.specs.Faults.{LeavesSite}
 use Rattle.track_engine.specs.Found.{GivesBut}
-use Rattle.track_engine.specs.Tracks.{AreTracks}
+use Rattle.track_engine.specs.Tracks.{AreTracks, tracks_on}
 use Rattle.track_engine.specs.Writing.{IsStep, Target, target_in, WritesBlock, HoldsWritten, CarriesOut, written_of, effect_as, formatted_behind}
 
 -- ---- formatting a record
@@ -81,15 +82,15 @@ module _ (to : BlockPlace) (s t : SiteLog) (at : RecordPlace) (r : RecordData) (
 pub nothing_loose : (old new : SiteLog) → new ≡ old → Settles old new
 nothing_loose old new same = subst (λ (s : SiteLog). Settles old s) (sym same) (settles_none old)
 
+leaves : (old new : SiteLog) → new ≡ old → (fault : EngineFault) → LeavesSite old new fault
+leaves old new same (ReadFailed fault) = same
+leaves old new same (WriteFailed fault) = tt
+leaves old new same Memory = same
+
 -- a search or a read, whatever kept it from being done
 module _ (given : Outcome) (c : Command) (to : Target) (old new : SiteLog) (unwritten : written_of given ≡ None) (same : new ≡ old) where
   moments_of : WritesBlock c to old new (written_of given)
   moments_of = subst (λ (written : Option (List RecordData)). WritesBlock c to old new written) (sym unwritten) same
-
-  leaves : (fault : EngineFault) → LeavesSite old new fault
-  leaves (ReadFailed fault) = same
-  leaves (WriteFailed fault) = tt
-  leaves Memory = same
 
   settled : Settles old new
   settled = nothing_loose old new same
@@ -103,7 +104,7 @@ module _ (given : Outcome) (c : Command) (to : Target) (old new : SiteLog) (unwr
     log = tt;
   }
   read_carried_out (Err (Refused refusal)) gives = record { outcome = gives; moments = moments_of; exact = tt; firm = tt; log = same }
-  read_carried_out (Err (Fault fault)) gives = record { outcome = tt; moments = moments_of; exact = tt; firm = tt; log = leaves fault }
+  read_carried_out (Err (Fault fault)) gives = record { outcome = tt; moments = moments_of; exact = tt; firm = tt; log = leaves old new same fault }
 
 -- ---- the tracks of a cylinder
 
@@ -124,6 +125,32 @@ tracks_stay c k track unit first head old new (Some w) writes tracks = λ other 
 pub refused_write : (given : Outcome) (c : Command) (to : Target) (old new : SiteLog) (refusal : Refusal) → given ≡ Err refusal → new ≡ old
     → CarriesOut given c to old new (Err (Refused refusal))
 refused_write given c to old new refusal gives same = read_carried_out given c to old new (ap written_of gives) same (Err (Refused refusal)) gives
+
+-- the tracks of a cylinder are those of its blocks
+pub track_there : (s : SiteLog) (place : CylinderPlace) (head : ℕ) → head < 19 → (reading (content s place.unit (place.first_block + head))).records ≡ tracks_on s place head
+track_there s place head low =
+    ap (λ (there : Bool). if there then (reading (content s place.unit (place.first_block + head))).records else []) (sym (lt-ltb head 19 low))
+
+-- a write that a failed read, or want of memory, kept from being begun
+pub unbegun : (given : Outcome) (c : Command) (to : Target) (old new : SiteLog) (fault : EngineFault)
+    → (reading (content old to.block.unit to.block.block)).bad ≡ None → (reading (content old to.block.unit to.block.block)).records ≡ to.track → new ≡ old
+    → CarriesOut given c to old new (Err (Fault fault))
+unbegun given c to old new fault good track same =
+    record { outcome = tt; moments = begun (written_of given); exact = tt; firm = tt; log = leaves old new same fault }
+  where
+    begun : (written : Option (List RecordData)) → WritesBlock c to old new written
+    begun None = same
+    begun (Some written) =
+        let Step : List ℕ → Type 0 = IsStep c to.number to.track written in
+        subst (λ (s : SiteLog). Writes (ChangesBlock to.block.unit to.block.block Step (content old)) old s) (sym same)
+        (block_started to.block.unit to.block.block Step old (record { good = good; step = inl track }))
+
+-- a write that was refused, or that such a fault kept from being begun
+pub unwritten : {X : Type 0} (view : X → Effect) (given : Outcome) (c : Command) (to : Target) (old new : SiteLog) (why : NotDone) → GivesBut view (Err why) given
+    → (reading (content old to.block.unit to.block.block)).bad ≡ None → (reading (content old to.block.unit to.block.block)).records ≡ to.track → new ≡ old
+    → CarriesOut given c to old new (Err why)
+unwritten view given c to old new (Refused refusal) gives good track same = refused_write given c to old new refusal gives same
+unwritten view given c to old new (Fault fault) gives good track same = unbegun given c to old new fault good track same
 
 -- the same said of equal things
 pub carried_over : (given given' : Outcome) (c : Command) (to to' : Target) (old old' new : SiteLog) (result : Result DoneCommand NotDone)

@@ -1,7 +1,7 @@
 -- What the plain machine makes of a write data or write key data, once its record is found, and what the write leaves step by step.
-use Rattle.std.proofs.Common.{◌≡◌, inr, ℕ, suc, ◌-◌, ◌≤◌, Bool, true, false, List, [], ◌++◌, take, length, Some, None, Result, Ok, Err, refl, sym, ap, ◌∙◌, arith, length-drop}
+use Rattle.std.proofs.Common.{◌≡◌, inr, ℕ, suc, ◌-◌, ◌≤◌, Bool, true, false, List, [], ◌++◌, take, length, Some, None, Result, Ok, Err, refl, sym, ap, ◌∙◌, arith, length-append, length-take, length-drop}
 use Rattle.std.specs.Prelude.{slice_index_or, replicate}
-use Rattle.std.proofs.lemmas.List.{length-take-le}
+use Rattle.std.proofs.lemmas.List.{length-take-le, length-replicate}
 use Rattle.std.proofs.lemmas.Option.{slice_get-get_or}
 use Rattle.mss_base.specs.declared.place.BlockPlace.{BlockPlace}
 use Rattle.mss_base.specs.Content.{SiteLog, content, Settles, Writes, ChangesBlock}
@@ -29,6 +29,9 @@ use Rattle.track_engine.specs.Found.{found_at, IsPlaceOf}
 use Rattle.track_engine.specs.Writing.{IsBetween, IsStep, CarriesOut, target_in, update_kind, updated_at}
 
 -- ---- what the plain machine gives
+
+long_padded : (n : ℕ) (bytes : List ℕ) → length (padded n bytes) ≡ n
+long_padded n bytes = omega (arith, length-append (take n bytes) (replicate (n - length bytes) 0), length-take n bytes, length-replicate {A = ℕ} (n - length bytes) 0)
 
 -- the record at a place behind R0 is one of the track
 pub item_behind : (track : List RecordData) (host : HostState) (number : ℕ) → 1 ≤ number → slice_index_or (records_of host track) number blank_record ≡ record_behind (number - 1) track
@@ -86,6 +89,13 @@ module _ (key_too : Bool) (block : List ℕ) (host : HostState) (left : Prior) (
         given_there ∙ ap (λ (r : Result Found Refusal). r >>= λ found. plain_updated track found (with_argument key_too found.item argument)) is
         ∙ ap (λ (found : Found). plain_updated track found (with_argument key_too found.item argument)) found_is
         ∙ ap (λ (r : RecordData). plain_updated track (record { number = at.number; item = old; host = at.host }) r) (with_argument-is key_too old argument ∙ ap (λ (b : List ℕ). with_bytes key_too b old) bytes_is)
+
+    -- as many bytes as the record has
+    pub update_long : (found : FoundRecord) (bytes : List ℕ) (length_there : ℕ) → found_of found ≡ found_at block at → length_there ≡ updated_length key_too (item_of found) → bytes ≡ padded length_there argument
+        → length bytes ≡ updated_length key_too old
+    update_long found bytes length_there found_there length_is bytes_are =
+        let item_is : item_of found ≡ old = ap (λ (f : Found). f.item) (found_there ∙ found_is) in
+        ap length bytes_are ∙ long_padded length_there argument ∙ length_is ∙ ap (updated_length key_too) item_is
 
     -- a record without bytes to update
     pub update_of_nothing : (found : FoundRecord) (bytes : List ℕ) (length_there : ℕ) → found_of found ≡ found_at block at → length_there ≡ updated_length key_too (item_of found) → bytes ≡ padded length_there argument

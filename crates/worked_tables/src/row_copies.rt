@@ -250,7 +250,7 @@ fn a_failed_repair_keeps_the_row(rt: HostRuntime) -> Result<(), Fail> {
 }
 
 // Marks of A and B, body and gate of A, body and gate of B, each with a sync. The new row is there once the gate of A is
-// C1.
+// C1, and stays from its sync on, whatever becomes of what isn't firm.
 const STOPPED_CREATIONS: &str = "\
 writes -> 12
 
@@ -269,7 +269,17 @@ turns 7 12
 stop N 0 0 row 7 -> VOL001 1 100
 stop N 1 x00 row 7 -> VOL001 1 100
 stop N 1 xC1 row 7 -> VOL001 1 100
-stop N 3 xFF00FF row 7 -> VOL001 1 100";
+stop N 3 xFF00FF row 7 -> VOL001 1 100
+
+turns 0 7
+stop N fill x00 row 7 -> none
+stop N fill xFF row 7 -> none
+stop N lost 0 row 7 -> none
+
+turns 8 12
+stop N fill x00 row 7 -> VOL001 1 100
+stop N fill xFF row 7 -> VOL001 1 100
+stop N lost 0 row 7 -> VOL001 1 100";
 
 #[test]
 fn a_stop_within_a_creation_leaves_no_row_or_the_new_one(rt: HostRuntime) -> Result<(), Fail> {
@@ -277,7 +287,7 @@ fn a_stop_within_a_creation_leaves_no_row_or_the_new_one(rt: HostRuntime) -> Res
 }
 
 // After the twelve items of the creation: body and gate of the slot of A, each with a sync; then of B. The new row is there
-// once the slot of A is open.
+// once the slot of A is open, and stays from the sync of its gate on.
 const STOPPED_CHANGES: &str = "\
 writes -> 20
 
@@ -296,7 +306,17 @@ turns 15 20
 stop N 0 0 row 7 -> VOL001 1 100 frame 3
 stop N 1 x00 row 7 -> VOL001 1 100 frame 3
 stop N 1 xC1 row 7 -> VOL001 1 100 frame 3
-stop N 3 xFF00FF row 7 -> VOL001 1 100 frame 3";
+stop N 3 xFF00FF row 7 -> VOL001 1 100 frame 3
+
+turns 12 15
+stop N fill x00 row 7 -> VOL001 1 100
+stop N fill xFF row 7 -> VOL001 1 100
+stop N lost 0 row 7 -> VOL001 1 100
+
+turns 16 20
+stop N fill x00 row 7 -> VOL001 1 100 frame 3
+stop N fill xFF row 7 -> VOL001 1 100 frame 3
+stop N lost 0 row 7 -> VOL001 1 100 frame 3";
 
 #[test]
 fn a_stop_within_a_change_leaves_the_old_row_or_the_new(rt: HostRuntime) -> Result<(), Fail> {
@@ -324,7 +344,17 @@ turns 18 26
 stop N 0 0 row 7 -> VOL001 1 100 frame 3
 stop N 1 x00 row 7 -> VOL001 1 100 frame 3
 stop N 1 xC1 row 7 -> VOL001 1 100 frame 3
-stop N 3 xFF00FF row 7 -> VOL001 1 100 frame 3";
+stop N 3 xFF00FF row 7 -> VOL001 1 100 frame 3
+
+turns 12 18
+stop N fill x00 row 7 -> VOL001 1 100
+stop N fill xFF row 7 -> VOL001 1 100
+stop N lost 0 row 7 -> VOL001 1 100
+
+turns 19 26
+stop N fill x00 row 7 -> VOL001 1 100 frame 3
+stop N fill xFF row 7 -> VOL001 1 100 frame 3
+stop N lost 0 row 7 -> VOL001 1 100 frame 3";
 
 #[test]
 fn a_stop_while_a_row_is_written_whole_leaves_the_old_or_the_new(

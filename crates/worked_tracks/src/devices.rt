@@ -48,7 +48,8 @@ const OVERLAPPING: &str = "\
 w A 5 10 616263 ok
 w A 5 11 58595A ok";
 
-/// A tear is cut at the write's end, and bytes that lack are zeros. No call of what is left fails.
+/// A tear of the next write is cut at its end, and bytes that lack are zeros. A byte may fill all that isn't firm, here
+/// both writes, or all of it is lost. No call of what is left fails.
 const LEFT: &str = "\
 0 -
 r A 5 10 00000000 ok
@@ -70,6 +71,18 @@ n A 0 0 -
 r A 5 10 6158595A ok
 n A 0 0 -
 
+0 fill FF
+r A 5 10 FFFFFF00 ok
+
+1 fill FF
+r A 5 10 FFFFFFFF ok
+
+2 fill 00
+r A 5 10 00000000 ok
+
+2 lost
+r A 5 10 00000000 ok
+
 3 -
 none";
 
@@ -89,7 +102,7 @@ a A 0 0 - ok
 r A 5 10 616263 ok
 n A 4 1 -";
 
-/// A sync is an item of the log like a write, and no stop tears it.
+/// A sync is an item of the log like a write. Before that of its unit a stop may tear the write, and behind it none does.
 const LEFT_BY_SYNCS: &str = "\
 0 58595A
 r A 5 10 58595A ok
@@ -97,7 +110,19 @@ r A 5 10 58595A ok
 1 58595A
 r A 5 10 616263 ok
 
+1 fill 00
+r A 5 10 000000 ok
+
+1 lost
+r A 5 10 000000 ok
+
+2 fill 00
+r A 5 10 616263 ok
+
 3 58595A
+r A 5 10 616263 ok
+
+4 lost
 r A 5 10 616263 ok
 
 5 -

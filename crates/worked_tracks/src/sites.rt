@@ -5,10 +5,10 @@
 //! a slot with these bytes behind so many, as the offset says.
 ghost use Rattle.std.specs.Prelude.{◌≡◌, length, vec_len, IfOk};
 
-use crate::words::{bytes_of, number_of};
+use crate::words::{bytes_of, number_of, single_byte};
 use ckd_track::{check_track, record_count, stored_records};
-use memory_devices::{ImageFault, MemorySite, SiteFault};
-use mss_base::{BlockPlace, CartridgeNo, Site, UnitNo};
+use memory_devices::{ImageFault, MemorySite, SiteFault, Tear};
+use mss_base::{BlockPlace, Bytes, CartridgeNo, Site, UnitNo};
 use std::alloc::Global;
 use std::process::Abort;
 use std::test::Fail;
@@ -182,14 +182,24 @@ pub fn play<S: Site>(rt: &impl Abort, alloc: Global, site: &mut S, text: &str) -
     Ok(())
 }
 
-/// The bytes of a tear, where there are any.
-fn tear_of(bytes: &[u8]) -> Option<&[u8]> {
-    if bytes.is_empty() { None } else { Some(bytes) }
+/// The tear of a word: bytes for the next write, `fill` and a byte for each open place, `lost`, or none.
+fn tear_of(alloc: Global, word: &str) -> Result<Option<Tear>, Fail> {
+    if word == "lost" {
+        return Ok(Some(Tear::Lost));
+    }
+    if let Some(byte) = word.strip_prefix("fill ") {
+        return Ok(Some(Tear::Fill(single_byte(Some(byte))?)));
+    }
+    let bytes = bytes_of(alloc, word)?;
+    if bytes.is_empty() {
+        return Ok(None);
+    }
+    Ok(Some(Tear::Write(Bytes::of(alloc, &bytes)?)))
 }
 
 /// What a stop leaves.
-fn stopped(site: &MemorySite, moment: u64, tear: Option<&[u8]>) -> Result<MemorySite, ImageFault> {
-    site.image(moment, tear)
+fn stopped(site: &MemorySite, moment: u64, tear: &Option<Tear>) -> Result<MemorySite, ImageFault> {
+    site.image(moment, tear.as_ref())
 }
 
 /// Calls of what a stop leaves.
@@ -211,8 +221,8 @@ fn image_of(
 ) -> Result<Result<MemorySite, ImageFault>, Fail> {
     let (moment, tear) = stop.split_once(" ").ok_or("no tear")?;
     let moment = u64::from(number_of(Some(moment))?);
-    let tear = bytes_of(alloc, tear)?;
-    Ok(stopped(site, moment, tear_of(&tear)))
+    let tear = tear_of(alloc, tear)?;
+    Ok(stopped(site, moment, &tear))
 }
 
 /// A stop, and calls of what it leaves; `none` where there is no such stop.

@@ -14,6 +14,7 @@ r A 5 511 00C11122334455667700 ok
 n A 4 0 -";
 
 /// Body and next gate, a sync, the gate, a sync. A tear of the body opens nothing, and one of the gate opens all or nothing.
+/// Until its sync the gate may be lost.
 const LEFT_OF_FIRST: &str = "\
 0 C1*8
 l A 5 0 -
@@ -28,10 +29,25 @@ l A 5 0 -
 2 C1
 l A 5 1 11223344556677
 
+1 fill C1
+l A 5 0 -
+
+2 fill C1
+l A 5 1 11223344556677
+
 3 C1
 l A 5 1 11223344556677
 
+3 fill 00
+l A 5 0 -
+
+3 lost
+l A 5 0 -
+
 4 C1
+l A 5 1 11223344556677
+
+4 lost
 l A 5 1 11223344556677
 
 5 -

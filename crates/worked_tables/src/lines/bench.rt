@@ -1,5 +1,5 @@
 // Devices in memory that tell clauses nothing, so that no call on them needs a proof of what they hold.
-use memory_devices::{MemorySite, SiteFault};
+use memory_devices::{MemorySite, SiteFault, Tear};
 use mss_base::{Failed, NoMemory, Site, UnitNo};
 use std::alloc::Global;
 
@@ -21,8 +21,8 @@ impl Bench {
     }
 
     /// What a stop leaves.
-    pub fn image(&self, moment: u64, tear: Option<&[u8]>) -> Option<Self> {
-        let site = self.site.image(moment, tear).ok()?;
+    pub fn image(&self, moment: u64, tear: &Option<Tear>) -> Option<Self> {
+        let site = self.site.image(moment, tear.as_ref()).ok()?;
         Some(Bench { site })
     }
 }

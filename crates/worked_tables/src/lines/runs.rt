@@ -7,10 +7,12 @@ use crate::lines::answers::Told;
 use crate::lines::bench::Bench;
 use crate::lines::copies::copy_line;
 use crate::lines::devices::device_line;
-use crate::lines::numbers::{is_word, length, word};
+use crate::lines::numbers::{byte, is_word, length, word};
 use crate::lines::restarts::{site_line, taking_line};
 use crate::lines::rows::row_line;
 use crate::lines::words::words_of;
+use memory_devices::Tear;
+use mss_base::Bytes;
 use std::alloc::Global;
 use std::process::Abort;
 use std::test::Fail;
@@ -35,22 +37,35 @@ fn whole_line(alloc: Global, slot: &mut Option<Bench>, words: &[u64]) -> Told {
     lent_line(alloc, slot.as_mut()?, words)
 }
 
-// `stop 3 1 xC1`: after three writes, of the fourth this one byte is there.
-fn image(bench: &Bench, words: &[u64]) -> Option<Bench> {
-    let moment = word(words, 1)?;
+// `1 xC1`: this one byte of the next write is there. `fill xC1`: this byte is at each place that isn't firm. `lost 0`: what
+// isn't firm is lost. `0 0`: no tear.
+fn tear_of(alloc: Global, words: &[u64]) -> Option<Option<Tear>> {
+    if is_word(words, 2, "fill") {
+        return Some(Some(Tear::Fill(byte(words, 3)?)));
+    }
+    if is_word(words, 2, "lost") {
+        return Some(Some(Tear::Lost));
+    }
     let count = length(words, 2)?;
     if count == 0 {
-        return bench.image(moment, None);
+        return Some(None);
     }
     let bytes = word(words, 3)?.to_be_bytes();
-    let tear = bytes.get(8usize.checked_sub(count)?..)?;
-    bench.image(moment, Some(tear))
+    let left = Bytes::of(alloc, bytes.get(8usize.checked_sub(count)?..)?).ok()?;
+    Some(Some(Tear::Write(left)))
+}
+
+// `stop 3 1 xC1`: after three items, with that tear.
+fn image(alloc: Global, bench: &Bench, words: &[u64]) -> Option<Bench> {
+    let moment = word(words, 1)?;
+    let tear = tear_of(alloc, words)?;
+    bench.image(moment, &tear)
 }
 
 // Behind a stop stands a line that is done to what it leaves.
 fn told_behind(alloc: Global, bench: &Bench, words: &[u64]) -> Told {
     let line = words.get(4..)?;
-    let mut left = Some(image(bench, words)?);
+    let mut left = Some(image(alloc, bench, words)?);
     whole_line(alloc, &mut left, line)
 }
 

@@ -4,7 +4,8 @@ use crate::sites::play_stops;
 use std::process::Abort;
 use std::test::Fail;
 
-/// A record takes two writes, each with a sync, and an update one with its sync.
+/// A record takes two writes, each with a sync, and an update one with its sync. Until its sync a write may be lost, or
+/// leave any bytes.
 const UPDATE: &str = "\
 # a record of a blank track, and other data
 07 000000050003 0C
@@ -25,16 +26,37 @@ t 0 98 1 414243 ok
 3 -
 t 0 98 1 414243 ok
 
+3 fill 00
+t 0 98 0 - ok
+
+3 lost
+t 0 98 0 - ok
+
 4 -
 t 0 98 1 414243 ok
 
 4 FF00FF
 t 0 98 1 FF00FF ok
 
+4 lost
+t 0 98 1 414243 ok
+
 5 FF00FF
 t 0 98 1 58595A ok
 
+5 fill 00
+t 0 98 1 000000 ok
+
+5 lost
+t 0 98 1 414243 ok
+
 6 -
+t 0 98 1 58595A ok
+
+6 fill 00
+t 0 98 1 58595A ok
+
+6 lost
 t 0 98 1 58595A ok
 
 7 -
@@ -67,13 +89,28 @@ t 0 98 1 414243 ok
 13 -
 t 0 98 1 414243 ok
 
+13 fill C1
+t 0 98 3 414243444546474849 ok
+
+13 lost
+t 0 98 3 414243444546474849 ok
+
 14 C1
+t 0 98 1 414243 ok
+
+14 fill C1
 t 0 98 1 414243 ok
 
 15 FF
 t 0 98 1 414243 ok
 
 16 -
+t 0 98 1 414243 ok
+
+16 fill C1
+t 0 98 1 414243 ok
+
+16 lost
 t 0 98 1 414243 ok
 
 17 00
@@ -85,7 +122,13 @@ t 0 98 2 41424358595A ok
 18 -
 t 0 98 2 41424358595A ok
 
+18 fill 00
+t 0 98 1 414243 ok
+
 19 -
+t 0 98 2 41424358595A ok
+
+19 lost
 t 0 98 2 41424358595A ok
 
 20 -

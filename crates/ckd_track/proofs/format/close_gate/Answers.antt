@@ -1,5 +1,6 @@
-use Rattle.std.proofs.Common.{arith}
+use Rattle.std.proofs.Common.{inl, arith}
 use Rattle.std.proofs.lemmas.Result.{on_ok_weaker}
+use Rattle.mss_base.proofs.Moments.{block_started}
 use Rattle.ckd_track.proofs.StepLemmas.{close_moments, closed_by}
 use Rattle.ckd_track.proofs.LogLemmas.{two_items}
 use Rattle.ckd_track.proofs.format.close_gate.Goals as goal
@@ -16,3 +17,6 @@ returns-then-block-gate-clause-closed g c = λ tells.
 pub returns-then-block-gate-clause-site_ : goal.returns-then-block-gate-clause-site_
 returns-then-block-gate-clause-site_ g c =
     two_items g.S.Site _ _ c.write_firm.result c.write_firm.ensures.devices (λ tells. (_, (c.write_firm.ensures.logged tells).2)) c.write_firm.ensures.cause c.write_firm.ensures.wrote c.write_firm.ensures.works
+
+pub returns-clause-moments : goal.returns-clause-moments
+returns-clause-moments g c = λ tells. block_started _ _ _ _ (inl (c.requires.told tells))

@@ -1,13 +1,20 @@
-use Rattle.std.proofs.Common.{◌≡◌, ◌∙◌, subst, List, ℕ, arith}
+use Rattle.std.proofs.Common.{◌≡◌, ◌++◌, ◌-◌, ◌∙◌, sym, ap, subst, List, ℕ, length, take, replicate, arith}
 use Rattle.std.specs.Prelude.{OnOk}
-use Rattle.mss_base.specs.Content.{fitted, write_at, written}
-use Rattle.memory_devices.specs.Memory.{held}
+use Rattle.mss_base.specs.Content.{Content, fitted, write_at, written}
 use Rattle.mss_base.proofs.ContentLemmas.{padded_fits}
+use Rattle.memory_devices.specs.Memory.{held}
+use Rattle.memory_devices.specs.Redone.{covered_range}
+use Rattle.memory_devices.specs.declared.tearing.Tear.{Tear as TestTear}
 use Rattle.memory_devices.proofs.write_log.tear_block.Goals as goal
 
-pub returns : goal.returns
-returns c =
+pub returns-in-Write : goal.returns-in-Write
+returns-in-Write c =
     let n = c.args.length in
-    let same : c.as_slice.result.now ≡ fitted n c.args.tear.now = c.as_slice.ensures ∙ c.in_ok-left.ensures ∙ padded_fits n n c.args.tear.now (omega arith) in
-    let left = λ (bytes : List ℕ). write_at c.args.place.now c.args.offset bytes in
-    record { torn = subst (λ (bytes : List ℕ). OnOk c.grow_block.result (held c.grow_block.new.blocks ≡ written (held c.args.blocks.now) (left bytes))) same c.grow_block.ensures.written }
+    let start = held c.args.blocks.now in
+    let bytes : List ℕ = c.in-Write.bytes.items in
+    let given : c.as_slice.result.now ≡ bytes = c.as_slice.ensures in
+    let left : c.as_slice-in-Write.result.now ≡ fitted n bytes =
+    c.as_slice-in-Write.ensures ∙ c.in_ok-left-in-Write.ensures ∙ ap (λ (l : List ℕ). take n l ++ replicate (n - length l) 0) given ∙ padded_fits n n bytes (omega arith) in
+    subst (λ (d : Content). OnOk c.grow_block.result (held c.grow_block.new.blocks ≡ d))
+    (ap (λ (l : List ℕ). written start (write_at c.args.place.now c.args.offset l)) left ∙ ap (λ (t : TestTear). covered_range start c.args.place.now c.args.offset n t) (sym c.in-Write.is))
+    c.grow_block.ensures.written

@@ -1,6 +1,7 @@
-use Rattle.std.proofs.Common.{◌≡◌, ◌∙◌, length, refl, arith}
+use Rattle.std.proofs.Common.{◌≡◌, ◌⊎◌, inl, ◌∙◌, length, refl, arith}
 use Rattle.mss_base.specs.Content.{content}
-use Rattle.table_pair.proofs.WriteLemmas.{byte_put, closing, closed}
+use Rattle.table_pair.specs.Copies.{copy_on, shut}
+use Rattle.table_pair.proofs.WriteLemmas.{byte_put, nothing_written, closing, closed}
 use Rattle.table_pair.proofs.write.close_copy.Goals as goal
 
 pub returns-in_err-write_firm-clause-moments : goal.returns-in_err-write_firm-clause-moments
@@ -25,3 +26,9 @@ returns-in_ok-write_firm-clause-gate g c = λ tells _.
     let at = c.args.at.now in
     let whole : length (content (g.S.Site.told c.args.site.now) at.unit at.block) ≡ 16384 = (g.met.S.Site.whole c.args.site.now at.unit at.block tells) in
     byte_put at 0 _ _ _ (omega arith) (c.in_ok-write_firm.ensures.ok tells)
+
+pub returns-else-is_open-clause-moments : goal.returns-else-is_open-clause-moments
+returns-else-is_open-clause-moments g c = λ _.
+    let at = c.args.at.now in
+    let copy = copy_on (g.S.Site.told c.args.site.now) at in
+    nothing_written at (λ now. (now ≡ copy) ⊎ (now ≡ shut copy)) _ _ refl (inl refl)

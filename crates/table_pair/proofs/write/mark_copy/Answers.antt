@@ -1,4 +1,4 @@
-use Rattle.std.proofs.Common.{◌≡◌, ◌≢◌, ◌∷◌, [], ◌∙◌, ℕ, List, true, false, not, ◌==◌, get_or, nat_lt, sym, ap, subst, length, arith}
+use Rattle.std.proofs.Common.{◌≡◌, ◌⊎◌, ◌≢◌, ◌∷◌, [], ◌∙◌, ℕ, List, true, false, not, ◌==◌, get_or, nat_lt, inl, refl, sym, ap, subst, length, arith}
 use Rattle.std.proofs.lemmas.Bool.{ne_eqb}
 use Rattle.mss_base.specs.Content.{SiteLog, content, Adds}
 use Rattle.mss_base.specs.declared.place.BlockPlace.{BlockPlace}
@@ -8,7 +8,7 @@ use Rattle.mss_base.specs.Content.{write_at}
 use Rattle.table_journal.specs.Slots.{slots}
 use Rattle.table_pair.proofs.SlotLemmas.{none_counted}
 use Rattle.table_pair.proofs.CopyLemmas.{slots_of}
-use Rattle.table_pair.proofs.WriteLemmas.{byte_put, marking, mark_set}
+use Rattle.table_pair.proofs.WriteLemmas.{byte_put, nothing_written, marking, mark_set}
 use Rattle.table_pair.proofs.write.mark_copy.Goals as goal
 
 unmade : (at : BlockPlace) (s : SiteLog) (block : List ℕ) → block ≡ content s at.unit at.block → get_or block 511 0 ≡ 0 → (copy_on s at).is_made ≡ false
@@ -76,3 +76,15 @@ returns-clause-none g c = λ tells.
     let s = g.S.Site.told c.args.site.now in
     let block : c.read.new.into ≡ content s at.unit at.block = c.in_ok-read.ensures.block tells in
     λ none. uncounted at s c.read.new.into _ block c.read_slots-has_slots.ensures.count none
+
+pub returns-in_err-read-clause-moments : goal.returns-in_err-read-clause-moments
+returns-in_err-read-clause-moments g c = λ tells.
+    let at = c.args.at.now in
+    let copy = copy_on (g.S.Site.told c.args.site.now) at in
+    nothing_written at (λ now. (now ≡ copy) ⊎ (now ≡ marked copy)) _ _ (c.read.ensures.told tells) (inl refl)
+
+pub returns-then-block-ne0-clause-moments : goal.returns-then-block-ne0-clause-moments
+returns-then-block-ne0-clause-moments g c = λ tells.
+    let at = c.args.at.now in
+    let copy = copy_on (g.S.Site.told c.args.site.now) at in
+    nothing_written at (λ now. (now ≡ copy) ⊎ (now ≡ marked copy)) _ _ (c.read.ensures.told tells) (inl refl)

@@ -1,8 +1,8 @@
-use Rattle.std.proofs.Common.{◌≡◌, [], sym, subst, ◌∙◌}
+use Rattle.std.proofs.Common.{◌≡◌, [], refl, sym, subst, ◌∙◌}
 use Rattle.mss_base.specs.Sites.{OnlyReads}
 use Rattle.std.proofs.lemmas.Result.{err_from_is_err_and}
-use Rattle.track_engine.proofs.Steps.{refused_write, carried_over}
-use Rattle.track_engine.proofs.Updates.{update_refused, update_given, update_of_nothing, number_at_hand}
+use Rattle.track_engine.proofs.Steps.{refused_write, carried_over, track_there, unbegun}
+use Rattle.track_engine.proofs.Updates.{update_refused, update_given, update_long, update_of_nothing, number_at_hand}
 use Rattle.track_engine.proofs.write.write_data.Goals as goal
 
 pub returns-in_err-at-clause-done : goal.returns-in_err-at-clause-done
@@ -48,3 +48,25 @@ returns-in_ok-bytes-in-None-clause-untouched g c = λ tells none.
     c.in_ok-at.at c.in_ok-at.ensures.itself c.requires.first c.in_ok-at.ensures.found c.found_in.result c.as_slice.result.now c.updated_length-length.result c.found_in.ensures.found c.updated_length-length.ensures
     (c.as_slice.ensures ∙ c.in_ok-bytes-in-None.ensures) none in
     subst (λ s. OnlyReads g.S.Site c.args.site.now s) (sym (c.update_at-in-None.ensures.untouched nothing)) c.copy_block.ensures.reads
+
+pub returns-in_err-copy_block-clause-done : goal.returns-in_err-copy_block-clause-done
+returns-in_err-copy_block-clause-done g c = λ tells.
+    let p = err_from_is_err_and c.from_residual.result c.from_residual.ensures.1 in
+    let head = c.block_of-to.ensures.in_range in
+    rw (p.1, p.2) (unbegun _ _ _ _ _ _ (c.requires.tracks tells _ head) (track_there (g.S.Site.told c.args.site.now) c.args.place.now _ head) (c.copy_block.ensures.reads.log tells))
+
+pub returns-in_err-bytes-in-None-clause-done : goal.returns-in_err-bytes-in-None-clause-done
+returns-in_err-bytes-in-None-clause-done g c = λ tells.
+    let p = err_from_is_err_and c.from_residual-in_err-bytes-in-None.result c.from_residual-in_err-bytes-in-None.ensures.1 in
+    let head = c.block_of-to.ensures.in_range in
+    rw (p.1, p.2) (unbegun _ _ _ _ _ _ (c.requires.tracks tells _ head) (track_there (g.S.Site.told c.args.site.now) c.args.place.now _ head) (c.copy_block.ensures.reads.log tells))
+
+pub update_at-requires-clause-long : goal.update_at-requires-clause-long
+update_at-requires-clause-long g c =
+    update_long c.args.key_too c.copy_block.new.buffer c.args.host.now c.args.left c.args.argument.now c.number.result c.number.ensures _ refl
+    c.in_ok-at.at c.in_ok-at.ensures.itself c.requires.first c.in_ok-at.ensures.found c.found_in.result c.in-Some.bytes.now c.updated_length-length.result c.found_in.ensures.found c.updated_length-length.ensures c.in-Some.ensures
+
+pub update_at-requires-in-None-clause-long : goal.update_at-requires-in-None-clause-long
+update_at-requires-in-None-clause-long g c =
+    update_long c.args.key_too c.copy_block.new.buffer c.args.host.now c.args.left c.args.argument.now c.number.result c.number.ensures _ refl
+    c.in_ok-at.at c.in_ok-at.ensures.itself c.requires.first c.in_ok-at.ensures.found c.found_in.result c.as_slice.result.now c.updated_length-length.result c.found_in.ensures.found c.updated_length-length.ensures (c.as_slice.ensures ∙ c.in_ok-bytes-in-None.ensures)
