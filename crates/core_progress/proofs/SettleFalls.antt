@@ -25,11 +25,11 @@ use Rattle.core_state.specs.declared.rule.WorkKind.{WorkKind}
 use Rattle.core_state.specs.declared.rule.WorkAnswer.TheVariants.{Did}
 use Rattle.core_state.specs.declared.rule.WorkRule.{WorkRule}
 use Rattle.core_state.specs.declared.rule.WorkRule.TheVariants.{IsStopped, IsIdle, GivesBack, Picks, PicksVictim, Abandons, Fetches, Copies, Ends, Frees, Assigns}
-use Rattle.core_state.specs.CoreValue.{CoreData}
+use Rattle.core_state.specs.CoreValue.{CoreData, DevicesSeen}
 use Rattle.core_state.specs.IsCore.{IsCore}
 use Rattle.core_state.specs.Pins.{is_ready, frame_in, asked_page, page_of, state_of_row, state_in, is_moving, free_frame, candidates, changed_in}
 use Rattle.core_state.specs.WorkRules.{task_of, held_in, transfer, destaging, staging_kind, staging, next_transfer, transfer_of, stopped_rule, return_rule, pick_on, pick_for, first_pick, pick_rule, is_within, abandon_rule, needs_cartridge, is_in_cell, carry_for, carry_rule, copy_rule, end_rule, free_rule, assign_rule, task_rule, work_rule}
-use Rattle.core_state.specs.WorkEvents.{WithTask, TaskDoes, EndsIt, WorkDoes, WorkEvent}
+use Rattle.core_state.specs.WorkEvents.{WithTask, TaskDoes, TellsEnd, WorkDoes, WorkEvent}
 use Rattle.core_state.proofs.RuleWalks.{some_is, none_some, nothing, this, where_test, found, either_then, mapped_at, chained_at}
 use Rattle.core_progress.specs.CoreFits.{CoreFits}
 use Rattle.core_progress.specs.WorkLeft.{copies_left, needed, work_left, settle_left}
@@ -225,12 +225,20 @@ module _ (tells : Type 0) (may : List Candidate → ℕ → Type 0) (core core' 
         let goes : (is_some task.victim && task.touched && not (is_within task.transfer)) ≡ true = rw (takes, touched, its) (ap not (and_right (nat_lt 0 t.next) (nat_lt t.next 19) over)) in
         both_ways (is_some task.victim && task.touched && not (is_within task.transfer)) (none_where (is_some task.victim && task.touched && not (is_within task.transfer)) Abandons stays) goes
 
+    -- the row tells a transfer's end, behind the sync
+    abbrev Tells : Transfer → DevicesSeen → TransferKind → Type 0
+    Tells t firm k = TellsEnd tells (record core { site = firm }) i task k t (Did kind) core'
+
     end_each : abandon_rule task ≡ None → (t : Transfer) → transfer_of core task ≡ Some t → nat_lt t.next 19 ≡ false → Each (end_rule t)
     end_each stays t is over = this Falls (Ends t) λ does.
         let now = of_task (λ u. TaskDoes tells core i (Ends t) u (Did kind) core') does in
-        by_victim task.victim refl (all_copied core task t is (ltb-false t.next 19 over)) now where
-          by_kind : (k : TransferKind) → t.kind ≡ k → EndsIt tells core i task t.kind t (Did kind) core' → EndsIt tells core i task k t (Did kind) core'
-          by_kind k e ends = subst (λ (j : TransferKind). EndsIt tells core i task j t (Did kind) core') e ends
+        elim now [
+          | inl done ↦ by_victim done.0 task.victim refl (all_copied core task t is (ltb-false t.next 19 over)) done.2
+          | inr failed ↦ becomes_less _ failed.2 refl (λ there. ended_falls core i task.host r has there task (request.Failed core'.site.faults) works refl moving refl)
+              (served _ (request.Failed core'.site.faults) refl refl refl (same_fours core.rows core.rows refl))
+        ] where
+          by_kind : (firm : DevicesSeen) (k : TransferKind) → t.kind ≡ k → Tells t firm t.kind → Tells t firm k
+          by_kind firm k e ends = subst (Tells t firm) e ends
 
           asked_in : (u : ℕ) → t.volume ≡ r.volume → state_in core.rows t.volume t.cylinder ≡ u → u < 2 → (row : RowValue) × (listed core.rows t.volume ≡ Some row) × (state_of row t.cylinder < 2)
           asked_in u same state small =
@@ -239,27 +247,27 @@ module _ (tells : Type 0) (may : List Candidate → ℕ → Type 0) (core core' 
               let e : state_of known_.0 t.cylinder ≡ u = sym (ap (λ o. state_of_row o t.cylinder) at) ∙ state in
               (known_.0, at, omega (arith, e, small))
 
-          staged_ : (u : ℕ) → t.volume ≡ r.volume → state_in core.rows t.volume t.cylinder ≡ u → u < 2 → EndsIt tells core i task StageBlank t (Did kind) core' → LessLeft core'
-          staged_ u same state small ends =
+          staged_ : (firm : DevicesSeen) (u : ℕ) → t.volume ≡ r.volume → state_in core.rows t.volume t.cylinder ≡ u → u < 2 → Tells t firm StageBlank → LessLeft core'
+          staged_ firm u same state small ends =
               let row = asked_in u same state small in
               becomes_less _ ends.2 refl (λ there. staged_falls core i task there works t.volume row.0 row.1 (within_rows core.rows t.volume row.0 row.1) t.cylinder task.host r has refl moving row.2)
               (served _ request.Ready refl refl refl (all_fours core.rows t.volume row.0 (change.Staged t.cylinder) row.1 (λ z old. staged_fours row.0 t.cylinder z row.2 old)))
 
-          by_victim : (v : Option (ℕ × ℕ)) → task.victim ≡ v → task.transfer ≡ Some t → EndsIt tells core i task t.kind t (Did kind) core' → LessLeft core'
-          by_victim (Some page) takes its ends =
+          by_victim : (firm : DevicesSeen) (v : Option (ℕ × ℕ)) → task.victim ≡ v → task.transfer ≡ Some t → Tells t firm t.kind → LessLeft core'
+          by_victim firm (Some page) takes its ends =
               let d = fit.tasks_.destages i task t page works its takes in
               let four : state_in core.rows t.volume t.cylinder ≡ 4 = (fit.tasks_.transfers i task t works its).state ∙ ap due_state d.kind_ in
-              let now = by_kind Destage d.kind_ ends in
+              let now = by_kind firm Destage d.kind_ ends in
               let row = row_of_changed core.rows t.volume t.cylinder four in
               becomes_less _ now.2 refl (λ there. destaged_falls core i task there works t.volume row.0 row.1 (within_rows core.rows t.volume row.0 row.1) t.cylinder row.3 row.2)
               (requests_stay core _ (λ x y. (x ≡ t.volume) × (y ≡ t.cylinder)) refl refl refl (row_fours core.rows t.volume row.0 (change.Destaged t.cylinder) row.1 (λ y. y ≡ t.cylinder) (destaged_fours row.0 t.cylinder))
               (λ j q asks ready but. never_marked stays t page takes its over (fit.tasks_.touched_ i task page j q works takes asks (ready_is q.state ready) (ap₂ (λ (a b : ℕ). (a, b)) (but.0 ∙ d.volume_) (ap page_of but.1 ∙ d.page_)))))
-          by_victim None takes its ends =
+          by_victim firm None takes its ends =
               let d = fit.tasks_.stages i task t r works its takes has in
               let state = (fit.tasks_.transfers i task t works its).state in
               elim d.kind_ [
-                | inl blank ↦ staged_ 0 d.volume_ (state ∙ ap due_state blank) (omega arith) (by_kind StageBlank blank ends)
-                | inr tape ↦ staged_ 1 d.volume_ (state ∙ ap due_state tape) (omega arith) (by_kind StageCartridge tape ends)
+                | inl blank ↦ staged_ firm 0 d.volume_ (state ∙ ap due_state blank) (omega arith) (by_kind firm StageBlank blank ends)
+                | inr tape ↦ staged_ firm 1 d.volume_ (state ∙ ap due_state tape) (omega arith) (by_kind firm StageCartridge tape ends)
               ]
 
     frame_place : task.frame < length core.owners

@@ -1,5 +1,5 @@
 -- A recorder's event that does nothing leaves the core as it was.
-use Rattle.std.proofs.Common.{◌≡◌, ℕ, List, Option, Some, None, refl}
+use Rattle.std.proofs.Common.{◌≡◌, inl, inr, ℕ, List, Option, Some, None, refl}
 use Rattle.transfers.specs.declared.transfer.Transfer.{Transfer}
 use Rattle.transfers.specs.declared.transfer.TransferKind.{TransferKind}
 use Rattle.transfers.specs.declared.transfer.TransferKind.TheVariants.{StageBlank, StageCartridge, Destage}
@@ -11,19 +11,25 @@ use Rattle.core_state.specs.declared.rule.WorkRule.TheVariants.{IsStopped, IsIdl
 use Rattle.core_state.specs.CoreValue.{CoreData}
 use Rattle.core_state.specs.HostEvents.{IsSame}
 use Rattle.core_state.specs.WorkRules.{task_of, work_rule}
-use Rattle.core_state.specs.WorkEvents.{WithTask, TaskDoes, EndsIt, WorkDoes, WorkEvent}
+use Rattle.core_state.specs.WorkEvents.{WithTask, TaskDoes, TellsEnd, EndsIt, WorkDoes, WorkEvent}
 
 module _ (tells : Type 0) (may : List Candidate → ℕ → Type 0) (core core' : CoreData) (i : ℕ) where
-  ends_never : (task : Task) (kind : TransferKind) (t : Transfer) → EndsIt tells core i task kind t Idle core' → ⊥
-  ends_never task Destage t does = does
-  ends_never task StageBlank t does = does
-  ends_never task StageCartridge t does = does
+  tells_never : (now : CoreData) (task : Task) (kind : TransferKind) (t : Transfer) → TellsEnd tells now i task kind t Idle core' → ⊥
+  tells_never now task Destage t does = does
+  tells_never now task StageBlank t does = does
+  tells_never now task StageCartridge t does = does
+
+  ends_never : (task : Task) (t : Transfer) → EndsIt tells core i task t Idle core' → ⊥
+  ends_never task t does = elim does [
+    | inl done ↦ tells_never (record core { site = done.0 }) task t.kind t done.2
+    | inr failed ↦ (let e = failed.1 in cc)
+  ]
 
   -- a rule of a task does something
   task_never : (rule : WorkRule) (task : Task) → TaskDoes tells core i rule task Idle core' → ⊥
   task_never Abandons task does = let e = does.1 in cc
   task_never (Copies t) task does = let e = does.0 in cc
-  task_never (Ends t) task does = ends_never task t.kind t does
+  task_never (Ends t) task does = ends_never task t does
   task_never (Frees volume page) task does = does
   task_never (Assigns volume page) task does = does
   task_never (IsStopped fault) task does = does

@@ -6,6 +6,7 @@ use Rattle.mss_base.specs.Content.{SiteLog, content}
 use Rattle.mss_base.specs.declared.block.TheConstants.{BLOCK_BYTES}
 use Rattle.volume_table.specs.Listed.{AreRows, listed}
 use Rattle.shown_volumes.specs.Shown.{RowsOf}
+use Rattle.shown_volumes.proofs.QuietFacts.{firm_quiet}
 use Rattle.mss_restart.specs.Opening.{missing, IsOpened, AreHeld}
 use Rattle.mss_restart.specs.declared.creations.Creation.{Creation}
 use Rattle.mss_restart.specs.declared.opening.Opened.{Opened}
@@ -28,7 +29,7 @@ use Rattle.core_state.proofs.CountedFacts.{counted_begun}
 use Rattle.core_restart.specs.Owners.{AreOwners}
 use Rattle.core_restart.specs.Console.{creations_of, HaveRows, TellCreations}
 use Rattle.core_restart.specs.Opening.{opened_in}
-use Rattle.core_restart.specs.Parts.{AreParts, MayBegin}
+use Rattle.core_restart.specs.Parts.{AreParts, IsFirm, MayBegin}
 use Rattle.core_restart.specs.Begins.{Begins}
 use Rattle.core_restart.proofs.OwnerFacts.{are_owned}
 use Rattle.core_restart.proofs.ConsoleFacts.{HaveNone, AreApart, missing_apart, missing_none, few_missing, as_many, have_rows, all_done, leads, all_allowed, handed_are}
@@ -112,7 +113,7 @@ module _ (tells : Type 0) (told : SiteLog) (writes faults : ℕ) (config : Confi
           (whole_begun S C tells told v.site chooser config v.store is.at_home v.rows v.used v.owners writes faults v.console (are_owned config.frames v.rows ready.rows_ v.owners is.owners_) at_end
           (λ tl. (ready.opened_ tl).shows.sound) (λ tl. sym (ready.opened_ tl).rows_are)
           (λ tl. subst (λ (r : RowsOf). AreHeld r (content told)) (sym (ready.opened_ tl).rows_are) (ready.opened_ tl).held)
-          ready.used_ (λ tl. (ready.opened_ tl).slots_)
+          ready.used_ (λ tl. (ready.opened_ tl).slots_) (λ tl. firm_quiet told (ready.firm tl))
           (λ tl. subst (λ (n : ℕ). AllDone n v.console) (at_end tl) done) (λ tl. allowed) (λ tl. leads_now))
 
       pub kept_begun : (room : ℕ) → room ≡ BLOCK_BYTES → IsKept tells told writes faults room v
@@ -189,18 +190,20 @@ module _ {S C : Type 0} (site : S) (chooser kept : C) (parts : Parts) (opened : 
         counted = subst (λ (ms : List Creation). CreatesCounted parts.config ready.written writes (listed opened.rows) ms) (sym same) ready.counted;
         from = ready.from;
         opened_ = ready.opened_;
+        firm = ready.firm;
       }) at_end
       (vec_len parts.buffer) are.buffer_
 
 -- an opening that was answered is one to begin from
 pub may_begin : (tells : Type 0) (config : ConfigData) (old new : DevicesSeen) (opened : Opened) → length opened.rows ≡ 32 → AreRows opened.rows → IsUsable config opened
-    → CreatesCounted config old.writes new.writes (listed opened.rows) opened.creations.items → (tells → IsOpened config (content old.told) (content new.told) opened.rows opened.used.items)
+    → CreatesCounted config old.writes new.writes (listed opened.rows) opened.creations.items → (tells → IsOpened config (content old.told) (content new.told) opened.rows opened.used.items) → (tells → IsFirm new.told)
     → MayBegin tells new.told new.writes config opened
-may_begin tells config old new opened places are_rows usable counted is = record {
+may_begin tells config old new opened places are_rows usable counted is firm = record {
   rows_ = record { places = places; are_rows = are_rows; below = usable.rows_.usable.frames_below; once = usable.rows_.usable.frames_once };
   used_ = usable.used_;
   written = old.writes;
   counted = counted;
   from = content old.told;
   opened_ = is;
+  firm = firm;
 }

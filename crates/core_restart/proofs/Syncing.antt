@@ -2,9 +2,9 @@
 use Rattle.std.proofs.Common.{◌≡◌, inl, inr, ◌<◌, ℕ, [], ◌∷◌, Option, Some, None, Result, Ok, Err, refl, sym, ◌∙◌, subst, arith}
 use Rattle.std.specs.Prelude.{IfOk}
 use Rattle.mss_base.specs.Configs.{ConfigData}
-use Rattle.mss_base.specs.Content.{Content, SiteLog, Got, synced_all, content, Writes}
+use Rattle.mss_base.specs.Content.{Content, SiteLog, Got, synced_all, content}
 use Rattle.mss_base.specs.Counts.{Rises}
-use Rattle.mss_base.proofs.Moments.{content_grown, then}
+use Rattle.mss_base.proofs.Moments.{content_grown}
 use Rattle.shown_volumes.specs.declared.refused.Refused.{Refused}
 use Rattle.shown_volumes.specs.declared.refused.Refused.TheVariants.{RowUnread, Stopped, Memory}
 use Rattle.mss_restart.specs.declared.opening.Opened.{Opened}
@@ -16,10 +16,6 @@ use Rattle.core_restart.specs.TakingUp.{Answer, BeginsWith, IsFaultless, TakesUp
 -- reads see what they saw
 pub same_content : (old new : SiteLog) → Got (synced_all ∷ []) old new → content new ≡ content old
 same_content old new got = content_grown old new (synced_all ∷ []) got
-
--- what holds at each moment behind the sync, and before it, holds at each moment of both
-pub moments_before : (P : Content → Type 0) (old synced new : SiteLog) → Got (synced_all ∷ []) old synced → P (content old) → Writes P synced new → Writes P old new
-moments_before P old synced new got holds run = then P old synced new (record { items = synced_all ∷ []; grown = got; moments = (holds, tt, holds) }) run
 
 -- a count that stays hasn't risen
 pub stays_low : (before now : ℕ) → now ≡ before → before < 18446744073709551615 → Rises before now → ⊥

@@ -1,13 +1,13 @@
 -- What a stop leaves has no fault, and which volumes come of it.
-use Rattle.std.proofs.Common.{◌≡◌, inl, inr, ℕ, ◌<◌, ◌==◌, Bool, true, false, cond, List, [], ◌∷◌, ◌++◌, length, take, Option, Some, None, Result, Ok, Err, refl, sym, ◌∙◌, ap, subst, arith}
+use Rattle.std.proofs.Common.{◌≡◌, inl, inr, ℕ, ◌+◌, ◌≤◌, ◌<◌, ◌==◌, Bool, true, false, cond, List, [], ◌∷◌, ◌++◌, length, length-append, take, Option, Some, None, Result, Ok, Err, refl, sym, ◌∙◌, ap, subst, arith}
 use Rattle.std.specs.Prelude.{◌↔◌, is_some, slice_get}
 use Rattle.std.specs.Option.{option_map, ForSome}
 use Rattle.std.specs.List.{AllByRecursion}
 use Rattle.std.proofs.lemmas.Bool.{cases_Bool, cond-true, cond-false, eq-eqb, eqb-true, ne_eqb}
 use Rattle.std.proofs.lemmas.List.{take_all}
 use Rattle.mss_base.specs.Configs.{ConfigData, VolumeData}
-use Rattle.mss_base.specs.Content.{Content, SiteLog, Item, IsTorn, Writes, content, after as written_after}
-use Rattle.mss_base.proofs.Moments.{moments_are_images}
+use Rattle.mss_base.specs.Content.{Content, SiteLog, Item, Got, IsTorn, Writes, content, synced_all, after as written_after}
+use Rattle.mss_base.proofs.Moments.{moments_are_images, torn_at}
 use Rattle.mss_base.specs.declared.site.Site.{Ghosts}
 use Rattle.ckd_track.specs.Data.{Volumes}
 use Rattle.channel_commands.specs.Data.{CallData, ReplyData, equipment_check, no_space, stopped}
@@ -22,6 +22,7 @@ use Rattle.shown_volumes.specs.Shown.{RowsOf, rows_of, shown}
 use Rattle.shown_volumes.specs.Sound.{IsSound, HasSerialsAsked}
 use Rattle.shown_volumes.specs.Changing.{with_blank}
 use Rattle.shown_volumes.specs.Faults.{first_fault}
+use Rattle.shown_volumes.proofs.QuietFacts.{all_firm}
 use Rattle.mss_restart.specs.declared.opening.Opened.{Opened}
 use Rattle.mss_restart.specs.Opening.{ShowsFront, IsOpened, missing, with_blanks}
 use Rattle.mss_restart.proofs.Creating.{AreRising, rising_first}
@@ -33,7 +34,7 @@ use Rattle.core_state.proofs.EntryLemmas.{opening_same}
 use Rattle.core_restart.specs.Begins.{Begins}
 use Rattle.core_restart.specs.TakingUp.{Answer, AreThere, IsFaultless, shown_for, IsTakenUp, BeginsWith, TakesUp, RestartsOver, Stop, left_by, IsSession, IsLater, LeavesAll, OpensFaultless, LeavesFront}
 use Rattle.core_restart.proofs.ConsoleFacts.{all_missing}
-use Rattle.core_restart.proofs.Syncing.{moments_before, same_content}
+use Rattle.core_restart.proofs.Syncing.{same_content}
 
 -- ---- the serials of volumes stay
 
@@ -270,7 +271,7 @@ later_missing (w ∷ vs) before rows later rising made volumes order was now =
 
 -- ---- a stop within a restart
 
-module _ (decides : Decides) (config : ConfigData) (old new : DevicesSeen) (answer : Result Opened Refused) (is : OpensFaultless config old new answer) (stop : Stop (length old.told.log) new.told) where
+module _ (decides : Decides) (config : ConfigData) (old new : DevicesSeen) (answer : Result Opened Refused) (is : OpensFaultless config old new answer) (stop : Stop (length old.told.log + 1) new.told) where
   abbrev begun : Content
   begun = content old.told
 
@@ -286,23 +287,29 @@ module _ (decides : Decides) (config : ConfigData) (old new : DevicesSeen) (answ
   abbrev Fronts : Content → Type 0
   Fronts = ShowsFront config.frames further (shown begun)
 
-  torn_stays : (c d : Content) → Fronts c → IsTorn old.told c d → Fronts d
-  torn_stays c d shows torn = subst Fronts (sym torn) shows
+  abbrev synced : SiteLog
+  synced = is.opens.synced.told
 
-  same : content is.opens.synced.told ≡ begun
-  same = same_content old.told is.opens.synced.told (is.opens.sync.told tt)
+  got : Got (synced_all ∷ []) old.told synced
+  got = is.opens.sync.told tt
 
-  -- before anything was written
-  none_made : Fronts begun
-  none_made = record { sound = was.0; made = []; later = further; order = refl; same = refl }
+  same : content synced ≡ begun
+  same = same_content old.told synced got
 
-  moments : Writes Fronts old.told new.told
-  moments = moments_before Fronts old.told is.opens.synced.told new.told (is.opens.sync.told tt) none_made
-      (subst (λ (c : Content). Writes (ShowsFront config.frames (missing (rows_of c) config.volumes) (shown c)) is.opens.synced.told new.told) same
-      ((is.opens.told tt).moments config.frames (subst (IsSound config.frames) (sym same) was.0)))
+  -- nothing is loose behind the sync, so no stop changes what was there then
+  torn_stays : (c d : Content) → Fronts c → IsTorn synced c d → Fronts d
+  torn_stays c d shows torn = subst Fronts (λ i unit block. sym (torn_at synced c d unit block torn (all_firm old.told synced got unit block)) i) shows
+
+  moments : Writes Fronts synced new.told
+  moments =
+      subst (λ (c : Content). Writes (ShowsFront config.frames (missing (rows_of c) config.volumes) (shown c)) synced new.told) same
+      ((is.opens.told tt).moments config.frames (subst (IsSound config.frames) (sym same) was.0))
+
+  since : length synced.log ≤ stop.moment
+  since = let long = ap (λ (s : SiteLog). length s.log) got ∙ length-append old.told.log (synced_all ∷ []) in omega (arith, long, stop.since)
 
   front : ShowsFront config.frames further (shown begun) (left_by stop)
-  front = moments_are_images Fronts Fronts old.told new.told moments torn_stays stop.moment stop.since stop.until stop.tear
+  front = moments_are_images Fronts Fronts synced new.told moments torn_stays stop.moment since stop.until stop.tear
 
   made_asked : AreAsked asked front.made
   made_asked =

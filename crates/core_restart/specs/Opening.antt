@@ -1,13 +1,14 @@
 -- What restart makes of a site, and what it answers.
 use Rattle.std.specs.Prelude.{◌≡◌, ◌⊎◌, ◌≤◌, [], ◌∷◌, Result, Ok, Err}
 use Rattle.mss_base.specs.Configs.{ConfigData}
-use Rattle.mss_base.specs.Content.{Got, synced_all, unsynced}
+use Rattle.mss_base.specs.Content.{Got, synced_all}
 use Rattle.mss_base.specs.Counts.{Rises}
 use Rattle.shown_volumes.specs.declared.refused.Refused.{Refused}
 use Rattle.shown_volumes.specs.declared.refused.Refused.TheVariants.{Stopped, Memory}
 use Rattle.mss_restart.specs.declared.opening.Opened.{Opened}
 use Rattle.mss_restart.specs.Answers.{AnswersOpening, OpensSite}
 use Rattle.core_state.specs.CoreValue.{CoreValue, DevicesSeen}
+use Rattle.core_state.specs.Devices.{FailSync}
 use Rattle.core_restart.specs.Console.{creations_of}
 
 -- the site that the core has, or that is handed back
@@ -59,13 +60,6 @@ pub record SyncsAll (tells : Type 0) (old new : DevicesSeen) : Type 0 where
   pub later : old.writes ≤ new.writes
   pub unfailed : new.faults ≡ old.faults
 
--- the sync failed, and made nothing firm
-pub record FailsSync (tells : Type 0) (old new : DevicesSeen) : Type 0 where
-  pub told : tells → Got (unsynced ∷ []) old.told new.told
-  pub tried : Rises old.writes new.writes
-  pub later : old.writes ≤ new.writes
-  pub failed : Rises old.faults new.faults
-
 -- nothing was done
 pub record StaysUnsynced (tells : Type 0) (old new : DevicesSeen) : Type 0 where
   pub told : tells → new.told ≡ old.told
@@ -77,7 +71,7 @@ pub record StaysUnsynced (tells : Type 0) (old new : DevicesSeen) : Type 0 where
 abbrev pub IsUnsynced : Type 0 → DevicesSeen → DevicesSeen → Refused → Type 0
 IsUnsynced tells old new why =
     (StaysUnsynced tells old new × (why ≡ Memory))
-    ⊎ (FailsSync tells old new × (why ≡ Stopped new.faults))
+    ⊎ (FailSync tells old new × (why ≡ Stopped new.faults))
 
 -- all was synced, and then opened
 pub record OpensSynced (tells : Type 0) (config : ConfigData) (old new : DevicesSeen)

@@ -1,7 +1,8 @@
 -- What a core needs of memory beside its rows, and from what it can begin.
 use Rattle.std.specs.Prelude.{◌≡◌, ◌≤◌, ℕ, [], length, replicate, None, vec_len}
 use Rattle.mss_base.specs.Configs.{ConfigData}
-use Rattle.mss_base.specs.Content.{Content, SiteLog, content}
+use Rattle.mss_base.specs.Content.{Content, SiteLog, IsLoose, content}
+use Rattle.mss_base.specs.declared.place.UnitNo.{UnitNo}
 use Rattle.mss_base.specs.declared.block.TheConstants.{BLOCK_BYTES}
 use Rattle.volume_table.specs.Listed.{listed}
 use Rattle.ckd_plain.specs.Plain.{fresh_host}
@@ -28,8 +29,12 @@ pub record AreParts (config : ConfigData) (parts : Parts) : Type 0 where
   pub console_ : parts.console.items ≡ []
   pub room : length config.volumes ≤ parts.console.spare
 
--- an opened site, of which so many writes were made by now: its rows, with a count of slots for each
--- of the 32 volumes, and the creations behind them
+-- nothing that was written to a site is loose
+abbrev pub IsFirm : SiteLog → Type 0
+IsFirm s = (unit : UnitNo) (block : ℕ) → IsLoose s unit block → ⊥
+
+-- an opened site, of which so many writes were made by now, all of them firm: its rows, with a count
+-- of slots for each of the 32 volumes, and the creations behind them
 pub record MayBegin (tells : Type 0) (told : SiteLog) (writes : ℕ) (config : ConfigData)
     (opened : Opened) : Type 0 where
   pub rows_ : HaveFrames config.frames opened.rows
@@ -38,3 +43,4 @@ pub record MayBegin (tells : Type 0) (told : SiteLog) (writes : ℕ) (config : C
   pub counted : CreatesCounted config written writes (listed opened.rows) opened.creations.items
   pub from : Content
   pub opened_ : tells → IsOpened config from (content told) opened.rows opened.used.items
+  pub firm : tells → IsFirm told

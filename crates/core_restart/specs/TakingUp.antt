@@ -76,8 +76,8 @@ pub record RestartsOver {S C : Type 0} (config : ConfigData) (c : Content)
 
 -- ---- stops
 
--- a moment from so many writes of a site on, and what a stop there leaves in the range of the next
--- write, if anything
+-- a moment from so many items of a site on, and what a stop there puts at the places that it leaves
+-- open, if anything
 pub record Stop (first : ℕ) (site : SiteLog) : Type 0 where
   pub moment : ℕ
   pub since : first ≤ moment

@@ -1,7 +1,7 @@
 //! Laws of restarts. A function calls a law to have it in its proof.
 ghost use Rattle.mss_base.specs.Configs.{ConfigData};
 ghost use Rattle.mss_base.specs.Content.{Content, SiteLog, content};
-ghost use Rattle.std.specs.Prelude.{◌≡◌, ℕ, List, length, Option, Result, Err};
+ghost use Rattle.std.specs.Prelude.{◌≡◌, ◌+◌, ℕ, List, length, Option, Result, Err};
 ghost use Rattle.ckd_track.specs.Data.{Volumes};
 ghost use Rattle.volume_table.specs.Row.{RowValue};
 ghost use Rattle.shown_volumes.specs.declared.refused.Refused.{Refused};
@@ -54,16 +54,17 @@ pub fn restart_takes_up_every_stop<S: Site, C: Choose>()
     shown_volumes::law::first_fault_is_of_unsound_content();
 }
 
-/// Whatever a stop within a restart leaves, also within a call that fails, has no fault, where what it began from had
-/// none. Another restart, of which no call fails, begins a session with the very volumes that the first was to begin
-/// with; or memory runs out.
+/// Whatever a stop within a restart leaves, behind its sync of all units, also within a call that fails, has no fault,
+/// where what it began from had none. Another restart, of which no call fails, begins a session with the very volumes that
+/// the first was to begin with; or memory runs out.
 pub fn restart_takes_up_its_own_stops<S: Site, C: Choose>()
     ensures leaves { (config : ConfigData) (old new : DevicesSeen) (answer : Result Opened Refused)
-        → OpensFaultless config old new answer → (stop : Stop (length old.told.log) new.told)
+        → OpensFaultless config old new answer
+        → (stop : Stop (length old.told.log + 1) new.told)
         → LeavesFront config (content old.told) (left_by stop) }
     ensures restart { (config : ConfigData) (old new : DevicesSeen)
         (answer : Result Opened Refused) → OpensFaultless config old new answer
-        → (stop : Stop (length old.told.log) new.told)
+        → (stop : Stop (length old.told.log + 1) new.told)
         (again left : DevicesSeen) (then : Answer S C)
         → RestartsOver config (left_by stop) again left then
         → IsTakenUp config (shown_for config (content old.told)) left.told then }

@@ -3,7 +3,7 @@ use Rattle.std.proofs.Common.{◌≡◌, inl, inr, ℕ, zero, suc, ◌≤◌, Bo
 use Rattle.std.specs.Prelude.{replicate, slice_index_or}
 use Rattle.std.proofs.lemmas.Bool.{cases_lt, and_parts, false≢true}
 use Rattle.std.proofs.lemmas.List.{take_all, get_or-replicate, get_or_past, length-replicate}
-use Rattle.mss_base.specs.Content.{Content, SiteLog, Tear, content, image, after as written_after}
+use Rattle.mss_base.specs.Content.{Content, SiteLog, Tear, no_tear, content, image, after as written_after}
 use Rattle.ckd_plain.specs.declared.host.HostState.{HostState}
 use Rattle.ckd_plain.specs.Plain.{fresh_host}
 use Rattle.volume_table.specs.Row.{RowValue}
@@ -11,7 +11,9 @@ use Rattle.table_pair.specs.declared.copy.SlotsUsed.{SlotsUsed}
 use Rattle.table_pair.specs.Pair.{HoldsRow}
 use Rattle.table_pair.specs.Slots.{AreUsed}
 use Rattle.shown_volumes.specs.Shown.{RowsOf, rows_of, shown}
-use Rattle.shown_volumes.specs.Sound.{IsSound}
+use Rattle.shown_volumes.specs.Sound.{IsSound, SoundAs}
+use Rattle.shown_volumes.specs.Changing.{IsQuiet}
+use Rattle.shown_volumes.proofs.QuietFacts.{quiet_rests}
 use Rattle.core_state.specs.declared.session.Message.{Message}
 use Rattle.fault_queue.specs.declared.queue.Request.{Request}
 use Rattle.core_state.specs.declared.task.Task.{Task}
@@ -30,7 +32,6 @@ use Rattle.victim_choice.specs.Order.{untouched}
 use Rattle.victim_choice.proofs.OrderFacts.{untouched_is_order}
 use Rattle.accessors.specs.Rails.{rail_start}
 use Rattle.core_state.proofs.Making.{make_whole}
-use Rattle.mss_base.proofs.Moments.{last_torn}
 use Rattle.core_state.proofs.CoreWork.{AreOwned}
 
 nothing : {A : Type 0} (n i : ℕ) (a : A) → slice_index_or (replicate n a) i a ≡ a
@@ -72,7 +73,7 @@ begun site chooser config store rows used owners console first faults = record {
 module _ (S C : Type 0) (tells : Type 0) (s : SiteLog) (x : S) (chooser : C) (config : ConfigData) (store : List Place) (homes : (c : ℕ) → place_of store c ≡ home_of c) (rows : List (Option RowValue)) (used : List SlotsUsed) (owners : List (Option (ℕ × ℕ))) (first faults : ℕ) (console : List Message)
     (owned : AreOwned config.frames rows owners) (at_end : tells → first ≡ length s.log) (sound : tells → IsSound config.frames (content s)) (rows_are : tells → rows_of (content s) ≡ listed rows)
     (copies : tells → (volume : ℕ) (r : RowValue) → listed rows volume ≡ Some r → HoldsRow r volume (content s))
-    (places : length used ≡ 32) (slots : tells → AreUsed used (content s))
+    (places : length used ≡ 32) (slots : tells → AreUsed used (content s)) (quiet : tells → IsQuiet s)
     (messages : tells → AllDone (length s.log) console) (allowed : tells → AllAllowed (handed_rows (listed rows) console) console) (told : tells → rows_after (handed_rows (listed rows) console) console ≡ listed rows) where
   abbrev v : CoreValue S C
   v = begun x chooser config store rows used owners console first faults
@@ -134,8 +135,8 @@ module _ (S C : Type 0) (tells : Type 0) (s : SiteLog) (x : S) (chooser : C) (co
   handed : (tl : tells) → handed_rows (rows_of (written_after s.start (take first s.log))) console ≡ handed_rows (listed rows) console
   handed tl = ap (λ (c : Content). handed_rows (rows_of c) console) (front tl) ∙ ap (λ (r : RowsOf). handed_rows r console) (rows_are tl)
 
-  here : (tl : tells) (k : ℕ) → first ≤ k → k ≤ length s.log → (tear : Tear) → image s k tear ≡ content s
-  here tl k from to tear = last_torn s k tear (let e = at_end tl in omega (arith, e))
+  here : (tl : tells) (k : ℕ) → first ≤ k → k ≤ length s.log → (tear : Tear) → SoundAs config.frames (shown (content s)) (image s k tear)
+  here tl k from to tear = quiet_rests config.frames s (quiet tl) (sound tl) k tear (let e = at_end tl in omega (arith, e))
 
   opens : (tl : tells) → shown (content s) ≡ shown (written_after s.start (take first s.log))
   opens tl = ap shown (sym (front tl))
@@ -147,9 +148,9 @@ module _ (S C : Type 0) (tells : Type 0) (s : SiteLog) (x : S) (chooser : C) (co
     messages = messages tl;
     legal = tt;
     stops = record {
-      sound = λ k from to tear. subst (IsSound config.frames) (sym (here tl k from to tear)) (sound tl);
-      shows = λ k from to tear. ap shown (here tl k from to tear) ∙ opens tl;
-      exact = λ k from to at. ap shown (here tl k from to None) ∙ opens tl;
+      sound = λ k from to tear. (here tl k from to tear).sound;
+      shows = λ k from to tear. (here tl k from to tear).same ∙ opens tl;
+      exact = λ k from to at. (here tl k from to no_tear).same ∙ opens tl;
     };
     agrees = record {
       allowed = subst (λ (r : RowsOf). AllAllowed r console) (sym (handed tl)) (allowed tl);
@@ -164,5 +165,6 @@ module _ (S C : Type 0) (tells : Type 0) (s : SiteLog) (x : S) (chooser : C) (co
       slots_ = slots tl;
       told = ap (λ (r : RowsOf). rows_after r console) (handed tl) ∙ told tl;
       served = λ n task is. absurd (no_task n task is);
+      quiet = quiet tl;
     };
   })

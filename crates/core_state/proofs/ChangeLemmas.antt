@@ -12,7 +12,7 @@ use Rattle.table_pair.specs.declared.copy.SlotsUsed.{SlotsUsed}
 use Rattle.table_pair.specs.Pair.{HoldsRow}
 use Rattle.table_pair.specs.Slots.{AreUsed}
 use Rattle.shown_volumes.specs.Shown.{RowsOf, rows_of, shown, SameTables}
-use Rattle.shown_volumes.specs.Sound.{SoundAs}
+use Rattle.shown_volumes.specs.Changing.{IsQuiet, StillShows}
 use Rattle.core_state.specs.declared.session.Message.{Message}
 use Rattle.core_state.specs.StopRule.{opening, StopsWell}
 use Rattle.core_state.specs.Agrees.{AllAllowed, AllAgree, EntryAgrees, IsAllowedIn, freed_by, rows_at, rows_after, with_change, till, handed_rows, has_created, creates}
@@ -59,7 +59,7 @@ created-push volume (x ∷ ms) m none = ap (λ (b : Bool). creates volume x || b
 
 module _ (S : Type 0) {C : Type 0} (s t : SiteLog) (v : CoreValue S C) (x : S) (rows : List (Option RowValue)) (m : Message)
     (told : IsTold s v) (open_ : v.stopped ≡ None) (long : length v.marks ≡ length v.history)
-    (writes : Writes (SoundAs v.config.frames (shown (content s))) s t)
+    (writes : Writes (StillShows v.config.frames (shown (content s)) s) s t) (quiet : IsQuiet t)
     (mark : m.mark ≡ length t.log) (grows : length s.log < length t.log) (no_create : (volume : ℕ) → creates volume m ≡ false)
     (allowed : IsAllowedIn (listed v.rows) m.volume m.change (listed v.rows m.volume) × (m.freed ≡ freed_by (listed v.rows) m.volume m.change))
     (changes : with_change (listed v.rows) m ≡ listed rows) (rows_are : rows_of (content t) ≡ listed rows)
@@ -68,8 +68,8 @@ module _ (S : Type 0) {C : Type 0} (s t : SiteLog) (v : CoreValue S C) (x : S) (
   going : IsGoing s v
   going = told.going open_
 
-  writes_ : Writes (SoundAs v.config.frames (after (opening_of s v) v.history).volumes) s t
-  writes_ = subst (λ (V : Volumes). Writes (SoundAs v.config.frames V) s t) going.shows writes
+  writes_ : Writes (StillShows v.config.frames (after (opening_of s v) v.history).volumes s) s t
+  writes_ = subst (λ (V : Volumes). Writes (StillShows v.config.frames V s) s t) going.shows writes
 
   began : opening v.first_write t ≡ opening v.first_write s
   began = opening_same v.first_write s t writes.items writes.grown told.began
@@ -109,18 +109,19 @@ module _ (S : Type 0) {C : Type 0} (s t : SiteLog) (v : CoreValue S C) (x : S) (
       slots_ = slots;
       told = ap (λ (q : RowsOf). rows_after q (v.console ++ m ∷ [])) handed ∙ told_rows;
       served = served;
+      quiet = quiet;
     };
   }
 
 -- writes that leave the tables and what is shown, without a message
 module _ (S : Type 0) {C : Type 0} (s t : SiteLog) (v : CoreValue S C) (x : S) (told : IsTold s v) (open_ : v.stopped ≡ None) (long : length v.marks ≡ length v.history)
-    (writes : Writes (SoundAs v.config.frames (shown (content s))) s t) (same : SameTables (content s) (content t))
+    (writes : Writes (StillShows v.config.frames (shown (content s)) s) s t) (same : SameTables (content s) (content t)) (quiet : IsQuiet t)
     (owners : List (Option (ℕ × ℕ))) (moving : List Bool) (requests : RequestsData) (tasks : List (Option Task)) (served : AreServed (content t) (listed v.rows) tasks) where
   going_ : IsGoing s v
   going_ = told.going open_
 
-  writes_now : Writes (SoundAs v.config.frames (after (opening_of s v) v.history).volumes) s t
-  writes_now = subst (λ (V : Volumes). Writes (SoundAs v.config.frames V) s t) going_.shows writes
+  writes_now : Writes (StillShows v.config.frames (after (opening_of s v) v.history).volumes s) s t
+  writes_now = subst (λ (V : Volumes). Writes (StillShows v.config.frames V s) s t) going_.shows writes
 
   began_ : opening v.first_write t ≡ opening v.first_write s
   began_ = opening_same v.first_write s t writes.items writes.grown told.began
@@ -153,5 +154,6 @@ module _ (S : Type 0) {C : Type 0} (s t : SiteLog) (v : CoreValue S C) (x : S) (
       slots_ = used_same_tables (content s) (content t) same v.used going_.slots_;
       told = ap (λ (rows : RowsOf). rows_after rows v.console) handed_ ∙ going_.told;
       served = served;
+      quiet = quiet;
     };
   }

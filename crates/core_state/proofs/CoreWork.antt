@@ -11,7 +11,8 @@ use Rattle.volume_table.specs.Row.{RowValue, IsRow, state_of}
 use Rattle.table_pair.specs.declared.copy.SlotsUsed.{SlotsUsed}
 use Rattle.std.specs.Option.{ForSome}
 use Rattle.shown_volumes.specs.Shown.{RowsOf, rows_of, shown}
-use Rattle.shown_volumes.specs.Sound.{SoundAs, frame_in}
+use Rattle.shown_volumes.specs.Sound.{frame_in}
+use Rattle.shown_volumes.specs.Changing.{StillShows}
 use Rattle.core_state.specs.declared.session.Message.{Message}
 use Rattle.fault_queue.specs.declared.queue.Request.{Request}
 use Rattle.fault_queue.specs.declared.queue.RequestState.{RequestState}
@@ -159,13 +160,13 @@ told_same S s v x owners moving requests tasks told served = record {
   legal = told.legal;
   stops = told.stops;
   agrees = told.agrees;
-  going = λ none. let g = told.going none in record { no_stop = g.no_stop; hosts_ = g.hosts_; shows = g.shows; rows_ = g.rows_; copies = g.copies; slots_ = g.slots_; told = g.told; served = served none };
+  going = λ none. let g = told.going none in record { no_stop = g.no_stop; hosts_ = g.hosts_; shows = g.shows; rows_ = g.rows_; copies = g.copies; slots_ = g.slots_; told = g.told; served = served none; quiet = g.quiet };
 }
 
 -- ---- a core that a failed write stops in work: the change wasn't made, and no more is said of what its devices hold
 
 module _ (S : Type 0) {C : Type 0} (s t : SiteLog) (v : CoreValue S C) (x : S) (told : IsTold s v) (open_ : v.stopped ≡ None) (long : length v.marks ≡ length v.history)
-    (writes : Writes (SoundAs v.config.frames (shown (content s))) s t) (fault : ℕ) where
+    (writes : Writes (StillShows v.config.frames (shown (content s)) s) s t) (fault : ℕ) where
   going : IsGoing s v
   going = told.going open_
 
@@ -186,7 +187,7 @@ module _ (S : Type 0) {C : Type 0} (s t : SiteLog) (v : CoreValue S C) (x : S) (
     legal = subst (λ (y : State). IsLegal y v.history) (sym began) told.legal;
     stops = subst (λ (y : State). StopsWell v.config.frames v.first_write y v.history v.marks t) (sym began)
         (stops_again v.config.frames v.first_write (opening_of s v) v.history v.marks s told.stops long told.entries going.no_stop told.began going.shows t
-        (subst (λ (V : Volumes). Writes (SoundAs v.config.frames V) s t) going.shows writes));
+        (subst (λ (V : Volumes). Writes (StillShows v.config.frames V s) s t) going.shows writes));
     agrees = record {
       allowed = subst (λ (rows : RowsOf). AllAllowed rows v.console) (sym handed) told.agrees.allowed;
       entries = subst (λ (y : State). AllAgree v.config.frames (rows_at (handed_rows (rows_of (written_after t.start (take v.first_write t.log))) v.console) v.console) y v.history v.marks) (sym began)

@@ -123,7 +123,7 @@ module _ (S : Type 0) {C : Type 0} (s t : SiteLog) (v : CoreValue S C) (x : S) (
     messages = done-more (length s.log) (length t.log) v.console longer told.messages;
     legal = subst (λ (y : State). IsLegal y (v.history ++ e ∷ [])) (sym began) (IsLegal-push (opening_of s v) v.history e told.legal going.no_stop enters.may);
     stops = subst (λ (y : State). StopsWell v.config.frames v.first_write y (v.history ++ e ∷ []) (v.marks ++ m ∷ []) t) (sym began)
-        (stops_with_entry v.config.frames v.first_write (opening_of s v) v.history v.marks s told.stops long told.entries going.no_stop told.began going.shows e t enters.writes m at_end (λ is. (enters.leaves is).shows));
+        (stops_with_entry v.config.frames v.first_write (opening_of s v) v.history v.marks s told.stops long told.entries going.no_stop told.began going.shows e t enters.writes m at_end (λ is. (enters.leaves is).shows) (λ is. (enters.leaves is).quiet));
     agrees = record {
       allowed = subst (λ (rows : RowsOf). AllAllowed rows v.console) (sym handed) told.agrees.allowed;
       entries = subst (λ (y : State). AllAgree v.config.frames (rows_at (handed_to t v) v.console) y (v.history ++ e ∷ []) (v.marks ++ m ∷ [])) (sym began)
@@ -142,5 +142,6 @@ module _ (S : Type 0) {C : Type 0} (s t : SiteLog) (v : CoreValue S C) (x : S) (
           slots_ = used_same_tables (content s) (content t) left.tables v.used going.slots_;
           told = ap (λ (rows : RowsOf). rows_after rows v.console) handed ∙ going.told;
           served = left.served;
+          quiet = left.quiet;
         };
   }

@@ -24,6 +24,7 @@ pub mod Begun
 pub mod BesideFacts
 pub mod RowOwners
 pub mod Moved
+pub mod Synced
 pub mod WholeEvents
 pub mod Runner
 pub mod ChainKept

@@ -17,9 +17,9 @@ use Rattle.table_pair.specs.Copies.{copy_at}
 use Rattle.table_pair.specs.Slots.{AreUsed, HasSlots, IsChanged, no_slots, used_after, used_at, with_used_after}
 use Rattle.table_pair.specs.Pair.{HoldsRow, IsOpenWith, row_of_copies, is_table, ChangesRow, OldOrNew}
 use Rattle.table_pair.proofs.PairFacts.{held_row}
-use Rattle.shown_volumes.specs.Shown.{RowsOf, told_row, rows_of}
-use Rattle.shown_volumes.specs.Changing.{MayChange}
-use Rattle.shown_volumes.proofs.MomentFacts.{change_moments}
+use Rattle.shown_volumes.specs.Shown.{RowsOf, told_row, rows_of, shown}
+use Rattle.shown_volumes.specs.Changing.{MayWriteRow, StillShows}
+use Rattle.shown_volumes.proofs.QuietFacts.{quiet_settled, row_moments}
 use Rattle.core_state.specs.declared.session.Message.{Message}
 use Rattle.core_state.specs.declared.task.Task.{Task}
 use Rattle.core_state.specs.CoreValue.{CoreValue}
@@ -55,7 +55,7 @@ module _ (S : Type 0) {C : Type 0} (s t : SiteLog) (v : CoreValue S C) (x : S) (
     (simple : (o : Option RowValue) → changed change o ≡ option_map (effect change) o)
     (no_create : (w : ℕ) → creates w (message_of mark volume change (listed v.rows)) ≡ false)
     (allowed : IsAllowedIn (listed v.rows) volume change (Some r))
-    (may : MayChange v.config.frames volume (effect change r) (content s))
+    (may : MayWriteRow v.config.frames volume (effect change r) s)
     (writes : Writes (ChangesRow volume (OldOrNew volume (effect change r) (content s)) (content s)) s t)
     (after : IsChanged (effect change r) (used_after (used_at v.used volume)) volume s t) (at_end : mark ≡ length t.log) (grows : length s.log < length t.log)
     (owners : List (Option (ℕ × ℕ))) (moving : List Bool) (requests : RequestsData) (tasks : List (Option Task))
@@ -74,6 +74,9 @@ module _ (S : Type 0) {C : Type 0} (s t : SiteLog) (v : CoreValue S C) (x : S) (
 
   last : ChangesRow volume (OldOrNew volume new (content s)) (content s) (content t)
   last = ended_with (ChangesRow volume (OldOrNew volume new (content s)) (content s)) s t writes
+
+  still : Writes (StillShows v.config.frames (shown (content s)) s) s t
+  still = row_moments v.config.frames volume new s t may writes
 
   rows_at_ : (w : ℕ) → rows_of (content t) w ≡ listed (slice_set v.rows volume (Some new)) w
   rows_at_ w = elim (eqb_tells w volume) [
@@ -127,7 +130,7 @@ module _ (S : Type 0) {C : Type 0} (s t : SiteLog) (v : CoreValue S C) (x : S) (
       (v.console ++ (message_of mark volume change (listed v.rows)) ∷ []) owners moving requests tasks)
   told_by_change =
       told_change S s t v x (slice_set v.rows volume (Some new)) m told open_ core.marked
-      (change_moments v.config.frames volume new s t may writes) at_end grows no_create
+      still (quiet_settled s t after.firm (ended_with (StillShows v.config.frames (shown (content s)) s) s t still).1) at_end grows no_create
       (subst (λ (o : Option RowValue). IsAllowedIn (listed v.rows) volume change o) (sym there) allowed, refl)
       (fun_ext changes_at) (fun_ext rows_at_) copies_ (with_used_after volume v.used) slots_at owners moving requests tasks served
 

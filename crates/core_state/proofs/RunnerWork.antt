@@ -8,6 +8,7 @@ use Rattle.fault_queue.specs.declared.queue.Request.{Request}
 use Rattle.fault_queue.specs.declared.queue.RequestState.{RequestState}
 use Rattle.fault_queue.specs.declared.queue.RequestState.TheVariants as request
 use Rattle.fault_queue.specs.Requests.{RequestsData, request_of}
+use Rattle.transfers.specs.Copies.{target_unit}
 use Rattle.transfers.specs.declared.transfer.Transfer.{Transfer}
 use Rattle.transfers.specs.declared.transfer.TransferKind.{TransferKind}
 use Rattle.transfers.specs.declared.transfer.TransferKind.TheVariants.{StageBlank, StageCartridge, Destage}
@@ -18,7 +19,8 @@ use Rattle.core_state.specs.declared.rule.WorkRule.TheVariants as work
 use Rattle.core_state.specs.CoreValue.{CoreData}
 use Rattle.core_state.specs.Pins.{candidates, free_frame, is_moving, frame_in, asked_page, page_of}
 use Rattle.core_state.specs.WorkRules.{task_of, held_in, work_rule, transfer_of, stopped_rule, return_rule, pick_on, pick_for, first_pick, pick_rule, abandon_rule, carry_for, carry_rule, copy_rule, end_rule, free_rule, assign_rule, task_rule, is_within, is_in_cell, needs_cartridge}
-use Rattle.core_state.specs.WorkEvents.{WorkDoes, WorkEvent, TaskDoes, WithTask, EndsIt}
+use Rattle.core_state.specs.WorkEvents.{WorkDoes, WorkEvent, TaskDoes, WithTask, EndsIt, TellsEnd}
+use Rattle.core_state.specs.Devices.{SyncUnit}
 use Rattle.core_state.specs.Chains.{IsEvent, IsChain}
 use Rattle.core_state.proofs.Runner.{World, Asked, calls, works, step, steps_of, world_after, work_step, task_step, end_it, take_first}
 use Rattle.core_state.proofs.RuleWalks.{nothing, this, either, where_test, if_test, mapped, chained, found}
@@ -104,10 +106,17 @@ module _ (core : CoreData) (recorder : ℕ) where
   takes h None e some = absurd cc
   takes h (Some c) e some = (0, c, refl, e, (still core.site, refl, refl))
 
-  ends : (task : Task) (kind : TransferKind) (t : Transfer) → EndsIt ⊥ core recorder task kind t (end_it core recorder task kind t).0 (end_it core recorder task kind t).1
+  ends : (task : Task) (kind : TransferKind) (t : Transfer) → TellsEnd ⊥ core recorder task kind t (end_it core recorder task kind t).0 (end_it core recorder task kind t).1
   ends task StageBlank t = (λ r is. rows core.site t.volume _ _, refl, refl)
   ends task StageCartridge t = (λ r is. rows core.site t.volume _ _, refl, refl)
   ends task Destage t = (λ r is. rows core.site t.volume _ _, refl, refl)
+
+  -- the devices stay as they are in a sync too
+  synced : (t : Transfer) → SyncUnit ⊥ (target_unit t) core.site core.site
+  synced t = record { told = λ tl. absurd tl; later = omega arith; sound = refl }
+
+  ends_at : (task : Task) (t : Transfer) → EndsIt ⊥ core recorder task t (end_it core recorder task t.kind t).0 (end_it core recorder task t.kind t).1
+  ends_at task t = inl (core.site, synced t, ends task t.kind t)
 
   abandons : (t : Option Task) → task_of core recorder ≡ t → is_some t ≡ true → WorkDoes ⊥ first_place core recorder work.Abandons (task_step core recorder work.Abandons t).0 (task_step core recorder work.Abandons t).1
   abandons None is e = absurd cc
@@ -135,7 +144,7 @@ module _ (core : CoreData) (recorder : ℕ) where
   ends_it x None is e = absurd cc
   ends_it x (Some task) is e =
       coe 1 0 (i. ends_by x task x.kind i)
-      (subst (λ (o : Option Task). WithTask o (λ one. TaskDoes ⊥ core recorder (work.Ends x) one (end_it core recorder task x.kind x).0 (end_it core recorder task x.kind x).1)) (sym is) (ends task x.kind x))
+      (subst (λ (o : Option Task). WithTask o (λ one. TaskDoes ⊥ core recorder (work.Ends x) one (end_it core recorder task x.kind x).0 (end_it core recorder task x.kind x).1)) (sym is) (ends_at task x))
 
   work_does : (rule : WorkRule) → Fits core (task_of core recorder) rule → WorkDoes ⊥ first_place core recorder rule (work_step core recorder rule).0 (work_step core recorder rule).1
   work_does (work.IsStopped fault) f = (refl, same core)

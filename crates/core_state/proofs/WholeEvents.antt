@@ -11,7 +11,7 @@ use Rattle.ckd_plain.specs.History.{EntryData, IsStopped}
 use Rattle.volume_table.specs.Listed.{listed}
 use Rattle.volume_table.specs.Row.{RowValue, state_of}
 use Rattle.shown_volumes.specs.Shown.{shown}
-use Rattle.shown_volumes.specs.Sound.{SoundAs}
+use Rattle.shown_volumes.specs.Changing.{StillShows}
 use Rattle.fault_queue.specs.declared.queue.Request.{Request}
 use Rattle.fault_queue.specs.declared.queue.RequestState.TheVariants.{Queued, Ready}
 use Rattle.fault_queue.specs.Requests.{RequestsData, request_of, put_request}
@@ -166,7 +166,7 @@ whole_work S tells s v x owners moving requests tasks whole open_ owned long ask
 -- ---- a change of a row of which a write failed: whichever rows the list has then
 
 pub whole_change_failed : (S : Type 0) {C : Type 0} (tells : Type 0) (s t : SiteLog) (v : CoreValue S C) (x : S) (fault : ℕ) (rows : List (Option RowValue)) → IsWhole tells s v → v.stopped ≡ None → length rows ≡ 32
-    → (tells → Writes (SoundAs v.config.frames (shown (content s))) s t) → IsWhole tells t (record v { site = x; rows = rows; stopped = Some fault })
+    → (tells → Writes (StillShows v.config.frames (shown (content s)) s) s t) → IsWhole tells t (record v { site = x; rows = rows; stopped = Some fault })
 whole_change_failed S tells s t v x fault rows whole open_ long_rows writes = record {
   shaped = let k = shaped_of (whole.kept open_) in record { rows_ = long_rows; used_ = k.used_; hosts_ = k.hosts_; owners_ = k.owners_; moving_ = k.moving_; tasks_ = k.tasks_; recorders_ = k.recorders_; few = k.few; marked = k.marked };
   kept = λ none. absurd (let z : Some fault ≡ None = none in cc);

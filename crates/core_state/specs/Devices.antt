@@ -1,8 +1,9 @@
 -- What an event does to the devices, of which only so much is seen.
-use Rattle.std.specs.Prelude.{◌≡◌, ◌≤◌, ◌<◌, ℕ, ◌+◌, Bool, true, false, List, length}
-use Rattle.mss_base.specs.Content.{Content, SiteLog, Settles, content}
+use Rattle.std.specs.Prelude.{◌≡◌, ◌≤◌, ◌<◌, ℕ, ◌+◌, Bool, true, false, List, [], ◌∷◌, length}
+use Rattle.mss_base.specs.Content.{Content, SiteLog, Got, Settles, content, synced, unsynced}
 use Rattle.mss_base.specs.Counts.{Rises, IsFaultSince}
 use Rattle.mss_base.specs.declared.place.BlockPlace.{BlockPlace}
+use Rattle.mss_base.specs.declared.place.UnitNo.{UnitNo}
 use Rattle.ckd_track.specs.Track.{reading}
 use Rattle.channel_commands.specs.Codes.{is_write}
 use Rattle.channel_commands.specs.Data.{ReplyData}
@@ -133,5 +134,20 @@ pub record CopyBlock (tells : Type 0) (t : Transfer) (old new : DevicesSeen) : T
 -- a call failed; the block copied to holds what it did, or anything
 pub record LeaveBlock (tells : Type 0) (t : Transfer) (old new : DevicesSeen) : Type 0 where
   pub left : tells → AddsAtMost (target t t.next) old.told new.told
+  pub later : old.writes ≤ new.writes
+  pub failed : Rises old.faults new.faults
+
+-- ---- a unit is synced
+
+-- what was written to it is firm, and no call failed
+pub record SyncUnit (tells : Type 0) (unit : UnitNo) (old new : DevicesSeen) : Type 0 where
+  pub told : tells → Got (synced unit ∷ []) old.told new.told
+  pub later : old.writes ≤ new.writes
+  pub sound : new.faults ≡ old.faults
+
+-- the sync failed, and made nothing firm
+pub record FailSync (tells : Type 0) (old new : DevicesSeen) : Type 0 where
+  pub told : tells → Got (unsynced ∷ []) old.told new.told
+  pub tried : Rises old.writes new.writes
   pub later : old.writes ≤ new.writes
   pub failed : Rises old.faults new.faults

@@ -9,6 +9,7 @@ use Rattle.ckd_plain.specs.Near.{IsNear}
 use Rattle.volume_table.specs.Row.{RowValue}
 use Rattle.table_pair.specs.declared.copy.SlotsUsed.{SlotsUsed}
 use Rattle.shown_volumes.specs.Sound.{IsSound}
+use Rattle.shown_volumes.specs.Changing.{IsQuiet, IsQuietIn}
 use Rattle.core_state.specs.declared.task.Task.{Task}
 use Rattle.core_state.specs.declared.session.Message.{Message}
 use Rattle.core_state.specs.StopRule.{is_answered}
@@ -63,12 +64,19 @@ pub record Leaves (rows : List (Option RowValue)) (s : State) (e : EntryData)
   pub shows : shown (content new) ≡ (next s e).volumes
   pub tables : SameTables (content old) (content new)
   pub served : AreServed (content new) (listed rows) tasks
+  pub quiet : IsQuiet new
+
+-- a content within an entry's event: sound, near the volumes that the call meets, and what the
+-- devices had loose lies outside
+abbrev pub StaysNear : ℕ → State → EntryData → SiteLog → Content → Type 0
+StaysNear frames s e old c =
+    IsSound frames c × IsNear s e.host e.call (shown c) × IsQuietIn old c
 
 -- an entry that may come next, and what its event wrote
 pub record Enters (frames : ℕ) (rows : List (Option RowValue)) (s : State)
     (history : List EntryData) (e : EntryData) (hosts : List HostState) (tasks : List (Option Task))
     (old new : SiteLog) : Type 0 where
   pub may : IsNextEntry s (count_of_host e.host history) e
-  pub writes : Writes (λ (d : Content). IsSound frames d × IsNear s e.host e.call (shown d)) old new
+  pub writes : Writes (StaysNear frames s e old) old new
   pub agrees : EntryAgrees frames (listed rows) s e e.reply
   pub leaves : is_answered e.reply ≡ true → Leaves rows s e hosts tasks old new

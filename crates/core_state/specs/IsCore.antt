@@ -8,6 +8,7 @@ use Rattle.table_pair.specs.Pair.{HoldsRow}
 use Rattle.table_pair.specs.Slots.{AreUsed}
 use Rattle.shown_volumes.specs.Shown.{RowsOf, rows_of, shown}
 use Rattle.shown_volumes.specs.Sound.{frame_in}
+use Rattle.shown_volumes.specs.Changing.{IsQuiet}
 use Rattle.core_state.specs.declared.session.Message.{Message}
 use Rattle.core_state.specs.declared.session.TheConstants.{ENTRY_LIMIT}
 use Rattle.fault_queue.specs.declared.queue.Request.{Request}
@@ -68,8 +69,8 @@ handed_to site v =
     handed_rows (rows_of (written_after site.start (take v.first_write site.log))) v.console
 
 -- what a core that isn't stopped keeps of what its devices hold: its host states and the volumes
--- that they show are those after the history, its rows are theirs, with their slots, and what is
--- half copied stands there
+-- that they show are those after the history, its rows are theirs, with their slots, what is half
+-- copied stands there, and nothing that is shown or staged is loose
 pub record IsGoing {S C : Type 0} (site : SiteLog) (v : CoreValue S C) : Type 0 where
   pub no_stop : HasNoStop v.history
   pub hosts_ : (after (opening_of site v) v.history).host ≡ host_at v.hosts
@@ -80,6 +81,7 @@ pub record IsGoing {S C : Type 0} (site : SiteLog) (v : CoreValue S C) : Type 0 
   pub slots_ : AreUsed v.used (content site)
   pub told : rows_after (handed_to site v) v.console ≡ listed v.rows
   pub served : AreServed (content site) (listed v.rows) v.tasks
+  pub quiet : IsQuiet site
 
 -- what a core keeps of what its devices hold
 pub record IsTold {S C : Type 0} (site : SiteLog) (v : CoreValue S C) : Type 0 where

@@ -7,7 +7,7 @@ use Rattle.volume_table.specs.declared.changes.Change.{Change}
 use Rattle.volume_table.specs.declared.changes.Change.TheVariants as change
 use Rattle.table_pair.specs.Slots.{used_after, used_at}
 use Rattle.fault_queue.specs.declared.queue.RequestState.TheVariants as request
-use Rattle.transfers.specs.Copies.{moved_on}
+use Rattle.transfers.specs.Copies.{moved_on, target_unit}
 use Rattle.transfers.specs.declared.transfer.Transfer.{Transfer}
 use Rattle.transfers.specs.declared.transfer.TransferKind.{TransferKind}
 use Rattle.transfers.specs.declared.transfer.TransferKind.TheVariants.{Destage}
@@ -22,8 +22,9 @@ use Rattle.core_state.specs.declared.rule.WorkRule.{WorkRule}
 use Rattle.core_state.specs.declared.rule.WorkRule.TheVariants.{IsStopped, IsIdle, GivesBack, Picks}
 use Rattle.core_state.specs.declared.rule.WorkRule.TheVariants.{PicksVictim, Abandons, Fetches}
 use Rattle.core_state.specs.declared.rule.WorkRule.TheVariants.{Copies, Ends, Frees, Assigns}
-use Rattle.core_state.specs.CoreValue.{CoreData}
+use Rattle.core_state.specs.CoreValue.{CoreData, DevicesSeen}
 use Rattle.core_state.specs.Devices.{StillHold, HaveRow, FailRow, CopyBlock, LeaveBlock}
+use Rattle.core_state.specs.Devices.{SyncUnit, FailSync}
 use Rattle.core_state.specs.HostEvents.{IsSame}
 use Rattle.core_state.specs.Pins.{candidates}
 use Rattle.core_state.specs.Steps.{noted, with_row, with_change, most_recent, with_owner, with_task}
@@ -67,6 +68,12 @@ Takes tells may core recorder h told core' =
     × Does tells core kind.Pick recorder (picked recorder h c.frame (Some (c.volume, c.page)))
     told core'
 
+-- the task ends, and its request has failed, with the count of faults now
+abbrev pub task_failed : DevicesSeen → ℕ → Task → CoreData → CoreData
+task_failed site recorder task core =
+    noted (Work recorder)
+    (task_ended recorder task (request.Failed site.faults) (record core { site = site }))
+
 -- a track is copied; or the copy fails, and the task ends
 abbrev pub CopiesIt : Type 0 → CoreData → ℕ → Task → Transfer → CoreData → Type 0
 CopiesIt tells core recorder task t core' =
@@ -75,20 +82,29 @@ CopiesIt tells core recorder task t core' =
     (with_task recorder (Some (record task { transfer = Some (moved_on t) }))
     (record core { site = core'.site }))))
     ⊎ (LeaveBlock tells t core.site core'.site
-    × (core' ≡ noted (Work recorder)
-    (task_ended recorder task (request.Failed core'.site.faults)
-    (record core { site = core'.site }))))
+    × (core' ≡ task_failed core'.site recorder task core))
 
--- all tracks are copied, and the row says so: the victim's cylinder is destaged, or the asked one
+-- the row says that all tracks are copied: the victim's cylinder is destaged, or the asked one
 -- staged
-abbrev pub EndsIt : Type 0 → CoreData → ℕ → Task → TransferKind → Transfer → WorkAnswer → CoreData
+abbrev pub TellsEnd : Type 0 → CoreData → ℕ → Task → TransferKind → Transfer → WorkAnswer → CoreData
     → Type 0
-EndsIt tells core recorder task Destage t told core' =
+TellsEnd tells core recorder task Destage t told core' =
     ChangesThen tells core kind.End recorder t.volume (change.Destaged t.cylinder)
     (with_task recorder (Some (record task { transfer = None }))) told core'
-EndsIt tells core recorder task _ t told core' =
+TellsEnd tells core recorder task _ t told core' =
     ChangesThen tells core kind.End recorder t.volume (change.Staged t.cylinder)
     (task_ended recorder task request.Ready) told core'
+
+-- all tracks are copied: the unit that they went to is synced, and then the row says so; or the
+-- sync fails, no row is changed, and the task ends
+abbrev pub EndsIt : Type 0 → CoreData → ℕ → Task → Transfer → WorkAnswer → CoreData → Type 0
+EndsIt tells core recorder task t told core' =
+    ((firm : DevicesSeen)
+    × SyncUnit tells (target_unit t) core.site firm
+    × TellsEnd tells (record core { site = firm }) recorder task t.kind t told core')
+    ⊎ (FailSync tells core.site core'.site
+    × (told ≡ Did kind.End)
+    × (core' ≡ task_failed core'.site recorder task core))
 
 -- the rules of a recorder with a task
 abbrev pub TaskDoes : Type 0 → CoreData → ℕ → WorkRule → Task → WorkAnswer → CoreData → Type 0
@@ -97,7 +113,7 @@ TaskDoes tells core recorder Abandons task told core' =
 TaskDoes tells core recorder (Copies t) task told core' =
     (told ≡ Did kind.Copy) × CopiesIt tells core recorder task t core'
 TaskDoes tells core recorder (Ends t) task told core' =
-    EndsIt tells core recorder task t.kind t told core'
+    EndsIt tells core recorder task t told core'
 TaskDoes tells core recorder (Frees volume page) task told core' =
     ChangesThen tells core kind.Free recorder volume (change.Free page)
     (λ now. with_task recorder (Some (record task { victim = None }))

@@ -35,15 +35,17 @@
 //!   that shows the volumes after the answered entries, or what the next one may have made of them.
 //! - `going`, while it isn't stopped: the devices show the volumes after the history, the hosts are
 //!   those after it, both copies of each row hold the row, with so many slots in use as the core
-//!   counts, and a half-done transfer has copied what it says (`served`).
+//!   counts, a half-done transfer has copied what it says (`served`), and no loose write lies where
+//!   anything is shown or staged (`quiet`).
 //!
 //! Lemmas that the layers above cite, all in `proofs/`: a whole core after an event is
-//! `WholeEvents`, `BesideFacts`, `Moved` and `Begun`, of `EntryLemmas`, `CoreWork`, `RowEvents`,
-//! `StopsLemmas` and `ChangeLemmas`; its counts are `CountedFacts`; later moments, one after the
-//! other, are `Later`; its tasks, rows, hosts and requests are `TaskLists`, `TaskRows`, `Others`,
-//! `RowOwners`, `MovingFacts`, `Serving`, `HostFacts`, `HostTasks`, `HostRequests`, `Fitting` and
-//! `CoreFacts`; the first rule of many is `RuleWalks`, with `Limits`. Worked sessions, by computing,
-//! are `Row10`, `Row11`, `Row12` and `Row28`, each a chain of events by `RunnerWork`.
+//! `WholeEvents`, `BesideFacts`, `Moved`, `Synced` and `Begun`, of `EntryLemmas`, `CoreWork`,
+//! `RowEvents`, `StopsLemmas` and `ChangeLemmas`; its counts are `CountedFacts`; later moments, one
+//! after the other, are `Later`; its tasks, rows, hosts and requests are `TaskLists`, `TaskRows`,
+//! `Others`, `RowOwners`, `MovingFacts`, `Serving`, `HostFacts`, `HostTasks`, `HostRequests`,
+//! `Fitting` and `CoreFacts`; the first rule of many is `RuleWalks`, with `Limits`. Worked
+//! sessions, by computing, are `Row10`, `Row11`, `Row12` and `Row28`, each a chain of events by
+//! `RunnerWork`.
 #![tactic(auto)]
 
 mod change;

@@ -4,7 +4,7 @@ use Rattle.std.specs.Prelude.{◌↔◌, IsSome, IsTrue}
 use Rattle.std.proofs.Math.Path.{fun_ext}
 use Rattle.std.proofs.lemmas.Bool.{and_parts, false≢true}
 use Rattle.std.proofs.lemmas.Bool.Decides.{eqb_tells}
-use Rattle.mss_base.specs.Content.{Content, SiteLog}
+use Rattle.mss_base.specs.Content.{SiteLog}
 use Rattle.mss_base.proofs.Moments.{started}
 use Rattle.mss_base.specs.declared.site.Site.{Ghosts}
 use Rattle.channel_commands.specs.Data.{CallData, ReplyData, stopped}
@@ -12,15 +12,13 @@ use Rattle.ckd_plain.specs.declared.host.HostState.{HostState}
 use Rattle.ckd_plain.specs.Data.{State}
 use Rattle.ckd_plain.specs.Plain.{with_host}
 use Rattle.ckd_plain.specs.History.{EntryData, IsNextEntry, IsStopped, next, keeps_fault, count_of_host}
-use Rattle.ckd_plain.specs.Near.{IsNear, unchanged}
+use Rattle.ckd_plain.specs.Near.{unchanged}
 use Rattle.volume_table.specs.Listed.{listed}
-use Rattle.shown_volumes.specs.Shown.{shown}
-use Rattle.shown_volumes.specs.Sound.{IsSound}
 use Rattle.core_state.specs.declared.session.Event.TheVariants.{Host}
 use Rattle.core_state.specs.Agrees.{EntryAgrees}
 use Rattle.core_state.specs.CoreValue.{CoreValue}
 use Rattle.core_state.specs.Counted.{fault_asked}
-use Rattle.core_state.specs.Entered.{plain_of, Enters}
+use Rattle.core_state.specs.Entered.{plain_of, StaysNear, Enters}
 use Rattle.core_state.specs.IsCore.{IsCore, IsGoing, IsTold}
 use Rattle.core_state.specs.Pins.{host_at, put_host, is_on, asks_for, owns}
 use Rattle.core_state.specs.Running.{IsNotBusy, IsNotAwaited}
@@ -74,13 +72,14 @@ module _ (S : Type 0) {C : Type 0} (s : SiteLog) (v : CoreValue S C) (told : IsT
       → Enters v.config.frames v.rows (plain_of s v) v.history (entry_of v.history h call reply fault) (put_host v.hosts h now) v.tasks s s
   enters_by it agrees = record {
     may = it.0;
-    writes = started (λ (d : Content). IsSound v.config.frames d × IsNear st h call (shown d)) s (sound_of S s v told, unchanged going.shows);
+    writes = started (StaysNear v.config.frames st e s) s (sound_of S s v told, unchanged going.shows, going.quiet);
     agrees = agrees;
     leaves = λ is. record {
       hosts_ = ap (λ (x : State). x.host) it.1 ∙ (λ i other. cond (other == h) now (going.hosts_ i other)) ∙ sym (host_put v.hosts h now (host_fits v.hosts h low core.hosts_));
       shows = going.shows ∙ sym (ap (λ (x : State). x.volumes) it.1);
       tables = λ unit block table. refl;
       served = going.served;
+      quiet = going.quiet;
     };
   }
 

@@ -4,7 +4,7 @@ use Rattle.std.specs.Prelude.{IsTrue}
 use Rattle.std.specs.Option.{option_map}
 use Rattle.std.proofs.Math.Path.{fun_ext}
 use Rattle.std.proofs.lemmas.Bool.{cases_Bool, cond-true, cond-false, false≢true, and_parts, eqb-true}
-use Rattle.mss_base.specs.Content.{Content, SiteLog, content, no_tear, Writes, ChangesBlock, same_unit}
+use Rattle.mss_base.specs.Content.{Content, SiteLog, Settles, content, no_tear, Writes, ChangesBlock, same_unit}
 use Rattle.mss_base.specs.Places.{frame_block}
 use Rattle.mss_base.specs.declared.place.UnitNo.{UnitNo}
 use Rattle.mss_base.specs.declared.place.UnitNo.TheVariants.{TableA, TableB, Staging, Cartridge}
@@ -36,7 +36,9 @@ use Rattle.volume_table.specs.Row.{RowValue, frame_of, state_of}
 use Rattle.table_pair.specs.Pair.{is_table}
 use Rattle.shown_volumes.specs.Shown.{RowsOf, shown, rows_of}
 use Rattle.shown_volumes.specs.Sound.{IsSound, SoundAs}
+use Rattle.shown_volumes.specs.Changing.{IsQuiet, IsQuietIn}
 use Rattle.shown_volumes.proofs.FrameFacts.{shows_track}
+use Rattle.shown_volumes.proofs.QuietFacts.{block_quiet, quiet_settled}
 use Rattle.track_engine.specs.Tracks.{tracks_at}
 use Rattle.track_engine.specs.Answers.{ran}
 use Rattle.track_engine.specs.Writing.{IsBetween, IsStep, WritesTrack}
@@ -301,16 +303,23 @@ module _ (S : Type 0) {C : Type 0} (s t : SiteLog) (v : CoreValue S C) (told : I
       ]
     ]
 
+    -- a host's block is no table's, so the rows stay
+    quiet_at : IsQuietIn s d
+    quiet_at = block_quiet s unit (first + host.head) (IsStep c (prior_number host.prior) old_track track) d going.quiet refl w
+
   abbrev P : Content → Type 0
-  P d = IsSound v.config.frames d × IsNear st h call (shown d)
+  P d = IsSound v.config.frames d × IsNear st h call (shown d) × IsQuietIn s d
+
+  begun : P (content s)
+  begun = (sound_now, unchanged going.shows, going.quiet)
 
   -- the engine speaks of the host whose chain is open, and a write is within one
   writes_open : (track : List RecordData) → a.written ≡ Some track → WritesTrack c (opened host) unit first s t (Some track) → WritesTrack c host unit first s t (Some track)
   writes_open track is w = subst (λ (x : HostState). WritesTrack c x unit first s t (Some track)) (in_chain host c argument passes (writes_is track is)) w
 
   writes_by : (o' : Option (List RecordData)) → a.written ≡ o' → WritesTrack c (opened host) unit first s t o' → Writes P s t
-  writes_by None is w = subst (Writes P s) (sym w) (started P s (sound_now, unchanged going.shows))
-  writes_by (Some track) is w = weaker (Within track) P (λ d within. ((shows_at track is d within).sound, near_at track is d within)) s t (writes_open track is w)
+  writes_by None is w = subst (Writes P s) (sym w) (started P s begun)
+  writes_by (Some track) is w = weaker (Within track) P (λ d within. ((shows_at track is d within).sound, near_at track is d within, quiet_at track is d within)) s t (writes_open track is w)
 
   tables : (u : UnitNo) (b : ℕ) → is_table u ≡ true → (same_unit (Staging (frame / 50)) u && (first + host.head == b)) ≡ false
   tables TableA b is = refl
@@ -348,22 +357,25 @@ module _ (S : Type 0) {C : Type 0} (s t : SiteLog) (v : CoreValue S C) (told : I
       (ran (content s) (unit_of frame) (first_of frame (host_at v.hosts h).cylinder) (host_at v.hosts h) c argument chained).written
       → ((track : List RecordData) → (ran (content s) (unit_of frame) (first_of frame (host_at v.hosts h).cylinder) (host_at v.hosts h) c argument chained).written ≡ Some track
       → reading (content t (unit_of frame) (first_of frame (host_at v.hosts h).cylinder + (host_at v.hosts h).head)) ≡ reading_of track)
+      → Settles s t
       → Enters v.config.frames v.rows (plain_of s v) v.history
       (entry_of v.history h (ask code argument chained) (ran (content s) (unit_of frame) (first_of frame (host_at v.hosts h).cylinder) (host_at v.hosts h) c argument chained).reply None)
       (put_host v.hosts h (ran (content s) (unit_of frame) (first_of frame (host_at v.hosts h).cylinder) (host_at v.hosts h) c argument chained).host)
       (tasks_after c volume ((host_at v.hosts h).cylinder / 8) v.tasks) s t
-  run_enters w exact =
+  run_enters w exact firm =
+      let writes = writes_by a.written refl w in
       let shows = shows_by a.written refl w exact in
       let reply = performed_done (tracks_at (content s) unit first) (opened host) c argument chained in
       record {
         may = may.0;
-        writes = writes_by a.written refl w;
+        writes = writes;
         agrees = subst (EntryAgrees v.config.frames (listed v.rows) st e) (sym reply.2) agrees;
         leaves = λ is. record {
           hosts_ = ap (λ (x : State). x.host) next_is ∙ (λ i other. cond (other == h) a.host (going.hosts_ i other)) ∙ sym (host_put v.hosts h a.host (host_fits v.hosts h low core.hosts_));
           shows = shows.0 ∙ sym (ap (λ (x : State). x.volumes) next_is);
           tables = shows.1;
           served = shows.2;
+          quiet = quiet_settled s t firm (ended_with P s t writes).2;
         };
       }
 
@@ -388,7 +400,7 @@ module _ (S : Type 0) {C : Type 0} (s t : SiteLog) (v : CoreValue S C) (told : I
   unfolding next
   check_enters data_ same fault = record {
     may = record { number = refl; answered = (c, admits_now, data_); fault = ((λ some_. refl), (λ kept. refl)); alone = alone };
-    writes = subst (Writes P s) (sym same) (started P s (sound_now, unchanged going.shows));
+    writes = subst (Writes P s) (sym same) (started P s begun);
     agrees = tt;
     leaves = λ is. record {
       hosts_ = (λ i other. cond (other == h) (record (here i) { chain_open = false; prior = prior.Nothing; sense = sense_of check.EquipmentCheck }) (going.hosts_ i other))
@@ -396,5 +408,6 @@ module _ (S : Type 0) {C : Type 0} (s t : SiteLog) (v : CoreValue S C) (told : I
       shows = ap (λ (x : SiteLog). shown (content x)) same ∙ going.shows;
       tables = λ u b table. ap (λ (x : SiteLog). content x u b) same;
       served = served_alike (listed v.rows) (content s) (content t) v.tasks (ap content same) going.served;
+      quiet = subst IsQuiet (sym same) going.quiet;
     };
   }

@@ -102,7 +102,7 @@ module _ (S : Type 0) {C : Type 0} (tells : Type 0) (v : CoreValue S C) (old new
     where
       whole_ : IsWhole tells new.told (run_entered reply now call)
       whole_ = subst (λ (k : CallData). IsWhole tells new.told (run_entered reply now k)) (sym on.asks.is)
-          (whole_run S tells old.told v up.whole h low call c volume frame on new.told x new.writes counts reply now ran.mounted_ ran.done_ ran.reply_ ran.host_ ran.moments ran.exact)
+          (whole_run S tells old.told v up.whole h low call c volume frame on new.told x new.writes counts reply now ran.mounted_ ran.done_ ran.reply_ ran.host_ ran.moments ran.exact ran.firm)
 
   -- a read failed
   pub upheld_check : FailRead tells old new

@@ -2,7 +2,7 @@
 use Rattle.std.proofs.Common.{◌≡◌, ◌≢◌, ◌⊎◌, inl, inr, ℕ, ◌/◌, ◌≤◌, ◌<◌, Bool, true, ◌||◌, ◌==◌, List, [], ◌∷◌, ◌++◌, length, Option, Some, None, Ok, refl, sym, ◌∙◌, ap, subst, arith}
 use Rattle.std.specs.Prelude.{slice_set, is_some, IsSome}
 use Rattle.std.proofs.lemmas.Bool.{eq-eqb, and_from, false≢true, cond-true}
-use Rattle.mss_base.specs.Content.{Content, SiteLog, content, Writes}
+use Rattle.mss_base.specs.Content.{SiteLog, content, Writes}
 use Rattle.mss_base.proofs.Moments.{weaker}
 use Rattle.channel_commands.specs.declared.command.Command.{Command}
 use Rattle.channel_commands.specs.Codes.{is_write}
@@ -11,7 +11,7 @@ use Rattle.ckd_plain.specs.declared.host.HostState.{HostState}
 use Rattle.ckd_plain.specs.Checks.{admitted}
 use Rattle.ckd_plain.specs.Plain.{opened}
 use Rattle.ckd_plain.specs.History.{EntryData}
-use Rattle.ckd_plain.specs.Near.{IsNear, unchanged}
+use Rattle.ckd_plain.specs.Near.{unchanged}
 use Rattle.volume_table.specs.Listed.{listed}
 use Rattle.core_state.specs.Agrees.{UnderHost}
 use Rattle.core_state.specs.Steps.{entry_of}
@@ -24,10 +24,9 @@ use Rattle.volume_table.proofs.RowLemmas.{row-with_state}
 use Rattle.table_pair.specs.Pair.{ChangesRow, OldOrNew}
 use Rattle.table_pair.specs.Slots.{IsChanged, used_after, used_at, with_used_after}
 use Rattle.shown_volumes.specs.Shown.{RowsOf, shown}
-use Rattle.shown_volumes.specs.Sound.{IsSound, SoundAs}
-use Rattle.shown_volumes.specs.Changing.{MayChange}
-use Rattle.shown_volumes.proofs.AllowedFacts.{allowed_may}
-use Rattle.shown_volumes.proofs.MomentFacts.{change_moments}
+use Rattle.shown_volumes.specs.Changing.{MayWriteRow, StillShows}
+use Rattle.shown_volumes.proofs.QuietFacts.{row_moments}
+use Rattle.shown_volumes.proofs.UnderFacts.{allowed_write}
 use Rattle.fault_queue.specs.declared.queue.Request.{Request}
 use Rattle.fault_queue.specs.declared.queue.RequestState.TheVariants.{Queued, Moving, Ready}
 use Rattle.core_state.specs.declared.task.Task.{Task}
@@ -43,7 +42,7 @@ use Rattle.core_state.specs.Running.{IsNotBusy, IsNotAwaited}
 use Rattle.core_state.specs.IsCore.{IsCore, IsPlaced}
 use Rattle.core_state.specs.TheCore.{IsWhole}
 use Rattle.core_state.proofs.Making.{make_whole}
-use Rattle.core_state.specs.Entered.{with_used, worked, entered, Enters, plain_of}
+use Rattle.core_state.specs.Entered.{with_used, worked, entered, StaysNear, Enters, plain_of}
 use Rattle.std.proofs.lemmas.List.{length-set}
 use Rattle.core_state.proofs.RuleWalks.{some_is, none_some}
 use Rattle.core_state.proofs.HostTasks.{tasks_touched, was_touched}
@@ -144,10 +143,11 @@ module _ (S : Type 0) {C : Type 0} (tells : Type 0) (s : SiteLog) (v : CoreValue
             (ap (takes volume (cylinder / 8)) (ap (λ (t : Task). t.victim) (sym w.is) ∙ victim) ∙ and_from (volume == volume) (cylinder / 8 == cylinder / 8) (eq-eqb volume volume refl) (eq-eqb (cylinder / 8) (cylinder / 8) refl));
       }))
 
-  pub mark_may : tells → MayChange v.config.frames volume (with_state cylinder 4 r) (content s)
+  pub mark_may : tells → MayWriteRow v.config.frames volume (with_state cylinder 4 r) s
   mark_may tl =
       let told = whole.told tl in
-      allowed_may v.config.frames volume (Changed cylinder) r (content s) (sound_of S s v told) (ap (λ (k : RowsOf). k volume) (told.going open_).rows_ ∙ there) (core.are_rows volume r there) staged tt
+      let going = told.going open_ in
+      allowed_write v.config.frames volume (Changed cylinder) r s (sound_of S s v told) going.quiet (ap (λ (k : RowsOf). k volume) going.rows_ ∙ there) (core.are_rows volume r there) staged tt tt
 
   used_long : length (with_used_after volume v.used) ≡ 32
   used_long = length-set v.used volume (used_after (used_at v.used volume)) ∙ core.used_
@@ -202,8 +202,8 @@ module _ (S : Type 0) {C : Type 0} (tells : Type 0) (s : SiteLog) (v : CoreValue
                 let chained_ : (host_at v.hosts other).chain_open ≡ true = (λ i. (sym going.hosts_ i other).chain_open) ∙ chain in
                 free w b own other (and_from _ _ (ap (is_on w) its ∙ eq-eqb w w refl) (ap (λ (z : Bool). z || asks_for w (request_of v.requests other)) chained_));
           };
-          writes = weaker (SoundAs v.config.frames (shown (content s))) (λ (d : Content). IsSound v.config.frames d × IsNear (plain_of s v) h call (shown d)) (λ d same. (same.sound, unchanged (same.same ∙ going.shows))) s t
-              (change_moments v.config.frames volume (with_state cylinder 4 r) s t (mark_may tl) (writes tl));
+          writes = weaker (StillShows v.config.frames (shown (content s)) s) (StaysNear v.config.frames (plain_of s v) e s) (λ d still. (still.0.sound, unchanged (still.0.same ∙ going.shows), still.1)) s t
+              (row_moments v.config.frames volume (with_state cylinder 4 r) s t (mark_may tl) (writes tl));
           agrees = λ none. no_space here none.0;
           leaves = λ is. absurd (false≢true is);
         }

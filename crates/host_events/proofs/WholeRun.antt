@@ -2,7 +2,7 @@
 use Rattle.std.proofs.Common.{◌≡◌, inl, inr, ℕ, ◌+◌, ◌/◌, Bool, true, false, cond, ◌&&◌, ◌||◌, List, length, Option, Some, None, Ok, refl, sym, ◌∙◌, ap, subst}
 use Rattle.std.specs.Prelude.{IsTrue}
 use Rattle.std.proofs.lemmas.Bool.{and_parts, and_from, eq-eqb, cases_Bool, cond-true, cond-false}
-use Rattle.mss_base.specs.Content.{SiteLog, content}
+use Rattle.mss_base.specs.Content.{SiteLog, Settles, content}
 use Rattle.mss_base.specs.Places.{frame_block}
 use Rattle.ckd_track.specs.Data.{RecordData}
 use Rattle.ckd_track.specs.Track.{reading, reading_of}
@@ -151,9 +151,10 @@ module _ (S : Type 0) {C : Type 0} (tells : Type 0) (s : SiteLog) (v : CoreValue
         (ran (content s) (unit_of frame) (frame_block frame (host_at v.hosts h).cylinder 0).block (host_at v.hosts h) c on.asks.argument on.asks.chained).written)
         → (tells → HoldsWritten (ran (content s) (unit_of frame) (frame_block frame (host_at v.hosts h).cylinder 0).block (host_at v.hosts h) c on.asks.argument on.asks.chained).written
         (reading (content t (unit_of frame) ((frame_block frame (host_at v.hosts h).cylinder 0).block + (host_at v.hosts h).head))))
+        → (tells → Settles s t)
         → IsWhole tells t (entered v x (entry_of v.history h (ask on.asks.code on.asks.argument on.asks.chained) reply None) m (put_host v.hosts h now) (put_request v.requests h None)
         (tasks_after c volume ((host_at v.hosts h).cylinder / 8) v.tasks) v.stopped)
-    whole_run reply now same is_done answer left writes exact =
+    whole_run reply now same is_done answer left writes exact firm =
         whole_entry S v core h low now None (λ q none. absurd cc) (λ q none queued. absurd cc) (mine now same None) tells s t x _ m (tasks_after c volume (host.cylinder / 8) v.tasks) whole on.goes.going on.goes.few
         (tasks_run now same) after_long after_kept (λ w is. core.fit.mounted_ h w (ap (is_on w) (sym same) ∙ is)) (λ q none. absurd cc) enters mark (done_goes_on reply is_done)
       where
@@ -165,7 +166,7 @@ module _ (S : Type 0) {C : Type 0} (tells : Type 0) (s : SiteLog) (v : CoreValue
             let ex = subst (λ (n : ℕ). HoldsWritten (ran (content s) (unit_of frame) n host c argument chained).written (reading (content t (unit_of frame) (n + host.head)))) place (exact tl) in
             let an : ◌≡◌ {A = ReplyData × HostState} (reply, now) _ = (λ i. (answer tl i, left tl i)) ∙ ap (λ (n : ℕ). both (ran (content s) (unit_of frame) n host c argument chained)) place in
             subst (λ (p : ReplyData × HostState). Enters v.config.frames v.rows (plain_of s v) v.history (entry_of v.history h (ask code argument chained) p.0 None) (put_host v.hosts h p.1) (tasks_after c volume (host.cylinder / 8) v.tasks) s t) (sym an)
-            (run_enters S s t v (whole.told tl) core on.goes.going h low code argument chained c admits passes (alone tl) volume frame on.bind on.r on.at on.changed w (holds_all _ _ ex))
+            (run_enters S s t v (whole.told tl) core on.goes.going h low code argument chained c admits passes (alone tl) volume frame on.bind on.r on.at on.changed w (holds_all _ _ ex) (firm tl))
 
     -- a failed write stops the core
     pub whole_stopped : (fault : ℕ) → IsTrue (is_write c)

@@ -22,7 +22,7 @@ module _ {S C : Type 0} (g : Ghosts S) (v : CoreValue S C) where
     agrees = is.agrees;
     going = λ none.
         let g = is.going none in
-        record { no_stop = g.no_stop; hosts_ = g.hosts_; shows = g.shows; rows_ = g.rows_; copies = g.copies; slots_ = g.slots_; told = g.told; served = g.served };
+        record { no_stop = g.no_stop; hosts_ = g.hosts_; shows = g.shows; rows_ = g.rows_; copies = g.copies; slots_ = g.slots_; told = g.told; served = g.served; quiet = g.quiet };
   }
 
   pub begins_seen : (config : ConfigData) (chooser : C) → Begins config chooser (g.writes v.site) (g.faults v.site) v → Begins config tt (g.writes v.site) (g.faults v.site) there

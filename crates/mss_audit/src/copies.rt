@@ -30,7 +30,7 @@ fn differs(volume: VolumeNo, number: u16, a: u8, b: u8) -> Finding
 {
     Finding::CopyDiffers {
         volume,
-        place: number + 1,
+        place: number + BODY as u16,
         a,
         b,
     }
@@ -42,7 +42,7 @@ fn first_difference(volume: VolumeNo, a: &[u8], b: &[u8]) -> Option<Finding>
     requires b { length b.now ≡ BODY_BYTES }
     ensures { result ≡ first_below BODY_BYTES (difference volume a.now b.now) }
 {
-    for number in 0..510u16 {
+    for number in 0..BODY_BYTES as u16 {
         let at = usize::from(number);
         if a[at] != b[at] {
             return Some(differs(volume, number, a[at], b[at]));

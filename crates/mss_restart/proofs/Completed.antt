@@ -4,8 +4,8 @@ use Rattle.std.specs.Prelude.{OnOk}
 use Rattle.std.proofs.lemmas.Bool.{cases_lt}
 use Rattle.std.proofs.lemmas.List.{get_or_past}
 use Rattle.mss_base.specs.Configs.{ConfigData, VolumeData}
-use Rattle.mss_base.specs.Content.{Content, SiteLog, content, Writes}
-use Rattle.mss_base.proofs.Moments.{then, weaker, ended_with}
+use Rattle.mss_base.specs.Content.{Content, SiteLog, Settles, content, Writes}
+use Rattle.mss_base.proofs.Moments.{then_firm, weaker, ended_with}
 use Rattle.ckd_plain.specs.Plain.{serial_in}
 use Rattle.ckd_track.specs.Data.{Volumes}
 use Rattle.volume_table.specs.Row.{RowValue}
@@ -44,11 +44,11 @@ module _ (rows : List (Option RowValue)) (s mid : SiteLog) (long : length rows �
     at_mid : (frames : ℕ) → IsSound frames (content s) → SoundAs frames (shown (content s)) (content mid)
     at_mid frames sound = ended_with (SoundAs frames (shown (content s))) s mid (repaired frames sound)
 
-    pub then_created : (now : SiteLog) → ((frames : ℕ) → IsSound frames (content mid) → Writes (ShowsFront frames (missing (listed rows) volumes) (shown (content mid))) mid now)
+    pub then_created : (now : SiteLog) → Settles s mid → ((frames : ℕ) → IsSound frames (content mid) → Writes (ShowsFront frames (missing (listed rows) volumes) (shown (content mid))) mid now)
         → (frames : ℕ) → IsSound frames (content s) → Writes (ShowsFront frames (missing (listed rows) volumes) (shown (content s))) s now
-    then_created now created frames sound =
+    then_created now firm created frames sound =
         let is = at_mid frames sound in
-        then (ShowsFront frames (missing (listed rows) volumes) (shown (content s))) s mid now (no_front frames (missing (listed rows) volumes) (shown (content s)) s mid (repaired frames sound))
+        then_firm (ShowsFront frames (missing (listed rows) volumes) (shown (content s))) s mid now firm (no_front frames (missing (listed rows) volumes) (shown (content s)) s mid (repaired frames sound))
         (subst (λ (x : Volumes). Writes (ShowsFront frames (missing (listed rows) volumes) x) mid now) is.same (created frames is.sound))
 
     pub created_since : (d : Content) (after : List (Option RowValue)) (used : List SlotsUsed) → AreCreated volumes (content mid) d rows after used → AreCreated volumes (content s) d rows after used

@@ -9,8 +9,9 @@ use Rattle.std.specs.declared.cmp.Ordering.TheVariants.{Less}
 use Rattle.std.proofs.lemmas.Cmp.{ranked}
 use Rattle.std.proofs.lemmas.Bool.{cond-true, cond-false, ne_eqb}
 use Rattle.mss_base.specs.Configs.{VolumeData}
-use Rattle.mss_base.specs.Content.{Content, SiteLog, content, Writes}
-use Rattle.mss_base.proofs.Moments.{started, then, weaker}
+use Rattle.mss_base.specs.Content.{Content, SiteLog, Settles, content, Writes}
+use Rattle.mss_base.proofs.Moments.{started, then_firm, weaker}
+use Rattle.mss_base.proofs.Settling.{settles_none, settles_then}
 use Rattle.ckd_track.specs.Data.{Volumes}
 use Rattle.volume_table.specs.Row.{RowValue}
 use Rattle.table_pair.specs.declared.copy.SlotsUsed.{SlotsUsed}
@@ -27,7 +28,19 @@ use Rattle.mss_restart.specs.Opening.{AreKnown, missing, with_none_used, with_bl
 abbrev pub AreRising : List VolumeData → Type 0
 AreRising vs = IsStrictlySortedBy nat_cmp (map (λ v. v.0) vs)
 
--- the rows of these volumes are to come, those before them are done
+-- no volume is there yet, since nothing was written
+pub none_shown : (frames : ℕ) (volumes : List VolumeData) (s t : SiteLog) → t ≡ s → IsSound frames (content s) → Writes (ShowsFront frames volumes (shown (content s))) s t
+none_shown frames volumes s t same sound =
+    subst (λ (u : SiteLog). Writes (ShowsFront frames volumes (shown (content s))) s u) (sym same)
+    (started (ShowsFront frames volumes (shown (content s))) s (record { sound = sound; made = []; later = volumes; order = refl; same = refl }))
+
+pub none_made : (frames volume : ℕ) (serial : List ℕ) (s t : SiteLog) → t ≡ s → IsSound frames (content s)
+    → Writes (λ d. IsSound frames d × WithOrWithout volume serial (shown (content s)) (shown d)) s t
+none_made frames volume serial s t same sound =
+    let Shows : Content → Type 0 = λ d. IsSound frames d × WithOrWithout volume serial (shown (content s)) (shown d) in
+    subst (λ (u : SiteLog). Writes Shows s u) (sym same) (started Shows s (sound, inl refl))
+
+-- the rows of these volumes are to come, those before them are done, and firm
 pub record IsCreating (all : List VolumeData) (start : RowsOf) (begun now : SiteLog) (rows : List (Option RowValue)) (used : List SlotsUsed) (rest : List VolumeData) : Type 0 where
   pub made : List VolumeData
   pub order : made ++ missing (listed rows) rest ≡ missing start all
@@ -36,17 +49,18 @@ pub record IsCreating (all : List VolumeData) (start : RowsOf) (begun now : Site
   pub known : AreKnown rows used (content now)
   pub created : Creates made start (listed rows)
   pub others : RepairsOthers (missing start all) begun now
+  pub firm : Settles begun now
 
 pub nothing_created : (all : List VolumeData) (s : SiteLog) (rows : List (Option RowValue)) (used : List SlotsUsed) → AreKnown rows used (content s) → IsCreating all (listed rows) s s rows used all
 nothing_created all s rows used known = record {
   made = [];
   order = refl;
-  moments = λ frames sound.
-      started (ShowsFront frames (missing (listed rows) all) (shown (content s))) s (record { sound = sound; made = []; later = missing (listed rows) all; order = refl; same = refl });
+  moments = λ frames sound. none_shown frames (missing (listed rows) all) s s refl sound;
   shows = λ frames sound. record { sound = sound; same = refl };
   known = known;
   created = refl;
   others = nothing_else (missing (listed rows) all) s s refl;
+  firm = settles_none s;
 }
 
 all_above : (n : ℕ) (vs : List VolumeData) → AllByRecursion (λ m. nat_cmp n m ≡ Less) (map (λ v. v.0) vs) → AllByRecursion (λ v. n < v.0) vs
@@ -84,6 +98,7 @@ module _ (all : List VolumeData) (start : RowsOf) (begun mid : SiteLog) (rows : 
     known = so_far.known;
     created = so_far.created;
     others = so_far.others;
+    firm = so_far.firm;
   }
 
   -- it has none
@@ -97,7 +112,7 @@ module _ (all : List VolumeData) (start : RowsOf) (begun mid : SiteLog) (rows : 
     -- its creation leaves the others
     pub others_on : (now : SiteLog) → RepairsOthers (v ∷ []) mid now → RepairsOthers (missing start all) begun now
     others_on now one =
-        others_then (missing start all) begun mid now so_far.others (others_of (v ∷ []) (missing start all) mid now (λ volume apart.
+        others_then (missing start all) begun mid now so_far.firm so_far.others (others_of (v ∷ []) (missing start all) mid now (λ volume apart.
         (is_apart volume so_far.made v (missing (listed rows) rest) (subst (AllByRecursion (λ w. w.0 ≢ volume)) (sym front) apart), tt)) one)
 
     within : (frames : ℕ) → IsSound frames (content begun) → (d : Content) → IsSound frames d × WithOrWithout v.0 v.1 (shown (content mid)) (shown d) → ShowsFront frames (missing start all) (shown (content begun)) d
@@ -118,13 +133,13 @@ module _ (all : List VolumeData) (start : RowsOf) (begun mid : SiteLog) (rows : 
         (moments : (frames : ℕ) → IsSound frames (content mid) → Writes (λ d. IsSound frames d × WithOrWithout v.0 v.1 (shown (content mid)) (shown d)) mid now) where
       pub moments_on : (frames : ℕ) → IsSound frames (content begun) → Writes (ShowsFront frames (missing start all) (shown (content begun))) begun now
       moments_on frames sound =
-          then (ShowsFront frames (missing start all) (shown (content begun))) begun mid now (so_far.moments frames sound)
+          then_firm (ShowsFront frames (missing start all) (shown (content begun))) begun mid now so_far.firm (so_far.moments frames sound)
           (weaker (λ d. IsSound frames d × WithOrWithout v.0 v.1 (shown (content mid)) (shown d)) (ShowsFront frames (missing start all) (shown (content begun))) (within frames sound) mid now
           (moments frames (so_far.shows frames sound).sound))
 
-      pub created_too : RepairsOthers (v ∷ []) mid now → (after : List (Option RowValue)) (used_after : List SlotsUsed) → IsCreated v.0 v.1 (content mid) (content now) rows after → length used ≡ 32 → used_after ≡ with_none_used v.0 used
+      pub created_too : RepairsOthers (v ∷ []) mid now → Settles mid now → (after : List (Option RowValue)) (used_after : List SlotsUsed) → IsCreated v.0 v.1 (content mid) (content now) rows after → length used ≡ 32 → used_after ≡ with_none_used v.0 used
           → AllByRecursion (λ w. v.0 < w.0) rest → IsCreating all start begun now after used_after rest
-      created_too others after used_after one places used_is above = record {
+      created_too others firm after used_after one places used_is above = record {
         made = so_far.made ++ v ∷ [];
         order = ap (λ (r : RowsOf). (so_far.made ++ v ∷ []) ++ missing r rest) one.now ∙ ap (λ (vs : List VolumeData). (so_far.made ++ v ∷ []) ++ vs) (missing_past v.0 one.row (listed rows) rest above) ∙ front_with;
         moments = moments_on;
@@ -139,6 +154,7 @@ module _ (all : List VolumeData) (start : RowsOf) (begun mid : SiteLog) (rows : 
         };
         created = creates_last so_far.made v start (listed rows) (listed after) one.row so_far.created one.is_new one.now;
         others = others_on now others;
+        firm = settles_then begun mid now so_far.firm firm;
       }
 
 -- none are to come

@@ -5,6 +5,7 @@ pub mod ReadRows
 pub mod SurveyFacts
 pub mod Surveyed
 pub mod SlotFacts
+pub mod Settling
 pub mod Repaired
 pub mod OtherRows
 pub mod Pigeons

@@ -4,9 +4,9 @@ use Rattle.std.specs.List.{AllByRecursion}
 use Rattle.std.proofs.lemmas.Bool.{cases_Bool, eqb-true, ne_eqb}
 use Rattle.std.proofs.lemmas.List.{append-nil}
 use Rattle.mss_base.specs.Configs.{VolumeData}
-use Rattle.mss_base.specs.Content.{Content, SiteLog, Item, content, Writes}
+use Rattle.mss_base.specs.Content.{Content, SiteLog, Settles, Item, content, Writes}
 use Rattle.mss_base.specs.declared.place.UnitNo.TheVariants.{TableA, TableB}
-use Rattle.mss_base.proofs.Moments.{started, then, weaker, ended_with}
+use Rattle.mss_base.proofs.Moments.{started, then_firm, weaker, ended_with}
 use Rattle.volume_table.specs.Row.{RowValue}
 use Rattle.table_pair.specs.Copies.{copy_at}
 use Rattle.table_pair.specs.Pair.{ChangesRow, NoneOrNew}
@@ -46,11 +46,11 @@ pub nothing_else : (volumes : List VolumeData) (s t : SiteLog) → t ≡ s → R
 nothing_else volumes s t same volume apart =
     subst (λ (u : SiteLog). Writes (IsRepairing volume (content s)) s u) (sym same) (started (IsRepairing volume (content s)) s (nothing_yet volume (content s)))
 
-pub others_then : (volumes : List VolumeData) (s mid t : SiteLog) → RepairsOthers volumes s mid → RepairsOthers volumes mid t → RepairsOthers volumes s t
-others_then volumes s mid t first second volume apart =
+pub others_then : (volumes : List VolumeData) (s mid t : SiteLog) → Settles s mid → RepairsOthers volumes s mid → RepairsOthers volumes mid t → RepairsOthers volumes s t
+others_then volumes s mid t firm first second volume apart =
     let before = first volume apart in
     let at_mid = ended_with (IsRepairing volume (content s)) s mid before in
-    then (IsRepairing volume (content s)) s mid t before
+    then_firm (IsRepairing volume (content s)) s mid t firm before
     (weaker (IsRepairing volume (content mid)) (IsRepairing volume (content s)) (λ d is. repairing_on volume (content s) (content mid) d at_mid is) mid t (second volume apart))
 
 -- where no row is more than repaired

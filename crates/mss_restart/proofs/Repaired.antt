@@ -1,9 +1,9 @@
 -- One repair after another.
 use Rattle.std.proofs.Common.{◌≡◌, ℕ, suc, ◌+◌, ◌<◌, false, Err, List, length, set, ◌==◌, inl, inr, refl, sym, ◌∙◌, ap, subst, arith}
 use Rattle.std.proofs.lemmas.Bool.{cases_Bool, cases_lt, eqb-true, eq-eqb, false≢true}
-use Rattle.mss_base.specs.Content.{SiteLog, content, Writes}
+use Rattle.mss_base.specs.Content.{SiteLog, content, Settles, Writes}
 use Rattle.mss_base.specs.declared.place.UnitNo.TheVariants.{TableA, TableB}
-use Rattle.mss_base.proofs.Moments.{started, then, ended_with}
+use Rattle.mss_base.proofs.Moments.{started, then_firm, ended_with}
 use Rattle.ckd_track.specs.Data.{Volumes}
 use Rattle.table_pair.specs.Copies.{copy_at}
 use Rattle.table_pair.specs.Pair.{row_of, row_of_copies, ChangesRow, HoldsRow, IsOpenWith}
@@ -35,7 +35,7 @@ before_last volume n v here lt other = elim (cases_lt v n) [
   | inr from ↦ let e : volume ≡ v = omega (arith, here, lt, from) in absurd (false≢true (sym other ∙ eq-eqb volume v e))
 ]
 
-module _ (begun mid now : SiteLog) (volume : ℕ) (so_far : IsRepaired begun mid) (one : Writes (ChangesRow volume (KeepsRow volume (content mid)) (content mid)) mid now) where
+module _ (begun mid now : SiteLog) (volume : ℕ) (so_far : IsRepaired begun mid) (firm : Settles begun mid) (one : Writes (ChangesRow volume (KeepsRow volume (content mid)) (content mid)) mid now) where
   change : ChangesRow volume (KeepsRow volume (content mid)) (content mid) (content now)
   change = ended_with (ChangesRow volume (KeepsRow volume (content mid)) (content mid)) mid now one
 
@@ -50,7 +50,7 @@ module _ (begun mid now : SiteLog) (volume : ℕ) (so_far : IsRepaired begun mid
     moments = λ frames sound.
         let before = so_far.moments frames sound in
         let at_mid = ended_with (SoundAs frames (shown (content begun))) begun mid before in
-        then (SoundAs frames (shown (content begun))) begun mid now before
+        then_firm (SoundAs frames (shown (content begun))) begun mid now firm before
         (subst (λ (V : Volumes). Writes (SoundAs frames V) mid now) at_mid.same (repair_moments frames volume mid now at_mid.sound one));
     rows = λ v. row_kept v ∙ so_far.rows v;
   }

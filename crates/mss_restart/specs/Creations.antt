@@ -3,7 +3,7 @@ use Rattle.std.specs.Prelude.{◌≡◌, ◌≢◌, ◌≤◌, ◌<◌, ℕ, zer
 use Rattle.std.specs.List.{AllByRecursion}
 use Rattle.mss_base.specs.Sound.{StaysSound}
 use Rattle.mss_base.specs.Configs.{VolumeData}
-use Rattle.mss_base.specs.Content.{Content, SiteLog, content, Writes}
+use Rattle.mss_base.specs.Content.{Content, SiteLog, Settles, content, Writes}
 use Rattle.mss_base.specs.declared.place.UnitNo.TheVariants.{TableA, TableB}
 use Rattle.mss_base.specs.Counts.{IsFaultSince}
 use Rattle.mss_base.specs.declared.site.Site.{Ghosts}
@@ -38,12 +38,13 @@ StopsAlone before now (Ok value) = now ≡ before
 StopsAlone before now (Err e) = IsStop before now e
 
 -- a volume's row was repaired: it is the same at each moment, as the made marks are, and stands in
--- both copies now; copies that needed no repair weren't written
+-- both copies now, firm; copies that needed no repair weren't written
 pub record IsRepair (volume : ℕ) (old new : SiteLog) : Type 0 where
   pub moments : Writes (ChangesRow volume (KeepsRow volume (content old)) (content old)) old new
   pub marks : Writes (KeepsMarks volume (content old)) old new
   pub held : HoldsToldRow volume (content old) (content new)
   pub alone : NeedsNoRepair volume (content old) → new ≡ old
+  pub firm : Settles old new
 
 -- the row that each volume told, if any, stands in both copies now, and so many of their slots are in use
 pub record AreEqual (used : List SlotsUsed) (old new : Content) : Type 0 where
@@ -72,13 +73,15 @@ unfoldable pub AreRepaired : ℕ → SiteLog → SiteLog → Type 0
 AreRepaired zero old new = new ≡ old
 AreRepaired (suc count) old new = (mid : SiteLog) × AreRepaired count old mid × IsRepair count mid new
 
--- a volume was created: it has no row or the new one at each moment, and that stands in both copies now, so many writes on
+-- a volume was created: it has no row or the new one at each moment, and that stands in both copies
+-- now, firm, so many writes on
 pub record IsCreation (rows after : RowsOf) (v : VolumeData) (made : Creation) (old new : SiteLog) : Type 0 where
   pub row : RowValue
   pub is_new : IsNewRow rows v.1 row
   pub now : after ≡ with_row v.0 row rows
   pub moments : Writes (ChangesRow v.0 (NoneOrNew v.0 row) (content old)) old new
   pub held : HoldsRow row v.0 (content new)
+  pub firm : Settles old new
   pub named : made.volume ≡ v.0
   pub count : made.writes ≡ length new.log
 

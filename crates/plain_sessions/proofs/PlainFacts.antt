@@ -121,14 +121,14 @@ module _ (config : ConfigData) (was : DevicesSeen) (began : CoreData) (b : Began
       session : IsSession left.site.told left
       session = session_later began.site.told left.site.told began left (session_begun config (shown_for config (content was.told)) began.site.told began b.with_ b.begins.config_ b.told) later told
 
-      opening_stop : (k : ℕ) → length was.told.log ≤ k → k < left.first_write → (tear : Tear) → LeavesFront config (content was.told) (image left.site.told k tear)
+      opening_stop : (k : ℕ) → length was.told.log < k → k < left.first_write → (tear : Tear) → LeavesFront config (content was.told) (image left.site.told k tear)
       opening_stop k since before tear =
           let within : suc k ≤ length began.site.told.log = omega (arith, before, first_is) in
           let same : image left.site.told k tear ≡ image began.site.told k tear =
           image_front left.site.told began.site.told k tear (ap (λ (s : SiteLog). s.start) grown)
           (ap (λ (s : SiteLog). take (suc k) s.log) grown ∙ take-append-le (suc k) began.site.told.log items within) in
           subst (λ (c : Content). LeavesFront config (content was.told) c) (sym same)
-          (leaves_front decides config was began.site (Ok (opened_in began)) opened_faultless (record { moment = k; since = since; until = omega (arith, within); tear = tear }))
+          (leaves_front decides config was began.site (Ok (opened_in began)) opened_faultless (record { moment = k; since = omega (arith, since); until = omega (arith, within); tear = tear }))
 
       pub stops_at : StopsAnywhere config was.told left.site.told (data_of left)
       stops_at = record {

@@ -53,11 +53,12 @@ pub record IsPlainSession (config : ConfigData) (was now : SiteLog) (s : Session
 
 -- ---- stops
 
--- What a stop at any moment leaves, inside a write too. While the site was opened: the volumes of
--- before, with a front of the further ones. From then on: the plain volumes after the answered
--- entries, or what the next one may have made of them. Of each a restart is no refusal.
+-- What a stop at any moment leaves, inside a write too, whatever it makes of writes that aren't firm.
+-- While the site was opened, behind the sync of all units: the volumes of before, with a front of the
+-- further ones. From then on: the plain volumes after the answered entries, or what the next one may
+-- have made of them. Of each a restart is no refusal.
 pub record StopsAnywhere (config : ConfigData) (was now : SiteLog) (s : SessionData) : Type 0 where
-  pub opening_ : (k : ℕ) → length was.log ≤ k → k < s.first_write → (tear : Tear)
+  pub opening_ : (k : ℕ) → length was.log < k → k < s.first_write → (tear : Tear)
       → LeavesFront config (content was) (image now k tear)
   pub session_ : StopsWell config.frames s.first_write (plain_start config (content was))
       s.history s.marks now

@@ -18,11 +18,11 @@ use Rattle.shown_volumes.proofs.PlaceFacts.{in_frame}
 use Rattle.shown_volumes.proofs.RowFacts.{StaysTrack, AreFrames, may_change}
 use Rattle.shown_volumes.proofs.StateLemmas.{unstaged as asks_nothing, stays, blank_stays, copy_stays, becomes_changed, becomes_staged, same_everywhere}
 
-there_is : {A : Type 0} (o : Option A) → IsSome o → (x : A) × (o ≡ Some x)
+pub there_is : {A : Type 0} (o : Option A) → IsSome o → (x : A) × (o ≡ Some x)
 there_is None is = absurd cc
 there_is (Some x) is = (x, refl)
 
-not_equal : (a b : ℕ) → (a == b) ≡ false → a ≢ b
+pub not_equal : (a b : ℕ) → (a == b) ≡ false → a ≢ b
 not_equal a b other same = false≢true (sym other ∙ eq-eqb a b same)
 
 zero_or_one : (s : ℕ) → s < 2 → (s ≡ 0) ⊎ (s ≡ 1)

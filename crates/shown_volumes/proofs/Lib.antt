@@ -12,4 +12,6 @@ pub mod StateLemmas
 pub mod AllowedFacts
 pub mod BlankFacts
 pub mod MomentFacts
+pub mod QuietFacts
+pub mod UnderFacts
 pub mod TableFacts

@@ -25,7 +25,7 @@ module _ (volume : ℕ) (P : Content → Type 0) (c d : Content) (within : Chang
   elsewhere w other = λ i. row_of_copies (copy_at (within.others TableA w other i)) (copy_at (within.others TableB w other i))
 
   module _ (here : row_of d volume ≡ row_of c volume) where
-    all_rows : (w : ℕ) → row_of d w ≡ row_of c w
+    pub all_rows : (w : ℕ) → row_of d w ≡ row_of c w
     all_rows w = elim (cases_Bool (volume == w)) [
       | inl same ↦ let e : volume ≡ w = eqb-true volume w same in ap (row_of d) (sym e) ∙ here ∙ ap (row_of c) e
       | inr other ↦ elsewhere w other
@@ -67,7 +67,7 @@ module _ (volume : ℕ) (P : Content → Type 0) (c d : Content) (within : Chang
         | inr other ↦ (λ i. cond (nat_lt w 32) (told_row (elsewhere w (turned w other) i)) None) ∙ sym (cond-false _ _ _ other)
       ]
 
-      new_rows : rows_of d ≡ with_row volume row (rows_of c)
+      pub new_rows : rows_of d ≡ with_row volume row (rows_of c)
       new_rows = λ i w. new_row w i
 
       pub row_new : (frames : ℕ) → IsSound frames c → AreSound frames (with_row volume row (rows_of c)) c → SoundAs frames (shown_by (with_row volume row (rows_of c)) c) d
@@ -80,7 +80,7 @@ module _ (volume : ℕ) (P : Content → Type 0) (c d : Content) (within : Chang
       }
 
 -- a change whose condition holds
-change_shows : (frames volume : ℕ) (row : RowValue) (c d : Content) → MayChange frames volume row c → ChangesRow volume (OldOrNew volume row c) c d → SoundAs frames (shown c) d
+pub change_shows : (frames volume : ℕ) (row : RowValue) (c d : Content) → MayChange frames volume row c → ChangesRow volume (OldOrNew volume row c) c d → SoundAs frames (shown c) d
 change_shows frames volume row c d may within = elim within.here [
   | inl old ↦ row_kept volume (OldOrNew volume row c) c d within old frames may.sound
   | inr new ↦ subst (λ (V : Volumes). SoundAs frames V d) may.same (row_new volume (OldOrNew volume row c) c d within may.low row new frames may.sound may.still)

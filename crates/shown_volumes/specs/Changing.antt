@@ -1,8 +1,8 @@
--- Which blocks the shown volumes stand on, and which changes of rows show the same.
+-- Which blocks the shown volumes stand on, which of them are firm, and which changes of rows show the same.
 use Rattle.std.specs.Prelude.{◌≡◌, ◌≢◌, ◌⊎◌, ◌≤◌, ℕ, ◌+◌, ◌<◌, ◌==◌, false, List, [], Some, None, if◌then◌else◌}
 use Rattle.std.specs.Option.{ForSome}
 use Rattle.mss_base.specs.declared.numbers.TheConstants.{CYLINDERS, HEADS}
-use Rattle.mss_base.specs.Content.{Content}
+use Rattle.mss_base.specs.Content.{Content, SiteLog, IsLoose, content}
 use Rattle.mss_base.specs.declared.place.BlockPlace.{BlockPlace}
 use Rattle.ckd_track.specs.Data.{Volumes}
 use Rattle.volume_table.specs.Row.{RowValue, state_of}
@@ -10,7 +10,7 @@ use Rattle.volume_table.specs.declared.changes.Change.{Change}
 use Rattle.volume_table.specs.declared.changes.Change.TheVariants.{Create, Assign, Free, Staged, Changed, Destaged}
 use Rattle.table_pair.specs.Pair.{is_table}
 use Rattle.shown_volumes.specs.Shown.{RowsOf, rows_of, on_cartridge, in_page, source, shown_by, shown}
-use Rattle.shown_volumes.specs.Sound.{frame_in, IsStagedAs, IsSameAt, AreSound, IsSound}
+use Rattle.shown_volumes.specs.Sound.{frame_in, IsStagedAs, IsSameAt, AreSound, IsSound, SoundAs}
 
 -- a block that a track of a row's volume stands on: the shown one, or the one in the frame where the cylinder is staged
 pub record StandsOn (r : RowValue) (cylinder head : ℕ) (place : BlockPlace) : Type 0 where
@@ -60,3 +60,41 @@ with_blank volume serial volumes = record {
 -- what a stop within a creation shows: the volumes, or those with the new one
 abbrev pub WithOrWithout : ℕ → List ℕ → Volumes → Volumes → Type 0
 WithOrWithout volume serial volumes shown = (shown ≡ volumes) ⊎ (shown ≡ with_blank volume serial volumes)
+
+-- ---- what is loose
+
+-- each loose write of a site lies outside the table, and outside all that a content shows or holds staged
+abbrev pub IsQuietIn : SiteLog → Content → Type 0
+IsQuietIn s c = (place : BlockPlace) → IsLoose s place.unit place.block → IsOutside c place
+
+-- and so with what the site itself holds
+abbrev pub IsQuiet : SiteLog → Type 0
+IsQuiet s = IsQuietIn s (content s)
+
+-- no track of a row's volume stands on a loose write of a site
+abbrev pub IsQuietUnder : RowValue → SiteLog → Type 0
+IsQuietUnder r s = (place : BlockPlace) → IsLoose s place.unit place.block → (cylinder head : ℕ) → StandsOn r cylinder head place → ⊥
+
+-- a content is sound and shows these volumes, and what a site has loose lies outside
+abbrev pub StillShows : ℕ → Volumes → SiteLog → Content → Type 0
+StillShows frames volumes s c = SoundAs frames volumes c × IsQuietIn s c
+
+-- a volume's row may become this one on a site: it then shows the same, and stands on nothing loose
+pub record MayWriteRow (frames volume : ℕ) (row : RowValue) (s : SiteLog) : Type 0 where
+  pub may : MayChange frames volume row (content s)
+  pub quiet : IsQuiet s
+  pub under : IsQuietUnder row s
+
+-- a block with nothing loose
+abbrev pub IsFirmAt : SiteLog → BlockPlace → Type 0
+IsFirmAt s place = IsLoose s place.unit place.block → ⊥
+
+-- what an allowed change makes a row stand on is firm: the frame's blocks of a cylinder that is staged, the cartridge's of
+-- one that is destaged
+abbrev pub IsFirmFor : Change → RowValue → SiteLog → Type 0
+IsFirmFor (Create serial first second) r s = Unit {0}
+IsFirmFor (Assign page frame) r s = Unit {0}
+IsFirmFor (Free page) r s = Unit {0}
+IsFirmFor (Staged cylinder) r s = (head : ℕ) → head < HEADS → ForSome (in_page r cylinder head) (IsFirmAt s)
+IsFirmFor (Changed cylinder) r s = Unit {0}
+IsFirmFor (Destaged cylinder) r s = (head : ℕ) → head < HEADS → IsFirmAt s (on_cartridge r cylinder head)

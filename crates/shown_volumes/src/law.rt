@@ -1,6 +1,17 @@
 //! Laws of shown volumes, of sound content and of its first fault. A function calls a law to have it in its proof.
-ghost use Rattle.std.specs.Prelude.{◌≡◌, ◌↔◌, ◌≤◌, ◌<◌, ◌/◌, ℕ, false, List, Option, Some, None};
-ghost use Rattle.mss_base.specs.Content.{Content, SiteLog, Write, Writes, content, written, ChangesBlock};
+ghost use Rattle.std.specs.Prelude.{◌≡◌, ◌↔◌, ◌≤◌, ◌<◌, ◌/◌, ℕ, false, List, length, Option, Some, None};
+ghost use Rattle.mss_base.specs.Content.{
+  Content,
+  SiteLog,
+  Write,
+  Writes,
+  Settles,
+  Tear,
+  content,
+  image,
+  written,
+  ChangesBlock,
+};
 ghost use Rattle.mss_base.specs.Places.{frame_block};
 ghost use Rattle.ckd_plain.specs.Plain.{with_track};
 ghost use Rattle.ckd_track.specs.Track.{reading, reading_of};
@@ -12,7 +23,18 @@ ghost use Rattle.table_pair.specs.Repairs.{KeepsRow};
 ghost use Rattle.shown_volumes.specs.Shown.{rows_of, SameTables, shown, block_at, on_cartridge};
 ghost use Rattle.shown_volumes.specs.Sound.{IsSound, SoundAs, HasSerialsAsked};
 ghost use Rattle.shown_volumes.specs.Faults.{first_fault};
-ghost use Rattle.shown_volumes.specs.Changing.{IsOutside, IsReady, IsFresh, MayChange, WithOrWithout, with_blank};
+ghost use Rattle.shown_volumes.specs.Changing.{
+  IsOutside,
+  IsReady,
+  IsFresh,
+  MayChange,
+  WithOrWithout,
+  with_blank,
+  IsQuiet,
+  StillShows,
+  MayWriteRow,
+  IsFirmFor,
+};
 
 use mss_base::{CYLINDERS, HEADS};
 
@@ -113,4 +135,31 @@ pub fn creations_show_a_blank_volume()
         → ChangesRow volume (NoneOrNew volume (blank_row serial first second)) c d
         → row_of d volume ≡ known (Some (blank_row serial first second)) false
         → SoundAs frames (with_blank volume serial (shown c)) d }
+{}
+
+/// Whatever a stop makes of the loose writes of a quiet site, it shows the same.
+pub fn quiet_sites_rest()
+    ensures { (frames : ℕ) (s : SiteLog) (tear : Tear) → IsSound frames (content s) → IsQuiet s
+        → SoundAs frames (shown (content s)) (image s (length s.log) tear) }
+{}
+
+/// With the row that an allowed change makes, a quiet site stands on nothing loose, where what it names anew is firm.
+pub fn allowed_changes_may_be_written()
+    ensures { (frames volume : ℕ) (change : Change) (r : RowValue) (s : SiteLog)
+        → IsSound frames (content s) → IsQuiet s → rows_of (content s) volume ≡ Some r
+        → IsRow r → IsAllowed change r → IsReady frames change r (content s)
+        → IsFirmFor change r s → MayWriteRow frames volume (effect change r) s }
+{}
+
+/// At each moment of the change of a row that may be written so, what is shown is the same and stands on nothing
+/// loose; and so behind it, where it is firm.
+pub fn written_rows_leave_a_site_quiet()
+    ensures moments { (frames volume : ℕ) (row : RowValue) (s t : SiteLog)
+        → MayWriteRow frames volume row s
+        → Writes (ChangesRow volume (OldOrNew volume row (content s)) (content s)) s t
+        → Writes (StillShows frames (shown (content s)) s) s t }
+    ensures quiet { (frames volume : ℕ) (row : RowValue) (s t : SiteLog)
+        → MayWriteRow frames volume row s
+        → Writes (ChangesRow volume (OldOrNew volume row (content s)) (content s)) s t
+        → Settles s t → IsQuiet t }
 {}

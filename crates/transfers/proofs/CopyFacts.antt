@@ -4,16 +4,19 @@ use Rattle.std.proofs.lemmas.Bool.{cases_Bool, and_parts, eqb-true, ltb-true, lt
 use Rattle.mss_base.specs.declared.place.UnitNo.{UnitNo}
 use Rattle.mss_base.specs.declared.place.UnitNo.TheVariants as unit
 use Rattle.mss_base.specs.declared.place.BlockPlace.{BlockPlace}
-use Rattle.mss_base.specs.Content.{Content, SiteLog, Write, content, splice, same_unit, Adds, Writes, length-splice}
+use Rattle.mss_base.specs.Content.{Content, SiteLog, Write, content, synced, splice, same_unit, IsLoose, Got, Adds, Writes, length-splice}
 use Rattle.mss_base.specs.Zeros.{length-zeros}
 use Rattle.mss_base.proofs.ContentLemmas.{written_elsewhere}
 use Rattle.mss_base.proofs.Moments.{content_then, block_write, block_written, block_started}
 use Rattle.table_pair.specs.Pair.{is_table}
-use Rattle.shown_volumes.specs.Shown.{block_at, SameTables}
+use Rattle.shown_volumes.specs.Shown.{block_at, shown, SameTables}
+use Rattle.shown_volumes.specs.Sound.{IsSound}
+use Rattle.shown_volumes.specs.Changing.{IsOutside, IsQuiet, StillShows}
+use Rattle.shown_volumes.proofs.QuietFacts.{quiet_started, copied_moments, copied_quiet, synced_firm}
 use Rattle.transfers.specs.declared.transfer.Transfer.{Transfer}
 use Rattle.transfers.specs.declared.transfer.TransferKind.{TransferKind}
 use Rattle.transfers.specs.declared.transfer.TransferKind.TheVariants as kind
-use Rattle.transfers.specs.Copies.{in_frame, in_cartridge, target, target_of, source, source_of, copy_of, AddsAtMost, AddsCopy, ChangesTarget, IsBlock, IsCopied, IsCopiedTo}
+use Rattle.transfers.specs.Copies.{in_frame, in_cartridge, target, target_of, target_unit, source, source_of, copy_of, AddsAtMost, AddsCopy, ChangesTarget, IsBlock, IsCopied, IsCopiedTo, AreFirm}
 
 -- ---- the source
 
@@ -60,6 +63,29 @@ no_table k t head (unit.Cartridge n) b table = absurd (let e : false ≡ true = 
 pub leaves_table : (t : Transfer) (head : ℕ) (old new : SiteLog) → AddsAtMost (target t head) old new → SameTables (content old) (content new)
 leaves_table t head old new (inl same) = λ u b table. ap (λ (s : SiteLog). content s u b) same
 leaves_table t head old new (inr (left, long, adds)) = λ u b table. copied_elsewhere (target t head) left old new adds u b (no_table t.kind t head u b table)
+
+-- all tracks of a transfer are copied to one unit
+pub target_units : (t : Transfer) (head : ℕ) → (target t head).unit ≡ target_unit t
+target_units t head = by_kind t.kind
+  where
+    by_kind : (k : TransferKind) → (target_of k (in_frame t head) (in_cartridge t head)).unit ≡ (target_of k (in_frame t 0) (in_cartridge t 0)).unit
+    by_kind kind.StageBlank = refl
+    by_kind kind.StageCartridge = refl
+    by_kind kind.Destage = refl
+
+-- so one sync makes all copies firm
+pub synced_copies : (t : Transfer) (s u : SiteLog) → Got (synced (target_unit t) ∷ []) s u → AreFirm t u
+synced_copies t s u got head is = synced_firm s u (target_unit t) got (target t head).block (subst (λ (n : UnitNo). IsLoose u n (target t head).block) (target_units t head) is)
+
+-- a copy into a block outside shows the same, and leaves the site quiet
+pub most_moments : (frames : ℕ) (t : Transfer) (s u : SiteLog) → IsQuiet s → IsSound frames (content s) → IsOutside (content s) (target t t.next) → AddsAtMost (target t t.next) s u
+    → Writes (StillShows frames (shown (content s)) s) s u
+most_moments frames t s u quiet sound out (inl same) = subst (λ (x : SiteLog). Writes (StillShows frames (shown (content s)) s) s x) (sym same) (quiet_started frames s quiet sound)
+most_moments frames t s u quiet sound out (inr (left, long, adds)) = copied_moments frames s u (copy_of (target t t.next) left) quiet sound out adds
+
+pub most_quiet : (t : Transfer) (s u : SiteLog) → IsQuiet s → IsOutside (content s) (target t t.next) → AddsAtMost (target t t.next) s u → IsQuiet u
+most_quiet t s u quiet out (inl same) = subst IsQuiet (sym same) quiet
+most_quiet t s u quiet out (inr (left, long, adds)) = copied_quiet s u (copy_of (target t t.next) left) quiet out adds
 
 -- at each moment only the block copied to differs
 pub copy_moments : (t : Transfer) (old new : SiteLog) → IsBlock (block_at (content old) (target t t.next)) → AddsAtMost (target t t.next) old new

@@ -13,11 +13,11 @@ use Rattle.volume_table.specs.Row.{RowValue, frame_of, state_of}
 use Rattle.volume_table.specs.Changes.{IsAllowed}
 use Rattle.shown_volumes.specs.Shown.{block_at, on_cartridge, in_page, shown}
 use Rattle.shown_volumes.specs.Sound.{IsSound, SoundAs}
-use Rattle.shown_volumes.specs.Changing.{IsOutside, IsReady}
+use Rattle.shown_volumes.specs.Changing.{IsOutside, IsReady, IsFirmAt, IsFirmFor}
 use Rattle.transfers.specs.declared.transfer.Transfer.{Transfer}
 use Rattle.transfers.specs.declared.transfer.TransferKind.{TransferKind}
 use Rattle.transfers.specs.declared.transfer.TransferKind.TheVariants as kind
-use Rattle.transfers.specs.Copies.{in_frame, in_cartridge, target, target_of, source_of, copy_of, AddsAtMost, IsCopiedTo}
+use Rattle.transfers.specs.Copies.{in_frame, in_cartridge, target, target_of, source_of, copy_of, AddsAtMost, IsCopiedTo, AreFirm}
 use Rattle.transfers.specs.Dues.{IsDue, due_state, change_by, change_of}
 
 cartridge_place : (t : Transfer) (r : RowValue) (head : ℕ) → t.cartridge ≡ cond (nat_lt t.cylinder 202) r.first r.second → in_cartridge t head ≡ on_cartridge r t.cylinder head
@@ -86,6 +86,15 @@ ready frames t r c due all copied = by_kind t.kind due.state (λ head low. copie
     }
     by_kind kind.Destage is each = λ head low place at.
         ap (block_at c) (sym (place_is t r head place due.frame_ at)) ∙ sym (each head low) ∙ ap (block_at c) (cartridge_place t r head due.cartridge_)
+
+-- and is firm, where the copies are
+pub firm_for : (t : Transfer) (r : RowValue) (s : SiteLog) → IsDue t r → AreFirm t s → IsFirmFor (change_of t) r s
+firm_for t r s due firm = by_kind t.kind firm
+  where
+    by_kind : (k : TransferKind) → ((head : ℕ) → IsFirmAt s (target_of k (in_frame t head) (in_cartridge t head))) → IsFirmFor (change_by k t.cylinder) r s
+    by_kind kind.StageBlank each = λ head low place at. subst (IsFirmAt s) (place_is t r head place due.frame_ at) (each head)
+    by_kind kind.StageCartridge each = λ head low place at. subst (IsFirmAt s) (place_is t r head place due.frame_ at) (each head)
+    by_kind kind.Destage each = λ head low. subst (IsFirmAt s) (cartridge_place t r head due.cartridge_) (each head)
 
 -- over contents with the same blocks
 pub stays : (t : Transfer) (c d : Content) → ((head : ℕ) → head < t.next → block_at d (in_frame t head) ≡ block_at c (in_frame t head))

@@ -12,6 +12,7 @@ use Rattle.mss_base.specs.declared.place.UnitNo.{UnitNo}
 use Rattle.mss_base.specs.declared.place.UnitNo.TheVariants.{Cartridge}
 use Rattle.mss_base.specs.declared.site.Site.{Ghosts}
 use Rattle.shown_volumes.specs.Shown.{block_at}
+use Rattle.shown_volumes.specs.Changing.{IsFirmAt}
 use Rattle.transfers.specs.declared.transfer.Transfer.{Transfer}
 use Rattle.transfers.specs.declared.transfer.TransferKind.{TransferKind}
 use Rattle.transfers.specs.declared.transfer.TransferKind.TheVariants as kind
@@ -36,6 +37,10 @@ target_of kind.Destage frame cartridge = cartridge
 
 abbrev pub target : Transfer → ℕ → BlockPlace
 target t head = target_of t.kind (in_frame t head) (in_cartridge t head)
+
+-- the unit of all of them that are copied to
+abbrev pub target_unit : Transfer → UnitNo
+target_unit t = (target t 0).unit
 
 -- of the two, which one is copied, if one is
 abbrev pub copied_of : {A : Type 0} → TransferKind → A → A → Option A
@@ -68,6 +73,10 @@ IsCopied t c head = block_at c (target t head) ≡ source t head c
 -- each track before the next one is copied
 abbrev pub IsCopiedTo : Transfer → Content → Type 0
 IsCopiedTo t c = (head : ℕ) → head < t.next → IsCopied t c head
+
+-- no copy of a track is loose
+abbrev pub AreFirm : Transfer → SiteLog → Type 0
+AreFirm t s = (head : ℕ) → IsFirmAt s (target t head)
 
 -- the transfer with one more track copied
 abbrev pub moved_on : Transfer → Transfer

@@ -5,9 +5,9 @@ ghost use Rattle.volume_table.specs.Row.{RowValue, IsRow};
 ghost use Rattle.volume_table.specs.Changes.{IsAllowed, effect};
 ghost use Rattle.shown_volumes.specs.Shown.{block_at, rows_of, shown, SameTables};
 ghost use Rattle.shown_volumes.specs.Sound.{IsSound, SoundAs};
-ghost use Rattle.shown_volumes.specs.Changing.{IsOutside, IsReady, MayChange};
+ghost use Rattle.shown_volumes.specs.Changing.{IsOutside, IsReady, MayChange, IsQuiet, StillShows, IsFirmFor};
 ghost use Rattle.transfers.specs.declared.transfer.Transfer.{Transfer};
-ghost use Rattle.transfers.specs.Copies.{in_frame, in_cartridge, target, AddsAtMost, IsCopiedTo};
+ghost use Rattle.transfers.specs.Copies.{in_frame, in_cartridge, target, AddsAtMost, IsCopiedTo, AreFirm};
 ghost use Rattle.transfers.specs.Dues.{change_of, IsDue};
 
 use mss_base::HEADS;
@@ -43,6 +43,21 @@ pub fn copies_show_the_same()
     writes_outside_change_nothing();
 }
 
+/// At each moment of such a copy on a quiet site, and behind it, what is loose lies outside what is shown, which is
+/// the same.
+pub fn copies_leave_a_site_quiet()
+    ensures moments { (frames : ℕ) (t : Transfer) (r : RowValue) (old new : SiteLog)
+        → IsSound frames (content old) → IsQuiet old → rows_of (content old) t.volume ≡ Some r
+        → IsDue t r → t.next < HEADS → AddsAtMost (target t t.next) old new
+        → Writes (StillShows frames (shown (content old)) old) old new }
+    ensures quiet { (frames : ℕ) (t : Transfer) (r : RowValue) (old new : SiteLog)
+        → IsSound frames (content old) → IsQuiet old → rows_of (content old) t.volume ≡ Some r
+        → IsDue t r → t.next < HEADS → AddsAtMost (target t t.next) old new
+        → IsQuiet new }
+{
+    copies_go_outside();
+}
+
 /// What is copied stays so while the blocks of the copied tracks stay.
 pub fn copies_stay()
     ensures { (t : Transfer) (c d : Content)
@@ -54,10 +69,13 @@ pub fn copies_stay()
 {}
 
 /// Once all tracks are copied of a transfer that is due, the row's change is allowed, and the blocks are ready for it.
+/// They are firm for it, once the copies are.
 pub fn copied_cylinders_are_ready()
     ensures allowed { (t : Transfer) (r : RowValue) → IsDue t r → IsAllowed (change_of t) r }
     ensures ready { (frames : ℕ) (t : Transfer) (r : RowValue) (c : Content)
         → IsDue t r → t.next ≡ HEADS → IsCopiedTo t c → IsReady frames (change_of t) r c }
+    ensures firm { (t : Transfer) (r : RowValue) (s : SiteLog)
+        → IsDue t r → AreFirm t s → IsFirmFor (change_of t) r s }
 {}
 
 /// With the row that says so, once all tracks are copied, the content shows the same and is sound.

@@ -1,10 +1,10 @@
 // Which cylinder is copied, from where and to where.
 ghost use Rattle.std.specs.Prelude.{◌≡◌};
-ghost use Rattle.transfers.specs.Copies.{in_frame, in_cartridge, source_place, target};
+ghost use Rattle.transfers.specs.Copies.{in_frame, in_cartridge, source_place, target, target_unit};
 
 use mss_base::{
     BlockPlace, CartridgeNo, Cylinder, FrameNo, Head, UnitNo, VolumeNo, cartridge_block,
-    frame_block,
+    frame_block, head_at,
 };
 
 /// What is copied, and where to.
@@ -58,6 +58,13 @@ impl Transfer {
             TransferKind::StageBlank | TransferKind::StageCartridge => self.in_frame(head),
             TransferKind::Destage => self.in_cartridge(head),
         }
+    }
+
+    /// The unit that all tracks are copied to.
+    pub fn unit(&self) -> UnitNo
+        ensures { result ≡ target_unit self.now }
+    {
+        self.target(head_at(0)).unit
     }
 
     /// Where it is copied from, if it isn't blank.

@@ -167,7 +167,7 @@ module _ (S : Type 0) {C : Type 0} (tells : Type 0) (s : SiteLog) (v : CoreValue
         (λ k q asked ready is. ready_row v.rows wanted.volume r (with_frame (wanted.cylinder / 8) old.frame r) there (place_in S v core n old at wanted wants wanted.volume low_a) v.tasks q (λ same two. two) is)))
         (λ tl.
         let c = changed tl in
-        let may = may_now S tells s v whole open_ wanted.volume (Assign (wanted.cylinder / 8) old.frame) r there give_allowed give_ready tl in
+        let may = may_now S tells s v whole open_ wanted.volume (Assign (wanted.cylinder / 8) old.frame) r there give_allowed give_ready (λ _. tt) tl in
         told_by_change S s t v x core (whole.told tl) open_ wanted.volume mark (Assign (wanted.cylinder / 8) old.frame) r there low_a (λ o. refl) (λ k. refl) (give_allowed, nowhere_a) may c.writes c.changed c.at_end c.grows give_owners v.moving v.requests v.tasks
         (λ m task is. given_served S v core wanted.volume (wanted.cylinder / 8) old.frame r there low_a none inside_a nowhere_a (content s) (content t)
         (λ unit block nt. blocks_stay S s t v x core (whole.told tl) open_ wanted.volume mark (Assign (wanted.cylinder / 8) old.frame) r there low_a (λ o. refl) (λ k. refl) (give_allowed, nowhere_a) may c.writes c.changed c.at_end c.grows v.owners v.moving v.requests [] (λ k z zz. absurd (none_some z zz)) unit block nt)
@@ -203,7 +203,7 @@ module _ (S : Type 0) {C : Type 0} (tells : Type 0) (s : SiteLog) (v : CoreValue
     due_assigned volume page (volume_is, page_is, may) =
         subst (λ (k : ℕ). IsDueChange tells s v k (Assign page old.frame)) (sym volume_is)
         (subst (λ (k : ℕ). IsDueChange tells s v q.volume (Assign k old.frame)) (sym page_is)
-        (record { r = may.r; there = may.there; allowed = give_allowed S tells s v whole open_ n old serves.at q serves.asked s v.site 0 may.free may.bare may.r may.there may.none may.low may.row; ready = give_ready S tells s v whole open_ n old serves.at q serves.asked s v.site 0 may.free may.bare may.r may.there may.none may.low may.row }))
+        (record { r = may.r; there = may.there; allowed = give_allowed S tells s v whole open_ n old serves.at q serves.asked s v.site 0 may.free may.bare may.r may.there may.none may.low may.row; ready = give_ready S tells s v whole open_ n old serves.at q serves.asked s v.site 0 may.free may.bare may.r may.there may.none may.low may.row; firm = λ _. tt }))
 
 module _ (S : Type 0) {C : Type 0} (tells : Type 0) (s t : SiteLog) (writes faults later_writes later room : ℕ) (v : CoreValue S C) (kept : IsKept tells s writes faults room v) (open_ : v.stopped ≡ None) (n : ℕ) (old : Task) (q : Request) (serves : Serves v n old q)
     (x : S) (more : writes ≤ later_writes) (le : faults ≤ later)

@@ -13,15 +13,15 @@ use Rattle.volume_table.specs.declared.changes.Change.{Change}
 use Rattle.table_pair.specs.declared.copy.SlotsUsed.{SlotsUsed}
 use Rattle.table_pair.specs.Slots.{IsChanged, used_after, used_at, with_used_after}
 use Rattle.shown_volumes.specs.Shown.{RowsOf}
-use Rattle.shown_volumes.specs.Changing.{MayChange, IsReady}
-use Rattle.shown_volumes.proofs.AllowedFacts.{allowed_may}
-use Rattle.shown_volumes.proofs.MomentFacts.{change_moments}
+use Rattle.shown_volumes.specs.Changing.{IsFirmFor, IsReady, MayWriteRow}
+use Rattle.shown_volumes.proofs.QuietFacts.{row_moments}
+use Rattle.shown_volumes.proofs.UnderFacts.{allowed_write}
 use Rattle.fault_queue.specs.Requests.{RequestsData}
 use Rattle.core_state.specs.declared.task.Task.{Task}
 use Rattle.core_state.specs.declared.session.Event.TheVariants.{Work}
 use Rattle.core_state.specs.Agrees.{message_of}
 use Rattle.core_state.specs.CoreValue.{CoreValue, seen_site}
-use Rattle.core_state.specs.Devices.{HaveRow}
+use Rattle.core_state.specs.Devices.{FailRow, HaveRow}
 use Rattle.core_state.specs.Counted.{IsCounted}
 use Rattle.core_state.specs.SessionData.{data_of, with_last_message}
 use Rattle.core_state.specs.Rows.{Rewrites}
@@ -32,7 +32,7 @@ use Rattle.core_state.proofs.CoreWork.{core_used}
 use Rattle.core_state.proofs.WholeEvents.{whole_change_failed}
 use Rattle.core_state.proofs.CountedFacts.{counted_stop}
 use Rattle.work_events.proofs.KeptFacts.{kept_noted}
-use Rattle.work_events.proofs.OwnTask.{sound_now, rows_now}
+use Rattle.work_events.proofs.OwnTask.{sound_now, quiet_now, rows_now}
 
 -- what the devices hold once a row is changed
 pub record IsRewritten (s : SiteLog) (volume : ℕ) (row : RowValue) (used : SlotsUsed) (t : SiteLog) (mark : ℕ) : Type 0 where
@@ -54,6 +54,20 @@ abbrev pub HaveChanged : {S C : Type 0} → Ghosts S → CoreValue S C → ℕ �
 HaveChanged g v volume change x =
     ForSome (listed v.rows volume) (λ r. HaveRow g.tells volume (effect change r) (used_after (used_at v.used volume)) (seen_site g v.site) (seen_site g x))
 
+-- a write of the change failed
+abbrev pub FailsChange : {S C : Type 0} → Ghosts S → CoreValue S C → ℕ → Change → S → Type 0
+FailsChange g v volume change x =
+    ForSome (listed v.rows volume) (λ r. FailRow g.tells volume (effect change r) (g.faults x) (seen_site g v.site) (seen_site g x))
+
+-- a core that stopped in a recorder's event, as the change of a row failed
+abbrev pub with_row_stopped : {S C : Type 0} → CoreValue S C → ℕ → ℕ → Change → S → ℕ → CoreValue S C
+with_row_stopped v n volume change x fault = record v {
+  site = x;
+  rows = with_changed volume change v.rows;
+  stopped = Some fault;
+  events = v.events ++ Work n ∷ [];
+}
+
 -- a core with the slots that are in use after a change
 abbrev pub with_slot : {S C : Type 0} → ℕ → CoreValue S C → CoreValue S C
 with_slot volume v = with_used (with_used_after volume v.used) v
@@ -61,19 +75,20 @@ with_slot volume v = with_used (with_used_after volume v.used) v
 pub core_slot : (S : Type 0) {C : Type 0} (v : CoreValue S C) → IsCore v → (volume : ℕ) → IsCore (with_slot volume v)
 core_slot S v core volume = core_used S v core (with_used_after volume v.used) (length-set v.used volume (used_after (used_at v.used volume)) ∙ core.used_)
 
--- a change that a volume's row may have, and for which the devices are ready
+-- a change that a volume's row may have, and for which the devices are ready: what the new row stands on is firm
 pub record IsDueChange {S C : Type 0} (tells : Type 0) (s : SiteLog) (v : CoreValue S C) (volume : ℕ) (change : Change) : Type 0 where
   pub r : RowValue
   pub there : listed v.rows volume ≡ Some r
   pub allowed : IsAllowed change r
   pub ready : tells → IsReady v.config.frames change r (content s)
+  pub firm : tells → IsFirmFor change r s
 
--- then it shows the same
+-- then the row may be written: it shows the same, and stands on nothing loose
 pub may_now : (S : Type 0) {C : Type 0} (tells : Type 0) (s : SiteLog) (v : CoreValue S C) (whole : IsWhole tells s v) (open_ : v.stopped ≡ None) (volume : ℕ) (change : Change) (r : RowValue) → listed v.rows volume ≡ Some r → IsAllowed change r
-    → (tells → IsReady v.config.frames change r (content s)) → tells → MayChange v.config.frames volume (effect change r) (content s)
-may_now S tells s v whole open_ volume change r there allowed ready tl =
-    allowed_may v.config.frames volume change r (content s) (sound_now S tells s v whole open_ tl) (ap (λ (rows : RowsOf). rows volume) (rows_now S tells s v whole open_ tl) ∙ there)
-    ((whole.kept open_).are_rows volume r there) allowed (ready tl)
+    → (tells → IsReady v.config.frames change r (content s)) → (tells → IsFirmFor change r s) → tells → MayWriteRow v.config.frames volume (effect change r) s
+may_now S tells s v whole open_ volume change r there allowed ready firm tl =
+    allowed_write v.config.frames volume change r s (sound_now S tells s v whole open_ tl) (quiet_now S tells s v whole open_ tl) (ap (λ (rows : RowsOf). rows volume) (rows_now S tells s v whole open_ tl) ∙ there)
+    ((whole.kept open_).are_rows volume r there) allowed (ready tl) (firm tl)
 
 -- the list of rows then
 pub rows_changed : (rows : List (Option RowValue)) (volume : ℕ) (change : Change) (r : RowValue) → listed rows volume ≡ Some r → with_changed volume change rows ≡ slice_set rows volume (Some (effect change r))
@@ -83,11 +98,11 @@ module _ (S : Type 0) {C : Type 0} (tells : Type 0) (s t : SiteLog) (writes faul
     (n : ℕ) (x : S) (volume : ℕ) (change : Change) (more : writes ≤ later_writes) (le : faults ≤ later) where
   -- a write of it failed: the core stops
   pub kept_unchanged : IsDueChange tells s v volume change → (tells → ForSome (listed v.rows volume) (λ r. Rewrites volume (effect change r) s t)) → IsFaultSince faults later later
-      → IsKept tells t later_writes later room (record v { site = x; rows = with_changed volume change v.rows; stopped = Some later; events = v.events ++ Work n ∷ [] })
+      → IsKept tells t later_writes later room (with_row_stopped v n volume change x later)
   kept_unchanged due rewrites failed =
       kept_noted tells t later_writes later room (record v { site = x; rows = with_changed volume change v.rows; stopped = Some later }) (v.events ++ Work n ∷ [])
       (whole_change_failed S tells s t v x later (with_changed volume change v.rows) kept.whole open_ (length-set v.rows volume (option_map (effect change) (listed v.rows volume)) ∙ (kept.whole.kept open_).places)
-      (λ tl. change_moments v.config.frames volume (effect change due.r) s t (may_now S tells s v kept.whole open_ volume change due.r due.there due.allowed due.ready tl) (rewrites tl due.r due.there)))
+      (λ tl. row_moments v.config.frames volume (effect change due.r) s t (may_now S tells s v kept.whole open_ volume change due.r due.there due.allowed due.ready due.firm tl) (rewrites tl due.r due.there)))
       (counted_stop writes faults later_writes later v.requests (data_of v) kept.counted more le open_ failed) kept.buffer
 
   -- it is done: the message is told

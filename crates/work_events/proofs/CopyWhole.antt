@@ -1,16 +1,13 @@
 -- A core stays whole where a track is copied, and where the copy fails.
-use Rattle.std.proofs.Common.{◌≡◌, ◌≢◌, inl, inr, ℕ, ◌+◌, ◌≤◌, Bool, false, [], ◌∷◌, ◌++◌, Some, None, refl, sym, ◌∙◌, ap, subst, arith}
+use Rattle.std.proofs.Common.{◌≡◌, ◌≢◌, inl, inr, ℕ, ◌+◌, ◌≤◌, Bool, [], ◌∷◌, ◌++◌, Some, None, refl, sym, ◌∙◌, ap, subst, arith}
 use Rattle.std.specs.Prelude.{slice_set}
 use Rattle.mss_base.specs.Content.{Content, SiteLog, content, Writes}
 use Rattle.mss_base.specs.Counts.{IsFaultSince}
 use Rattle.volume_table.specs.Row.{RowValue, cartridge_with}
 use Rattle.volume_table.specs.Listed.{listed}
 use Rattle.shown_volumes.specs.Shown.{shown, block_at}
-use Rattle.shown_volumes.specs.Sound.{SoundAs}
+use Rattle.shown_volumes.specs.Changing.{IsQuiet, StillShows}
 use Rattle.fault_queue.specs.declared.queue.Request.{Request}
-use Rattle.fault_queue.specs.declared.queue.RequestState.TheVariants.{Queued, Moving, Ready, Failed}
-use Rattle.fault_queue.specs.Requests.{RequestsData, put_request, with_state}
-use Rattle.fault_queue.proofs.RequestFacts.{with_state_is}
 use Rattle.transfers.specs.declared.transfer.Transfer.{Transfer}
 use Rattle.transfers.specs.declared.transfer.TransferKind.{TransferKind}
 use Rattle.transfers.specs.declared.transfer.TransferKind.TheVariants.{StageBlank, StageCartridge, Destage}
@@ -25,20 +22,20 @@ use Rattle.core_state.specs.Served.{IsServed, AreCopied}
 use Rattle.core_state.specs.Tasks.{IsTask, IsTransfer}
 use Rattle.core_state.specs.IsCore.{IsCore}
 use Rattle.core_state.specs.TheCore.{IsWhole, IsKept}
-use Rattle.core_state.specs.Counted.{IsCounted}
 use Rattle.core_state.specs.SessionData.{data_of}
 use Rattle.core_state.specs.Working.{Serves, MayCopy}
 use Rattle.core_state.proofs.Making.{make_whole}
-use Rattle.core_state.proofs.CountedFacts.{counted_later, counted_request}
-use Rattle.core_state.proofs.RuleWalks.{some_is, none_some}
+use Rattle.core_state.proofs.CountedFacts.{counted_later}
+use Rattle.core_state.proofs.RuleWalks.{some_is}
 use Rattle.core_state.proofs.ChangeLemmas.{told_outside}
 use Rattle.core_state.proofs.CoreWork.{owned_of, asked_of, core_work}
 use Rattle.core_state.proofs.Others.{frames_apart}
-use Rattle.core_state.proofs.TaskLists.{tasks_go_on, tasks_ended}
+use Rattle.core_state.proofs.TaskLists.{tasks_go_on}
 use Rattle.core_state.proofs.TaskRows.{framed_by}
 use Rattle.work_events.proofs.KeptFacts.{kept_noted}
-use Rattle.work_events.proofs.TrackCopies.{SameBut, copied_to, copied_from, same_but, copy_shows, copied_more, others_served}
-use Rattle.work_events.proofs.OwnTask.{own_moving, own_waits, own_frame, asked_now, waiting_now, long_now, ended_task, fit_ended, fit_on, served_put, sound_now, rows_now, served_now, once_now}
+use Rattle.work_events.proofs.TrackCopies.{SameBut, copied_to, copied_from, same_but, copy_quiet, copy_shows, copied_more, others_served}
+use Rattle.work_events.proofs.FailedWhole.{LeavesShown, failed, kept_failed}
+use Rattle.work_events.proofs.OwnTask.{own_moving, own_waits, own_frame, fit_on, served_put, sound_now, quiet_now, rows_now, served_now, once_now}
 
 -- nothing is copied yet
 nothing_yet : (kind : TransferKind) (touched : Bool) (c : Content) (r : RowValue) (cylinder n : ℕ) → n ≡ 0 → AreCopied kind touched c r cylinder n
@@ -92,15 +89,18 @@ module _ (S : Type 0) {C : Type 0} (tells : Type 0) (s t : SiteLog) (v : CoreVal
       (framed_by (listed v.rows) old.frame old.victim q transfer may.is) may.is.due.cylinder_in may.more task its.request its.transfer_
       (frames_apart S v core n old serves.at m task other there) (others_same tl) (served_now S tells s v whole open_ tl m task there)
 
-  moments : tells → Writes (SoundAs v.config.frames (shown (content s))) s t
-  moments tl = copy_shows v.config.frames s t (listed v.rows) (rows_now S tells s v whole open_ tl) (sound_now S tells s v whole open_ tl) old.frame old.victim q transfer may.is may.more (logged tl)
+  moments : tells → Writes (StillShows v.config.frames (shown (content s)) s) s t
+  moments tl = copy_shows v.config.frames s t (listed v.rows) (rows_now S tells s v whole open_ tl) (sound_now S tells s v whole open_ tl) (quiet_now S tells s v whole open_ tl) old.frame old.victim q transfer may.is may.more (logged tl)
+
+  quiet_then : tells → IsQuiet t
+  quiet_then tl = copy_quiet v.config.frames s t (listed v.rows) (rows_now S tells s v whole open_ tl) (sound_now S tells s v whole open_ tl) (quiet_now S tells s v whole open_ tl) old.frame old.victim q transfer may.is may.more (logged tl)
 
   pub whole_copied : (tells → block_at (content t) (target transfer transfer.next) ≡ source transfer transfer.next (content s))
       → IsWhole tells t (worked v x v.rows v.console v.owners v.moving v.requests (slice_set v.tasks n (Some (record old { transfer = Some (moved_on transfer) }))))
   whole_copied done_ = make_whole (core_work S v core x v.rows v.console v.owners v.moving v.requests _ (owned_of S v core) core.moving_ (asked_of S v core) core.waiting
       (tasks_go_on v.config.frames (listed v.rows) (listed v.rows) v.moving v.requests v.hosts v.tasks core.tasks_ n old new serves.at refl refl new_task (λ m task other there. core.tasks_.each m task there))
       (fit_on S v core n old serves.at q serves.asked new (inl refl) refl v.rows (λ w some. some) (λ k p asked ready tasks kept. kept)))
-      (λ tl. told_outside S s t v x (whole.told tl) open_ core.marked (moments tl) (leaves_table transfer transfer.next s t (logged tl)) v.owners v.moving v.requests _
+      (λ tl. told_outside S s t v x (whole.told tl) open_ core.marked (moments tl) (leaves_table transfer transfer.next s t (logged tl)) (quiet_then tl) v.owners v.moving v.requests _
       (served_put S v core n old serves.at q serves.asked (content t) (listed v.rows) (Some new) (λ task e. subst (IsServed (content t) (listed v.rows)) (some_is new task e) (own tl)) (others_are_served tl)))
     where
       before_ : tells → AreCopied transfer.kind old.touched (content s) may.is.row transfer.cylinder transfer.next
@@ -119,16 +119,14 @@ module _ (S : Type 0) {C : Type 0} (tells : Type 0) (s t : SiteLog) (v : CoreVal
           (framed_by (listed v.rows) old.frame old.victim q transfer may.is) may.is.due.state may.is.due.cylinder_in may.more (others_same tl)
           (ap (block_at (content t)) (sym target_is) ∙ done_ tl ∙ (λ i. copied_from transfer.kind (content s) (may.is.frame_ i) (may.is.due.cartridge_ i) transfer.cylinder transfer.next)) (before_ tl)))
 
-  -- a copy that failed ends the task
-  pub whole_copy_failed : (fault : ℕ) → IsWhole tells t (worked v x v.rows v.console v.owners (slice_set v.moving old.frame false)
-      (put_request v.requests old.host (Some (record q { state = Failed fault }))) (slice_set v.tasks n None))
-  whole_copy_failed fault = make_whole (core_work S v core x v.rows v.console v.owners _ _ _ (owned_of S v core) (long_now S v core n old serves.at q serves.asked) (asked_now S v core n old serves.at q serves.asked (Failed fault))
-      (waiting_now S v core n old serves.at q serves.asked (Failed fault) (λ queued. let e : Failed fault ≡ Queued = queued in absurd cc))
-      (tasks_ended v.config.frames (listed v.rows) (listed v.rows) v.moving v.requests v.hosts v.tasks core.tasks_ n old serves.at (record q { state = Failed fault }) (λ moves. let e : Failed fault ≡ Moving = moves in cc) core.requests_
-      (ended_task S v core n old serves.at q serves.asked (Failed fault)))
-      (fit_ended S v core n old serves.at q serves.asked (Failed fault) (λ ready. let e : Failed fault ≡ Ready = ready in cc)))
-      (λ tl. told_outside S s t v x (whole.told tl) open_ core.marked (moments tl) (leaves_table transfer transfer.next s t (logged tl)) v.owners _ _ _
-      (served_put S v core n old serves.at q serves.asked (content t) (listed v.rows) None (λ task e. absurd (none_some task e)) (others_are_served tl)))
+  -- what a copy that failed leaves
+  pub uncopied_shows : tells → LeavesShown s t v n
+  uncopied_shows tl = record {
+    moments = moments tl;
+    tables = leaves_table transfer transfer.next s t (logged tl);
+    quiet = quiet_then tl;
+    others = others_are_served tl;
+  }
 
 -- ---- with the counts, and the event told
 
@@ -142,20 +140,6 @@ module _ (S : Type 0) {C : Type 0} (tells : Type 0) (s t : SiteLog) (writes faul
       (whole_copied S tells s t v kept.whole open_ n old q serves x transfer may logged done_)
       (counted_later writes faults later_writes later v.requests (data_of v) kept.counted more le) kept.buffer
 
-  pub kept_uncopied : (fault : ℕ) → IsFaultSince faults later fault
-      → IsKept tells t later_writes later room (record v {
-        site = x;
-        moving = slice_set v.moving old.frame false;
-        requests = with_state old.host (Failed fault) v.requests;
-        tasks = slice_set v.tasks n None;
-        events = v.events ++ Work n ∷ [];
-      })
-  kept_uncopied fault since =
-      let put : with_state old.host (Failed fault) v.requests ≡ put_request v.requests old.host (Some (record q { state = Failed fault })) = with_state_is v.requests old.host q (Failed fault) serves.asked in
-      kept_noted tells t later_writes later room (worked v x v.rows v.console v.owners (slice_set v.moving old.frame false) (with_state old.host (Failed fault) v.requests) (slice_set v.tasks n None)) (v.events ++ Work n ∷ [])
-      (subst (λ (z : RequestsData). IsWhole tells t (worked v x v.rows v.console v.owners (slice_set v.moving old.frame false) z (slice_set v.tasks n None))) (sym put)
-      (whole_copy_failed S tells s t v kept.whole open_ n old q serves x transfer may logged fault))
-      (subst (λ (z : RequestsData). IsCounted later_writes later z (data_of v)) (sym put)
-      (counted_request writes faults later_writes later v.requests (data_of v) kept.counted more le old.host (Some (record q { state = Failed fault })) (kept.whole.kept open_).requests_
-      (λ other e. subst (IsFaultSince faults later) (some_is fault other e) since)))
-      kept.buffer
+  -- a copy that failed ends the task
+  pub kept_uncopied : (fault : ℕ) → IsFaultSince faults later fault → IsKept tells t later_writes later room (failed v n old x fault)
+  kept_uncopied = kept_failed S tells s t writes faults later_writes later room v kept open_ n old q serves x (uncopied_shows S tells s t v kept.whole open_ n old q serves x transfer may logged) more le

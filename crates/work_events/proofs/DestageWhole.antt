@@ -8,24 +8,27 @@ use Rattle.volume_table.specs.Changes.{IsAllowed, with_state}
 use Rattle.volume_table.specs.declared.changes.Change.TheVariants.{Destaged}
 use Rattle.volume_table.proofs.RowLemmas.{row-with_state}
 use Rattle.table_pair.specs.Slots.{with_used_after}
-use Rattle.shown_volumes.specs.Changing.{IsReady}
+use Rattle.shown_volumes.specs.Changing.{IsFirmFor, IsReady}
 use Rattle.fault_queue.specs.declared.queue.Request.{Request}
 use Rattle.fault_queue.specs.Requests.{request_of}
 use Rattle.transfers.specs.declared.transfer.Transfer.{Transfer}
 use Rattle.transfers.specs.declared.transfer.TransferKind.{TransferKind}
 use Rattle.transfers.specs.declared.transfer.TransferKind.TheVariants.{Destage}
-use Rattle.transfers.specs.Dues.{due_state}
+use Rattle.transfers.specs.Copies.{AreFirm, target_unit}
+use Rattle.transfers.specs.Dues.{IsDue, change_by, due_state}
+use Rattle.transfers.proofs.DueFacts.{firm_for}
 use Rattle.core_state.specs.declared.task.Task.{Task}
 use Rattle.core_state.specs.declared.session.Event.TheVariants.{Work}
 use Rattle.core_state.specs.Agrees.{message_of}
 use Rattle.mss_base.specs.declared.site.Site.{Ghosts}
 use Rattle.victim_choice.specs.declared.choose.Candidate.{Candidate}
 use Rattle.core_state.specs.declared.rule.WorkAnswer.{WorkAnswer}
-use Rattle.core_state.specs.declared.rule.WorkAnswer.TheVariants.{Did}
+use Rattle.core_state.specs.declared.rule.WorkAnswer.TheVariants.{Did, Stopped}
 use Rattle.core_state.specs.declared.rule.WorkKind.TheVariants as work
 use Rattle.core_state.specs.declared.rule.WorkRule.TheVariants.{Ends}
-use Rattle.core_state.specs.CoreValue.{CoreValue, seen}
-use Rattle.core_state.specs.WorkEvents.{EndsIt, WithTask, TaskDoes, WorkDoes}
+use Rattle.core_state.specs.CoreValue.{CoreValue, seen, seen_site}
+use Rattle.core_state.specs.Devices.{SyncUnit}
+use Rattle.core_state.specs.WorkEvents.{TellsEnd, WithTask, TaskDoes, WorkDoes}
 use Rattle.core_state.specs.SessionData.{data_of}
 use Rattle.core_state.specs.Pins.{task_at}
 use Rattle.core_state.specs.Tasks.{IsTask, IsTransfer}
@@ -45,7 +48,7 @@ use Rattle.core_state.proofs.CountedFacts.{counted_message}
 use Rattle.core_state.proofs.Others.{state_waiting, cylinders_apart, state_task, state_served}
 use Rattle.core_state.proofs.Fitting.{ready_row, row_still, staged_still}
 use Rattle.work_events.proofs.OwnTask.{own_moving, own_waits, own_frame, own_transfer, fit_on, served_put, place_in, served_now}
-use Rattle.work_events.proofs.ChangedRows.{HasRewritten, HaveChanged, IsDueChange, IsDone, with_slot, core_slot, may_now, kept_changed}
+use Rattle.work_events.proofs.ChangedRows.{FailsChange, HasRewritten, HaveChanged, IsDueChange, IsDone, with_row_stopped, with_slot, core_slot, may_now, kept_changed}
 
 module _ (S : Type 0) {C : Type 0} (tells : Type 0) (s : SiteLog) (v : CoreValue S C) (whole : IsWhole tells s v) (open_ : v.stopped ≡ None) (n : ℕ) (old : Task) (at : task_at v.tasks n ≡ Some old) (wanted : Request) (wants : request_of v.requests old.host ≡ Some wanted) where
   core : IsCore v
@@ -78,6 +81,12 @@ module _ (S : Type 0) {C : Type 0} (tells : Type 0) (s : SiteLog) (v : CoreValue
         let both : AreCopied Destage false (content s) r transfer.cylinder 19 = subst (λ (b : Bool). AreCopied Destage b (content s) r transfer.cylinder 19) untouched
         (subst (λ (k : TransferKind). AreCopied k old.touched (content s) r transfer.cylinder 19) kind (subst (λ (m : ℕ). AreCopied transfer.kind old.touched (content s) r transfer.cylinder m) all_ are)) in
         both refl
+
+    -- the cartridge's blocks, once the copies are firm
+    pub destage_firm : (tells → AreFirm transfer s) → tells → IsFirmFor (Destaged transfer.cylinder) r s
+    destage_firm firm tl =
+        subst (λ (k : TransferKind). IsFirmFor (change_by k transfer.cylinder) r s) kind
+        (firm_for transfer r s (subst (λ (z : RowValue). IsDue transfer z) row_is its.due) (firm tl))
 
     abbrev done_task : Task
     done_task = record old { transfer = None }
@@ -114,10 +123,10 @@ module _ (S : Type 0) {C : Type 0} (tells : Type 0) (s : SiteLog) (v : CoreValue
         let its_ = core.tasks_.each m task is in
         state_task S v core transfer.volume transfer.cylinder 3 r there low v.moving v.moving v.requests v.requests task its_ its_.moves refl (λ same waits. not_waiting r _ waits) (differs m task other is)
 
-    pub whole_destaged : (tells → HasRewritten s v transfer.volume (Destaged transfer.cylinder) t mark r)
+    pub whole_destaged : (tells → AreFirm transfer s) → (tells → HasRewritten s v transfer.volume (Destaged transfer.cylinder) t mark r)
         → IsWhole tells t (worked (with_slot transfer.volume v) x (slice_set v.rows transfer.volume (Some (with_state transfer.cylinder 3 r)))
         (v.console ++ message_of mark transfer.volume (Destaged transfer.cylinder) (listed v.rows) ∷ []) v.owners v.moving v.requests (slice_set v.tasks n (Some (record old { transfer = None }))))
-    whole_destaged changed = make_whole (core_work S (with_slot transfer.volume v) (core_slot S v core transfer.volume) x (slice_set v.rows transfer.volume (Some (with_state transfer.cylinder 3 r))) _ v.owners v.moving v.requests _
+    whole_destaged firm changed = make_whole (core_work S (with_slot transfer.volume v) (core_slot S v core transfer.volume) x (slice_set v.rows transfer.volume (Some (with_state transfer.cylinder 3 r))) _ v.owners v.moving v.requests _
         (owned_states S v core transfer.volume transfer.cylinder 3 r there low (row-with_state transfer.cylinder 3 r (core.are_rows transfer.volume r there) its.due.cylinder_in (omega arith) (λ _. ap is_some framed))) core.moving_ (asked_of S v core)
         (state_waiting S v core transfer.volume transfer.cylinder 3 r there low (λ h q asked queued same waits. not_waiting r _ waits))
         (tasks_go_on v.config.frames (listed v.rows) _ v.moving v.requests v.hosts v.tasks core.tasks_ n old done_task at refl refl own_task other_task)
@@ -126,7 +135,7 @@ module _ (S : Type 0) {C : Type 0} (tells : Type 0) (s : SiteLog) (v : CoreValue
         (λ same two. staged_still transfer.cylinder 3 r q.cylinder (let l = (core.are_rows transfer.volume r there).states in let y = its.due.cylinder_in in omega (arith, l, y)) (omega arith) two) is)))
         (λ tl.
         let c = changed tl in
-        let may = may_now S tells s v whole open_ transfer.volume (Destaged transfer.cylinder) r there four destage_ready tl in
+        let may = may_now S tells s v whole open_ transfer.volume (Destaged transfer.cylinder) r there four destage_ready (destage_firm firm) tl in
         told_by_change S s t v x core (whole.told tl) open_ transfer.volume mark (Destaged transfer.cylinder) r there low (λ o. refl) (λ w. refl) (four, tt) may c.writes c.changed c.at_end c.grows v.owners v.moving v.requests _
         (served_put S v core n old at wanted wants (content t) (listed (slice_set v.rows transfer.volume (Some (with_state transfer.cylinder 3 r)))) (Some done_task)
         (λ task e u k copies_ there_. let e' : ◌≡◌ {A = Option Transfer} None (Some u) = ap (λ (z : Task). z.transfer) (some_is done_task task e) ∙ copies_ in absurd cc)
@@ -147,18 +156,38 @@ destaged v n old transfer x mark = record v {
 }
 
 pub destaged_does : {S C : Type 0} (g : Ghosts S) (may : List Candidate → ℕ → Type 0) (v w : CoreValue S C) (n : ℕ) (old : Task) (transfer : Transfer) (answer : WorkAnswer) → transfer.kind ≡ Destage
-    → answer ≡ Did work.End → task_at v.tasks n ≡ Some old → HaveChanged g v transfer.volume (Destaged transfer.cylinder) w.site → w ≡ destaged v n old transfer w.site (g.writes w.site)
+    → answer ≡ Did work.End → task_at v.tasks n ≡ Some old → (x : S) → SyncUnit g.tells (target_unit transfer) (seen_site g v.site) (seen_site g x)
+    → HaveChanged g (record v { site = x }) transfer.volume (Destaged transfer.cylinder) w.site → w ≡ destaged v n old transfer w.site (g.writes w.site)
     → WorkDoes g.tells may (seen g v) n (Ends transfer) answer (seen g w)
-destaged_does {S} {C} g may v w n old transfer answer destages is at have path =
+destaged_does {S} {C} g may v w n old transfer answer destages is at x firm have path =
     subst (λ (a : WorkAnswer). WorkDoes g.tells may (seen g v) n (Ends transfer) a (seen g w)) (sym is)
     (subst (λ (o : Option Task). WithTask o (λ task. TaskDoes g.tells (seen g v) n (Ends transfer) task (Did work.End) (seen g w))) (sym at)
-    (subst (λ (k : TransferKind). EndsIt g.tells (seen g v) n old k transfer (Did work.End) (seen g w)) (sym destages)
-    (have, refl, ap (λ (z : CoreValue S C). seen g z) path)))
+    (inl (
+      seen_site g x,
+      firm,
+      subst (λ (k : TransferKind). TellsEnd g.tells (record (seen g v) { site = seen_site g x }) n old k transfer (Did work.End) (seen g w)) (sym destages)
+          (have, refl, ap (λ (z : CoreValue S C). seen g z) path),
+    )))
+
+-- the row wasn't written
+pub undestaged_does : {S C : Type 0} (g : Ghosts S) (may : List Candidate → ℕ → Type 0) (v w : CoreValue S C) (n : ℕ) (old : Task) (transfer : Transfer) (answer : WorkAnswer) → transfer.kind ≡ Destage
+    → answer ≡ Stopped (g.faults w.site) → task_at v.tasks n ≡ Some old → (x : S) → SyncUnit g.tells (target_unit transfer) (seen_site g v.site) (seen_site g x)
+    → FailsChange g (record v { site = x }) transfer.volume (Destaged transfer.cylinder) w.site → w ≡ with_row_stopped v n transfer.volume (Destaged transfer.cylinder) w.site (g.faults w.site)
+    → WorkDoes g.tells may (seen g v) n (Ends transfer) answer (seen g w)
+undestaged_does {S} {C} g may v w n old transfer answer destages is at x firm fails path =
+    subst (λ (a : WorkAnswer). WorkDoes g.tells may (seen g v) n (Ends transfer) a (seen g w)) (sym is)
+    (subst (λ (o : Option Task). WithTask o (λ task. TaskDoes g.tells (seen g v) n (Ends transfer) task (Stopped (g.faults w.site)) (seen g w))) (sym at)
+    (inl (
+      seen_site g x,
+      firm,
+      subst (λ (k : TransferKind). TellsEnd g.tells (record (seen g v) { site = seen_site g x }) n old k transfer (Stopped (g.faults w.site)) (seen g w)) (sym destages)
+          (fails, ap (λ (z : CoreValue S C). seen g z) path),
+    )))
 
 -- ---- the change is due, and with it the core is kept
 
 module _ (S : Type 0) {C : Type 0} (tells : Type 0) (s : SiteLog) (v : CoreValue S C) (whole : IsWhole tells s v) (open_ : v.stopped ≡ None) (n : ℕ) (old : Task) (q : Request) (serves : Serves v n old q)
-    (transfer : Transfer) (may : MayEndDestage v old transfer) where
+    (transfer : Transfer) (may : MayEndDestage v old transfer) (firm : tells → AreFirm transfer s) where
   its_d : IsTransfer (listed v.rows) old.frame old.victim q transfer
   its_d = own_transfer S v (whole.kept open_) n old serves.at q serves.asked transfer may.copies
 
@@ -168,17 +197,18 @@ module _ (S : Type 0) {C : Type 0} (tells : Type 0) (s : SiteLog) (v : CoreValue
     there = its_d.there;
     allowed = destage_allowed S tells s v whole open_ n old serves.at q serves.asked s v.site 0 transfer may.copies may.kind may.all_ may.untouched its_d.row its_d.there;
     ready = destage_ready S tells s v whole open_ n old serves.at q serves.asked s v.site 0 transfer may.copies may.kind may.all_ may.untouched its_d.row its_d.there;
+    firm = destage_firm S tells s v whole open_ n old serves.at q serves.asked s v.site 0 transfer may.copies may.kind may.all_ may.untouched its_d.row its_d.there firm;
   }
 
 module _ (S : Type 0) {C : Type 0} (tells : Type 0) (s t : SiteLog) (writes faults later_writes later room : ℕ) (v : CoreValue S C) (kept : IsKept tells s writes faults room v) (open_ : v.stopped ≡ None) (n : ℕ) (old : Task) (q : Request) (serves : Serves v n old q)
     (x : S) (more : writes ≤ later_writes) (le : faults ≤ later)
-    (transfer : Transfer) (may : MayEndDestage v old transfer) where
+    (transfer : Transfer) (may : MayEndDestage v old transfer) (firm : tells → AreFirm transfer s) where
   due : IsDueChange tells s v transfer.volume (Destaged transfer.cylinder)
-  due = due_destaged S tells s v kept.whole open_ n old q serves transfer may
+  due = due_destaged S tells s v kept.whole open_ n old q serves transfer may firm
 
   pub kept_destaged : IsDone tells s v transfer.volume (Destaged transfer.cylinder) t later_writes
       → IsKept tells t later_writes later room (destaged v n old transfer x later_writes)
   kept_destaged done_ =
       kept_changed S tells s t writes faults later_writes later room v kept open_ n x transfer.volume (Destaged transfer.cylinder) more le due.r due.there v.owners v.moving v.requests (slice_set v.tasks n (Some (record old { transfer = None })))
-      (whole_destaged S tells s v kept.whole open_ n old serves.at q serves.asked t x later_writes transfer may.copies may.kind may.all_ may.untouched due.r due.there (λ tl. done_ tl due.r due.there))
+      (whole_destaged S tells s v kept.whole open_ n old serves.at q serves.asked t x later_writes transfer may.copies may.kind may.all_ may.untouched due.r due.there firm (λ tl. done_ tl due.r due.there))
       (counted_message writes faults later_writes later v.requests (data_of v) kept.counted more le (message_of later_writes transfer.volume (Destaged transfer.cylinder) (listed v.rows)) (omega arith))

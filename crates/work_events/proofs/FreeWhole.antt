@@ -143,7 +143,7 @@ module _ (S : Type 0) {C : Type 0} (tells : Type 0) (s : SiteLog) (v : CoreValue
         (λ k q asked ready tasks is. ready_row v.rows w.0 r (without_frame w.1 r) there (place_in S v core n old at wanted wants w.0 low_f) tasks q (λ same two. staged_left w.1 r q.cylinder (λ page_. unheld k q asked ready same page_) two) is)))
         (λ tl.
         let c = changed tl in
-        let may = may_now S tells s v whole open_ w.0 (Free w.1) r there free_allowed (λ _. tt) tl in
+        let may = may_now S tells s v whole open_ w.0 (Free w.1) r there free_allowed (λ _. tt) (λ _. tt) tl in
         told_by_change S s t v x core (whole.told tl) open_ w.0 mark (Free w.1) r there low_f (λ o. refl) (λ k. refl) (free_allowed, tt) may c.writes c.changed c.at_end c.grows (slice_set v.owners old.frame None) v.moving v.requests _
         (served_put S v core n old at wanted wants (content t) (listed free_rows) (Some free_task)
         (λ task e u k copies_ there_. let e' : ◌≡◌ {A = Option Transfer} None (Some u) = sym bare ∙ ap (λ (z : Task). z.transfer) (some_is free_task task e) ∙ copies_ in absurd cc)
@@ -177,7 +177,7 @@ freed_does {S} {C} g may v w n old volume page answer is at have path =
 module _ (S : Type 0) {C : Type 0} (tells : Type 0) (s : SiteLog) (v : CoreValue S C) (whole : IsWhole tells s v) (open_ : v.stopped ≡ None) (n : ℕ) (old : Task) (q : Request) (serves : Serves v n old q)
     (volume page : ℕ) (may : MayFree v old volume page) where
   pub due_freed : IsDueChange tells s v volume (Free page)
-  due_freed = record { r = may.r; there = may.there; allowed = free_allowed S tells s v whole open_ n old serves.at q serves.asked s v.site 0 (volume, page) may.takes_ may.bare may.r may.there may.unchanged may.untouched; ready = λ _. tt }
+  due_freed = record { r = may.r; there = may.there; allowed = free_allowed S tells s v whole open_ n old serves.at q serves.asked s v.site 0 (volume, page) may.takes_ may.bare may.r may.there may.unchanged may.untouched; ready = λ _. tt; firm = λ _. tt }
 
 module _ (S : Type 0) {C : Type 0} (tells : Type 0) (s t : SiteLog) (writes faults later_writes later room : ℕ) (v : CoreValue S C) (kept : IsKept tells s writes faults room v) (open_ : v.stopped ≡ None) (n : ℕ) (old : Task) (q : Request) (serves : Serves v n old q)
     (x : S) (more : writes ≤ later_writes) (le : faults ≤ later)

@@ -5,6 +5,7 @@ pub mod GoingCore
 pub mod DueFacts
 pub mod PickFacts
 pub mod RuleFacts
+pub mod RestatedFacts
 pub mod Outcomes
 pub mod WorkLawFacts
 pub mod NotedFacts
@@ -12,9 +13,11 @@ pub mod KeptFacts
 pub mod DoesFacts
 pub mod TrackCopies
 pub mod OwnTask
+pub mod FailedWhole
 pub mod CopyWhole
 pub mod ChangedRows
 pub mod RowSteps
+pub mod EndSteps
 pub mod DestageWhole
 pub mod StageWhole
 pub mod FreeWhole

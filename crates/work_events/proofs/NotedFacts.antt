@@ -1,12 +1,11 @@
 -- An event of a recorder that is noted changed the core: a task, a cartridge in a recorder, the console, or that it stopped.
-use Rattle.std.proofs.Common.{◌≡◌, ◌≢◌, ◌⊎◌, inl, inr, false, ℕ, ◌+◌, ◌<◌, List, [], ◌∷◌, ◌++◌, length, Option, Some, None, refl, sym, ◌∙◌, ap, subst, arith, length-append, get_or-set_same}
+use Rattle.std.proofs.Common.{◌≡◌, ◌≢◌, ◌⊎◌, inl, inr, false, ℕ, ◌+◌, ◌<◌, List, [], ◌∷◌, ◌++◌, length, Option, Some, None, refl, sym, ◌∙◌, ap, arith, length-append, get_or-set_same}
 use Rattle.std.specs.Prelude.{slice_set}
 use Rattle.mss_base.specs.Firsts.{◌or◌}
 use Rattle.volume_table.specs.Listed.{listed}
 use Rattle.volume_table.specs.declared.changes.Change.{Change}
 use Rattle.volume_table.specs.declared.changes.Change.TheVariants as change
 use Rattle.fault_queue.specs.declared.queue.Request.{Request}
-use Rattle.fault_queue.specs.declared.queue.RequestState.{RequestState}
 use Rattle.fault_queue.specs.declared.queue.RequestState.TheVariants as request
 use Rattle.transfers.specs.Copies.{moved_on}
 use Rattle.transfers.specs.declared.transfer.Transfer.{Transfer}
@@ -29,8 +28,8 @@ use Rattle.core_state.specs.CoreValue.{CoreData, DevicesSeen}
 use Rattle.core_state.specs.HostEvents.{IsSame}
 use Rattle.core_state.specs.Pins.{task_at}
 use Rattle.core_state.specs.Steps.{noted, with_row, with_change, most_recent, with_owner, with_task, picked, task_ended, given_back, fetched}
-use Rattle.core_state.specs.WorkEvents.{Does, ChangesThen, CopiesIt, EndsIt, WithTask, WorkDoes, WorkEvent}
-use Rattle.core_state.specs.WorkRules.{task_of, next_transfer, transfer_of, work_rule}
+use Rattle.core_state.specs.WorkEvents.{ChangesThen, CopiesIt, EndsIt, TellsEnd, WithTask, WorkDoes, WorkEvent}
+use Rattle.core_state.specs.WorkRules.{task_of, next_transfer, work_rule}
 use Rattle.core_state.proofs.RuleWalks.{some_is, none_some}
 use Rattle.core_state.proofs.TaskLists.{task_put, task_fits}
 use Rattle.work_events.specs.WorkLaws.{IsRecorder, NotesChange}
@@ -77,9 +76,9 @@ module _ (core left : CoreData) (n : ℕ) where
         let one = length-append core.console (m ∷ []) in
         omega (arith, long, one, same))
 
-  module _ (tells : Type 0) (what : WorkKind) (volume : ℕ) (change : Change) (step : CoreData → CoreData) (quiet : (c : CoreData) → (step c).events ≡ c.events) (same_console : (c : CoreData) → (step c).console ≡ c.console) (going : core.stopped ≡ None) where
-    -- a row was changed, or the core stopped
-    of_changes : (told : WorkAnswer) → ChangesThen tells core what n volume change step told left → NotesChange core n left
+  module _ (tells : Type 0) (what : WorkKind) (from : DevicesSeen) (volume : ℕ) (change : Change) (step : CoreData → CoreData) (quiet : (c : CoreData) → (step c).events ≡ c.events) (same_console : (c : CoreData) → (step c).console ≡ c.console) (going : core.stopped ≡ None) where
+    -- a row was changed, behind a sync or at once, or the core stopped
+    of_changes : (told : WorkAnswer) → ChangesThen tells (record core { site = from }) what n volume change step told left → NotesChange core n left
     of_changes (Did did) does =
         told_more (step (with_change volume change before)) does.2 (quiet (with_change volume change before)) (message_of left.site.writes volume change (listed core.rows)) (same_console (with_change volume change before))
     of_changes (Stopped fault) does =
@@ -98,10 +97,19 @@ module _ (tells : Type 0) (may : List Candidate → ℕ → Type 0) (core : Core
   of_task : {P : Task → Request → Type 0} → OfTask core n P → (o : Option Task) → task_at (slice_set core.tasks n o) n ≡ o
   of_task says o = task_put core.tasks n o (task_fits core.tasks n says.task says.serves.at)
 
-  of_ends : (t : Transfer) (kind : TransferKind) (task : Task) (told : WorkAnswer) → core.stopped ≡ None → EndsIt tells core n task kind t told left → Notes
-  of_ends t Destage task told going does = inr (of_changes core left n tells kind.End t.volume (change.Destaged t.cylinder) (with_task n (Some (record task { transfer = None }))) (λ _. refl) (λ _. refl) going told does)
-  of_ends t StageBlank task told going does = inr (of_changes core left n tells kind.End t.volume (change.Staged t.cylinder) (task_ended n task request.Ready) (λ _. refl) (λ _. refl) going told does)
-  of_ends t StageCartridge task told going does = inr (of_changes core left n tells kind.End t.volume (change.Staged t.cylinder) (task_ended n task request.Ready) (λ _. refl) (λ _. refl) going told does)
+  of_ends : (t : Transfer) (task : Task) (told : WorkAnswer) → work_rule core n ≡ Ends t → EndsIt tells core n task t told left → Notes
+  of_ends t task told rule (inl (firm, sync, does)) = by t.kind does
+    where
+      going : core.stopped ≡ None
+      going = (rule_ends core n is.there is.kept t rule).going
+
+      by : (kind_ : TransferKind) → TellsEnd tells (record core { site = firm }) n task kind_ t told left → Notes
+      by Destage done_ = inr (of_changes core left n tells kind.End firm t.volume (change.Destaged t.cylinder) (with_task n (Some (record task { transfer = None }))) (λ _. refl) (λ _. refl) going told done_)
+      by StageBlank done_ = inr (of_changes core left n tells kind.End firm t.volume (change.Staged t.cylinder) (task_ended n task request.Ready) (λ _. refl) (λ _. refl) going told done_)
+      by StageCartridge done_ = inr (of_changes core left n tells kind.End firm t.volume (change.Staged t.cylinder) (task_ended n task request.Ready) (λ _. refl) (λ _. refl) going told done_)
+  of_ends t task told rule (inr failed) =
+      let says = rule_ends core n is.there is.kept t rule in
+      inr (ended core left n (task_ended n task (request.Failed left.site.faults) (record core { site = left.site })) failed.2 refl says.task says.serves.at (of_task says None))
 
   of_copies : (t : Transfer) (task : Task) → work_rule core n ≡ Copies t → CopiesIt tells core n task t left → Notes
   of_copies t task rule (inl copied) =
@@ -140,13 +148,13 @@ module _ (tells : Type 0) (may : List Candidate → ℕ → Type 0) (core : Core
   notes (Copies t) told rule does = let it = the_task (task_of core n) _ does in of_copies t it.0 rule it.1.1
   notes (Ends t) told rule does =
       let it = the_task (task_of core n) _ does in
-      of_ends t t.kind it.0 told (rule_ends core n is.there is.kept t rule).going it.1
+      of_ends t it.0 told rule it.1
   notes (Frees volume page) told rule does =
       let it = the_task (task_of core n) _ does in
-      inr (of_changes core left n tells kind.Free volume (change.Free page) (λ now. with_task n (Some (record it.0 { victim = None })) (with_owner it.0.frame None now)) (λ _. refl) (λ _. refl) (rule_frees core n is.there is.kept volume page rule).going told it.1)
+      inr (of_changes core left n tells kind.Free core.site volume (change.Free page) (λ now. with_task n (Some (record it.0 { victim = None })) (with_owner it.0.frame None now)) (λ _. refl) (λ _. refl) (rule_frees core n is.there is.kept volume page rule).going told it.1)
   notes (Assigns volume page) told rule does =
       let it = the_task (task_of core n) _ does in
-      inr (of_changes core left n tells kind.Assign volume (change.Assign page it.0.frame) (λ now. most_recent it.0.frame (with_owner it.0.frame (Some (volume, page)) now)) (λ _. refl) (λ _. refl) (rule_assigns core n is.there is.kept volume page rule).going told it.1)
+      inr (of_changes core left n tells kind.Assign core.site volume (change.Assign page it.0.frame) (λ now. most_recent it.0.frame (with_owner it.0.frame (Some (volume, page)) now)) (λ _. refl) (λ _. refl) (rule_assigns core n is.there is.kept volume page rule).going told it.1)
 
 pub notes_changes : (tells : Type 0) (may : List Candidate → ℕ → Type 0) (core : CoreData) (n : ℕ) (told : WorkAnswer) (left : CoreData) → IsRecorder core n → WorkEvent tells may core n told left → IsSame tells core left ⊎ NotesChange core n left
 notes_changes tells may core n told left is event = notes tells may core n left is (work_rule core n) told refl event

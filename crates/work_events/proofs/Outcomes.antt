@@ -1,10 +1,12 @@
 -- What comes of a recorder's event, whatever its rule.
-use Rattle.std.proofs.Common.{◌≡◌, ◌≢◌, ◌⊎◌, inl, inr, ℕ, true, false, List, Option, Some, None, refl, sym, ◌∙◌, ap, subst}
+use Rattle.std.proofs.Common.{◌≡◌, ◌≢◌, ◌⊎◌, inl, inr, ℕ, true, false, List, [], ◌∷◌, Option, Some, None, refl, sym, ◌∙◌, ap, subst}
 use Rattle.std.specs.Prelude.{slice_set, IsSome}
-use Rattle.mss_base.specs.Content.{Content, SiteLog, Adds, Writes, content}
-use Rattle.mss_base.specs.Counts.{IsFaultSince}
+use Rattle.mss_base.specs.Content.{Content, SiteLog, Adds, Got, Settles, Writes, content, synced, unsynced}
+use Rattle.mss_base.specs.Counts.{IsFaultSince, Rises}
+use Rattle.mss_base.specs.declared.place.UnitNo.{UnitNo}
 use Rattle.mss_base.specs.declared.place.UnitNo.TheVariants.{Staging, Cartridge}
-use Rattle.mss_base.proofs.Moments.{started, ended_with, one_write, weaker}
+use Rattle.mss_base.proofs.Moments.{started, ended_with, one_write, synced_moments, then_firm, weaker}
+use Rattle.mss_base.proofs.Settling.{settles_none, settles_sync}
 use Rattle.shown_volumes.specs.Shown.{block_at}
 use Rattle.volume_table.specs.Listed.{listed}
 use Rattle.volume_table.specs.Row.{RowValue}
@@ -13,7 +15,7 @@ use Rattle.volume_table.specs.declared.changes.Change.TheVariants as change
 use Rattle.fault_queue.specs.declared.queue.RequestState.{RequestState}
 use Rattle.fault_queue.specs.declared.queue.RequestState.TheVariants as request
 use Rattle.fault_queue.specs.Requests.{with_state}
-use Rattle.transfers.specs.Copies.{in_frame, in_cartridge, target, target_of, source_of, source, copy_of, AddsAtMost, AddsCopy}
+use Rattle.transfers.specs.Copies.{in_frame, in_cartridge, target, target_of, target_unit, source_of, source, copy_of, AddsAtMost, AddsCopy}
 use Rattle.transfers.specs.declared.transfer.Transfer.{Transfer}
 use Rattle.transfers.specs.declared.transfer.TransferKind.{TransferKind}
 use Rattle.transfers.specs.declared.transfer.TransferKind.TheVariants.{StageBlank, StageCartridge, Destage}
@@ -27,15 +29,15 @@ use Rattle.core_state.specs.declared.rule.WorkRule.{WorkRule}
 use Rattle.core_state.specs.declared.rule.WorkRule.TheVariants.{IsStopped, IsIdle, GivesBack, Picks, PicksVictim, Abandons, Fetches, Copies, Ends, Frees, Assigns}
 use Rattle.core_state.specs.Agrees.{creates, message_of}
 use Rattle.core_state.specs.Beginning.{KeepsBeginning}
-use Rattle.core_state.specs.CoreValue.{CoreData}
+use Rattle.core_state.specs.CoreValue.{CoreData, DevicesSeen}
 use Rattle.core_state.specs.Devices.{StillHold}
 use Rattle.core_state.specs.HostEvents.{IsSame}
 use Rattle.core_state.specs.Rows.{Rewrites}
 use Rattle.core_state.specs.Steps.{with_change, most_recent, with_owner, with_task, picked, task_ended, given_back, fetched}
-use Rattle.core_state.specs.WorkEvents.{Does, ChangesThen, CopiesIt, EndsIt, WithTask, WorkDoes}
+use Rattle.core_state.specs.WorkEvents.{Does, ChangesThen, CopiesIt, EndsIt, TellsEnd, WithTask, WorkDoes}
 use Rattle.core_state.specs.WorkRules.{task_of}
 use Rattle.core_state.proofs.ChangeLemmas.{created-push}
-use Rattle.work_events.specs.WorkLaws.{LeavesHosts, SameCartridges, AddsTrack}
+use Rattle.work_events.specs.WorkLaws.{LeavesHosts, SameCartridges, AddsTrack, IsOfCopies}
 
 -- ---- what a step leaves
 
@@ -78,6 +80,18 @@ leaves_same old new same = subst (λ (s : SiteLog). Leaves old s) (sym same) (st
 leaves_row : (volume : ℕ) (row : RowValue) (old new : SiteLog) → Rewrites volume row old new → Leaves old new
 leaves_row volume row old new writes = weaker _ (SameCartridges (content old)) (λ c changes cartridge block. changes.others (Cartridge cartridge) block refl) old new writes
 
+-- a sync, done or failed
+leaves_sync : (unit : UnitNo) (old new : SiteLog) → Got (synced unit ∷ []) old new ⊎ Got (unsynced ∷ []) old new → Leaves old new
+leaves_sync unit old new got =
+    synced_moments (SameCartridges (content old)) old new unit (elim got [ inl done_ ↦ inl done_ | inr failed ↦ inr (inr failed) ]) (λ cartridge block. refl)
+
+-- one run behind another that is firm
+leaves_then : (old mid new : SiteLog) → Settles old mid → Leaves old mid → Leaves mid new → Leaves old new
+leaves_then old mid new firm first second =
+    let at_mid = ended_with (SameCartridges (content old)) old mid first in
+    then_firm (SameCartridges (content old)) old mid new firm first
+    (weaker (SameCartridges (content mid)) (SameCartridges (content old)) (λ c same cartridge block. same cartridge block ∙ at_mid cartridge block) mid new second)
+
 -- a write on a staging disk
 leaves_frame : (disk block : ℕ) (bytes : List ℕ) (old new : SiteLog) → Adds (copy_of (record { unit = Staging disk; block = block }) bytes) old new → Leaves old new
 leaves_frame disk block bytes old new adds =
@@ -116,9 +130,9 @@ Destages core n rule left =
     ⊎ (AddsAtMost (in_cartridge t t.next) core.site.told left.site.told × (left.tasks ≡ slice_set core.tasks n None)))
 
 abbrev pub FailsCopy : CoreData → WorkRule → ℕ → CoreData → Type 0
-FailsCopy core rule fault left = ((t : Transfer) × (rule ≡ Copies t)) × IsFaultSince core.site.faults left.site.faults fault
+FailsCopy core rule fault left = IsOfCopies rule × IsFaultSince core.site.faults left.site.faults fault
 
--- a request got another state, and failed only in a copy
+-- a request got another state, and failed only in a copy or its sync
 abbrev pub Restates : CoreData → WorkRule → CoreData → Type 0
 Restates core rule left =
     (h : ℕ) × (state : RequestState)
@@ -185,7 +199,8 @@ module _ (tells : Type 0) (may : List Candidate → ℕ → Type 0) (core : Core
           answer = λ _. subst (λ (a : WorkAnswer). Answered tells core rule a left) (sym does.1) (ap (λ (c : CoreData). c.stopped) does.2 ∙ k.stopped);
         }
 
-    module _ (volume : ℕ) (change : Change) (named : row_by rule ≡ Some volume) (no_create : (v : ℕ) → creates v (message_of left.site.writes volume change (listed core.rows)) ≡ false) where
+    -- a row is changed behind a sync, or at once
+    module _ (from : DevicesSeen) (since : from.faults ≡ core.site.faults) (leads : tells → Settles core.site.told from.told × Leaves core.site.told from.told) (volume : ℕ) (change : Change) (named : row_by rule ≡ Some volume) (no_create : (v : ℕ) → creates v (message_of left.site.writes volume change (listed core.rows)) ≡ false) where
       row_there : HasRowBy core rule → (r : RowValue) × (listed core.rows volume ≡ Some r)
       row_there has = by (listed core.rows volume) (has volume named)
         where
@@ -193,7 +208,10 @@ module _ (tells : Type 0) (may : List Candidate → ℕ → Type 0) (core : Core
           by None is = absurd (let e : false ≡ true = is in cc)
           by (Some r) is = (r, refl)
 
-      of_changes : (told : WorkAnswer) → ChangesThen tells core what n volume change after told left → Comes rule told
+      leaves_changed : {row : RowValue} → Rewrites volume row from.told left.site.told → tells → Leaves core.site.told left.site.told
+      leaves_changed {row} writes tl = leaves_then core.site.told from.told left.site.told (leads tl).0 (leads tl).1 (leaves_row volume row from.told left.site.told writes)
+
+      of_changes : (told : WorkAnswer) → ChangesThen tells (record core { site = from }) what n volume change after told left → Comes rule told
       of_changes (Did did) does =
           let c = with_change volume change before in
           let k = keeps (with_change volume change before) in
@@ -201,16 +219,18 @@ module _ (tells : Type 0) (may : List Candidate → ℕ → Type 0) (core : Core
             beginning = begun_by _ does.2
                 (record { config = k.beginning.config; first_write = k.beginning.first_write; first_faults = k.beginning.first_faults; created = λ v. k.beginning.created v ∙ created-push v core.console _ (no_create v) });
             hosts = left_by _ does.2 (record { began = k.hosts.began; history = k.hosts.history; marks = k.hosts.marks; hosts = k.hosts.hosts });
-            cartridges = λ has tl. let row = row_there has in inl (leaves_row volume _ core.site.told left.site.told ((does.0 row.0 row.1).write.moments tl));
+            cartridges = λ has tl. let row = row_there has in inl (leaves_changed ((does.0 row.0 row.1).write.moments tl) tl);
             requests = asked_by (with_change volume change before) refl (ap (λ (c : CoreData). c.requests) does.2);
             answer = λ _. ap (λ (c : CoreData). c.stopped) does.2 ∙ k.stopped;
           }
       of_changes (Stopped fault) does = record {
         beginning = begun_by _ does.1 (record { config = refl; first_write = refl; first_faults = refl; created = λ _. refl });
         hosts = left_by _ does.1 (record { began = refl; history = refl; marks = refl; hosts = refl });
-        cartridges = λ has tl. let row = row_there has in inl (leaves_row volume _ core.site.told left.site.told ((does.0 row.0 row.1).write.moments tl));
+        cartridges = λ has tl. let row = row_there has in inl (leaves_changed ((does.0 row.0 row.1).write.moments tl) tl);
         requests = inl (ap (λ (c : CoreData). c.requests) does.1);
-        answer = λ has. let row = row_there has in inr (ap (λ (c : CoreData). c.stopped) does.1, (does.0 row.0 row.1).cause);
+        answer = λ has.
+            let cause = (does.0 (row_there has).0 (row_there has).1).cause in
+            inr (ap (λ (c : CoreData). c.stopped) does.1, record { count = cause.count; rises = subst (λ (k : ℕ). Rises k left.site.faults) since cause.rises });
       }
       of_changes Idle does = absurd does
       of_changes Memory does = absurd does
@@ -242,6 +262,9 @@ module _ (tells : Type 0) (may : List Candidate → ℕ → Type 0) (core : Core
     left_on StageCartridge is adds ended = inl (leaves_frame_most _ _ core.site.told left.site.told (subst (λ (k : TransferKind). AddsAtMost (target_of k (in_frame t t.next) (in_cartridge t t.next)) core.site.told left.site.told) is adds))
     left_on Destage is adds ended = inr (t, refl, is, inr (subst (λ (k : TransferKind). AddsAtMost (target_of k (in_frame t t.next) (in_cartridge t t.next)) core.site.told left.site.told) is adds, ended))
 
+    the_fault : (fault : ℕ) → request.Failed left.site.faults ≡ request.Failed fault → fault ≡ left.site.faults
+    the_fault fault same = cc
+
     of_copies : (told : WorkAnswer) (task : Task) → told ≡ Did kind.Copy → CopiesIt tells core n task t left → Comes (Copies t) told
     of_copies told task is (inl copied) = record {
       beginning = begun_by _ copied.1 (record { config = refl; first_write = refl; first_faults = refl; created = λ _. refl });
@@ -254,20 +277,35 @@ module _ (tells : Type 0) (may : List Candidate → ℕ → Type 0) (core : Core
       beginning = begun_by _ failed.1 (record { config = refl; first_write = refl; first_faults = refl; created = λ _. refl });
       hosts = left_by _ failed.1 (record { began = refl; history = refl; marks = refl; hosts = refl });
       cartridges = λ _ tl. left_on t.kind refl (failed.0.left tl) (ap (λ (c : CoreData). c.tasks) failed.1);
-      requests = inr (task.host, request.Failed left.site.faults, ap (λ (c : CoreData). c.requests) failed.1, λ fault same. ((t, refl), record { count = the_fault fault same; rises = failed.0.failed }));
+      requests = inr (task.host, request.Failed left.site.faults, ap (λ (c : CoreData). c.requests) failed.1, λ fault same. ((t, inl refl), record { count = the_fault fault same; rises = failed.0.failed }));
       answer = λ _. subst (λ (a : WorkAnswer). Answered tells core (Copies t) a left) (sym is) (ap (λ (c : CoreData). c.stopped) failed.1);
     }
-      where
-        the_fault : (fault : ℕ) → request.Failed left.site.faults ≡ request.Failed fault → fault ≡ left.site.faults
-        the_fault fault same = cc
 
-    of_ends : (told : WorkAnswer) (task : Task) (kind : TransferKind) → EndsIt tells core n task kind t told left → Comes (Ends t) told
-    of_ends told task Destage does =
-        of_changes (Ends t) kind.End (with_task n (Some (record task { transfer = None }))) (λ c. kept_all c (with_task n (Some (record task { transfer = None })) c) (record { config = refl; first_write = refl; first_faults = refl; created = λ _. refl }) refl refl refl refl refl (inl refl)) t.volume (change.Destaged t.cylinder) refl (λ v. refl) told does
-    of_ends told task StageBlank does =
-        of_changes (Ends t) kind.End (task_ended n task request.Ready) (λ c. kept_all c (task_ended n task request.Ready c) (record { config = refl; first_write = refl; first_faults = refl; created = λ _. refl }) refl refl refl refl refl (inr (task.host, request.Ready, refl, not_ready))) t.volume (change.Staged t.cylinder) refl (λ v. refl) told does
-    of_ends told task StageCartridge does =
-        of_changes (Ends t) kind.End (task_ended n task request.Ready) (λ c. kept_all c (task_ended n task request.Ready c) (record { config = refl; first_write = refl; first_faults = refl; created = λ _. refl }) refl refl refl refl refl (inr (task.host, request.Ready, refl, not_ready))) t.volume (change.Staged t.cylinder) refl (λ v. refl) told does
+    -- ---- an end
+
+    of_ends : (told : WorkAnswer) (task : Task) → EndsIt tells core n task t told left → Comes (Ends t) told
+    of_ends told task (inl (firm, sync, does)) = by t.kind does
+      where
+        leads : tells → Settles core.site.told firm.told × Leaves core.site.told firm.told
+        leads tl = (settles_sync (target_unit t) core.site.told firm.told (sync.told tl), leaves_sync (target_unit t) core.site.told firm.told (inl (sync.told tl)))
+
+        by : (k : TransferKind) → TellsEnd tells (record core { site = firm }) n task k t told left → Comes (Ends t) told
+        by Destage done_ =
+            of_changes (Ends t) kind.End (with_task n (Some (record task { transfer = None }))) (λ c. kept_all c (with_task n (Some (record task { transfer = None })) c) (record { config = refl; first_write = refl; first_faults = refl; created = λ _. refl }) refl refl refl refl refl (inl refl))
+            firm sync.sound leads t.volume (change.Destaged t.cylinder) refl (λ v. refl) told done_
+        by StageBlank done_ =
+            of_changes (Ends t) kind.End (task_ended n task request.Ready) (λ c. kept_all c (task_ended n task request.Ready c) (record { config = refl; first_write = refl; first_faults = refl; created = λ _. refl }) refl refl refl refl refl (inr (task.host, request.Ready, refl, not_ready)))
+            firm sync.sound leads t.volume (change.Staged t.cylinder) refl (λ v. refl) told done_
+        by StageCartridge done_ =
+            of_changes (Ends t) kind.End (task_ended n task request.Ready) (λ c. kept_all c (task_ended n task request.Ready c) (record { config = refl; first_write = refl; first_faults = refl; created = λ _. refl }) refl refl refl refl refl (inr (task.host, request.Ready, refl, not_ready)))
+            firm sync.sound leads t.volume (change.Staged t.cylinder) refl (λ v. refl) told done_
+    of_ends told task (inr (loose, is, path)) = record {
+      beginning = begun_by _ path (record { config = refl; first_write = refl; first_faults = refl; created = λ _. refl });
+      hosts = left_by _ path (record { began = refl; history = refl; marks = refl; hosts = refl });
+      cartridges = λ _ tl. inl (leaves_sync (target_unit t) core.site.told left.site.told (inr (loose.told tl)));
+      requests = inr (task.host, request.Failed left.site.faults, ap (λ (c : CoreData). c.requests) path, λ fault same. ((t, inr refl), record { count = the_fault fault same; rises = loose.failed }));
+      answer = λ _. subst (λ (a : WorkAnswer). Answered tells core (Ends t) a left) (sym is) (ap (λ (c : CoreData). c.stopped) path);
+    }
 
   -- ---- any rule
 
@@ -285,12 +323,12 @@ module _ (tells : Type 0) (may : List Candidate → ℕ → Type 0) (core : Core
       let it = the_task (task_of core n) _ does in
       of_does Abandons kind.Abandon (task_ended n it.0 request.Queued) (λ c. kept_all c (task_ended n it.0 request.Queued c) (record { config = refl; first_write = refl; first_faults = refl; created = λ _. refl }) refl refl refl refl refl (inr (it.0.host, request.Queued, refl, not_queued))) told it.1
   outcome (Copies t) told does = let it = the_task (task_of core n) _ does in of_copies t told it.0 it.1.0 it.1.1
-  outcome (Ends t) told does = let it = the_task (task_of core n) _ does in of_ends t told it.0 t.kind it.1
+  outcome (Ends t) told does = let it = the_task (task_of core n) _ does in of_ends t told it.0 it.1
   outcome (Frees volume page) told does =
       let it = the_task (task_of core n) _ does in
       of_changes (Frees volume page) kind.Free (λ now. with_task n (Some (record it.0 { victim = None })) (with_owner it.0.frame None now))
-      (λ c. kept_all c (with_task n (Some (record it.0 { victim = None })) (with_owner it.0.frame None c)) (record { config = refl; first_write = refl; first_faults = refl; created = λ _. refl }) refl refl refl refl refl (inl refl)) volume (change.Free page) refl (λ v. refl) told it.1
+      (λ c. kept_all c (with_task n (Some (record it.0 { victim = None })) (with_owner it.0.frame None c)) (record { config = refl; first_write = refl; first_faults = refl; created = λ _. refl }) refl refl refl refl refl (inl refl)) core.site refl (λ _. (settles_none core.site.told, leaves_same _ _ refl)) volume (change.Free page) refl (λ v. refl) told it.1
   outcome (Assigns volume page) told does =
       let it = the_task (task_of core n) _ does in
       of_changes (Assigns volume page) kind.Assign (λ now. most_recent it.0.frame (with_owner it.0.frame (Some (volume, page)) now))
-      (λ c. kept_all c (most_recent it.0.frame (with_owner it.0.frame (Some (volume, page)) c)) (record { config = refl; first_write = refl; first_faults = refl; created = λ _. refl }) refl refl refl refl refl (inl refl)) volume (change.Assign page it.0.frame) refl (λ v. refl) told it.1
+      (λ c. kept_all c (most_recent it.0.frame (with_owner it.0.frame (Some (volume, page)) c)) (record { config = refl; first_write = refl; first_faults = refl; created = λ _. refl }) refl refl refl refl refl (inl refl)) core.site refl (λ _. (settles_none core.site.told, leaves_same _ _ refl)) volume (change.Assign page it.0.frame) refl (λ v. refl) told it.1

@@ -8,6 +8,7 @@ use Rattle.volume_table.specs.Row.{RowValue, state_of}
 use Rattle.volume_table.specs.Listed.{listed}
 use Rattle.shown_volumes.specs.Shown.{RowsOf, rows_of}
 use Rattle.shown_volumes.specs.Sound.{IsSound, HasCartridgesOnce}
+use Rattle.shown_volumes.specs.Changing.{IsQuiet}
 use Rattle.fault_queue.specs.declared.queue.Request.{Request}
 use Rattle.fault_queue.specs.declared.queue.RequestState.{RequestState}
 use Rattle.fault_queue.specs.declared.queue.RequestState.TheVariants.{Queued, Moving, Ready}
@@ -124,6 +125,9 @@ module _ (S : Type 0) {C : Type 0} (v : CoreValue S C) (core : IsCore v) (n : �
 module _ (S : Type 0) {C : Type 0} (tells : Type 0) (s : SiteLog) (v : CoreValue S C) (whole : IsWhole tells s v) (open_ : v.stopped ≡ None) where
   pub sound_now : tells → IsSound v.config.frames (content s)
   sound_now tl = sound_of S s v (whole.told tl)
+
+  pub quiet_now : tells → IsQuiet s
+  quiet_now tl = ((whole.told tl).going open_).quiet
 
   pub rows_now : tells → rows_of (content s) ≡ listed v.rows
   rows_now tl = ((whole.told tl).going open_).rows_

@@ -1,5 +1,5 @@
 -- What the events that change a row have in common: the room that they make, and what the change of the row leaves.
-use Rattle.std.proofs.Common.{◌≡◌, ℕ, ◌≤◌, List, [], ◌∷◌, ◌++◌, length, Option, Some, None, Result, Ok, refl, sym, ◌∙◌, ap, subst, arith}
+use Rattle.std.proofs.Common.{◌≡◌, ℕ, ◌≤◌, List, length, Option, None, Result, Ok, refl, sym, ◌∙◌, ap, subst, arith}
 use Rattle.mss_base.specs.Content.{SiteLog, content}
 use Rattle.mss_base.specs.Counts.{Rises}
 use Rattle.mss_base.specs.Sites.{MayWrite}
@@ -21,7 +21,7 @@ use Rattle.core_state.specs.TheCore.{IsKept}
 use Rattle.core_state.proofs.Moved.{kept_moved}
 use Rattle.core_state.proofs.RowOwners.{listed_low}
 use Rattle.work_events.proofs.KeptFacts.{kept_at}
-use Rattle.work_events.proofs.ChangedRows.{HaveChanged, IsDone, IsDueChange, kept_unchanged}
+use Rattle.work_events.proofs.ChangedRows.{FailsChange, HaveChanged, IsDone, IsDueChange, with_row_stopped, kept_unchanged}
 
 -- what a core keeps, with this site
 abbrev pub IsKeptOn : {S C : Type 0} → Ghosts S → ℕ → S → CoreValue S C → Type 0
@@ -125,14 +125,29 @@ module _ {S C : Type 0} (g : Ghosts S) {room : ℕ} {inside v : CoreValue S C} {
         well : g.tells → ForSome (listed v.rows volume) (λ r. WritesRow {T = T} {E = E} volume (effect change r) (used_after (used_at v.used volume)) (g.told v.site) (g.told x) (Ok t))
         well tl = subst (λ (z : Result T E). ForSome (listed v.rows volume) (λ r. WritesRow volume (effect change r) (used_after (used_at v.used volume)) (g.told v.site) (g.told x) z)) is (written tl)
 
-    -- a write of it failed: the core stops, and the slots in use are as before
+    -- a write of it failed, as the event tells it
+    pub row_failed : Rises (g.writes site) (g.writes x) → Rises (g.faults site) (g.faults x)
+        → FailsChange g v volume change x
+    row_failed wrote rises r at = record {
+      write = record { moments = λ tl. (written tl r at).moments; later = more_ };
+      wrote = subst (λ (k : ℕ). Rises k (g.writes x)) has.reserves.unwritten wrote;
+      cause = record { count = refl; rises = subst (λ (k : ℕ). Rises k (g.faults x)) has.reserves.same rises };
+    }
+
+    -- the core that stops then, with the slots in use as before
+    pub stopped_is : (n : ℕ) {used : List SlotsUsed} → used ≡ inside.used → {stop : SessionData} → stop ≡ with_stop (g.faults x) session → {told : SessionData} → told ≡ with_last_event (Work n) stop
+        → ◌≡◌ {A = CoreValue S C} (record (of_parts inside x rows inside.owners inside.moving inside.requests inside.tasks inside.hosts told) { used = used }) (with_row_stopped v n volume change x (g.faults x))
+    stopped_is n used_is stop_is told_is =
+        let used_ = used_is ∙ ap (λ (z : CoreValue S C). z.used) has.is in
+        let now_told = told_is ∙ ap (with_last_event (Work n)) (stop_is ∙ ap (with_stop (g.faults x)) has.same) in
+        λ i. record (of_parts (has.is i) x (now_rows i) (has.is i).owners (has.is i).moving (has.is i).requests (has.is i).tasks (has.is i).hosts (now_told i)) { used = used_ i }
+
+    -- it is kept
     pub row_stopped : IsDueChange g.tells (g.told v.site) v volume change → v.stopped ≡ None → (n : ℕ) → Rises (g.faults site) (g.faults x) → {used : List SlotsUsed} → used ≡ inside.used
         → {stop : SessionData} → stop ≡ with_stop (g.faults x) session → {told : SessionData} → told ≡ with_last_event (Work n) stop
         → IsKeptOn g room x (record (of_parts inside x rows inside.owners inside.moving inside.requests inside.tasks inside.hosts told) { used = used })
     row_stopped due open_ n rises used_is stop_is told_is =
-        let used_ = used_is ∙ ap (λ (z : CoreValue S C). z.used) has.is in
-        let now_told = told_is ∙ ap (with_last_event (Work n)) (stop_is ∙ ap (with_stop (g.faults x)) has.same) in
-        kept_as g room x (record v { site = x; rows = with_changed volume change v.rows; stopped = Some (g.faults x); events = v.events ++ Work n ∷ [] }) _
+        kept_as g room x (with_row_stopped v n volume change x (g.faults x)) _
         (kept_unchanged S g.tells (g.told v.site) (g.told x) (g.writes v.site) (g.faults v.site) (g.writes x) (g.faults x) room v has.kept open_ n x volume change more_ le_ due (λ tl r at. (written tl r at).moments)
         (record { count = refl; rises = subst (λ (k : ℕ). Rises k (g.faults x)) has.reserves.same rises }))
-        (λ i. record (of_parts (has.is i) x (now_rows i) (has.is i).owners (has.is i).moving (has.is i).requests (has.is i).tasks (has.is i).hosts (now_told i)) { used = used_ i })
+        (stopped_is n used_is stop_is told_is)

@@ -11,7 +11,7 @@ use Rattle.volume_table.specs.declared.changes.Change.TheVariants.{Staged}
 use Rattle.volume_table.proofs.RowLemmas.{row-with_state}
 use Rattle.volume_table.proofs.RowFacts.{state-with_state}
 use Rattle.table_pair.specs.Slots.{with_used_after}
-use Rattle.shown_volumes.specs.Changing.{IsReady}
+use Rattle.shown_volumes.specs.Changing.{IsFirmFor, IsReady}
 use Rattle.shown_volumes.proofs.OutsideFacts.{page_names}
 use Rattle.fault_queue.specs.declared.queue.Request.{Request}
 use Rattle.fault_queue.specs.declared.queue.RequestState.TheVariants.{Queued, Moving, Ready}
@@ -20,18 +20,21 @@ use Rattle.fault_queue.proofs.RequestFacts.{request_other, with_state_is}
 use Rattle.transfers.specs.declared.transfer.Transfer.{Transfer}
 use Rattle.transfers.specs.declared.transfer.TransferKind.{TransferKind}
 use Rattle.transfers.specs.declared.transfer.TransferKind.TheVariants.{StageBlank, StageCartridge, Destage}
-use Rattle.transfers.specs.Dues.{due_state}
+use Rattle.transfers.specs.Copies.{AreFirm, target_unit}
+use Rattle.transfers.specs.Dues.{IsDue, change_by, due_state}
+use Rattle.transfers.proofs.DueFacts.{firm_for}
 use Rattle.core_state.specs.declared.task.Task.{Task}
 use Rattle.core_state.specs.declared.session.Event.TheVariants.{Work}
 use Rattle.core_state.specs.Agrees.{message_of}
 use Rattle.mss_base.specs.declared.site.Site.{Ghosts}
 use Rattle.victim_choice.specs.declared.choose.Candidate.{Candidate}
 use Rattle.core_state.specs.declared.rule.WorkAnswer.{WorkAnswer}
-use Rattle.core_state.specs.declared.rule.WorkAnswer.TheVariants.{Did}
+use Rattle.core_state.specs.declared.rule.WorkAnswer.TheVariants.{Did, Stopped}
 use Rattle.core_state.specs.declared.rule.WorkKind.TheVariants as work
 use Rattle.core_state.specs.declared.rule.WorkRule.TheVariants.{Ends}
-use Rattle.core_state.specs.CoreValue.{CoreValue, seen}
-use Rattle.core_state.specs.WorkEvents.{EndsIt, WithTask, TaskDoes, WorkDoes}
+use Rattle.core_state.specs.CoreValue.{CoreValue, seen, seen_site}
+use Rattle.core_state.specs.Devices.{SyncUnit}
+use Rattle.core_state.specs.WorkEvents.{TellsEnd, WithTask, TaskDoes, WorkDoes}
 use Rattle.core_state.specs.SessionData.{data_of, with_last_message}
 use Rattle.core_state.specs.Pins.{task_at}
 use Rattle.core_state.specs.Tasks.{AreWaiting, IsChosen, IsTask, IsTransfer, HasFrame}
@@ -53,7 +56,7 @@ use Rattle.core_state.proofs.Others.{requests_once, state_waiting, frames_apart,
 use Rattle.core_state.proofs.Fitting.{ready_ended, ready_row, row_still, staged_still, fit_put}
 use Rattle.work_events.proofs.OwnTask.{own_moving, own_transfer, asked_now, long_now, ended_task, fits_n, served_put, place_in, served_now}
 use Rattle.work_events.proofs.RuleFacts.{MayEnd}
-use Rattle.work_events.proofs.ChangedRows.{HasRewritten, HaveChanged, IsDueChange, IsDone, with_slot, core_slot, may_now, kept_changed}
+use Rattle.work_events.proofs.ChangedRows.{FailsChange, HasRewritten, HaveChanged, IsDueChange, IsDone, with_row_stopped, with_slot, core_slot, may_now, kept_changed}
 
 module _ (S : Type 0) {C : Type 0} (tells : Type 0) (s : SiteLog) (v : CoreValue S C) (whole : IsWhole tells s v) (open_ : v.stopped ≡ None) (n : ℕ) (old : Task) (at : task_at v.tasks n ≡ Some old) (wanted : Request) (wants : request_of v.requests old.host ≡ Some wanted) where
   core : IsCore v
@@ -85,6 +88,15 @@ module _ (S : Type 0) {C : Type 0} (tells : Type 0) (s : SiteLog) (v : CoreValue
         elim kind [
           | inl blank ↦ subst (λ (k : TransferKind). AreCopied k old.touched (content s) r transfer.cylinder 19) blank (subst (λ (m : ℕ). AreCopied transfer.kind old.touched (content s) r transfer.cylinder m) all_ are)
           | inr copied_ ↦ subst (λ (k : TransferKind). AreCopied k old.touched (content s) r transfer.cylinder 19) copied_ (subst (λ (m : ℕ). AreCopied transfer.kind old.touched (content s) r transfer.cylinder m) all_ are)
+        ]
+
+    -- the frame's blocks, once the copies are firm
+    pub stage_firm : (tells → AreFirm transfer s) → tells → IsFirmFor (Staged transfer.cylinder) r s
+    stage_firm firm tl =
+        let is : IsFirmFor (change_by transfer.kind transfer.cylinder) r s = firm_for transfer r s (subst (λ (z : RowValue). IsDue transfer z) row_is_s its_s.due) (firm tl) in
+        elim kind [
+          | inl blank ↦ subst (λ (k : TransferKind). IsFirmFor (change_by k transfer.cylinder) r s) blank is
+          | inr copied_ ↦ subst (λ (k : TransferKind). IsFirmFor (change_by k transfer.cylinder) r s) copied_ is
         ]
 
     pub stage_allowed : IsAllowed (Staged transfer.cylinder) r
@@ -171,11 +183,11 @@ module _ (S : Type 0) {C : Type 0} (tells : Type 0) (s : SiteLog) (v : CoreValue
           ];
         }
 
-    pub whole_staged : (tells → HasRewritten s v transfer.volume (Staged transfer.cylinder) t mark r)
+    pub whole_staged : (tells → AreFirm transfer s) → (tells → HasRewritten s v transfer.volume (Staged transfer.cylinder) t mark r)
         → IsWhole tells t (worked (with_slot transfer.volume v) x (slice_set v.rows transfer.volume (Some (with_state transfer.cylinder (state_of r transfer.cylinder + 2) r)))
         (v.console ++ message_of mark transfer.volume (Staged transfer.cylinder) (listed v.rows) ∷ []) v.owners (slice_set v.moving old.frame false)
         (put_request v.requests old.host (Some (record wanted { state = Ready }))) (slice_set v.tasks n None))
-    whole_staged changed = make_whole (core_work S (with_slot transfer.volume v) (core_slot S v core transfer.volume) x (slice_set v.rows transfer.volume (Some staged_row)) _ v.owners _ _ _
+    whole_staged firm changed = make_whole (core_work S (with_slot transfer.volume v) (core_slot S v core transfer.volume) x (slice_set v.rows transfer.volume (Some staged_row)) _ v.owners _ _ _
         (owned_states S v core transfer.volume transfer.cylinder (state_of r transfer.cylinder + 2) r there low_s
         (row-with_state transfer.cylinder (state_of r transfer.cylinder + 2) r (core.are_rows transfer.volume r there) its_s.due.cylinder_in (omega (arith, unstaged_)) (λ _. ap is_some framed_s))) (long_now S v core n old at wanted wants) (asked_now S v core n old at wanted wants Ready)
         (waiting_again (listed (slice_set v.rows transfer.volume (Some staged_row))) v.requests old.host wanted Ready core.requests_ waiting_s (λ queued. let e : Ready ≡ Queued = queued in absurd cc))
@@ -183,7 +195,7 @@ module _ (S : Type 0) {C : Type 0} (tells : Type 0) (s : SiteLog) (v : CoreValue
         fit_staged)
         (λ tl.
         let c = changed tl in
-        let may = may_now S tells s v whole open_ transfer.volume (Staged transfer.cylinder) r there stage_allowed stage_ready tl in
+        let may = may_now S tells s v whole open_ transfer.volume (Staged transfer.cylinder) r there stage_allowed stage_ready (stage_firm firm) tl in
         told_by_change S s t v x core (whole.told tl) open_ transfer.volume mark (Staged transfer.cylinder) r there low_s (λ o. refl) (λ w. refl) (stage_allowed, tt) may c.writes c.changed c.at_end c.grows v.owners _ _ _
         (served_put S v core n old at wanted wants (content t) (listed (slice_set v.rows transfer.volume (Some staged_row))) None (λ task e. absurd (none_some task e))
         (λ m task other is. state_served S v core transfer.volume transfer.cylinder (state_of r transfer.cylinder + 2) r there low_s (content s) (content t)
@@ -205,22 +217,38 @@ staged v n old transfer x mark = record v {
 }
 
 pub staged_does : {S C : Type 0} (g : Ghosts S) (may : List Candidate → ℕ → Type 0) (v w : CoreValue S C) (n : ℕ) (old : Task) (transfer : Transfer) (answer : WorkAnswer) → transfer.kind ≢ Destage
-    → answer ≡ Did work.End → task_at v.tasks n ≡ Some old → HaveChanged g v transfer.volume (Staged transfer.cylinder) w.site → w ≡ staged v n old transfer w.site (g.writes w.site)
+    → answer ≡ Did work.End → task_at v.tasks n ≡ Some old → (x : S) → SyncUnit g.tells (target_unit transfer) (seen_site g v.site) (seen_site g x)
+    → HaveChanged g (record v { site = x }) transfer.volume (Staged transfer.cylinder) w.site → w ≡ staged v n old transfer w.site (g.writes w.site)
     → WorkDoes g.tells may (seen g v) n (Ends transfer) answer (seen g w)
-staged_does {S} {C} g may v w n old transfer answer other is at have path =
+staged_does {S} {C} g may v w n old transfer answer other is at x firm have path =
     subst (λ (a : WorkAnswer). WorkDoes g.tells may (seen g v) n (Ends transfer) a (seen g w)) (sym is)
     (subst (λ (o : Option Task). WithTask o (λ task. TaskDoes g.tells (seen g v) n (Ends transfer) task (Did work.End) (seen g w))) (sym at)
-    (by_kind transfer.kind refl))
+    (inl (seen_site g x, firm, by_kind transfer.kind refl)))
   where
-    by_kind : (k : TransferKind) → transfer.kind ≡ k → EndsIt g.tells (seen g v) n old k transfer (Did work.End) (seen g w)
+    by_kind : (k : TransferKind) → transfer.kind ≡ k → TellsEnd g.tells (record (seen g v) { site = seen_site g x }) n old k transfer (Did work.End) (seen g w)
     by_kind StageBlank same = (have, refl, ap (λ (z : CoreValue S C). seen g z) path)
     by_kind StageCartridge same = (have, refl, ap (λ (z : CoreValue S C). seen g z) path)
+    by_kind Destage same = absurd (other same)
+
+-- the row wasn't written
+pub unstaged_does : {S C : Type 0} (g : Ghosts S) (may : List Candidate → ℕ → Type 0) (v w : CoreValue S C) (n : ℕ) (old : Task) (transfer : Transfer) (answer : WorkAnswer) → transfer.kind ≢ Destage
+    → answer ≡ Stopped (g.faults w.site) → task_at v.tasks n ≡ Some old → (x : S) → SyncUnit g.tells (target_unit transfer) (seen_site g v.site) (seen_site g x)
+    → FailsChange g (record v { site = x }) transfer.volume (Staged transfer.cylinder) w.site → w ≡ with_row_stopped v n transfer.volume (Staged transfer.cylinder) w.site (g.faults w.site)
+    → WorkDoes g.tells may (seen g v) n (Ends transfer) answer (seen g w)
+unstaged_does {S} {C} g may v w n old transfer answer other is at x firm fails path =
+    subst (λ (a : WorkAnswer). WorkDoes g.tells may (seen g v) n (Ends transfer) a (seen g w)) (sym is)
+    (subst (λ (o : Option Task). WithTask o (λ task. TaskDoes g.tells (seen g v) n (Ends transfer) task (Stopped (g.faults w.site)) (seen g w))) (sym at)
+    (inl (seen_site g x, firm, by_kind transfer.kind refl)))
+  where
+    by_kind : (k : TransferKind) → transfer.kind ≡ k → TellsEnd g.tells (record (seen g v) { site = seen_site g x }) n old k transfer (Stopped (g.faults w.site)) (seen g w)
+    by_kind StageBlank same = (fails, ap (λ (z : CoreValue S C). seen g z) path)
+    by_kind StageCartridge same = (fails, ap (λ (z : CoreValue S C). seen g z) path)
     by_kind Destage same = absurd (other same)
 
 -- ---- the change is due, and with it the core is kept
 
 module _ (S : Type 0) {C : Type 0} (tells : Type 0) (s : SiteLog) (v : CoreValue S C) (whole : IsWhole tells s v) (open_ : v.stopped ≡ None) (n : ℕ) (old : Task) (q : Request) (serves : Serves v n old q)
-    (transfer : Transfer) (may : MayEndStage v old transfer) where
+    (transfer : Transfer) (may : MayEndStage v old transfer) (firm : tells → AreFirm transfer s) where
   its_k : IsTransfer (listed v.rows) old.frame old.victim q transfer
   its_k = own_transfer S v (whole.kept open_) n old serves.at q serves.asked transfer may.copies
 
@@ -230,13 +258,14 @@ module _ (S : Type 0) {C : Type 0} (tells : Type 0) (s : SiteLog) (v : CoreValue
     there = its_k.there;
     allowed = stage_allowed S tells s v whole open_ n old serves.at q serves.asked s v.site 0 transfer may.copies may.kind may.all_ its_k.row its_k.there;
     ready = stage_ready S tells s v whole open_ n old serves.at q serves.asked s v.site 0 transfer may.copies may.kind may.all_ its_k.row its_k.there;
+    firm = stage_firm S tells s v whole open_ n old serves.at q serves.asked s v.site 0 transfer may.copies may.kind may.all_ its_k.row its_k.there firm;
   }
 
 module _ (S : Type 0) {C : Type 0} (tells : Type 0) (s t : SiteLog) (writes faults later_writes later room : ℕ) (v : CoreValue S C) (kept : IsKept tells s writes faults room v) (open_ : v.stopped ≡ None) (n : ℕ) (old : Task) (q : Request) (serves : Serves v n old q)
     (x : S) (more : writes ≤ later_writes) (le : faults ≤ later)
-    (transfer : Transfer) (may : MayEndStage v old transfer) where
+    (transfer : Transfer) (may : MayEndStage v old transfer) (firm : tells → AreFirm transfer s) where
   due : IsDueChange tells s v transfer.volume (Staged transfer.cylinder)
-  due = due_staged S tells s v kept.whole open_ n old q serves transfer may
+  due = due_staged S tells s v kept.whole open_ n old q serves transfer may firm
 
   pub kept_staged : IsDone tells s v transfer.volume (Staged transfer.cylinder) t later_writes
       → IsKept tells t later_writes later room (staged v n old transfer x later_writes)
@@ -245,7 +274,7 @@ module _ (S : Type 0) {C : Type 0} (tells : Type 0) (s t : SiteLog) (writes faul
       let message = message_of later_writes transfer.volume (Staged transfer.cylinder) (listed v.rows) in
       subst (λ (z : RequestsData). IsKept tells t later_writes later room (record (worked (with_slot transfer.volume v) x (with_changed transfer.volume (Staged transfer.cylinder) v.rows) (v.console ++ message ∷ []) v.owners (slice_set v.moving old.frame false) z (slice_set v.tasks n None)) { events = v.events ++ Work n ∷ [] })) (sym put)
       (kept_changed S tells s t writes faults later_writes later room v kept open_ n x transfer.volume (Staged transfer.cylinder) more le due.r due.there v.owners (slice_set v.moving old.frame false) (put_request v.requests old.host (Some (record q { state = Ready }))) (slice_set v.tasks n None)
-      (whole_staged S tells s v kept.whole open_ n old serves.at q serves.asked t x later_writes transfer may.copies may.kind may.all_ due.r due.there (λ tl. done_ tl due.r due.there))
+      (whole_staged S tells s v kept.whole open_ n old serves.at q serves.asked t x later_writes transfer may.copies may.kind may.all_ due.r due.there firm (λ tl. done_ tl due.r due.there))
       (counted_request later_writes later later_writes later v.requests (with_last_message message (data_of v))
       (counted_message writes faults later_writes later v.requests (data_of v) kept.counted more le message (omega arith)) (omega arith) (omega arith)
       old.host (Some (record q { state = Ready })) (kept.whole.kept open_).requests_ (λ fault e. absurd (none_some fault e))))

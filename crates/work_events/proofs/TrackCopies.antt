@@ -1,5 +1,5 @@
 -- The copy of one track shows the same, and goes on with what is half copied.
-use Rattle.std.proofs.Common.{◌≡◌, ◌≢◌, ◌⊎◌, inl, inr, ℕ, ◌+◌, ◌/◌, ◌<◌, Bool, false, ◌&&◌, ◌==◌, List, [], ◌∷◌, Option, Some, sym, ◌∙◌, ap, subst, arith}
+use Rattle.std.proofs.Common.{◌≡◌, ◌≢◌, ◌⊎◌, inl, inr, ℕ, ◌+◌, ◌/◌, ◌<◌, Bool, false, ◌&&◌, ◌==◌, List, Option, Some, sym, ◌∙◌, ap, subst, arith}
 use Rattle.std.specs.Option.{ForSome}
 use Rattle.std.proofs.lemmas.Bool.{cases_lt}
 use Rattle.mss_base.specs.Content.{Content, SiteLog, content, Writes, same_unit}
@@ -14,17 +14,18 @@ use Rattle.ckd_track.specs.Track.{reading}
 use Rattle.ckd_track.proofs.TrackFacts.{reading-zeros}
 use Rattle.volume_table.specs.Row.{RowValue, frame_of, state_of, cartridge_with}
 use Rattle.shown_volumes.specs.Shown.{RowsOf, rows_of, shown, block_at, on_cartridge, in_page}
-use Rattle.shown_volumes.specs.Sound.{IsSound, SoundAs, HasCartridgesOnce, IsStagedAs, IsSameAt}
+use Rattle.shown_volumes.specs.Sound.{IsSound, HasCartridgesOnce, IsStagedAs, IsSameAt}
+use Rattle.shown_volumes.specs.Changing.{IsOutside, IsQuiet, StillShows}
 use Rattle.shown_volumes.proofs.PlaceFacts.{in_frame}
 use Rattle.shown_volumes.proofs.OutsideFacts.{frame_outside, cartridge_outside}
-use Rattle.shown_volumes.proofs.ShownFacts.{shows_outside}
 use Rattle.fault_queue.specs.declared.queue.Request.{Request}
 use Rattle.transfers.specs.declared.transfer.Transfer.{Transfer}
 use Rattle.transfers.specs.declared.transfer.TransferKind.{TransferKind}
 use Rattle.transfers.specs.declared.transfer.TransferKind.TheVariants.{StageBlank, StageCartridge, Destage}
 use Rattle.transfers.specs.Copies.{target, target_of, source_of, copy_of, AddsAtMost}
 use Rattle.transfers.specs.Dues.{due_state}
-use Rattle.transfers.proofs.DueFacts.{goes_outside, shows_same_while}
+use Rattle.transfers.proofs.CopyFacts.{most_moments, most_quiet}
+use Rattle.transfers.proofs.DueFacts.{goes_outside}
 use Rattle.core_state.specs.declared.task.Task.{Task}
 use Rattle.core_state.specs.Tasks.{IsTransfer}
 use Rattle.core_state.specs.Served.{AreStaged, AreDestaged, AreCopied, IsServed}
@@ -48,17 +49,25 @@ same_but place s t (inl same) = λ u b other. ap (λ (x : SiteLog). content x u 
 same_but place s t (inr (left, long, adds)) = λ u b other.
     ap (λ (c : Content). c u b) (content_then (copy_of place left) s t adds) ∙ written_elsewhere (content s) (copy_of place left) u b other
 
--- at each moment of the copy the content shows the same
-pub copy_shows : (frames : ℕ) (s n : SiteLog) (rows : RowsOf) → rows_of (content s) ≡ rows → IsSound frames (content s) → (frame : ℕ) (victim : Option (ℕ × ℕ)) (q : Request) (t : Transfer)
-    → IsTransfer rows frame victim q t → t.next < 19 → AddsAtMost (target t t.next) s n → Writes (SoundAs frames (shown (content s))) s n
-copy_shows frames s n rows rows_are sound frame victim q t is more may =
-    shows_same_while frames (target t t.next) s n sound (λ w out whole. shows_outside frames (content s) w out whole)
-    (goes_outside t is.row (content s) t.next is.due
-    (λ unstaged. frame_outside frames (content s) t.volume t.cylinder t.next is.row sound there is.due.cylinder_in more t.frame is.due.frame_ unstaged)
-    (λ changed. cartridge_outside frames (content s) t.volume t.cylinder t.next is.row sound there is.due.cylinder_in more changed)) may
-  where
-    there : rows_of (content s) t.volume ≡ Some is.row
-    there = ap (λ (x : RowsOf). x t.volume) rows_are ∙ is.there
+module _ (frames : ℕ) (s n : SiteLog) (rows : RowsOf) (rows_are : rows_of (content s) ≡ rows) (sound : IsSound frames (content s)) (quiet : IsQuiet s) (frame : ℕ) (victim : Option (ℕ × ℕ)) (q : Request) (t : Transfer)
+    (is : IsTransfer rows frame victim q t) (more : t.next < 19) (may : AddsAtMost (target t t.next) s n) where
+  its_row : rows_of (content s) t.volume ≡ Some is.row
+  its_row = ap (λ (x : RowsOf). x t.volume) rows_are ∙ is.there
+
+  -- no shown track stands on the block copied to
+  lies_outside : IsOutside (content s) (target t t.next)
+  lies_outside =
+      goes_outside t is.row (content s) t.next is.due
+      (λ unstaged. frame_outside frames (content s) t.volume t.cylinder t.next is.row sound its_row is.due.cylinder_in more t.frame is.due.frame_ unstaged)
+      (λ changed. cartridge_outside frames (content s) t.volume t.cylinder t.next is.row sound its_row is.due.cylinder_in more changed)
+
+  -- at each moment of the copy the content shows the same, and what was loose lies outside
+  pub copy_shows : Writes (StillShows frames (shown (content s)) s) s n
+  copy_shows = most_moments frames t s n quiet sound lies_outside may
+
+  -- so does the copy, firm or not
+  pub copy_quiet : IsQuiet n
+  copy_quiet = most_quiet t s n quiet lies_outside may
 
 -- ---- what is copied so far
 

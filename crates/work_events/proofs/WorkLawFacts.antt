@@ -1,5 +1,5 @@
 -- What every event of a recorder keeps, and what its answers say, of a core that keeps what a core keeps.
-use Rattle.std.proofs.Common.{◌≡◌, ◌⊎◌, inl, inr, ℕ, ◌<◌, ◌≤◌, List, [], ◌++◌, take, length, Option, Some, None, refl, sym, ◌∙◌, ap, subst, arith}
+use Rattle.std.proofs.Common.{◌≡◌, ◌⊎◌, inl, inr, ℕ, ◌<◌, ◌≤◌, List, [], take, length, Option, Some, None, refl, sym, ◌∙◌, ap, subst, arith}
 use Rattle.std.specs.Prelude.{slice_get, slice_set, is_some, IsSome}
 use Rattle.std.specs.Option.{option_map, option_and_then}
 use Rattle.std.proofs.lemmas.List.{append-nil, take_all}
@@ -14,14 +14,10 @@ use Rattle.core_state.specs.StopRule.{answered, opening, MayShow, state_at}
 use Rattle.core_state.specs.TheCore.{IsWhole}
 use Rattle.core_state.proofs.EntryLemmas.{opening_same}
 use Rattle.core_state.proofs.StopsLemmas.{all_answered}
-use Rattle.std.proofs.lemmas.Bool.{cases_eq}
 use Rattle.mss_base.specs.Firsts.{◌or◌}
 use Rattle.volume_table.specs.Listed.{listed}
 use Rattle.volume_table.specs.Row.{RowValue}
-use Rattle.fault_queue.specs.declared.queue.Request.{Request}
-use Rattle.fault_queue.specs.declared.queue.RequestState.{RequestState}
-use Rattle.fault_queue.specs.Requests.{RequestsData, request_of, with_state, put_request, in_state, with_request_at, IsOnce}
-use Rattle.fault_queue.proofs.RequestFacts.{request_same, request_other, with_state_is}
+use Rattle.fault_queue.specs.Requests.{RequestsData, request_of}
 use Rattle.transfers.specs.Copies.{in_cartridge, AddsAtMost}
 use Rattle.transfers.specs.Dues.{due_state}
 use Rattle.transfers.specs.declared.transfer.Transfer.{Transfer}
@@ -44,6 +40,7 @@ use Rattle.core_state.proofs.TaskLists.{task_put}
 use Rattle.work_events.specs.WorkLaws.{IsRecorder, LeavesHosts, SameCartridges, ShowsTheSame, AddsTrack, DestagesTrack, WritesCartridges, AnswerSays, CopyFails, FailsByCopy}
 use Rattle.work_events.proofs.DueFacts.{is_due_destage, own}
 use Rattle.work_events.proofs.RuleFacts.{MayEnd, rule_stopped, rule_ends, rule_frees, rule_assigns_row, rule_transfer}
+use Rattle.work_events.proofs.RestatedFacts.{restated}
 use Rattle.work_events.proofs.Outcomes.{row_by, Destages, Answered, Outcome, outcome}
 
 -- a log that got a write, synced or not, goes on
@@ -51,25 +48,6 @@ continues : (w : Write) (old new : SiteLog) → Adds w old new → Continues old
 continues w old new (inl alone) = (_, alone)
 continues w old new (inr (inl firm)) = (_, firm)
 continues w old new (inr (inr loose)) = (_, loose)
-
--- a request in a queue where one got another state
-restated : (requests : RequestsData) (h k : ℕ) (state : RequestState) (q : Request) → IsOnce requests → request_of (with_state h state requests) k ≡ Some q → (request_of requests k ≡ Some q) ⊎ (q.state ≡ state)
-restated requests h k state q once at = by (request_of requests h) refl
-  where
-    by : (o : Option Request) → request_of requests h ≡ o → (request_of requests k ≡ Some q) ⊎ (q.state ≡ state)
-    by None none =
-        let same : with_state h state requests ≡ requests = ap (λ (o : Option Request). with_request_at h (option_map (in_state state) o) requests) none in
-        inl (sym (ap (λ (x : RequestsData). request_of x k) same) ∙ at)
-    by (Some p) asked =
-        let put : with_state h state requests ≡ put_request requests h (Some (record p { state = state })) = with_state_is requests h p state asked in
-        let found : request_of (put_request requests h (Some (record p { state = state }))) k ≡ Some q = sym (ap (λ (x : RequestsData). request_of x k) put) ∙ at in
-        elim (cases_eq k h) [
-          | inl same ↦
-              let here : request_of (put_request requests h (Some (record p { state = state }))) k ≡ Some (record p { state = state }) =
-              ap (request_of (put_request requests h (Some (record p { state = state })))) same ∙ request_same requests h (Some (record p { state = state })) once in
-              inr (ap (λ (x : Request). x.state) (sym (some_is (record p { state = state }) q (sym here ∙ found))))
-          | inr other ↦ inl (sym (request_other requests h k (Some (record p { state = state })) once other) ∙ found)
-        ]
 
 -- what is shown where all entries are answered
 shows_all : (s : State) (es : List EntryData) (ms : List ℕ) (n k : ℕ) (V : Volumes) → HasNoStop es → AllUpTo n ms → length ms ≡ length es → n ≤ k

@@ -1,7 +1,10 @@
 -- What a recorder's event does by a rule.
-use Rattle.std.specs.Prelude.{ℕ}
+use Rattle.std.specs.Prelude.{◌≡◌, ℕ, Some}
 use Rattle.mss_base.specs.declared.site.Site.{Ghosts}
 use Rattle.victim_choice.specs.declared.choose.Choose as choose
+use Rattle.fault_queue.specs.Requests.{RequestsData, request_of}
+use Rattle.fault_queue.specs.declared.queue.Request.{Request}
+use Rattle.fault_queue.specs.declared.queue.RequestState.TheVariants.{Failed}
 use Rattle.core_state.specs.declared.rule.WorkAnswer.{WorkAnswer}
 use Rattle.core_state.specs.declared.rule.WorkRule.{WorkRule}
 use Rattle.core_state.specs.CoreValue.{CoreValue, seen}
@@ -12,3 +15,9 @@ abbrev pub WorkStep : {S C : Type 0} → Ghosts S → choose.Ghosts C → CoreVa
     → WorkAnswer → CoreValue S C → Type 0
 WorkStep g c old recorder rule answer new =
     WorkDoes g.tells (c.may old.chooser) (seen g old) recorder rule answer (seen g new)
+
+-- no request has failed that hadn't
+abbrev pub FailsNone : RequestsData → RequestsData → Type 0
+FailsNone old new =
+    (h fault : ℕ) (q : Request) → request_of new h ≡ Some q → q.state ≡ Failed fault
+    → request_of old h ≡ Some q

@@ -14,7 +14,8 @@ use Rattle.transfers.specs.declared.transfer.TransferKind.TheVariants.{Destage}
 use Rattle.core_state.specs.declared.session.Event.TheVariants.{Work}
 use Rattle.core_state.specs.declared.rule.WorkAnswer.{WorkAnswer}
 use Rattle.core_state.specs.declared.rule.WorkAnswer.TheVariants.{Did, Idle, Stopped, Memory}
-use Rattle.core_state.specs.declared.rule.WorkRule.TheVariants.{IsIdle, Copies}
+use Rattle.core_state.specs.declared.rule.WorkRule.{WorkRule}
+use Rattle.core_state.specs.declared.rule.WorkRule.TheVariants.{IsIdle, Copies, Ends}
 use Rattle.core_state.specs.CoreValue.{CoreData}
 use Rattle.core_state.specs.HostEvents.{IsSame}
 use Rattle.core_state.specs.IsCore.{IsCore}
@@ -99,13 +100,16 @@ AnswerSays tells core recorder (Stopped fault) left =
     ((core.stopped ≡ Some fault) × IsSame tells core left) ⊎ StopsIn core fault left
 AnswerSays tells core recorder Memory left = (core.stopped ≡ None) × IsSame tells core left
 
--- a copy failed in this event, and the fault is its count
+-- by this rule a track is copied, or what was copied is made firm
+abbrev pub IsOfCopies : WorkRule → Type 0
+IsOfCopies rule = (t : Transfer) × ((rule ≡ Copies t) ⊎ (rule ≡ Ends t))
+
+-- a copy failed in this event, or the sync that makes the copies firm, and the fault is its count
 abbrev pub CopyFails : CoreData → ℕ → ℕ → CoreData → Type 0
 CopyFails core recorder fault left =
-    ((t : Transfer) × (work_rule core recorder ≡ Copies t))
-    × IsFaultSince core.site.faults left.site.faults fault
+    IsOfCopies (work_rule core recorder) × IsFaultSince core.site.faults left.site.faults fault
 
--- a request that has failed did so before, or now, in a copy
+-- a request that has failed did so before, or now, in a copy or in its sync
 abbrev pub FailsByCopy : CoreData → ℕ → CoreData → Type 0
 FailsByCopy core recorder left =
     (h fault : ℕ) (q : Request) → request_of left.requests h ≡ Some q → q.state ≡ Failed fault

@@ -1,22 +1,42 @@
 // The event that ends a transfer, all of whose tracks are copied.
-ghost use Rattle.std.specs.Prelude.{◌≡◌, ◌≢◌, ◌<◌, Bool};
+ghost use Rattle.std.specs.Prelude.{◌≡◌, ◌≢◌, ◌≤◌, ◌<◌, Bool, IsOk, OnOk, OnErr};
 ghost use Rattle.mss_base.specs.Sites.{MayWrite};
 ghost use Rattle.mss_base.specs.declared.place.UnitNo.{UnitNo};
 ghost use Rattle.transfers.specs.declared.transfer.TransferKind.TheVariants.{Destage};
+ghost use Rattle.transfers.specs.Copies.{target_unit};
+ghost use Rattle.core_state.specs.CoreValue.{seen_site};
+ghost use Rattle.core_state.specs.Devices.{FailSync, SyncUnit};
 ghost use Rattle.core_state.specs.WorkRules.{work_rule};
 ghost use Rattle.core_state.specs.declared.rule.WorkRule.TheVariants.{Ends};
-ghost use Rattle.work_events.specs.Steps.{WorkStep};
+ghost use Rattle.work_events.specs.Steps.{FailsNone, WorkStep};
 
 use crate::parts::{did, end_task, put_task, served, stop};
 use core_state::{Core, Task, WorkAnswer, WorkKind, make_room, write_change};
 use fault_queue::RequestState;
-use mss_base::{RecorderNo, Site};
+use mss_base::{Failed, RecorderNo, Site};
 use table_pair::CHANGE_ITEMS;
 use transfers::{Transfer, TransferKind};
 use victim_choice::Choose;
 use volume_table::Change;
 
-/// Notes in the row that the victim's cylinder is destaged. The task goes on without its transfer.
+/// How many writes and syncs the end of a transfer makes at most: the sync of its copies, and the change of the row.
+pub const END_ITEMS: u32 = 1 + CHANGE_ITEMS;
+
+/// Makes the tracks firm that a transfer copied.
+fn sync_copies<S: Site>(site: &mut S, transfer: &Transfer) -> Result<(), Failed>
+    requires room { 1 ≤ S.spare site.old }
+    ensures firm { OnOk result (SyncUnit S.tells (target_unit transfer.now)
+        (seen_site S.Site site.old) (seen_site S.Site site.new)) }
+    ensures loose { OnErr result
+        (FailSync S.tells (seen_site S.Site site.old) (seen_site S.Site site.new)) }
+    ensures devices { MayWrite S.Site 1 site.old site.new }
+    ensures works { (but : UnitNo → Bool) → S.never_fails_but site.old but → IsOk result }
+{
+    site.sync(transfer.unit())
+}
+
+/// Notes in the row that the victim's cylinder is destaged, once its copies are firm. The task goes on
+/// without its transfer.
 fn end_destage<S: Site, C: Choose>(
     core: &mut Core<S, C>,
     recorder: RecorderNo,
@@ -27,13 +47,28 @@ fn end_destage<S: Site, C: Choose>(
     requires kind { transfer.kind ≡ Destage }
     ensures event { WorkStep S.Site C.Choose core.old recorder (Ends transfer) result core.new }
     ensures chooser { core.new.chooser ≡ core.old.chooser }
-    ensures devices { MayWrite S.Site CHANGE_ITEMS core.old.site core.new.site }
+    ensures devices { MayWrite S.Site END_ITEMS core.old.site core.new.site }
     ensures works { (but : UnitNo → Bool) → S.never_fails_but core.old.site but
         → core.new.stopped ≡ core.old.stopped }
+    ensures none_fails { (but : UnitNo → Bool) → S.never_fails_but core.old.site but
+        → FailsNone core.old.requests core.new.requests }
 {
     let (task, _request) = served(core, recorder);
-    if make_room(&mut core.session, &mut core.site, CHANGE_ITEMS).is_err() {
+    if make_room(&mut core.session, &mut core.site, END_ITEMS).is_err() {
         return WorkAnswer::Memory;
+    }
+    if sync_copies(&mut core.site, &transfer).is_err() {
+        let fault = core.site.faults();
+        let failed = RequestState::Failed { fault };
+        end_task(
+            &mut core.frames,
+            &mut core.requests,
+            &mut core.tasks,
+            recorder,
+            &task,
+            failed,
+        );
+        return did(&mut core.session, recorder, WorkKind::End);
     }
     let volume = transfer.volume;
     let change = Change::Destaged {
@@ -59,7 +94,8 @@ fn end_destage<S: Site, C: Choose>(
     }
 }
 
-/// Notes in the row that the asked cylinder is staged. The task ends, and its request is ready.
+/// Notes in the row that the asked cylinder is staged, once its copies are firm. The task ends, and its
+/// request is ready.
 fn end_stage<S: Site, C: Choose>(
     core: &mut Core<S, C>,
     recorder: RecorderNo,
@@ -70,13 +106,28 @@ fn end_stage<S: Site, C: Choose>(
     requires kind { transfer.kind ≢ Destage }
     ensures event { WorkStep S.Site C.Choose core.old recorder (Ends transfer) result core.new }
     ensures chooser { core.new.chooser ≡ core.old.chooser }
-    ensures devices { MayWrite S.Site CHANGE_ITEMS core.old.site core.new.site }
+    ensures devices { MayWrite S.Site END_ITEMS core.old.site core.new.site }
     ensures works { (but : UnitNo → Bool) → S.never_fails_but core.old.site but
         → core.new.stopped ≡ core.old.stopped }
+    ensures none_fails { (but : UnitNo → Bool) → S.never_fails_but core.old.site but
+        → FailsNone core.old.requests core.new.requests }
 {
     let (task, _request) = served(core, recorder);
-    if make_room(&mut core.session, &mut core.site, CHANGE_ITEMS).is_err() {
+    if make_room(&mut core.session, &mut core.site, END_ITEMS).is_err() {
         return WorkAnswer::Memory;
+    }
+    if sync_copies(&mut core.site, &transfer).is_err() {
+        let fault = core.site.faults();
+        let failed = RequestState::Failed { fault };
+        end_task(
+            &mut core.frames,
+            &mut core.requests,
+            &mut core.tasks,
+            recorder,
+            &task,
+            failed,
+        );
+        return did(&mut core.session, recorder, WorkKind::End);
     }
     let volume = transfer.volume;
     let change = Change::Staged {
@@ -106,8 +157,10 @@ fn end_stage<S: Site, C: Choose>(
     }
 }
 
-/// Ends a transfer in the row of its volume, with a message. Only where a write fails the core is
-/// stopped; after want of memory all is as it was.
+/// Ends a transfer in the row of its volume, with a message, behind a sync of the unit that was copied
+/// to. Where that sync fails, and only there, the row stays, the task ends, and its request has failed
+/// with the count of faults. Only where the row isn't written the core is stopped; after want of memory
+/// all is as it was.
 pub fn end<S: Site, C: Choose>(
     core: &mut Core<S, C>,
     recorder: RecorderNo,
@@ -117,9 +170,11 @@ pub fn end<S: Site, C: Choose>(
     requires fits { recorder < core.old.config.recorders }
     ensures event { WorkStep S.Site C.Choose core.old recorder (Ends transfer) result core.new }
     ensures chooser { core.new.chooser ≡ core.old.chooser }
-    ensures devices { MayWrite S.Site CHANGE_ITEMS core.old.site core.new.site }
+    ensures devices { MayWrite S.Site END_ITEMS core.old.site core.new.site }
     ensures works { (but : UnitNo → Bool) → S.never_fails_but core.old.site but
         → core.new.stopped ≡ core.old.stopped }
+    ensures none_fails { (but : UnitNo → Bool) → S.never_fails_but core.old.site but
+        → FailsNone core.old.requests core.new.requests }
 {
     if transfer.kind == TransferKind::Destage {
         end_destage(core, recorder, transfer)

@@ -72,8 +72,8 @@ pub fn stopped_cores_stay<S: Site, C: Choose>()
 
 /// An answer says what came of the event: that a recorder is idle, exactly where no rule applies
 /// and memory isn't refused; that the core is stopped, with the fault of the write that failed;
-/// that memory was refused, and nothing changed. A request has failed only where a copy did, with
-/// its fault.
+/// that memory was refused, and nothing changed. A request has failed only where a copy did, or the
+/// sync that makes its copies firm, with its fault.
 pub fn answers_have_their_causes<S: Site, C: Choose>()
     ensures answer { (chooser : C) (core : CoreData) (recorder : ℕ) (told : WorkAnswer)
         (left : CoreData) → IsRecorder core recorder

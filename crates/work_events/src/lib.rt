@@ -15,9 +15,10 @@
 //!
 //! The lemma files begin from `proofs/RuleFacts.antt`, which says of each rule what is known of the
 //! core that meets it. A whole core after an event is `CarryWhole`, `PickWhole`, `CopyWhole`,
-//! `DestageWhole`, `StageWhole`, `FreeWhole` and `AssignWhole`, over `OwnTask`; what the change of a
-//! row leaves of a core is `ChangedRows`, over a core with room, for the answers, `RowSteps`. What
-//! comes of any event, for the laws, is `Outcomes`.
+//! `FailedWhole`, `DestageWhole`, `StageWhole`, `FreeWhole` and `AssignWhole`, over `OwnTask`; what
+//! the change of a row leaves of a core is `ChangedRows`, over a core with room, for the answers,
+//! `RowSteps`, and behind the sync of copies `EndSteps`. What comes of any event, for the laws, is
+//! `Outcomes`.
 #![tactic(auto)]
 
 mod carrying;

@@ -1,7 +1,9 @@
 // Devices that fail below an event.
 use crate::events::{Course, other_answer};
 use crate::failing::CALLS_OF_RESTART;
-use crate::items::{APPEND_ITEMS, CHANGE_ITEMS, CREATE_ITEMS, STAGE_ITEMS, TRACK_ITEMS};
+use crate::items::{
+    APPEND_ITEMS, CHANGE_ITEMS, COPY_ITEMS, CREATE_ITEMS, STAGE_ITEMS, TRACK_ITEMS,
+};
 use crate::steps::{Row, Step, Told};
 use core_state::WorkKind;
 use std::alloc::Global;
@@ -110,6 +112,42 @@ fn a_failed_copy_is_an_equipment_check_of_its_host(rt: HostRuntime) {
     );
 }
 
+/// The frame is told, the tracks are written, and the sync behind them fails.
+const STAGING_SYNC: u64 = CALLS_OF_RESTART + CHANGE_ITEMS + COPY_ITEMS;
+
+/// The tracks aren't firm, so the host is told, and no row says that the cylinder is staged; then it is staged anew.
+const STAGING_SYNC_FAILS: &[Row] = &[
+    (1, Step::Mount(1, 0), Told::Mounted),
+    (1, Step::Ask(1, 0x31, R0), Told::Fault(0)),
+    (1, Step::Work, Told::Did(WorkKind::Pick)),
+    (1, Step::Work, Told::Did(WorkKind::Assign)),
+    (19, Step::Work, Told::Did(WorkKind::Copy)),
+    (1, Step::Work, Told::Did(WorkKind::End)),
+    (1, Step::Work, Told::Idle),
+    (1, Step::Ask(1, 0x31, R0), Told::EquipmentCheck),
+    (1, Step::Ask(1, 0x31, R0), Told::Fault(0)),
+    (1, Step::Work, Told::Did(WorkKind::Pick)),
+    (19, Step::Work, Told::Did(WorkKind::Copy)),
+    (1, Step::Work, Told::Did(WorkKind::End)),
+    (1, Step::Ask(1, 0x31, R0), Told::Status(0x4C, 0)),
+];
+
+const UNSYNCED_STAGING: Course = Course {
+    job: ONE_VOLUME,
+    rows: STAGING_SYNC_FAILS,
+    entries: 3,
+    changes: 3,
+    state: None,
+};
+
+#[test]
+fn a_staging_that_cant_be_synced_isnt_told_in_its_row(rt: HostRuntime) {
+    assert_eq!(rt;
+        other_answer(rt.alloc(), [STAGING_SYNC, 0], &UNSYNCED_STAGING),
+        None
+    );
+}
+
 const TWO_VOLUMES: &str = "mss 1 frames 1 recorders 1\nvolume 0 VOL001\nvolume 1 VOL002\ndone\n";
 
 /// The restart creates one volume more; then a cylinder is staged, searched, told as changed, read and written. The first
@@ -120,11 +158,49 @@ const FRAME_UNREAD: u64 = CALLS_OF_RESTART
     + (CHANGE_ITEMS + 1 + APPEND_ITEMS)
     + 1;
 
-/// The host that waits for that copy is told. At its next try it gets the frame: the cylinder is copied, the row changes
+/// The sync behind the copies to the cartridge.
+const DESTAGE_SYNC: u64 = FRAME_UNREAD - 1 + TRACK_ITEMS + COPY_ITEMS;
+
+/// The host that waits for that sync is told, and the cylinder is still changed.
+const DESTAGE_SYNC_FAILS: &[Row] = &[
+    (1, Step::Mount(1, 0), Told::Mounted),
+    (1, Step::Mount(2, 1), Told::Mounted),
+    (1, Step::Chain(1, 0x31, R0), Told::Fault(0)),
+    (1, Step::Settle, Told::Idle),
+    (1, Step::Chain(1, 0x31, R0), Told::Status(0x4C, 0)),
+    (1, Step::Chain(1, 0x1D, R1), Told::Marked),
+    (1, Step::Ask(1, 0x1D, R1), Told::Status(0x0C, 0)),
+    (1, Step::Ask(2, 0x31, R0), Told::Fault(0)),
+    (1, Step::Work, Told::Did(WorkKind::Pick)),
+    (1, Step::Work, Told::Did(WorkKind::Fetch)),
+    (19, Step::Work, Told::Did(WorkKind::Copy)),
+    (1, Step::Work, Told::Did(WorkKind::End)),
+    (1, Step::Work, Told::Did(WorkKind::GiveBack)),
+    (1, Step::Work, Told::Idle),
+    (1, Step::Ask(2, 0x31, R0), Told::EquipmentCheck),
+];
+
+const UNSYNCED_DESTAGE: Course = Course {
+    job: TWO_VOLUMES,
+    rows: DESTAGE_SYNC_FAILS,
+    entries: 5,
+    changes: 5,
+    state: Some(4),
+};
+
+#[test]
+fn a_destage_that_cant_be_synced_leaves_its_cylinder_changed(rt: HostRuntime) {
+    assert_eq!(rt;
+        other_answer(rt.alloc(), [DESTAGE_SYNC, 0], &UNSYNCED_DESTAGE),
+        None
+    );
+}
+
+/// The host that waits for the first copy is told. At its next try it gets the frame: the cylinder is copied, the row changes
 /// four times, the other one is staged, and its search reads a track. Two changes later the cartridge can't be read.
 const CARTRIDGE_UNREAD: u64 = FRAME_UNREAD
-    + 2 * TRACK_ITEMS
-    + (4 * CHANGE_ITEMS + TRACK_ITEMS + 1)
+    + (TRACK_ITEMS + COPY_ITEMS)
+    + (4 * CHANGE_ITEMS + COPY_ITEMS + 1)
     + 2 * CHANGE_ITEMS
     + 1;
 

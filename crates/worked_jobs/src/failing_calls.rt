@@ -1,12 +1,12 @@
 // A record is written and read back, and each call of the devices fails once.
 use crate::failing::{CALLS_OF_RESTART, Ending, Worked, first_taken_up, other_ending, other_pair};
-use crate::items::{APPEND_ITEMS, CHANGE_ITEMS, TRACK_ITEMS};
+use crate::items::{APPEND_ITEMS, CHANGE_ITEMS, COPY_ITEMS};
 use crate::jobs::{ONE_VOLUME, WRITE_AND_READ};
 
 // The last call of each step.
 const ASSIGNED: u64 = CALLS_OF_RESTART + CHANGE_ITEMS;
 
-const COPIED: u64 = ASSIGNED + TRACK_ITEMS;
+const COPIED: u64 = ASSIGNED + COPY_ITEMS;
 
 const STAGED: u64 = COPIED + CHANGE_ITEMS;
 
@@ -80,9 +80,9 @@ const CUT_BEHIND_THE_TRACK: &str = "volume 0 VOL001\n\
     record 0005000301 - 414243\n\
     STOPPED 1\n";
 
-/// The frame is told in the row, blank tracks are written into it, and the staged cylinder is told. A write or a sync of a
-/// row stops the session where it fails; a write of a track fails the search that waits for it. The search reads the
-/// track. Before the record is written, the changed cylinder is told and the track is read; the record takes a write and
+/// The frame is told in the row, blank tracks are written into it and synced, and the staged cylinder is told. A write or a
+/// sync of a row stops the session where it fails; a write of a track, or the sync of them all, fails the search that waits
+/// for it, and the row isn't changed. The search reads the track. Before the record is written, the changed cylinder is told and the track is read; the record takes a write and
 /// a sync, and its gate too. A write that fails was made all the same, so behind the gate's, also where its sync fails,
 /// the record is there.
 const ENDINGS: &[Ending] = &[
@@ -214,8 +214,9 @@ const BOTH_SEARCHES: &str = "entry 3 host 1 ccw 31 equipment check fault 1\n\
 const SEARCH_AND_STAGING: &str = "entry 3 host 1 ccw 31 equipment check fault 1\n\
     entry 4 host 1 ccw 07 status 0C\n";
 
-/// The searches of both programs read the track in vain. The last blank track isn't written, so that the second search
-/// has all 19 staged, and the row that tells it isn't written. The read fails, and then the first track of the report.
+/// The searches of both programs read the track in vain. The last blank track isn't written, or it isn't synced, so that the
+/// second search has all 19 staged, and the row that tells it isn't written. The read fails, and then the first track of the
+/// report.
 const PAIRS: &[(u64, Ending)] = &[
     (
         SEARCHED,
@@ -229,13 +230,35 @@ const PAIRS: &[(u64, Ending)] = &[
         },
     ),
     (
-        COPIED,
+        COPIED - 1,
         Ending {
-            last: COPIED + TRACK_ITEMS + 1,
+            last: COPIED + COPY_ITEMS,
             entries: 2,
             then: SEARCH_AND_STAGING,
             changes: 2,
             rest: "STOPPED 2\n",
+            left: BLANK,
+        },
+    ),
+    (
+        COPIED,
+        Ending {
+            last: COPIED + COPY_ITEMS + 1,
+            entries: 2,
+            then: SEARCH_AND_STAGING,
+            changes: 2,
+            rest: "STOPPED 2\n",
+            left: BLANK,
+        },
+    ),
+    (
+        COPIED,
+        Ending {
+            last: COPIED + COPY_ITEMS,
+            entries: 2,
+            then: BOTH_SEARCHES,
+            changes: 2,
+            rest: BLANK,
             left: BLANK,
         },
     ),

@@ -1,13 +1,13 @@
 // A frame that goes from one page to another and back, and each call of the devices fails once.
 use crate::failing::{CALLS_OF_RESTART, Ending, Worked, other_ending};
 use crate::failing_calls::{BLANK, STOPPED};
-use crate::items::{APPEND_ITEMS, CHANGE_ITEMS, TRACK_ITEMS};
+use crate::items::{APPEND_ITEMS, CHANGE_ITEMS, COPY_ITEMS, TRACK_ITEMS};
 use crate::jobs::{ONE_VOLUME, REPLACEMENT};
 
 // The last call of each step.
 const ASSIGNED: u64 = CALLS_OF_RESTART + CHANGE_ITEMS;
 
-const COPIED: u64 = ASSIGNED + TRACK_ITEMS;
+const COPIED: u64 = ASSIGNED + COPY_ITEMS;
 
 const STAGED: u64 = COPIED + CHANGE_ITEMS;
 
@@ -19,7 +19,7 @@ const LOOKED_AT: u64 = CHANGED + 1;
 
 const WRITTEN: u64 = LOOKED_AT + APPEND_ITEMS;
 // Then the cylinder is destaged, its page gives the frame to another one, and that is staged and written.
-const COPIED_BACK: u64 = WRITTEN + 2 * TRACK_ITEMS;
+const COPIED_BACK: u64 = WRITTEN + TRACK_ITEMS + COPY_ITEMS;
 
 const DESTAGED: u64 = COPIED_BACK + CHANGE_ITEMS;
 
@@ -27,7 +27,7 @@ const FREED: u64 = DESTAGED + CHANGE_ITEMS;
 
 const REASSIGNED: u64 = FREED + CHANGE_ITEMS;
 
-const RECOPIED: u64 = REASSIGNED + TRACK_ITEMS;
+const RECOPIED: u64 = REASSIGNED + COPY_ITEMS;
 
 const RESTAGED: u64 = RECOPIED + CHANGE_ITEMS;
 
@@ -39,9 +39,9 @@ const RELOOKED_AT: u64 = RECHANGED + 1;
 
 const REWRITTEN: u64 = RELOOKED_AT + APPEND_ITEMS;
 // And the frame goes back.
-const COPIED_BACK_AGAIN: u64 = REWRITTEN + 2 * TRACK_ITEMS;
+const COPIED_BACK_AGAIN: u64 = REWRITTEN + TRACK_ITEMS + COPY_ITEMS;
 
-const RETURNED: u64 = COPIED_BACK_AGAIN + 2 * TRACK_ITEMS + 4 * CHANGE_ITEMS;
+const RETURNED: u64 = COPIED_BACK_AGAIN + TRACK_ITEMS + COPY_ITEMS + 4 * CHANGE_ITEMS;
 
 const JOB: Worked = Worked {
     job: REPLACEMENT,
@@ -196,8 +196,8 @@ const CUT_BEHIND_BOTH: &str = "volume 0 VOL001\n\
     STOPPED 1\n";
 
 const ENDINGS: &[Ending] = &[
-    // As for one record: the frame is told, 19 writes stage the blank cylinder, and that is told; a read for the search; the
-    // changed cylinder is told; a read, and two writes with a sync each, for the record.
+    // As for one record: the frame is told, 19 writes and a sync stage the blank cylinder, and that is told; a read for the
+    // search; the changed cylinder is told; a read, and two writes with a sync each, for the record.
     Ending {
         last: ASSIGNED,
         entries: 2,
@@ -262,8 +262,8 @@ const ENDINGS: &[Ending] = &[
         rest: STOPPED,
         left: FIRST,
     },
-    // The changed cylinder is copied to its cartridge by 19 reads and as many writes. Four changes of the row follow, with the
-    // writes of 19 blank tracks before the last.
+    // The changed cylinder is copied to its cartridge by 19 reads, as many writes and a sync, and stays changed where one of
+    // them fails. Four changes of the row follow, with the writes of 19 blank tracks and their sync before the last.
     Ending {
         last: COPIED_BACK,
         entries: 5,

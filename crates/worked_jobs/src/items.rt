@@ -1,6 +1,6 @@
 // How many items of a site's log the steps of a session make, so many calls of the devices as well.
 
-/// All units are synced, before a site is opened.
+/// All units are synced, before a site is opened, or one is.
 pub const SYNC_ITEMS: u64 = 1;
 
 /// A row is created: each copy is marked, and then each is filled and opened, with a sync behind each of these writes.
@@ -12,8 +12,11 @@ pub const CHANGE_ITEMS: u64 = 8;
 /// The tracks of a cylinder are written where they are copied to.
 pub const TRACK_ITEMS: u64 = 19;
 
+/// They are all written, and then the unit is synced that they went to.
+pub const COPY_ITEMS: u64 = TRACK_ITEMS + SYNC_ITEMS;
+
 /// A frame is assigned, a blank cylinder is staged in it, and both are told in the row.
-pub const STAGE_ITEMS: u64 = CHANGE_ITEMS + TRACK_ITEMS + CHANGE_ITEMS;
+pub const STAGE_ITEMS: u64 = CHANGE_ITEMS + COPY_ITEMS + CHANGE_ITEMS;
 
 /// A record is formatted behind the last one of its track: it is written and synced, its gate is opened and synced.
 pub const APPEND_ITEMS: u64 = 4;

@@ -2,8 +2,8 @@
 ghost use Rattle.std.specs.Prelude.{◌≤◌};
 
 use crate::items::{
-    APPEND_ITEMS, CHANGE_ITEMS, CREATE_ITEMS, FORMAT_ITEMS, STAGE_ITEMS, SYNC_ITEMS, TRACK_ITEMS,
-    UPDATE_ITEMS,
+    APPEND_ITEMS, CHANGE_ITEMS, COPY_ITEMS, CREATE_ITEMS, FORMAT_ITEMS, STAGE_ITEMS, SYNC_ITEMS,
+    TRACK_ITEMS, UPDATE_ITEMS,
 };
 use crate::jobs::{
     FOUR_VOLUMES, ONE_VOLUME, REPLACEMENT, THREE_HOSTS, THREE_HOSTS_LEFT, WRITE_AND_READ,
@@ -11,8 +11,8 @@ use crate::jobs::{
 use crate::running::{NONE_FAILS, behind, failing_site, new_output, run, shows, site_if};
 use core_state::Message;
 use job_runs::Outcome;
-use memory_devices::MemorySite;
-use mss_base::{BLOCK_BYTES, Site};
+use memory_devices::{MemorySite, Tear};
+use mss_base::{Bytes, Site};
 use std::alloc::Global;
 
 // The moments behind the steps of a session on one volume. A record is there once its gate was opened, before the sync.
@@ -38,17 +38,66 @@ struct Stops {
     ends: &'static str,
 }
 
-/// Whether a stop at this moment leaves that, within the next write by this tear.
-fn stop_leaves(
-    alloc: Global,
-    site: &MemorySite,
-    moment: u64,
-    tear: Option<&[u8]>,
-    stops: &Stops,
-) -> bool {
-    match site.image(moment, tear) {
-        Ok(image) => shows(alloc, stops.job, image, stops.begins, stops.ends),
-        Err(_) => false,
+/// What a stop makes of the writes that aren't firm.
+#[derive(Clone, Copy)]
+enum Torn {
+    /// They are whole.
+    Whole,
+    /// The next one has these bytes.
+    Next(&'static [u8]),
+    /// They have this byte everywhere.
+    Filled(u8),
+    Lost,
+}
+
+/// Tears, and how many items later than a table says is there what it says.
+#[derive(Clone, Copy)]
+struct Tears {
+    each: &'static [Torn],
+    later: u64,
+}
+
+const WHOLE: Tears = Tears {
+    each: &[Torn::Whole],
+    later: 0,
+};
+
+/// What isn't firm is lost, or something else. So a write is there one item later, once it is synced.
+const UNFIRM: Tears = Tears {
+    each: &[Torn::Filled(0), Torn::Filled(0xFF), Torn::Lost],
+    later: 1,
+};
+
+const LOST: Tears = Tears {
+    each: &[Torn::Lost],
+    later: 1,
+};
+
+/// What isn't firm, and the write under way, are something else.
+const FILLED: Tears = Tears {
+    each: &[Torn::Filled(0), Torn::Filled(0xFF)],
+    later: 0,
+};
+
+fn tear_of(alloc: Global, torn: Torn) -> Option<Option<Tear>> {
+    match torn {
+        Torn::Whole => Some(None),
+        Torn::Next(bytes) => Some(Some(Tear::Write(Bytes::of(alloc, bytes).ok()?))),
+        Torn::Filled(byte) => Some(Some(Tear::Fill(byte))),
+        Torn::Lost => Some(Some(Tear::Lost)),
+    }
+}
+
+fn image_of(alloc: Global, site: &MemorySite, moment: u64, torn: Torn) -> Option<MemorySite> {
+    let tear = tear_of(alloc, torn)?;
+    site.image(moment, tear.as_ref()).ok()
+}
+
+/// Whether a stop at this moment leaves that, by this tear.
+fn stop_leaves(alloc: Global, site: &MemorySite, moment: u64, torn: Torn, stops: &Stops) -> bool {
+    match image_of(alloc, site, moment, torn) {
+        Some(image) => shows(alloc, stops.job, image, stops.begins, stops.ends),
+        None => false,
     }
 }
 
@@ -56,22 +105,23 @@ fn each_tear_leaves(
     alloc: Global,
     site: &MemorySite,
     moment: u64,
-    tears: &[Option<&[u8]>],
+    tears: &[Torn],
     stops: &Stops,
 ) -> bool {
-    for tear in tears {
-        if !stop_leaves(alloc, site, moment, *tear, stops) {
+    for torn in tears {
+        if !stop_leaves(alloc, site, moment, *torn, stops) {
             return false;
         }
     }
     true
 }
 
-/// The first moment that leaves something else, of the last one and those that are so far apart.
+/// The first moment that leaves something else, of the last one and those that are so far apart. Behind the last item there
+/// is none.
 fn other_in(
     alloc: Global,
     site: &MemorySite,
-    tears: &[Option<&[u8]>],
+    tears: &Tears,
     apart: u64,
     stops: &Stops,
 ) -> Option<u64>
@@ -79,19 +129,21 @@ fn other_in(
 {
     for moment in stops.first..=stops.last {
         let is_tried = moment % apart == 0 || moment == stops.last;
-        if is_tried && !each_tear_leaves(alloc, site, moment, tears, stops) {
-            return Some(moment);
+        let at = moment.saturating_add(tears.later);
+        let is_there = at <= site.writes();
+        if is_tried && is_there && !each_tear_leaves(alloc, site, at, tears.each, stops) {
+            return Some(at);
         }
     }
     None
 }
 
-/// A stop at each of the moments that are so far apart, and at the last of each row, leaves what the table says, within the
-/// next write by each of these tears. Gives the first moment that leaves something else.
+/// A stop at each of the moments that are so far apart, and at the last of each row, leaves what the table says, by each of
+/// these tears. Gives the first moment that leaves something else.
 fn other_stop(
     alloc: Global,
     site: &MemorySite,
-    tears: &[Option<&[u8]>],
+    tears: &Tears,
     apart: u64,
     table: &[Stops],
 ) -> Option<u64>
@@ -195,12 +247,69 @@ fn updated<S: Site + Drop>(alloc: Global, site: S, writes: u64) -> Option<S> {
     Some(site)
 }
 
-fn other_update(alloc: Global, site: &MemorySite) -> Option<u64> {
-    let torn = other_stop(alloc, site, &[Some(&[0xFF, 0, 0xFF])], 1, TORN_UPDATE);
-    if torn.is_some() {
-        return torn;
+/// Between the update and its sync its bytes may be any, or those of before. One item later it is firm.
+const UNSYNCED: &[Stops] = &[Stops {
+    first: TAKEN_UP + 1,
+    last: TAKEN_UP + 1,
+    job: ONE_VOLUME,
+    begins: "MSS REPORT 1\nvolume 0 VOL001\n",
+    ends: "\nvolume 0 VOL001\n\
+        track 5 3\n\
+        record 0005000301 - 000000\n\
+        END\n",
+}];
+
+const FORGOTTEN: &[Stops] = &[Stops {
+    first: TAKEN_UP,
+    last: TAKEN_UP + 1,
+    job: ONE_VOLUME,
+    begins: "MSS REPORT 1\nvolume 0 VOL001\n",
+    ends: "\nvolume 0 VOL001\n\
+        track 5 3\n\
+        record 0005000301 - 414243\n\
+        END\n",
+}];
+
+/// Each with the tears by which it comes.
+const UPDATES: &[(Tears, &[Stops])] = &[
+    (
+        Tears {
+            each: &[Torn::Next(&[0xFF, 0, 0xFF])],
+            later: 0,
+        },
+        TORN_UPDATE,
+    ),
+    (WHOLE, UPDATED),
+    (
+        Tears {
+            each: &[Torn::Filled(0)],
+            later: 0,
+        },
+        UNSYNCED,
+    ),
+    (
+        Tears {
+            each: &[Torn::Lost],
+            later: 0,
+        },
+        FORGOTTEN,
+    ),
+    (UNFIRM, UPDATED),
+];
+
+/// The first moment that leaves something else than one of these tables says.
+fn other_of_all(alloc: Global, site: &MemorySite, tables: &[(Tears, &[Stops])]) -> Option<u64> {
+    for (tears, table) in tables {
+        let other = other_stop(alloc, site, tears, 1, table);
+        if other.is_some() {
+            return other;
+        }
     }
-    other_stop(alloc, site, &[None], 1, UPDATED)
+    None
+}
+
+fn other_update(alloc: Global, site: &MemorySite) -> Option<u64> {
+    other_of_all(alloc, site, UPDATES)
 }
 
 fn other_updated(alloc: Global) -> Option<Option<u64>> {
@@ -241,20 +350,27 @@ fn other_of(
     alloc: Global,
     job: &str,
     marks: &Marks,
-    tears: &[Option<&[u8]>],
-    apart: u64,
-    table: &[Stops],
-) -> Option<Option<u64>>
-    requires { 1 ≤ apart }
-{
+    tables: &[(Tears, &[Stops])],
+) -> Option<Option<u64>> {
     let site = left_by(alloc, job, marks)?;
-    Some(other_stop(alloc, &site, tears, apart, table))
+    Some(other_of_all(alloc, &site, tables))
 }
+
+const ROW_CHANGES: &[(Tears, &[Stops])] = &[
+    (
+        Tears {
+            each: &[Torn::Next(&[0xC1]), Torn::Next(&[0])],
+            later: 0,
+        },
+        ROW_CHANGE,
+    ),
+    (WHOLE, ROW_CHANGE),
+    (UNFIRM, ROW_CHANGE),
+];
 
 #[test]
 fn a_stop_within_a_change_of_a_row_shows_the_same_volumes(rt: HostRuntime) {
-    let tears = [Some(b"\xC1".as_slice()), Some(b"\0".as_slice())];
-    let other = other_of(rt.alloc(), WRITE_AND_READ, &WRITTEN, &tears, 1, ROW_CHANGE);
+    let other = other_of(rt.alloc(), WRITE_AND_READ, &WRITTEN, ROW_CHANGES);
     assert_eq!(rt; other, Some(None));
 }
 
@@ -333,16 +449,40 @@ const FORMATTED: &[Stops] = &[
     },
 ];
 
+/// Such a gate is no open one. So the track ends behind the first record until the last sync.
+const FORMAT_FILLED: &[Stops] = &[
+    Stops {
+        first: THREE_APPENDED,
+        last: THREE_APPENDED + FORMAT_ITEMS - 1,
+        job: ONE_VOLUME,
+        begins: "MSS REPORT 1\nvolume 0 VOL001\n",
+        ends: "\nvolume 0 VOL001\n\
+            track 0 0\n\
+            record 0000000001 - 41\n\
+            END\n",
+    },
+    Stops {
+        first: THREE_APPENDED + FORMAT_ITEMS,
+        last: THREE_APPENDED + FORMAT_ITEMS,
+        job: ONE_VOLUME,
+        begins: "MSS REPORT 1\nvolume 0 VOL001\n",
+        ends: "\nvolume 0 VOL001\n\
+            track 0 0\n\
+            record 0000000001 - 41\n\
+            record 0000000002 - 58\n\
+            END\n",
+    },
+];
+
+const FORMATS: &[(Tears, &[Stops])] = &[
+    (WHOLE, FORMATTED),
+    (LOST, FORMATTED),
+    (FILLED, FORMAT_FILLED),
+];
+
 #[test]
 fn a_track_that_is_formatted_ends_before_its_new_record(rt: HostRuntime) {
-    let other = other_of(
-        rt.alloc(),
-        THREE_RECORDS,
-        &FORMATTING,
-        &[None],
-        1,
-        FORMATTED,
-    );
+    let other = other_of(rt.alloc(), THREE_RECORDS, &FORMATTING, FORMATS);
     assert_eq!(rt; other, Some(None));
 }
 
@@ -372,7 +512,7 @@ const FIRST_LEFT: &str = "\nvolume 0 VOL001\n\
     END\n";
 
 // A cylinder is destaged, its page freed, and another one staged in the frame.
-const REPLACE_ITEMS: u64 = TRACK_ITEMS + 2 * CHANGE_ITEMS + STAGE_ITEMS;
+const REPLACE_ITEMS: u64 = COPY_ITEMS + 2 * CHANGE_ITEMS + STAGE_ITEMS;
 
 const REPLACED_ONCE: u64 = APPENDED + REPLACE_ITEMS;
 
@@ -414,7 +554,7 @@ const REPLACED: &[Stops] = &[
     },
 ];
 
-/// Destaged, freed, assigned and staged: 19 tracks twice, and four changes of a row.
+/// Destaged, freed, assigned and staged: 19 tracks twice, each time with a sync behind them, and four changes of a row.
 const FIRST_REPLACED: &[Stops] = &[Stops {
     first: APPENDED,
     last: REPLACED_ONCE,
@@ -423,12 +563,20 @@ const FIRST_REPLACED: &[Stops] = &[Stops {
     ends: FIRST_LEFT,
 }];
 
-const SHORT_TEARS: &[Option<&[u8]>] = &[Some(&[0]), Some(&[0xC1]), Some(&[0xFF, 0, 0xFF])];
+const SHORT_TEARS: Tears = Tears {
+    each: &[
+        Torn::Next(&[0]),
+        Torn::Next(&[0xC1]),
+        Torn::Next(&[0xFF, 0, 0xFF]),
+    ],
+    later: 0,
+};
 
-/// So many bytes.
-fn filled(alloc: Global, byte: u8, count: usize) -> Option<Vec<u8>> {
-    vec![in alloc; byte; count].ok()
-}
+const REPLACEMENTS: &[(Tears, &[Stops])] = &[
+    (WHOLE, REPLACED),
+    (UNFIRM, REPLACED),
+    (SHORT_TEARS, FIRST_REPLACED),
+];
 
 const REPLACING: Marks = Marks {
     writes: RETURNED,
@@ -450,36 +598,22 @@ const REPLACING: Marks = Marks {
         ASSIGNED,
         STAGED,
         CHANGED,
-        APPENDED + TRACK_ITEMS + CHANGE_ITEMS,
-        APPENDED + TRACK_ITEMS + 2 * CHANGE_ITEMS,
-        APPENDED + TRACK_ITEMS + 3 * CHANGE_ITEMS,
+        APPENDED + COPY_ITEMS + CHANGE_ITEMS,
+        APPENDED + COPY_ITEMS + 2 * CHANGE_ITEMS,
+        APPENDED + COPY_ITEMS + 3 * CHANGE_ITEMS,
         REPLACED_ONCE,
         REPLACED_ONCE + CHANGE_ITEMS,
-        APPENDED_AGAIN + TRACK_ITEMS + CHANGE_ITEMS,
-        APPENDED_AGAIN + TRACK_ITEMS + 2 * CHANGE_ITEMS,
-        APPENDED_AGAIN + TRACK_ITEMS + 3 * CHANGE_ITEMS,
+        APPENDED_AGAIN + COPY_ITEMS + CHANGE_ITEMS,
+        APPENDED_AGAIN + COPY_ITEMS + 2 * CHANGE_ITEMS,
+        APPENDED_AGAIN + COPY_ITEMS + 3 * CHANGE_ITEMS,
         RETURNED,
     ],
 };
 
-fn other_torn(alloc: Global, site: &MemorySite, whole: &[u8]) -> Option<u64> {
-    let other = other_stop(alloc, site, &[None, Some(whole)], 1, REPLACED);
-    if other.is_some() {
-        return other;
-    }
-    other_stop(alloc, site, SHORT_TEARS, 1, FIRST_REPLACED)
-}
-
-fn other_replaced(alloc: Global) -> Option<Option<u64>> {
-    let site = left_by(alloc, REPLACEMENT, &REPLACING)?;
-    // It fills the range of each write.
-    let whole = filled(alloc, 0xFF, BLOCK_BYTES)?;
-    Some(other_torn(alloc, &site, whole.as_slice()))
-}
-
 #[test]
 fn a_stop_at_each_write_of_replacements_leaves_what_was_answered(rt: HostRuntime) {
-    assert_eq!(rt; other_replaced(rt.alloc()), Some(None));
+    let other = other_of(rt.alloc(), REPLACEMENT, &REPLACING, REPLACEMENTS);
+    assert_eq!(rt; other, Some(None));
 }
 
 const FOUR_CREATED: u64 = SYNC_ITEMS + 4 * CREATE_ITEMS;
@@ -569,7 +703,7 @@ const THREE_HOSTS_SHOWN: &[Stops] = &[
 ];
 
 /// The searches of the three hosts are answered when all three cylinders are staged. Two recorders assign and stage side by
-/// side, and then one of them does for the third host.
+/// side, both on one disk, which the first sync makes firm for both; then one of them does for the third host.
 const TURNING: Marks = Marks {
     writes: ALL_WRITTEN,
     entries: &[
@@ -624,7 +758,7 @@ const TURNING: Marks = Marks {
         FOUR_CREATED,
         FOUR_CREATED + CHANGE_ITEMS,
         FOUR_CREATED + 2 * CHANGE_ITEMS,
-        FOUR_CREATED + 2 * TRACK_ITEMS + 3 * CHANGE_ITEMS,
+        FOUR_CREATED + 2 * TRACK_ITEMS + SYNC_ITEMS + 3 * CHANGE_ITEMS,
         FOUR_CREATED + 2 * STAGE_ITEMS,
         FOUR_CREATED + 2 * STAGE_ITEMS + CHANGE_ITEMS,
         THREE_STAGED,
@@ -637,16 +771,17 @@ const TURNING: Marks = Marks {
     ],
 };
 
+/// At every seventeenth moment, and at the last of each row.
+fn other_of_hosts(alloc: Global) -> Option<Option<u64>> {
+    let site = left_by(alloc, THREE_HOSTS, &TURNING)?;
+    let whole = other_stop(alloc, &site, &WHOLE, 17, THREE_HOSTS_SHOWN);
+    if whole.is_some() {
+        return Some(whole);
+    }
+    Some(other_stop(alloc, &site, &UNFIRM, 17, THREE_HOSTS_SHOWN))
+}
+
 #[test]
 fn stops_of_three_hosts_leave_what_was_answered(rt: HostRuntime) {
-    let tears = [None, Some(b"\0".as_slice())];
-    let other = other_of(
-        rt.alloc(),
-        THREE_HOSTS,
-        &TURNING,
-        &tears,
-        17,
-        THREE_HOSTS_SHOWN,
-    );
-    assert_eq!(rt; other, Some(None));
+    assert_eq!(rt; other_of_hosts(rt.alloc()), Some(None));
 }

@@ -1,6 +1,8 @@
 use Rattle.std.proofs.Common.{inl, Ok, Err, refl, sym, subst}
 use Rattle.mss_base.specs.Configs.{ConfigData}
 use Rattle.shown_volumes.specs.declared.refused.Refused.TheVariants.{Memory}
+use Rattle.shown_volumes.proofs.QuietFacts.{all_firm, settled_firm}
+use Rattle.mss_restart.proofs.Settling.{opens_firm}
 use Rattle.core_state.specs.CoreValue.{DevicesSeen, seen_site}
 use Rattle.core_restart.specs.Opening.{OpensSynced, opened_in}
 use Rattle.core_restart.specs.Opening as made
@@ -31,12 +33,14 @@ returns-in-Err-clause-takes_up g c = λ tells.
 pub begin-requires-clause-opened : goal.begin-requires-clause-opened
 begin-requires-clause-opened g c =
     let tells = g.S.Site.tells in
+    let old = seen_site g.S.Site c.args.site in
     let synced = seen_site g.S.Site c.sync_site.new.site in
     let new = seen_site g.S.Site c.in-Ok-open_rows.site in
     let are = c.in-Ok-open_rows.ensures in
     let opened = c.in-Ok-open_rows.opened in
     subst (λ (config : ConfigData). MayBegin tells new.told new.writes config opened) (sym c.in-Ok.ensures.config_)
-    (may_begin tells c.args.config.now synced new opened c.look.ensures.places c.look.ensures.are_rows are.any.usable are.any.counted (λ tells. (are.told tells).opens))
+    (may_begin tells c.args.config.now synced new opened c.look.ensures.places c.look.ensures.are_rows are.any.usable are.any.counted (λ tells. (are.told tells).opens)
+    (λ tells. settled_firm synced.told new.told (opens_firm c.args.config.now synced.told new.told opened (are.told tells).complete) (all_firm old.told synced.told (c.in-Ok-sync_site.ensures.synced.told tells))))
 
 -- what is opened, or refused, is what was synced
 pub returns-in-Err-open_rows-clause-restarts : goal.returns-in-Err-open_rows-clause-restarts

@@ -1,11 +1,12 @@
-use Rattle.std.proofs.Common.{rules, ◌<◌, ◌∙◌, refl, sym, subst}
-use Rattle.mss_base.specs.Content.{SiteLog, content, Writes}
+use Rattle.std.proofs.Common.{rules, [], ◌∷◌, ◌<◌, ◌∙◌, refl, sym, subst}
+use Rattle.mss_base.specs.Content.{SiteLog, Settles, content, Writes}
 use Rattle.table_pair.specs.Pair.{ChangesRow, NoneOrNew}
 use Rattle.table_pair.specs.Slots.{IsChanged, no_slots}
 use Rattle.volume_table.specs.Listed.{listed}
 use Rattle.mss_restart.proofs.CreatedFacts.{moments_of, created_of, listed_new, on_ok}
 use Rattle.mss_restart.proofs.Counting.{new_row}
-use Rattle.mss_restart.proofs.OtherRows.{creation_others}
+use Rattle.mss_restart.proofs.Creating.{none_made}
+use Rattle.mss_restart.proofs.OtherRows.{creation_others, nothing_else}
 use Rattle.mss_restart.proofs.creations.create_volume.Goals as goal
 
 pub returns-then-is_err-clause-moments : goal.returns-then-is_err-clause-moments
@@ -52,12 +53,14 @@ returns-clause-complete g c = λ tells.
     c.lowest_free-first.ensures
     c.lowest_free-second.ensures c.in_ok-row.ensures)
     c.put.ensures.rows in
+    let changed = on_ok (IsChanged c.in_ok-row.row no_slots c.args.volume (g.S.Site.told c.reserve.new.self) (g.S.Site.told c.create_row.new.site)) c.create_row.result (sym c.is_err.ensures.value ∙ c.if-is_err.false) (c.create_row.ensures.done tells) in
     record {
       row = c.in_ok-row.row;
       is_new = new.is_new;
       now = new.now;
       moments = subst (λ (x : SiteLog). Writes (ChangesRow c.args.volume (NoneOrNew c.args.volume c.in_ok-row.row) (content x)) x (g.S.Site.told c.create_row.new.site)) (c.reserve.ensures.told tells) (c.create_row.ensures.moments tells);
-      held = (on_ok (IsChanged c.in_ok-row.row no_slots c.args.volume (g.S.Site.told c.reserve.new.self) (g.S.Site.told c.create_row.new.site)) c.create_row.result (sym c.is_err.ensures.value ∙ c.if-is_err.false) (c.create_row.ensures.done tells)).holds;
+      held = changed.holds;
+      firm = subst (λ (x : SiteLog). Settles x (g.S.Site.told c.create_row.new.site)) (c.reserve.ensures.told tells) changed.firm;
       named = refl;
       count = c.writes.ensures ∙ g.met.S.Site.counted c.create_row.new.site tells;
     }
@@ -71,3 +74,15 @@ pub returns-clause-others : goal.returns-clause-others
 returns-clause-others g c = λ tells.
     creation_others c.args.volume c.args.serial c.in_ok-row.row (g.S.Site.told c.args.site.now) (g.S.Site.told c.create_row.new.site)
     (subst (λ (x : SiteLog). Writes (ChangesRow c.args.volume (NoneOrNew c.args.volume c.in_ok-row.row) (content x)) x (g.S.Site.told c.create_row.new.site)) (c.reserve.ensures.told tells) (c.create_row.ensures.moments tells))
+
+pub returns-in_err-row-clause-moments : goal.returns-in_err-row-clause-moments
+returns-in_err-row-clause-moments g c = λ tells frames sound. none_made frames c.args.volume c.args.serial _ _ refl sound
+
+pub returns-in_err-row-clause-others : goal.returns-in_err-row-clause-others
+returns-in_err-row-clause-others g c = λ tells. nothing_else ((c.args.volume, c.args.serial) ∷ []) _ _ refl
+
+pub returns-in_err-reserve-clause-moments : goal.returns-in_err-reserve-clause-moments
+returns-in_err-reserve-clause-moments g c = λ tells frames sound. none_made frames c.args.volume c.args.serial _ _ (c.reserve.ensures.told tells) sound
+
+pub returns-in_err-reserve-clause-others : goal.returns-in_err-reserve-clause-others
+returns-in_err-reserve-clause-others g c = λ tells. nothing_else ((c.args.volume, c.args.serial) ∷ []) _ _ (c.reserve.ensures.told tells)

@@ -70,7 +70,7 @@ loop-entry-preserved g c =
         creating = λ tells.
             created_too all start begun mid rows used v behind (subst (λ (x : List VolumeData). IsCreating all start begun mid rows used x) rest (known.creating tells))
             (ap (λ (o : Option RowValue). is_some o) row ∙ c.is_none-missing.ensures ∙ ap not w.if-missing.true) (g.S.Site.told w.create_volume.new.site) (w.create_volume.ensures.moments tells)
-            (w.create_volume.ensures.others tells) w.create_volume.new.rows w.put_none.new.used.items (w.in_ok-create_volume.ensures.created tells) known.places
+            (w.create_volume.ensures.others tells) (w.in_ok-create_volume.ensures.complete tells).firm w.create_volume.new.rows w.put_none.new.used.items (w.in_ok-create_volume.ensures.created tells) known.places
             w.put_none.ensures rising.0;
         coming =
             coming_on all start (listed rows) c.loop-entry.creations.items v behind (g.S.Site.writes c.args.site.now) (g.S.Site.writes c.loop-entry.site)

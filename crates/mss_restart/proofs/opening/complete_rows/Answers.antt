@@ -13,6 +13,7 @@ use Rattle.mss_restart.proofs.Repaired.{written_on}
 use Rattle.mss_restart.proofs.OtherRows.{others_then, none_of}
 use Rattle.mss_restart.proofs.Finishing.{repairs_complete, creates_complete, counted_since}
 use Rattle.mss_restart.proofs.Completed.{on_ok_too, no_front, rows_held, then_created, created_since}
+use Rattle.mss_restart.proofs.Settling.{repaired_firm}
 use Rattle.mss_restart.proofs.opening.complete_rows.Goals as goal
 
 pub returns-in_err-repair_rows-clause-moments : goal.returns-in_err-repair_rows-clause-moments
@@ -33,7 +34,7 @@ returns-clause-moments g c = λ tells.
     let now = g.S.Site.told c.create_volumes.new.site in
     let rows = c.args.rows.now in
     let same : c.as_slice-volumes.result.now ≡ c.args.config.now.volumes = c.as_slice-volumes.ensures ∙ ap (λ (x : ConfigData). x.volumes) c.config.view_is in
-    then_created rows s mid c.look.ensures.places (c.requires.told tells) (c.repair_rows.ensures.moments tells) c.args.config.now.volumes now
+    then_created rows s mid c.look.ensures.places (c.requires.told tells) (c.repair_rows.ensures.moments tells) c.args.config.now.volumes now (repaired_firm 32 s mid (c.in_ok-repair_rows.ensures.complete tells))
     (subst (λ (x : List VolumeData). (frames : _) → IsSound frames (content mid) → Writes (ShowsFront frames (missing (listed rows) x) (shown (content mid))) mid now) same (c.create_volumes.ensures.told tells).moments)
 
 pub returns-clause-created : goal.returns-clause-created
@@ -114,5 +115,5 @@ returns-clause-others g c = λ tells.
     let rows = listed c.args.rows.now in
     let volumes = missing rows c.args.config.now.volumes in
     let same : c.as_slice-volumes.result.now ≡ c.args.config.now.volumes = c.as_slice-volumes.ensures ∙ ap (λ (x : ConfigData). x.volumes) c.config.view_is in
-    others_then volumes s mid now (none_of volumes s mid (c.repair_rows.ensures.others tells))
+    others_then volumes s mid now (repaired_firm 32 s mid (c.in_ok-repair_rows.ensures.complete tells)) (none_of volumes s mid (c.repair_rows.ensures.others tells))
     (subst (λ (x : List VolumeData). RepairsOthers (missing rows x) mid now) same (c.create_volumes.ensures.told tells).others)

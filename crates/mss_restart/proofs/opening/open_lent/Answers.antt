@@ -13,7 +13,7 @@ use Rattle.mss_restart.proofs.Finishing.{none_complete, stop_refuses, refusal_co
 use Rattle.mss_base.specs.Configs.{ConfigData, IsConfig}
 use Rattle.mss_base.specs.Content.{SiteLog, content}
 use Rattle.mss_restart.specs.Opening.{AreCreated}
-use Rattle.mss_restart.proofs.Creating.{AreRising}
+use Rattle.mss_restart.proofs.Creating.{AreRising, none_shown}
 use Rattle.mss_restart.proofs.Completed.{moments_at, others_at, opened}
 use Rattle.mss_restart.proofs.OtherRows.{nothing_else}
 use Rattle.mss_restart.proofs.opening.open_lent.Goals as goal
@@ -130,3 +130,15 @@ pub returns-clause-others : goal.returns-clause-others
 returns-clause-others g c = λ tells.
     others_at (g.S.Site.told c.args.site.now) (g.S.Site.told c.known_rows.new.site) (g.S.Site.told c.complete_rows.new.site) c.in_ok-rows.rows c.args.config.now.volumes (c.known_rows.ensures.devices.log tells)
     c.look.ensures.places (c.in_ok-rows.ensures.known tells) (c.complete_rows.ensures.others tells)
+
+pub returns-in_err-reserve-clause-moments : goal.returns-in_err-reserve-clause-moments
+returns-in_err-reserve-clause-moments g c = λ tells frames sound.
+    none_shown frames (missing (rows_of (content (g.S.Site.told c.args.site.now))) c.args.config.now.volumes) _ _ refl sound
+
+pub returns-in_err-used-clause-moments : goal.returns-in_err-used-clause-moments
+returns-in_err-used-clause-moments g c = λ tells frames sound.
+    none_shown frames (missing (rows_of (content (g.S.Site.told c.args.site.now))) c.args.config.now.volumes) _ _ refl sound
+
+pub returns-in_err-rows-clause-moments : goal.returns-in_err-rows-clause-moments
+returns-in_err-rows-clause-moments g c = λ tells frames sound.
+    none_shown frames (missing (rows_of (content (g.S.Site.told c.args.site.now))) c.args.config.now.volumes) _ _ (c.known_rows.ensures.devices.log tells) sound

@@ -2,6 +2,7 @@ use Rattle.std.proofs.Common.{rules, ◌≡◌, ◌∙◌, ℕ, false, Err, [], 
 use Rattle.mss_restart.specs.Creations.{AreRepaired}
 use Rattle.mss_restart.proofs.OtherRows.{nothing_else, others_then, repair_others}
 use Rattle.mss_restart.proofs.Repaired.{nothing_repaired, repaired_too, held_too, slots_too, none_repaired, one_repaired, nothing_written, written_on, may_be_written, stop_since, memory_repairs}
+use Rattle.mss_restart.proofs.Settling.{repaired_firm}
 use Rattle.mss_restart.proofs.repairs.repair_rows.Goals as goal
 
 pub loop-number-init : goal.loop-number-init
@@ -9,11 +10,11 @@ loop-number-init g c = record { repaired = λ tells. nothing_repaired (g.S.Site.
 
 pub returns-in-Err-clause-moments : goal.returns-in-Err-clause-moments
 returns-in-Err-clause-moments g c = λ tells.
-    (repaired_too (g.S.Site.told c.args.site.now) (g.S.Site.told c.loop-number.site) (g.S.Site.told c.repair.new.site) c.volume_at.result (c.loop-number.invariant.repaired tells) (c.repair.ensures.moments tells)).moments
+    (repaired_too (g.S.Site.told c.args.site.now) (g.S.Site.told c.loop-number.site) (g.S.Site.told c.repair.new.site) c.volume_at.result (c.loop-number.invariant.repaired tells) (repaired_firm c.loop-number.number (g.S.Site.told c.args.site.now) (g.S.Site.told c.loop-number.site) (c.loop-number.invariant.complete tells)) (c.repair.ensures.moments tells)).moments
 
 pub returns-in-Err-clause-rows : goal.returns-in-Err-clause-rows
 returns-in-Err-clause-rows g c = λ tells.
-    (repaired_too (g.S.Site.told c.args.site.now) (g.S.Site.told c.loop-number.site) (g.S.Site.told c.repair.new.site) c.volume_at.result (c.loop-number.invariant.repaired tells) (c.repair.ensures.moments tells)).rows
+    (repaired_too (g.S.Site.told c.args.site.now) (g.S.Site.told c.loop-number.site) (g.S.Site.told c.repair.new.site) c.volume_at.result (c.loop-number.invariant.repaired tells) (repaired_firm c.loop-number.number (g.S.Site.told c.args.site.now) (g.S.Site.told c.loop-number.site) (c.loop-number.invariant.complete tells)) (c.repair.ensures.moments tells)).rows
 
 pub returns-in-Err-clause-stops : goal.returns-in-Err-clause-stops
 returns-in-Err-clause-stops g c =
@@ -37,20 +38,20 @@ returns-in-Err-clause-devices g c =
 pub loop-number-preserved : goal.loop-number-preserved
 loop-number-preserved g c = let place : c.from.result ≡ c.loop-number.number = search rules in record {
   repaired = λ tells.
-      repaired_too (g.S.Site.told c.args.site.now) (g.S.Site.told c.loop-number.site) (g.S.Site.told c.repair.new.site) c.volume_at.result (c.loop-number.invariant.repaired tells) (c.repair.ensures.moments tells);
+      repaired_too (g.S.Site.told c.args.site.now) (g.S.Site.told c.loop-number.site) (g.S.Site.told c.repair.new.site) c.volume_at.result (c.loop-number.invariant.repaired tells) (repaired_firm c.loop-number.number (g.S.Site.told c.args.site.now) (g.S.Site.told c.loop-number.site) (c.loop-number.invariant.complete tells)) (c.repair.ensures.moments tells);
   held = λ tells.
-      held_too (g.S.Site.told c.args.site.now) (g.S.Site.told c.loop-number.site) (g.S.Site.told c.repair.new.site) c.volume_at.result (c.loop-number.invariant.repaired tells) (c.repair.ensures.moments tells)
+      held_too (g.S.Site.told c.args.site.now) (g.S.Site.told c.loop-number.site) (g.S.Site.told c.repair.new.site) c.volume_at.result (c.loop-number.invariant.repaired tells) (repaired_firm c.loop-number.number (g.S.Site.told c.args.site.now) (g.S.Site.told c.loop-number.site) (c.loop-number.invariant.complete tells)) (c.repair.ensures.moments tells)
       c.loop-number.number (c.loop-number.invariant.held tells) c.volume_at.ensures (c.in-Ok.ensures.done tells);
   slots = λ tells.
-      slots_too (g.S.Site.told c.args.site.now) (g.S.Site.told c.loop-number.site) (g.S.Site.told c.repair.new.site) c.volume_at.result (c.loop-number.invariant.repaired tells) (c.repair.ensures.moments tells)
+      slots_too (g.S.Site.told c.args.site.now) (g.S.Site.told c.loop-number.site) (g.S.Site.told c.repair.new.site) c.volume_at.result (c.loop-number.invariant.repaired tells) (repaired_firm c.loop-number.number (g.S.Site.told c.args.site.now) (g.S.Site.told c.loop-number.site) (c.loop-number.invariant.complete tells)) (c.repair.ensures.moments tells)
       c.loop-number.number c.loop-number.used.items c.set.new.self.items c.in-Ok.slots (let places = c.loop-number.invariant.places in let low = c.loop-number-test.true in omega (arith, places, low)) (c.loop-number.invariant.slots tells) c.volume_at.ensures
       (c.in-Ok.ensures.used tells) (c.set.ensures.items ∙ (λ i. set c.loop-number.used.items (place i) c.in-Ok.slots));
   places = search rules;
   complete = λ tells.
       one_repaired c.loop-number.number c.volume_at.result (g.S.Site.told c.args.site.now) (g.S.Site.told c.loop-number.site) (g.S.Site.told c.repair.new.site) (c.loop-number.invariant.complete tells) c.volume_at.ensures
-      (record { moments = c.repair.ensures.moments tells; marks = c.repair.ensures.marks tells; held = c.in-Ok.ensures.done tells; alone = c.repair.ensures.untouched tells });
+      (record { moments = c.repair.ensures.moments tells; marks = c.repair.ensures.marks tells; held = c.in-Ok.ensures.done tells; alone = c.repair.ensures.untouched tells; firm = c.in-Ok.ensures.firm tells });
   others = λ tells.
-      others_then [] (g.S.Site.told c.args.site.now) (g.S.Site.told c.loop-number.site) (g.S.Site.told c.repair.new.site) (c.loop-number.invariant.others tells)
+      others_then [] (g.S.Site.told c.args.site.now) (g.S.Site.told c.loop-number.site) (g.S.Site.told c.repair.new.site) (repaired_firm c.loop-number.number (g.S.Site.told c.args.site.now) (g.S.Site.told c.loop-number.site) (c.loop-number.invariant.complete tells)) (c.loop-number.invariant.others tells)
       (repair_others c.volume_at.result (g.S.Site.told c.loop-number.site) (g.S.Site.told c.repair.new.site) (c.repair.ensures.moments tells) (c.repair.ensures.marks tells) (c.repair.ensures.untouched tells));
   count = c.in-Ok.ensures.kept ∙ c.loop-number.invariant.count;
   devices = written_on g.S.Site c.args.site.now c.loop-number.site c.repair.new.site c.loop-number.invariant.devices
@@ -70,5 +71,5 @@ returns-clause-complete g c = λ tells.
 
 pub returns-in-Err-clause-others : goal.returns-in-Err-clause-others
 returns-in-Err-clause-others g c = λ tells.
-    others_then [] (g.S.Site.told c.args.site.now) (g.S.Site.told c.loop-number.site) (g.S.Site.told c.repair.new.site) (c.loop-number.invariant.others tells)
+    others_then [] (g.S.Site.told c.args.site.now) (g.S.Site.told c.loop-number.site) (g.S.Site.told c.repair.new.site) (repaired_firm c.loop-number.number (g.S.Site.told c.args.site.now) (g.S.Site.told c.loop-number.site) (c.loop-number.invariant.complete tells)) (c.loop-number.invariant.others tells)
     (repair_others c.volume_at.result (g.S.Site.told c.loop-number.site) (g.S.Site.told c.repair.new.site) (c.repair.ensures.moments tells) (c.repair.ensures.marks tells) (c.repair.ensures.untouched tells))
