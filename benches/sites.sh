@@ -1,6 +1,6 @@
 # Read by scripts that time the program: each run of theirs has a site of its own.
 
-# Goes to a new folder, in memory where the machine has such a file system, since a run syncs each write. The folder goes
+# Goes to a new folder, in memory where the machine has such a file system, since a run syncs. The folder goes
 # when the script ends.
 enter_folder() {
     local memory=/dev/shm

@@ -18,14 +18,19 @@ def tracks_of(volumes):
 
 def moments(job, report):
     """The tracks after each entry of the history, from none on, and those within a formatting."""
+    return [tracks for tracks, _ in told_moments(job, report)]
+
+
+def told_moments(job, report):
+    """The same, each with whether it is one after an entry."""
     machine, last = Machine(job.volumes), {}
-    allowed = [last]
+    allowed = [(last, True)]
     for entry, source in zip(report.entries, sources_of(job, report), strict=True):
         reply(machine, entry, source)
         now = tracks_of(machine.volumes)
         if now != last:
-            allowed += [cut for place in now for cut in cuts(last, now, place)]
-            allowed.append(now)
+            allowed += [(cut, False) for place in now for cut in cuts(last, now, place)]
+            allowed.append((now, True))
             last = now
     return allowed
 

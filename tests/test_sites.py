@@ -203,7 +203,8 @@ class Devices:
 
     def test_a_folder_that_is_a_file(self):
         self.site.touch()
-        self.assert_told(UNREAD, self.told(self.word, text=FIRST))
+        self.assert_told(STOPPED, self.told(self.word, text=FIRST))
+        self.assert_told(UNREAD, self.told("show"))
 
     def test_a_file_that_is_a_folder(self):
         (self.site / "table_a").mkdir(parents=True)
@@ -242,7 +243,8 @@ class Devices:
         folder = os.open(self.site, os.O_RDONLY)
         self.addCleanup(os.close, folder)
         fcntl.flock(folder, fcntl.LOCK_EX)
-        self.assert_told(UNREAD, self.told(self.word, text=FIRST))
+        self.assert_told(STOPPED, self.told(self.word, text=FIRST))
+        self.assert_told(UNREAD, self.told("show"))
 
 
 class SerialDevices(Devices, SiteTest):

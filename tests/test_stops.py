@@ -1,9 +1,12 @@
-"""Stops runs at each of their writes, and has each of their calls on files fail once, by strace.
+"""Stops runs at each of their writes and syncs, and has each of their calls on files fail once, by strace.
 
-A run that is killed as it is about to write leaves the writes before. So, write by write, the volumes of the site that
-is left go on from none to those of the whole history. Where one call fails, the report has to be one that plain volumes
-give, with an equipment check, a stop or a refused site, and the site has to show the volumes of its history, or of the
-entry that was stopped. Each site that is left has to be taken up by the next run.
+A run that is killed as it is about to write or to sync leaves the writes before. So, write by write, the volumes of the
+site that is left go on from none to those of the whole history. Where one call fails, the report has to be one that
+plain volumes give, with an equipment check, a stop or a refused site, and the site has to show the volumes of its
+history, or of the entry that was stopped. Each site that is left has to be taken up by the next run.
+
+A run on a site that is there first syncs what earlier runs wrote. Where a call of that fails, the site is refused, and
+nothing is written.
 
 Where a read of the job fails, the run tells an input fault. Where a write of a report of many writes fails, those
 before it stand, and nothing comes that was put after it.
@@ -28,6 +31,7 @@ from left_sites import cuts, listed, moments, tracks_of
 
 CALLS = ("pread64", "pwrite64", "fdatasync", "fsync")
 DONE, INPUT_FAULT, RESTART_REFUSED, STOPPED, OUTPUT_FAULT = 0, 2, 4, 5, 7
+REFUSED = b"restart refused stopped fault "
 NOT_LOADED = 127  # the loader's own reads fail before the program begins
 JOBS = [(name, (EXAMPLES / f"{name}.job").read_bytes()) for name in ("first", "update", "replacement")]
 
@@ -96,7 +100,7 @@ def is_due(job, ran, left):
     if ran.returncode == NOT_LOADED:
         return left == {}
     if ran.returncode == RESTART_REFUSED:
-        return ran.stdout.startswith(b"restart refused stopped fault ") and left == {}
+        return ran.stdout.startswith(REFUSED) and left == {}
     report = read_report(ran.stdout)
     replay(job, report)
     is_stopped = report.last.startswith("STOPPED")
@@ -116,19 +120,21 @@ def streams_of(text):
 
 @tests_of(JOBS)
 @unittest.skipUnless(may_trace(), "this machine has no strace, or may not trace")
-class KilledWrites(SiteTest):
-    """Runs that are killed at each of their writes."""
+class KilledCalls(SiteTest):
+    """Runs that are killed at each of their writes and syncs."""
 
     def check(self, text):
         calls, whole = calls_of(text)
-        allowed, last = moments(read_job(text), read_report(whole)), 0
-        self.assertGreater(calls["pwrite64"], 30)
-        for number in range(1, calls["pwrite64"] + 1):
-            ran, left, again = injected(text, "pwrite64", "signal=KILL", number)
-            self.assertEqual(ran.returncode, -signal.SIGKILL, f"killed at write {number}")
-            self.assertIn(left, allowed[last:], f"killed at write {number}")
-            self.assertEqual(again, DONE, f"killed at write {number}, its site isn't taken up")
-            last = allowed.index(left, last)
+        allowed = moments(read_job(text), read_report(whole))
+        for call, least in (("pwrite64", 30), ("fdatasync", 10)):
+            self.assertGreater(calls[call], least)
+            last = 0
+            for number in range(1, calls[call] + 1):
+                ran, left, again = injected(text, call, "signal=KILL", number)
+                self.assertEqual(ran.returncode, -signal.SIGKILL, f"killed at {call} {number}")
+                self.assertIn(left, allowed[last:], f"killed at {call} {number}")
+                self.assertEqual(again, DONE, f"killed at {call} {number}, its site isn't taken up")
+                last = allowed.index(left, last)
 
 
 @tests_of(JOBS)
@@ -148,6 +154,26 @@ class FailedCalls(SiteTest):
             told = f"where {call} {number} fails, it ends with {ran.returncode}, and leaves {left}"
             self.assertTrue(is_right, told)
             self.assertEqual(again, DONE, f"where {call} {number} fails, its site isn't taken up")
+
+
+@tests_of(JOBS)
+@unittest.skipUnless(may_trace(), "this machine has no strace, or may not trace")
+class FailedStarts(SiteTest):
+    """Runs on sites that are there, in which a call of the first syncs fails."""
+
+    def check(self, text):
+        self.assertEqual(self.ran("serial", text=text).returncode, DONE)
+        files = len(list(self.site.iterdir()))
+        before = self.ran("show").stdout
+        for call, count in (("fdatasync", files), ("fsync", 2), ("getdents64", 2)):
+            for number in range(1, count + 1):
+                tracing = ["strace", "--quiet=all", "--output=calls", f"--inject={call}:error=EIO:when={number}"]
+                ran = run([*tracing, PROGRAM, "serial"], self.folder, text)
+                told = (ran.stdout, ran.returncode)
+                self.assertEqual(told, (REFUSED + b"1\n", RESTART_REFUSED), f"where {call} {number} fails")
+                self.assertNotIn("pwrite64(", Path(self.folder, "calls").read_text(), f"where {call} {number} fails")
+                self.assertEqual(self.ran("show").stdout, before, f"where {call} {number} fails")
+        self.assertEqual(self.ran("serial", text=text).returncode, DONE)
 
 
 @unittest.skipUnless(may_trace(), "this machine has no strace, or may not trace")

@@ -2,3 +2,5 @@ pub mod Transfers
 pub mod Keeping
 pub mod Appending
 pub mod Known
+pub mod Places
+pub mod Naming

@@ -2,4 +2,5 @@ pub mod Files
 pub mod KeptBlocks
 pub mod FileSites
 pub mod Paths
+pub mod Slots
 pub mod Output

@@ -5,6 +5,7 @@ ghost use Rattle.mss_base.specs.Counts.{HasCause, next_count, count_after};
 ghost use Rattle.mss_files.specs.Files.{file_place, bytes_at, ChangesOnly};
 
 use crate::kept_block::KeptBlock;
+use crate::transfer::{sync_unit, sync_units};
 use crate::{Folder, UnitFiles};
 use mss_base::{BLOCK_BYTES, BlockPlace, Failed, NoMemory, Site, UnitNo};
 use std::alloc::Global;
@@ -15,9 +16,9 @@ use std::rt::Files;
 /// A site in files, one for each unit. Block n begins at byte 16,384 n; behind a file's end are
 /// zeros.
 ///
-/// A write is made to last before it is answered. The block that was brought last is kept, and is
-/// brought again without a call of the files. Clauses on bytes speak of files that tell; to the
-/// layers above no site in files tells.
+/// What is written is firm once its unit, or all, is synced. The block that was brought last is
+/// kept, and is brought again without a call of the files. Clauses on bytes speak of files that tell;
+/// to the layers above no site in files tells.
 #[derive(Drop)]
 pub struct FileSite<F: UnitFiles> {
     files: F,
@@ -169,15 +170,15 @@ impl<F: UnitFiles> Site for FileSite<F> {
         self.kept.bytes()
     }
 
-    /// Writes into a block, and makes it last. It fails where a call of the files fails. The block
-    /// that is kept gets the bytes as well, and isn't kept any more where writing into it failed.
+    /// Writes into a block. The bytes are firm once their unit is synced. It fails where a call of
+    /// the files fails. The block that is kept gets the bytes as well, and isn't kept any more where
+    /// writing into it failed.
     fn write(&mut self, unit: UnitNo, block: u32, offset: u16, bytes: &[u8]) -> Result<(), Failed>
         requires inside { offset + length bytes.now ≤ BLOCK_BYTES }
         ensures bytes { F.tells → OnOk result (bytes_at (F.byte self.new.files unit)
             (file_place block offset) (length bytes.now) ≡ bytes.now) }
         ensures only { F.tells → ChangesOnly unit (file_place block offset) (length bytes.now)
             (F.byte self.old.files) (F.byte self.new.files) }
-        ensures lasts { F.tells → OnOk result (F.lasts self.new.files unit ≡ true) }
         ensures stays { OnOk result (self.new.kept.place ≡ self.old.kept.place) }
         ensures writes { self.new.writes ≡ next_count self.old.writes }
         ensures kept { self.old.writes ≤ self.new.writes }
@@ -194,25 +195,44 @@ impl<F: UnitFiles> Site for FileSite<F> {
         }
     }
 
-    /// Counts a sync. Nothing is left to be done: each write lasts when it is answered.
+    /// Makes firm all that was written to a unit. It fails where a call of the files fails.
     fn sync(&mut self, unit: UnitNo) -> Result<(), Failed>
-        ensures ok { IsOk result }
-        ensures writes { self.new ≡ record self.old { writes = next_count self.old.writes } }
+        ensures lasts { F.tells → OnOk result (F.lasts self.new.files unit ≡ true) }
+        ensures bytes { F.tells → F.byte self.new.files ≡ F.byte self.old.files }
+        ensures stays { self.new.kept ≡ self.old.kept }
+        ensures writes { self.new.writes ≡ next_count self.old.writes }
         ensures kept { self.old.writes ≤ self.new.writes }
+        ensures counted { self.new.faults ≡ count_after (is_err result) self.old.faults }
+        ensures cause { HasCause self.old.faults self.new.faults result }
+        ensures works { F.never_fails self.old.files → IsOk result }
+        ensures sound { F.never_fails self.old.files → F.never_fails self.new.files }
     {
-        let _unit = unit;
         self.writes = self.writes.saturating_add(1);
-        Ok(())
+        match sync_unit(&mut self.files, &unit) {
+            Ok(()) => Ok(()),
+            Err(_) => Err(self.count_fault()),
+        }
     }
 
-    /// Counts a sync. Nothing is left to be done: each write lasts when it is answered.
+    /// Makes firm all that was written, by this run or an earlier one. It fails where a call of the
+    /// files fails.
     fn sync_all(&mut self) -> Result<(), Failed>
-        ensures ok { IsOk result }
-        ensures writes { self.new ≡ record self.old { writes = next_count self.old.writes } }
+        ensures lasts { F.tells → OnOk result
+            ((unit : UnitNo) → F.lasts self.new.files unit ≡ true) }
+        ensures bytes { F.tells → F.byte self.new.files ≡ F.byte self.old.files }
+        ensures stays { self.new.kept ≡ self.old.kept }
+        ensures writes { self.new.writes ≡ next_count self.old.writes }
         ensures kept { self.old.writes ≤ self.new.writes }
+        ensures counted { self.new.faults ≡ count_after (is_err result) self.old.faults }
+        ensures cause { HasCause self.old.faults self.new.faults result }
+        ensures works { F.never_fails self.old.files → IsOk result }
+        ensures sound { F.never_fails self.old.files → F.never_fails self.new.files }
     {
         self.writes = self.writes.saturating_add(1);
-        Ok(())
+        match sync_units(&mut self.files) {
+            Ok(()) => Ok(()),
+            Err(_) => Err(self.count_fault()),
+        }
     }
 
     fn writes(&self) -> u64 {

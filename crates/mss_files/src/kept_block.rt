@@ -113,8 +113,8 @@ impl KeptBlock {
         read_all(files, &place.unit, file_place(place.block, 0), into)
     }
 
-    /// Writes into a block of the files, and into the one that is here if it is the same. Where the
-    /// files fail in that, none is here.
+    /// Writes into a block of the files, and into the one that is here if it is the same. The bytes
+    /// are firm once their unit is synced. Where the files fail in that, none is here.
     pub fn write<F: UnitFiles>(
         &mut self,
         files: &mut F,
@@ -129,7 +129,6 @@ impl KeptBlock {
             (file_place place.now.block offset) (length bytes.now) ≡ bytes.now) }
         ensures only { F.tells → ChangesOnly place.now.unit (file_place place.now.block offset)
             (length bytes.now) (F.byte files.old) (F.byte files.new) }
-        ensures lasts { F.tells → OnOk result (F.lasts files.new place.now.unit ≡ true) }
         ensures stays { OnOk result (self.new.place ≡ self.old.place) }
         ensures works { F.never_fails files.old → IsOk result }
         ensures sound { F.never_fails files.old → F.never_fails files.new }

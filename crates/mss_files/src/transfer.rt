@@ -2,6 +2,7 @@
 ghost use Rattle.std.specs.Prelude.{◌≡◌, ◌≢◌, ◌+◌, ◌<◌, ◌≤◌, ◌^◌, true};
 ghost use Rattle.std.specs.Prelude.{length, replicate, take, IsOk, IfOk, IfErr, OnOk};
 ghost use Rattle.std.specs.IoError.{error_kind};
+ghost use Rattle.mss_base.specs.declared.place.UnitNo.{UnitNo};
 ghost use Rattle.mss_files.specs.Files.{bytes_at, ChangesOnly, EndsAt};
 
 use crate::UnitFiles;
@@ -99,7 +100,7 @@ fn write_once<F: UnitFiles>(
     Err(io::Error::from(ErrorKind::TimedOut))
 }
 
-/// Writes bytes from a place on, and makes them last.
+/// Writes bytes from a place on. They are firm once the unit is synced.
 pub fn write_all<F: UnitFiles>(
     files: &mut F,
     unit: &UnitNo,
@@ -111,7 +112,6 @@ pub fn write_all<F: UnitFiles>(
         (bytes_at (F.byte files.new unit.now) at (length bytes.now) ≡ bytes.now) }
     ensures only { F.tells
         → ChangesOnly unit.now at (length bytes.now) (F.byte files.old) (F.byte files.new) }
-    ensures lasts { F.tells → OnOk result (F.lasts files.new unit.now ≡ true) }
     ensures works { F.never_fails files.old → IsOk result }
     ensures sound { F.never_fails files.old → F.never_fails files.new }
 {
@@ -127,5 +127,40 @@ pub fn write_all<F: UnitFiles>(
         }
         done += count;
     }
-    files.sync(unit)
+    Ok(())
+}
+
+/// Syncs a unit, and again where a signal interrupts it.
+pub fn sync_unit<F: UnitFiles>(files: &mut F, unit: &UnitNo) -> io::Result<()>
+    ensures kept { F.tells → F.byte files.new ≡ F.byte files.old }
+    ensures lasts { F.tells → OnOk result (F.lasts files.new unit.now ≡ true) }
+    ensures repeated { IfErr result (λ error. error_kind error ≢ ErrorKind.Interrupted) }
+    ensures works { F.never_fails files.old → IsOk result }
+    ensures sound { F.never_fails files.old → F.never_fails files.new }
+{
+    for _ in 0..u64::MAX {
+        match files.sync(unit) {
+            Err(error) if error.kind() == ErrorKind::Interrupted => {}
+            outcome => return outcome,
+        }
+    }
+    Err(io::Error::from(ErrorKind::TimedOut))
+}
+
+/// Syncs all units, and again where a signal interrupts it.
+pub fn sync_units<F: UnitFiles>(files: &mut F) -> io::Result<()>
+    ensures kept { F.tells → F.byte files.new ≡ F.byte files.old }
+    ensures lasts { F.tells → OnOk result
+        ((unit : UnitNo) → F.lasts files.new unit ≡ true) }
+    ensures repeated { IfErr result (λ error. error_kind error ≢ ErrorKind.Interrupted) }
+    ensures works { F.never_fails files.old → IsOk result }
+    ensures sound { F.never_fails files.old → F.never_fails files.new }
+{
+    for _ in 0..u64::MAX {
+        match files.sync_all() {
+            Err(error) if error.kind() == ErrorKind::Interrupted => {}
+            outcome => return outcome,
+        }
+    }
+    Err(io::Error::from(ErrorKind::TimedOut))
 }

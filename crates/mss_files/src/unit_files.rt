@@ -54,4 +54,11 @@ pub trait UnitFiles {
         ensures lasts { tells → OnOk result (lasts self.new unit.now ≡ true) }
         ensures works { never_fails self.old → IsOk result }
         ensures sound { never_fails self.old → never_fails self.new };
+
+    /// Makes all that was written to any unit last.
+    fn sync_all(&mut self) -> io::Result<()>
+        ensures kept { tells → byte self.new ≡ byte self.old }
+        ensures lasts { tells → OnOk result ((unit : UnitNo) → lasts self.new unit ≡ true) }
+        ensures works { never_fails self.old → IsOk result }
+        ensures sound { never_fails self.old → never_fails self.new };
 }

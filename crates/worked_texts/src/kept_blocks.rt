@@ -1,4 +1,4 @@
-// The block that a site keeps: brought again, written into, and lost.
+// The block that a site keeps: brought again, written into, and lost; and syncs that fail.
 use mss_base::{Failed, Site, UnitNo};
 use mss_files::{FileSite, UnitFiles};
 use std::alloc::Global;
@@ -7,7 +7,8 @@ use std::io::ErrorKind;
 use std::process::Abort;
 
 /// Files of sevens that forget what is written. The first read of them succeeds, and no other;
-/// each write does, but those of the table's second copy.
+/// each write and each sync of a unit does, but those of the table's second copy. No sync of all
+/// succeeds.
 #[derive(Drop)]
 struct ReadOnce {
     was_read: bool,
@@ -40,8 +41,15 @@ impl UnitFiles for ReadOnce {
         }
     }
 
-    fn sync(&mut self, _unit: &UnitNo) -> io::Result<()> {
-        Ok(())
+    fn sync(&mut self, unit: &UnitNo) -> io::Result<()> {
+        match unit {
+            UnitNo::TableB => Err(io::Error::from(ErrorKind::PermissionDenied)),
+            _ => Ok(()),
+        }
+    }
+
+    fn sync_all(&mut self) -> io::Result<()> {
+        Err(io::Error::from(ErrorKind::PermissionDenied))
     }
 }
 
@@ -108,4 +116,16 @@ fn a_block_that_cannot_be_written_is_not_kept(rt: HostRuntime) {
     assert!(rt; !takes(&mut site, UnitNo::TableB, 0, 0, b"row"));
     assert_eq!(rt; site.bring(UnitNo::TableB, 0), Err(Failed));
     assert_eq!(rt; site.faults(), 3);
+}
+
+#[test]
+fn a_sync_that_fails_is_counted(rt: HostRuntime) {
+    let mut site = site_of_sevens(&rt, rt.alloc());
+    assert!(rt; brings(&mut site, UnitNo::TableB, 0, &[7, 7, 7]));
+    assert_eq!(rt; site.sync(UnitNo::TableA), Ok(()));
+    assert_eq!(rt; site.sync(UnitNo::TableB), Err(Failed));
+    assert_eq!(rt; site.sync_all(), Err(Failed));
+    assert!(rt; brings(&mut site, UnitNo::TableB, 0, &[7, 7, 7]));
+    assert_eq!(rt; site.faults(), 2);
+    assert_eq!(rt; site.writes(), 3);
 }

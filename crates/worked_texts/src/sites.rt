@@ -15,13 +15,16 @@ fn cartridge(number: u16) -> Result<UnitNo, Failed> {
     }
 }
 
-/// The two cartridges, whose numbers differ by 64, share their place among the open files.
+/// The two cartridges, whose numbers differ by 64, share their place among the open files. The file
+/// of the first isn't open any more when it is synced, and the other copy of the table has none.
 fn write_site(site: &mut FolderSite) -> Result<(), Failed> {
     site.write(UnitNo::TableA, 31, 0, b"row")?;
     site.write(UnitNo::Staging(3), 1, 100, b"staged")?;
     site.write(cartridge(5)?, 0, 16_383, b"!")?;
     site.write(cartridge(69)?, 0, 16_383, b"?")?;
     site.sync(UnitNo::TableA)?;
+    site.sync(cartridge(5)?)?;
+    site.sync(UnitNo::TableB)?;
     site.sync_all()
 }
 
@@ -79,7 +82,7 @@ fn a_site_made_anew_shows_what_was_written(rt: HostRuntime) {
     let touched = fs::exists(&rt, FOLDER).expect(&rt, "a look");
     assert!(rt; !touched);
     assert_eq!(rt; write_site(&mut site), Ok(()));
-    assert_eq!(rt; site.writes(), 6);
+    assert_eq!(rt; site.writes(), 8);
 
     let mut second = FileSite::at(rt, FOLDER).expect(&rt, "a site");
     assert!(rt; !shows_staged(alloc, &mut second));
