@@ -27,6 +27,8 @@ BROKEN = [
     ("test_mss.Script", "mss", "lists the volumes", "lists volumes"),
     ("test_picture.WorkedPictures", "tests/test_picture.py", '("staged", 3, 0)', '("staged", 4, 0)'),
     ("test_policies.Counts", "tests/test_policies.py", '("clean", 3, 0, 1)', '("clean", 3, 1, 1)'),
+    ("test_policies.Compared.test_as", "tests/test_policies.py", "destaged 0 free 1", "destaged 1 free 1"),
+    ("test_power_cuts.PowerCuts.test_first", "tests/test_power_cuts.py", '(firm if call', '([] if call'),
     ("test_refused_jobs.RefusedJobs.test_0", "tests/refused_texts.py", '(2, "Unknown"', '(1, "Unknown"'),
     ("test_replay.Changed", "tests/test_replay.py", '"change 11")', '"change 12")'),
     ("test_sites.Histories", "tests/test_sites.py", "asked VOL009", "asked VOL008"),

@@ -9,6 +9,7 @@ from fixtures import TOP, Test, new_folder, run
 
 USAGE = """usage: mss serial <JOB         runs a job, and prints its report; docs/JOBS.md tells how to write one
        mss policy RULES <JOB   the same, by rules of replacement; docs/POLICIES.md tells which there are
+       mss compare <JOB        what four such choices bring about, on devices in memory
        mss threads <JOB        the same, with a thread for each host and each recorder
        mss show                lists the volumes that the jobs so far left in mss.site
        mss audit               lists all that is wrong with mss.site; docs/SITES.md tells what to do

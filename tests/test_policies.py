@@ -1,6 +1,6 @@
 """Jobs by rules of replacement: what each rule stages, destages and frees of a small job, as a person worked it out;
-that no rule changes nothing; which texts of rules are refused; drawn jobs by the model, which has the rules too; and
-tools/policies."""
+that no rule changes nothing; which texts of rules are refused; drawn jobs by the model, which has the rules too; the
+comparison of `compare`, worked out and by the model; and tools/policies."""
 
 import unittest
 
@@ -60,11 +60,68 @@ COUNTS = [
     ("avoid:0,clean", 3, 0, 1),
 ]
 
+# What `compare` tells of it. The last chooser keeps candidates with fewer than two changed cylinders, as all are.
+COMPARED = """MSS POLICIES 1
+policy lru staged 3 destaged 1 free 1
+policy clean staged 3 destaged 0 free 1
+policy quota:1 staged 3 destaged 1 free 1
+policy other staged 3 destaged 1 free 1
+END
+status 0"""
+
+# A chain without an end has 2,048 commands, and a job 4,096 entries; here the first session comes to the limit.
+ENDLESS = """mss 1 frames 1 recorders 1
+volume 0 VOL001
+host 1
+mount VOL001
+program
+ccw 03
+tic 0
+end
+program
+ccw 03
+tic 0
+end
+done
+"""
+LIMITED = """MSS POLICIES 1
+policy lru staged 0 destaged 0 free 0
+LIMIT
+status 6"""
+
+# A page with two changed cylinders, and one with one: all but the last chooser free the first, which is older.
+TWO_CHANGED = """mss 1 frames 2 recorders 1
+volume 0 VOL001
+host 1
+mount VOL001
+program
+ccw 07 000000000000
+ccw 31 0000000000
+tic 1
+ccw 1D 0000000001000003414243
+ccw 07 000000010000
+ccw 31 0001000000
+tic 5
+ccw 1D 0001000001000003414243
+ccw 07 000000080000
+ccw 31 0008000000
+tic 9
+ccw 1D 0008000001000003414243
+end
+program
+ccw 07 000000100000
+ccw 31 0010000000
+end
+done
+"""
+
 MOST = ",".join(8 * ["clean"])
 NO_RULES = ["", "clean,fast", "CLEAN", ",", "clean,", "lru,clean", "quota", "quota:", "quota:1633", "quota:01"]
 NO_RULES += ["quota:00001", "avoid:32", "avoid:-1", f"{MOST},clean"]
 NO_WORDS = ["policy", "policy clean clean", "policy clean --order", "policy clean --load 0", "policy serial"]
 NO_WORDS += ["policy --turns 5", "clean policy"]
+NO_WORDS += ["compare x", "compare compare", "compare --", "compare lru", "compare --order 1", "compare serial"]
+NO_WORDS += ["Compare", "serial compare", "policy compare"]
 REFUSED = [["policy", rules] for rules in NO_RULES] + [words.split() for words in NO_WORDS]
 
 # With one frame each page is staged over the last, which is destaged once it was changed; with three nothing is taken.
@@ -149,6 +206,66 @@ class ModelByRules(SiteTest):
         if found := self.fault(text, order, turns, words):
             small = shrunk(text, lambda fewer: self.fault(fewer, order, turns, words) is not None)
             self.fail(f"{found}. By {' '.join(words)} this job differs too:\n{small}")
+
+
+def few_changed(candidates):
+    """The first of which fewer than two cylinders are changed, or the first of all."""
+    return next((place for place, candidate in enumerate(candidates) if candidate.changed < 2), 0)
+
+
+def comparison(text):
+    """What `compare` tells of a job by the model, with the status."""
+    job = read_job(text.encode())
+    choosers = [(name, chooser_of(name)) for name in ("lru", "clean", "quota:1")] + [("other", few_changed)]
+    told, last, status = "MSS POLICIES 1\n", "END", 0
+    for name, chooser in choosers:
+        lines = Model(job, plain.Machine(job.volumes), plain, chooser).report([]).splitlines()
+        kinds = [line.split(" ")[4] for line in lines if line.startswith("change ")]
+        counts = " ".join(f"{kind} {kinds.count(kind)}" for kind in ("staged", "destaged", "free"))
+        told += f"policy {name} {counts}\n"
+        if lines[-1] == "LIMIT":
+            last, status = "LIMIT", LIMIT_STATUS
+            break
+    return f"{told}{last}\nstatus {status}"
+
+
+@tests_of(
+    [
+        ("as it was worked out", JOB, COMPARED),
+        ("to the limit of entries", ENDLESS, LIMITED),
+        ("of no job", JOB.replace("done", "gone"), "job refused line 19 Unknown\nstatus 3"),
+        ("of no text", "", "job refused line 1 Ended\nstatus 3"),
+    ]
+)
+class Compared(SiteTest):
+    """What `compare` tells. It leaves no site, and looks at none."""
+
+    def check(self, text, due):
+        self.assert_told(due, self.told("compare", text=text))
+        self.assertFalse(self.site.exists())
+
+    def test_beside_a_site(self):
+        self.ran("serial", text=JOB)
+        files = {path.name: path.read_bytes() for path in self.site.iterdir()}
+        self.assert_told(COMPARED, self.told("compare", text=JOB))
+        self.assertEqual(files, {path.name: path.read_bytes() for path in self.site.iterdir()})
+
+    def test_its_output_is_full(self):
+        with open("/dev/full", "wb") as full:
+            self.assertEqual(self.ran("compare", text=JOB, stdout=full).returncode, 7)
+
+
+COMPARED_JOBS = [(name, path.read_text()) for name, path in JOBS]
+COMPARED_JOBS += [(f"job {number:02}", Drawing(number).job()) for number in range(DRAWN)]
+COMPARED_JOBS += [("two changed cylinders", TWO_CHANGED), ("no end", ENDLESS)]
+
+
+@tests_of([(f"{number:03} {name}", text) for number, (name, text) in enumerate(COMPARED_JOBS, 1)])
+class ComparedByModel(SiteTest):
+    """Comparisons beside the model."""
+
+    def check(self, text):
+        self.assert_told(comparison(text), self.told("compare", text=text))
 
 
 class Tool(Test):

@@ -3,11 +3,12 @@ use Rattle.std.proofs.Common.{◌≡◌, ◌<◌, true, false, List, [], map, dr
 use Rattle.std.proofs.lemmas.Bool.{cond-true, cond-false}
 use Rattle.std.proofs.lemmas.List.{drop-map, get_or-map}
 use Rattle.command_words.specs.declared.command.Command.{Command}
+use Rattle.command_words.specs.declared.command.Command.TheVariants.{Compare}
 use Rattle.command_words.specs.declared.command.CommandFault.{CommandFault}
 use Rattle.command_words.specs.declared.command.CommandFault.TheVariants.{Refused, Memory}
 use Rattle.command_words.specs.Options.{Text}
 use Rattle.command_words.specs.Outcomes.{Reads}
-use Rattle.command_words.specs.Words.{asks_policy, meaning, policy_by, policy_of, unruled, with_rules}
+use Rattle.command_words.specs.Words.{asks_compare, asks_policy, meaning, one_word_or_more, policy_by, policy_of, unruled, with_rules}
 use Rattle.victim_rules.specs.declared.reading.RulesFault.{RulesFault}
 use Rattle.victim_rules.specs.declared.rule.Rule.{Rule}
 
@@ -35,6 +36,12 @@ module _ {W : Type 0} (bytes : W → Text) (words : List W) where
       cond-true (asks_policy (map bytes words)) _ _ asks
       ∙ (λ i. policy_of ((get_or-map bytes words 1 rules [] within ∙ ap bytes (sym is)) i) (drop-map bytes 2 words i))
 
-  pub means_unruled : asks_policy (map bytes words) ≡ false → meaning (map bytes words) ≡ unruled (map bytes words)
+  means_other : asks_policy (map bytes words) ≡ false → meaning (map bytes words) ≡ one_word_or_more (map bytes words)
   unfolding meaning
-  means_unruled asks = cond-false (asks_policy (map bytes words)) _ _ asks
+  means_other asks = cond-false (asks_policy (map bytes words)) _ _ asks
+
+  pub means_compare : asks_policy (map bytes words) ≡ false → asks_compare (map bytes words) ≡ true → meaning (map bytes words) ≡ Some Compare
+  means_compare asks compares = means_other asks ∙ cond-true (asks_compare (map bytes words)) _ _ compares
+
+  pub means_unruled : asks_policy (map bytes words) ≡ false → asks_compare (map bytes words) ≡ false → meaning (map bytes words) ≡ unruled (map bytes words)
+  means_unruled asks compares = means_other asks ∙ cond-false (asks_compare (map bytes words)) _ _ compares

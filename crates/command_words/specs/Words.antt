@@ -1,5 +1,5 @@
 -- What the words after the program's name ask for.
-use Rattle.std.specs.Prelude.{ℕ, ◌+◌, ◌-◌, ◌*◌, ◌≤◌, ⊤, Bool, ◌&&◌, nat_le, List, [], ◌∷◌}
+use Rattle.std.specs.Prelude.{ℕ, ◌+◌, ◌-◌, ◌*◌, ◌≤◌, ⊤, Bool, ◌&&◌, ◌==◌, nat_le, List, [], ◌∷◌}
 use Rattle.std.specs.Prelude.{drop, fold, get_or, length, Option, Some, None, IfSome, codes}
 use Rattle.std.specs.Prelude.{Result, Ok, Err, if◌then◌else◌}
 use Rattle.std.specs.List.{find, list_all}
@@ -8,7 +8,7 @@ use Rattle.std.specs.Str.{bytes_eq}
 use Rattle.clap.specs.Lexer.{is_digit}
 use Rattle.command_words.specs.declared.command.Command.{Command}
 use Rattle.command_words.specs.declared.command.Command.TheVariants.{Serial, Policy, Threads}
-use Rattle.command_words.specs.declared.command.Command.TheVariants.{Show, Audit}
+use Rattle.command_words.specs.declared.command.Command.TheVariants.{Show, Audit, Compare}
 use Rattle.command_words.specs.Options.{Given, Text, given_in}
 use Rattle.victim_rules.specs.Texts.{rules_of}
 use Rattle.victim_rules.specs.declared.reading.RulesFault.{RulesFault}
@@ -108,10 +108,19 @@ policy_of rules options = policy_by (rules_of rules) (unruled (codes "serial" �
 abbrev pub asks_policy : List Text → Bool
 asks_policy words = nat_le 2 (length words) && bytes_eq (get_or words 0 []) (codes "policy")
 
+-- the one word is `compare`
+abbrev pub asks_compare : List Text → Bool
+asks_compare words = (length words == 1) && bytes_eq (get_or words 0 []) (codes "compare")
+
+-- what words without rules mean, or the one word `compare`
+abbrev pub one_word_or_more : List Text → Option Command
+one_word_or_more words = if asks_compare words then Some Compare else unruled words
+
 -- what the words mean, if anything
 unfoldable pub meaning : List Text → Option Command
 meaning words =
-    if asks_policy words then policy_of (get_or words 1 []) (drop 2 words) else unruled words
+    if asks_policy words then policy_of (get_or words 1 []) (drop 2 words)
+    else one_word_or_more words
 
 -- the numbers that whoever runs a command relies on
 abbrev pub IsWithin : Command → Type 0
@@ -121,3 +130,4 @@ IsWithin (Policy rules order turns load) =
 IsWithin Threads = ⊤
 IsWithin Show = ⊤
 IsWithin (Audit frames) = (1 ≤ frames) × (frames ≤ 200)
+IsWithin Compare = ⊤

@@ -31,6 +31,8 @@ pub enum Command {
         /// How many frames are allowed, 1 to 200.
         frames: u16,
     },
+    /// A comparison of the sessions that choosers make of one job.
+    Compare,
 }
 
 /// Why words ask for nothing.

@@ -5,7 +5,7 @@
 //! options of `specs/Options.antt`. clap parses the words: `specs/Parser.antt` has what it is told,
 //! and `proofs/Walks.antt` the two laws on its walk. Digits are checked here, since clap's own
 //! number parsers take a sign, and any count of zeros. Of words that ask for rules clap parses those
-//! behind them, as if they stood behind `serial`.
+//! behind them, as if they stood behind `serial`, and the one word `compare` it doesn't see.
 #![tactic(auto)]
 
 mod command;

@@ -1,7 +1,7 @@
 //! Words that may ask for rules.
 ghost use Rattle.std.specs.Prelude.{◌≡◌, ◌≤◌, ◌∷◌, true, codes, length, map, string_bytes, Some, IfOk};
 ghost use Rattle.command_words.specs.Outcomes.{Reads};
-ghost use Rattle.command_words.specs.Words.{IsWithin, asks_policy, meaning, policy_of};
+ghost use Rattle.command_words.specs.Words.{IsWithin, asks_compare, asks_policy, meaning, policy_of};
 ghost use Rattle.command_words.specs.Words.{unruled, with_rules};
 
 use crate::command::{Command, CommandFault};
@@ -15,6 +15,13 @@ fn asks_policy(words: &[String]) -> bool
     ensures two { result ≡ true → 2 ≤ length words.now }
 {
     2 <= words.len() && words[0].as_str() == "policy"
+}
+
+/// Whether there is one word, `compare`.
+fn asks_compare(words: &[String]) -> bool
+    ensures { result ≡ asks_compare (map string_bytes words.now) }
+{
+    words.len() == 1 && words[0].as_str() == "compare"
 }
 
 /// The words of `serial` with these options.
@@ -77,14 +84,17 @@ fn read_policy(alloc: Global, rules: &str, options: &[String]) -> Result<Command
 /// once, in any order, as two words or with `=`. Order and turns are 0 where they are left out.
 /// Behind `audit` there may be `--frames` of 1 to 200, which is 200 where it is left out. A number
 /// is one to twenty digits. A last word `--` means nothing. Or they are `policy`, a text of rules,
-/// as `victim_rules` reads it, and the options of `serial`. All other words are `Refused`, `help`,
-/// `--help` and `--version` too. `Memory` may come at any words.
+/// as `victim_rules` reads it, and the options of `serial`; or the one word `compare`. All other
+/// words are `Refused`, `help`, `--help` and `--version` too. `Memory` may come at any words.
 pub fn read_command(alloc: Global, words: &[String]) -> Result<Command, CommandFault>
     ensures meaning { Reads result (meaning (map string_bytes words.now)) }
     ensures within { IfOk result IsWithin }
 {
     if asks_policy(words) {
         return read_policy(alloc, words[1].as_str(), &words[2..]);
+    }
+    if asks_compare(words) {
+        return Ok(Command::Compare);
     }
     read_unruled(alloc, words)
 }

@@ -38,13 +38,13 @@ output_of contents old new = between (AlwaysKnown contents)
 
 -- What the words ask for was done, and what that put was written. Input, devices and output are seen
 -- from before the call to behind the last write, with the status and the session that are answered
--- then.
-pub record IsDone (asked : Option Command) (p : Parties) (waiting : List ℕ) (told : Status)
-    (session : Option Session) : Type 0 where
+-- then. `other` is what the closure may answer by which a comparison chooses last.
+pub record IsDone (asked : Option Command) (other : Chooses) (p : Parties) (waiting : List ℕ)
+    (told : Status) (session : Option Session) : Type 0 where
   -- the output behind the call, and the status of the call
   pub put : Output
   pub due : Status
-  pub does : Does asked least_recent (up_to p put) due session
+  pub does : Does asked least_recent other (up_to p put) due session
   pub whole : IsWhole asked (up_to p put) due
   pub flushed : IsFlushed due put.faults p.sink.faults_now waiting told
   -- the last write puts nothing more

@@ -1,5 +1,5 @@
-//! The command of the simulator: a run, a look or an audit of the site in the folder `mss.site`, over standard input
-//! and output.
+//! The command of the simulator: a run, a look or an audit of the site in the folder `mss.site`, or a comparison of
+//! choosers beside it, over standard input and output.
 #![tactic(auto)]
 
 mod arguments;
@@ -11,6 +11,7 @@ ghost use Rattle.job_runs.specs.Parties.{devices};
 ghost use Rattle.mss_files.specs.Output.{AlwaysKnown, known};
 ghost use Rattle.mss_top.specs.Obeying.{parties};
 ghost use Rattle.mss_top.specs.Status.{code_of};
+ghost use Rattle.victim_rules.specs.Closures.{IsTest, NarrowMay};
 ghost use Rattle.mss_cli.specs.Runs.{IsDone, IsFlushed, input_of, output_of};
 
 use arguments::words;
@@ -23,7 +24,8 @@ use std::process::ExitCode;
 use std::rt::{Stdin, Stdout};
 use std::sync::Wait;
 use std::thread::Threads;
-use victim_choice::Lru;
+use victim_choice::{Candidate, Lru};
+use victim_rules::Narrow;
 
 /// The folder of the site's files.
 const SITE: &str = "mss.site";
@@ -37,7 +39,8 @@ fn main(rt: HostRuntime) -> ExitCode {
                 mut output,
                 site,
             } = begun;
-            let ended = run(&rt, &words, &mut input, &mut output, site);
+            let other = Narrow::new(|c: &Candidate| c.changed < 2);
+            let ended = run(&rt, &words, &mut input, &mut output, site, other);
             Ok(ended.status)
         }
         Err(want) => Err(want),
@@ -77,21 +80,29 @@ fn begin(rt: HostRuntime) -> Result<Begun, NoMemory>
 }
 
 /// Runs the command of these words on a site: does what they ask for, and writes what that put. The whole output is
-/// written, or the status says that it isn't.
-fn run<I: Read, W: Write + Drop, S: Site + Send, R: Threads + Wait + Sync + AllocGlobal>(
+/// written, or the status says that it isn't. A comparison chooses last by the closure that is handed in.
+fn run<
+    I: Read,
+    W: Write + Drop,
+    S: Site + Send,
+    F: Fn(&Candidate) -> bool + Drop,
+    R: Threads + Wait + Sync + AllocGlobal,
+>(
     rt: &R,
     words: &[String],
     input: &mut StdSource<I>,
     output: &mut StdSink<W>,
     site: S,
+    other: Narrow<F>,
 ) -> Ended<S>
+    requires { IsTest F.Fn other }
     ensures written { (result.status ≡ Status.OutputFault) ⊎ (output.new.waiting ≡ []) }
-    ensures does { IsDone (meaning (map string_bytes words.now))
+    ensures does { IsDone (meaning (map string_bytes words.now)) (NarrowMay F.Fn other)
         (parties (input_of I.remaining input.old input.new) (devices S.Site site result.site)
         (output_of W.contents output.old output.new))
         output.new.waiting result.status result.session }
 {
-    let ended = obey(rt, words, input, output, site, Lru, &OpenGate);
+    let ended = obey(rt, words, input, output, site, Lru, other, &OpenGate);
     let status = finish(output, ended.status);
     Ended { status, ..ended }
 }

@@ -64,14 +64,19 @@ summary_complete text end sink answer none complete (put_whole is bytes) = subst
 summary_complete text end sink answer none complete (broken is rose front) = absurd (none rose)
 summary_complete text end sink answer none complete (cut is counted front) = subst (λ (a : Answer). IsComplete (status_of end a)) (sym is) tt
 
+-- of an input that has a job, and of which no take failed, no other is told
+module _ (job : JobData) (input : Stream) (none_failed : NoneFailed input.faults_was input.faults_now) where
+  pub input_complete : (said : OneLine) → input.tells → IsJobText input.was job → IsNoJob input said → IsComplete (line_status said)
+  input_complete line.InputFault tells asks cause = absurd (no_rise _ _ _ _ none_failed (omega arith) (omega arith) cause)
+  input_complete (line.JobRefused n kind) tells asks cause =
+      let both : ◌≡◌ {A = Result JobData BadLine} (Err (record { line = n; kind = kind })) (Ok job) = sym (cause.text_ tells) ∙ asks in absurd cc
+  input_complete line.WantOfMemory tells asks cause = tt
+  input_complete line.WordsRefused tells asks cause = absurd cause
+  input_complete (line.RestartRefused why) tells asks cause = absurd cause
+
 module _ (job : JobData) (input : Stream) (site : Devices) (sink : Stream) (fair : NothingFails job input site sink) where
   pub no_job_complete : (said : OneLine) → input.tells → IsJobText input.was job → IsNoJob input said → IsComplete (line_status said)
-  no_job_complete line.InputFault tells asks cause = absurd (no_rise _ _ _ _ fair.input_none (omega arith) (omega arith) cause)
-  no_job_complete (line.JobRefused n kind) tells asks cause =
-      let both : ◌≡◌ {A = Result JobData BadLine} (Err (record { line = n; kind = kind })) (Ok job) = sym (cause.text_ tells) ∙ asks in absurd cc
-  no_job_complete line.WantOfMemory tells asks cause = tt
-  no_job_complete line.WordsRefused tells asks cause = absurd cause
-  no_job_complete (line.RestartRefused why) tells asks cause = absurd cause
+  no_job_complete = input_complete job input fair.input_none
 
   pub untaken_complete : (said : OneLine) → IsUntaken job site said → IsComplete (line_status said)
   untaken_complete said untaken = subst (λ (l : OneLine). IsComplete (line_status l)) (sym untaken.line_)

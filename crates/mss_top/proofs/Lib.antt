@@ -12,3 +12,4 @@ pub mod OneLook
 pub mod Audited
 pub mod Broken
 pub mod Obeyed
+pub mod ComparedJobs

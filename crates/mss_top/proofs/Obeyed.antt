@@ -2,7 +2,7 @@
 use Rattle.std.proofs.Common.{◌≡◌, inl, inr, ℕ, List, [], Option, Some, None, Err, refl, sym, ◌∙◌, subst}
 use Rattle.mss_base.specs.Content.{Content}
 use Rattle.command_words.specs.declared.command.Command.{Command}
-use Rattle.command_words.specs.declared.command.Command.TheVariants.{Serial, Policy, Threads, Show, Audit}
+use Rattle.command_words.specs.declared.command.Command.TheVariants.{Serial, Policy, Threads, Show, Audit, Compare}
 use Rattle.core_state.specs.declared.session.Session.{Session}
 use Rattle.report_text.specs.declared.one_line.OneLine.{OneLine}
 use Rattle.report_text.specs.declared.one_line.OneLine.TheVariants as line
@@ -16,6 +16,7 @@ use Rattle.mss_top.specs.Status.{IsLinePut}
 use Rattle.mss_top.specs.declared.status.Status.{Status}
 use Rattle.mss_top.proofs.Admitting.{refused_words}
 use Rattle.mss_top.proofs.Audited.{audit_complete, refused_audit}
+use Rattle.mss_top.proofs.ComparedJobs.{compare_complete, refused_compare}
 use Rattle.mss_top.proofs.Completed.{run_complete}
 use Rattle.mss_top.proofs.CompletedThreads.{threads_complete}
 use Rattle.mss_top.proofs.Looked.{look_complete}
@@ -24,14 +25,15 @@ use Rattle.victim_rules.specs.Rules.{RulesMay}
 use Rattle.victim_rules.specs.declared.rule.Rule.{Rule}
 
 -- where nothing fails, what was done is whole
-pub whole_of : (asked : Option Command) (may : Chooses) (p : Parties) (told : Status) (session : Option Session) → Does asked may p told session → IsWhole asked p told
-whole_of None may p told session does = tt
-whole_of (Some Show) may p told session does = λ well. look_complete (Some Show) p.site p.sink well told does
-whole_of (Some (Audit frames)) may p told session does = λ well. audit_complete (Some (Audit frames)) p.site p.sink frames well told does
-whole_of (Some Threads) may p told session does = λ job well. threads_complete (Some Threads) p.input p.site p.sink job well told does.0 session does.1
-whole_of (Some (Serial order turns load)) may p told session does = λ settings job well.
+pub whole_of : (asked : Option Command) (may other : Chooses) (p : Parties) (told : Status) (session : Option Session) → Does asked may other p told session → IsWhole asked p told
+whole_of None may other p told session does = tt
+whole_of (Some Show) may other p told session does = λ well. look_complete (Some Show) p.site p.sink well told does
+whole_of (Some (Audit frames)) may other p told session does = λ well. audit_complete (Some (Audit frames)) p.site p.sink frames well told does
+whole_of (Some Compare) may other p told session does = λ job well. compare_complete (Some Compare) other p.input p.sink job well told does.0.sessions does.0.ended
+whole_of (Some Threads) may other p told session does = λ job well. threads_complete (Some Threads) p.input p.site p.sink job well told does.0 session does.1
+whole_of (Some (Serial order turns load)) may other p told session does = λ settings job well.
     run_complete (Some (Serial order turns load)) p.input p.site p.sink settings job well told may session does
-whole_of (Some (Policy rules order turns load)) may p told session does = λ settings job well.
+whole_of (Some (Policy rules order turns load)) may other p told session does = λ settings job well.
     run_complete (Some (Serial order turns load)) p.input p.site p.sink settings job well told (RulesMay rules) session does
 
 -- ---- words that are refused
@@ -76,15 +78,17 @@ asks_serial rules order turns load (line.JobRefused n kind) is = is
 asks_serial rules order turns load (line.RestartRefused why) is = is
 
 -- whatever they ask for, if memory ran out before that was known
-pub refused_does : (asked : Option Command) (may : Chooses) (p : Parties) (told : Status) (session : Option Session) (said : OneLine)
-    → Asks asked (Err said) → IsUntouched p.input → p.site.now ≡ p.site.was → session ≡ None → IsLinePut said p.sink told → Does asked may p told session
-refused_does None may p told session said is untouched same none put =
+pub refused_does : (asked : Option Command) (may other : Chooses) (p : Parties) (told : Status) (session : Option Session) (said : OneLine)
+    → Asks asked (Err said) → IsUntouched p.input → p.site.now ≡ p.site.was → session ≡ None → IsLinePut said p.sink told → Does asked may other p told session
+refused_does None may other p told session said is untouched same none put =
     record { says = record { said = said; cause = refusal_line None said is; put = put }; unread = untouched; devices_ = same; none = none }
-refused_does (Some Show) may p told session said is untouched same none put = inl (record { said = said; cause = refused_look (Some Show) p.site said is same; put = put })
-refused_does (Some (Audit frames)) may p told session said is untouched same none put = inl (record { said = said; cause = refused_audit (Some (Audit frames)) p.site said is same; put = put })
-refused_does (Some Threads) may p told session said is untouched same none put =
+refused_does (Some Show) may other p told session said is untouched same none put = inl (record { said = said; cause = refused_look (Some Show) p.site said is same; put = put })
+refused_does (Some (Audit frames)) may other p told session said is untouched same none put = inl (record { said = said; cause = refused_audit (Some (Audit frames)) p.site said is same; put = put })
+refused_does (Some Compare) may other p told session said is untouched same none put =
+    (record { sessions = []; ended = inl (record { says = record { said = said; cause = refused_compare (Some Compare) p.input said is untouched; put = put }; none = refl }) }, same, none)
+refused_does (Some Threads) may other p told session said is untouched same none put =
     ([], ends_kept_out (Some Threads) p.input p.site p.sink told [] said session none refl (refused_threads (Some Threads) p.input said is untouched) same put)
-refused_does (Some (Serial order turns load)) may p told session said is untouched same none put =
+refused_does (Some (Serial order turns load)) may other p told session said is untouched same none put =
     refused_run order turns load may p told session said is untouched same none put
-refused_does (Some (Policy rules order turns load)) may p told session said is untouched same none put =
+refused_does (Some (Policy rules order turns load)) may other p told session said is untouched same none put =
     refused_run order turns load (RulesMay rules) p told session said (asks_serial rules order turns load said is) untouched same none put

@@ -6,4 +6,5 @@ pub mod Showing
 pub mod Auditing
 pub mod Serial
 pub mod Threads
+pub mod Comparing
 pub mod Obeying

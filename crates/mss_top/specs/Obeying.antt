@@ -4,7 +4,7 @@ use Rattle.mss_base.specs.Content.{content}
 use Rattle.mss_base.specs.declared.site.Site.{Ghosts}
 use Rattle.command_words.specs.declared.command.Command.{Command}
 use Rattle.command_words.specs.declared.command.Command.TheVariants.{Serial, Policy, Threads}
-use Rattle.command_words.specs.declared.command.Command.TheVariants.{Show, Audit}
+use Rattle.command_words.specs.declared.command.Command.TheVariants.{Show, Audit, Compare}
 use Rattle.job_text.specs.Jobs.{JobData}
 use Rattle.report_text.specs.declared.one_line.OneLine.{OneLine}
 use Rattle.report_text.specs.declared.one_line.OneLine.TheVariants as line
@@ -13,6 +13,7 @@ use Rattle.mss_run.specs.Runs.{EndData}
 use Rattle.session_report.specs.Parties.{Stream, IsUntouched}
 use Rattle.job_runs.specs.Parties.{Devices}
 use Rattle.mss_top.specs.Auditing.{AuditBrokeOff, AuditsWell, EndsAudit, IsWrongPut}
+use Rattle.mss_top.specs.Comparing.{ComparesWell, IsCompared}
 use Rattle.mss_top.specs.Ending.{SaysWhy}
 use Rattle.mss_top.specs.Serial.{Chooses, Ends, GoesWell, IsComplete, OnUnstopped, RunBrokeOff}
 use Rattle.mss_top.specs.Showing.{EndsShown, IsShown, LookBrokeOff, LooksWell}
@@ -41,18 +42,22 @@ pub record IsRefusal (p : Parties) (told : Status) (session : Option Session) : 
   pub devices_ : p.site.now ≡ p.site.was
   pub none : session ≡ None
 
--- What the words ask for is done: a look, an audit, a run in threads or a run; or they are refused.
--- A run by rules is what `serial` promises with these settings, where the rules choose.
-abbrev pub Does : Option Command → Chooses → Parties → Status → Option Session → Type 0
-Does None may p told session = IsRefusal p told session
-Does (Some Show) may p told session = EndsShown (Some Show) p.site p.sink told
-Does (Some (Audit frames)) may p told session =
+-- What the words ask for is done: a look, an audit, a run in threads, a comparison or a run; or they
+-- are refused. A run by rules is what `serial` promises with these settings, where the rules choose.
+-- `other` is what the closure may answer by which a comparison chooses last.
+abbrev pub Does : Option Command → Chooses → Chooses → Parties → Status → Option Session → Type 0
+Does None may other p told session = IsRefusal p told session
+Does (Some Show) may other p told session = EndsShown (Some Show) p.site p.sink told
+Does (Some (Audit frames)) may other p told session =
     EndsAudit (Some (Audit frames)) p.site p.sink told
-Does (Some Threads) may p told session =
+Does (Some Compare) may other p told session =
+    IsCompared (Some Compare) other p.input p.sink told
+    × (p.site.now ≡ p.site.was) × (session ≡ None)
+Does (Some Threads) may other p told session =
     (hosts : List EndData) × EndsThreads (Some Threads) p.input p.site p.sink told hosts session
-Does (Some (Serial order turns load)) may p told session =
+Does (Some (Serial order turns load)) may other p told session =
     Ends (Some (Serial order turns load)) may p.input p.site p.sink told session
-Does (Some (Policy rules order turns load)) may p told session =
+Does (Some (Policy rules order turns load)) may other p told session =
     Ends (Some (Serial order turns load)) (RulesMay rules) p.input p.site p.sink told session
 
 -- and what is answered where nothing fails
@@ -62,6 +67,8 @@ IsWhole (Some Show) p told =
     LooksWell (Some Show) p.site p.sink → IsShown (content p.site.was.told) p.sink told
 IsWhole (Some (Audit frames)) p told = AuditsWell (Some (Audit frames)) frames p.site p.sink
     → IsWrongPut frames (content p.site.was.told) p.sink told
+IsWhole (Some Compare) p told =
+    (job : JobData) → ComparesWell (Some Compare) p.input p.sink job → IsComplete told
 IsWhole (Some Threads) p told =
     (job : JobData) → GoesWellAtOnce (Some Threads) p.input p.site p.sink job → IsComplete told
 IsWhole (Some (Serial order turns load)) p told = (settings : Settings) (job : JobData)
@@ -72,12 +79,13 @@ IsWhole (Some (Policy rules order turns load)) p told = (settings : Settings) (j
     → IsComplete told
 
 -- What was put broke off before a track of which a read may fail, or an audit at such a read; of
--- words that are refused none is.
+-- words that are refused none is, nor of a comparison.
 abbrev pub OutputBrokeOff : {S : Type 0} → Ghosts S → S → Option Command → Parties → Option Session
     → Type 0
 OutputBrokeOff g s None p session = ⊥
 OutputBrokeOff g s (Some Show) p session = LookBrokeOff g s p.site p.sink
 OutputBrokeOff g s (Some (Audit frames)) p session = AuditBrokeOff g s p.site p.sink
+OutputBrokeOff g s (Some Compare) p session = ⊥
 OutputBrokeOff g s (Some Threads) p session =
     OnUnstopped session (ThreadsBrokeOff g s (Some Threads) p.input p.site p.sink)
 OutputBrokeOff g s (Some (Serial order turns load)) p session = OnUnstopped session

@@ -68,7 +68,7 @@ pub fn refuse<O: Sink, S: Site>(output: &mut O, site: S, line: OneLine) -> Ended
 }
 
 /// The status of a session that ended so, and whose report was put whole.
-fn end_status(end: DriveAnswer) -> Status
+pub fn end_status(end: DriveAnswer) -> Status
     ensures { result ≡ end_status end }
 {
     match end {

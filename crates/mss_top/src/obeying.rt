@@ -12,10 +12,12 @@ ghost use Rattle.job_runs.specs.Parties.{devices};
 ghost use Rattle.mss_top.specs.Obeying.{OutputBrokeOff, Does, IsWhole, parties};
 ghost use Rattle.mss_top.specs.Showing.{IsShown, LooksByOneCopy};
 ghost use Rattle.mss_top.specs.declared.status.Status.TheVariants.{Stopped};
+ghost use Rattle.victim_rules.specs.Closures.{IsTest, NarrowMay};
 
 use crate::admission::{Settings, command_in};
 use crate::at_once::run_threads;
 use crate::auditing::audit_for;
+use crate::comparing::compare_beside;
 use crate::ending::{Ended, refuse};
 use crate::run::{policy, run_with};
 use crate::showing::look;
@@ -24,7 +26,8 @@ use mss_base::{Sink, Site, Source};
 use mss_run::Gate;
 use std::sync::Wait;
 use std::thread::Threads;
-use victim_choice::Choose;
+use victim_choice::{Candidate, Choose};
+use victim_rules::Narrow;
 
 /// Does what was asked for.
 fn carry_out<
@@ -32,6 +35,7 @@ fn carry_out<
     O: Sink,
     S: Site + Send,
     C: Choose + Drop + Send,
+    F: Fn(&Candidate) -> bool + Drop,
     G: Gate + Sync,
     R: Threads + Wait + Sync + AllocGlobal,
 >(
@@ -41,11 +45,13 @@ fn carry_out<
     output: &mut O,
     site: S,
     chooser: C,
+    other: Narrow<F>,
     gate: &G,
 ) -> Ended<S>
     requires able { C.can_choose chooser }
+    requires test { IsTest F.Fn other }
     requires within { IsWithin command }
-    ensures does { Does (Some command) (C.may chooser)
+    ensures does { Does (Some command) (C.may chooser) (NarrowMay F.Fn other)
         (parties (source_between I.Source input.old input.new) (devices S.Site site result.site)
         (sink_between O.Sink output.old output.new)) result.status result.session }
     ensures unread { result.status ≡ Stopped → OutputBrokeOff S.Site site (Some command)
@@ -78,13 +84,14 @@ fn carry_out<
         Command::Threads => run_threads(rt, input, output, site, chooser, gate).run,
         Command::Show => look(rt.alloc(), output, site),
         Command::Audit { frames } => audit_for(rt.alloc(), frames, output, site),
+        Command::Compare => compare_beside(rt.alloc(), input, output, site, other),
     }
 }
 
 /// Does what the words ask for on the site: the run of `serial`, that run by rules, the run of `threads`, the look of
-/// `show`, or the audit of `audit_site`.
+/// `show`, the audit of `audit_site`, or, beside the site, the comparison of `compare`.
 ///
-/// The words are read once. What each of the four says holds here of its command, and what `serial` says of a run by
+/// The words are read once. What each of the five says holds here of its command, and what `serial` says of a run by
 /// rules, which choose in place of the chooser that is handed in. Words that ask for nothing are refused
 /// by one line, before the input is read and the site is looked at.
 pub fn obey<
@@ -92,6 +99,7 @@ pub fn obey<
     O: Sink,
     S: Site + Send,
     C: Choose + Drop + Send,
+    F: Fn(&Candidate) -> bool + Drop,
     G: Gate + Sync,
     R: Threads + Wait + Sync + AllocGlobal,
 >(
@@ -101,10 +109,12 @@ pub fn obey<
     output: &mut O,
     site: S,
     chooser: C,
+    other: Narrow<F>,
     gate: &G,
 ) -> Ended<S>
     requires able { C.can_choose chooser }
-    ensures does { Does (meaning (map string_bytes words.now)) (C.may chooser)
+    requires test { IsTest F.Fn other }
+    ensures does { Does (meaning (map string_bytes words.now)) (C.may chooser) (NarrowMay F.Fn other)
         (parties (source_between I.Source input.old input.new) (devices S.Site site result.site)
         (sink_between O.Sink output.old output.new)) result.status result.session }
     ensures whole { IsWhole (meaning (map string_bytes words.now))
@@ -127,7 +137,7 @@ pub fn obey<
     ensures devices { WritesOn S.Site site result.site }
 {
     match command_in(rt.alloc(), words) {
-        Ok(command) => carry_out(rt, command, input, output, site, chooser, gate),
+        Ok(command) => carry_out(rt, command, input, output, site, chooser, other, gate),
         Err(line) => refuse(output, site, line),
     }
 }

@@ -10,21 +10,23 @@ use Rattle.mss_top.specs.Showing.{LooksByOneCopy}
 use Rattle.mss_top.proofs.Broken.{line_unstopped}
 use Rattle.mss_top.proofs.Obeyed.{refused_does, refused_exactly, whole_of}
 use Rattle.mss_top.proofs.OneLook.{line_by_one}
+use Rattle.victim_rules.specs.Closures.{NarrowMay}
 use Rattle.mss_top.proofs.obeying.obey.Goals as goal
 
 pub returns-in-Ok-clause-does : goal.returns-in-Ok-clause-does
 returns-in-Ok-clause-does g c =
     let did = c.carry_out in
     let p : Parties = parties (source_between g.I.Source c.args.input.now did.new.input) (devices g.S.Site c.args.site did.result.site) (sink_between g.O.Sink c.args.output.now did.new.output) in
-    subst (λ (asked : Option Command). Does asked (g.C.Choose.may c.args.chooser) p did.result.status did.result.session) (sym c.in-Ok.ensures.asks) did.ensures.does
+    subst (λ (asked : Option Command). Does asked (g.C.Choose.may c.args.chooser) (NarrowMay g.F.Fn c.args.other) p did.result.status did.result.session) (sym c.in-Ok.ensures.asks) did.ensures.does
 
 pub returns-in-Ok-clause-whole : goal.returns-in-Ok-clause-whole
 returns-in-Ok-clause-whole g c =
     let did = c.carry_out in
     let p : Parties = parties (source_between g.I.Source c.args.input.now did.new.input) (devices g.S.Site c.args.site did.result.site) (sink_between g.O.Sink c.args.output.now did.new.output) in
     let may = g.C.Choose.may c.args.chooser in
-    whole_of (meaning (map string_bytes c.args.words.now)) may p did.result.status did.result.session
-    (subst (λ (asked : Option Command). Does asked may p did.result.status did.result.session) (sym c.in-Ok.ensures.asks) did.ensures.does)
+    let other = NarrowMay g.F.Fn c.args.other in
+    whole_of (meaning (map string_bytes c.args.words.now)) may other p did.result.status did.result.session
+    (subst (λ (asked : Option Command). Does asked may other p did.result.status did.result.session) (sym c.in-Ok.ensures.asks) did.ensures.does)
 
 pub returns-in-Ok-clause-unread : goal.returns-in-Ok-clause-unread
 returns-in-Ok-clause-unread g c = λ stop.
@@ -47,7 +49,7 @@ returns-in-Ok-clause-audits g c = λ frames audits.
 pub returns-in-Err-clause-does : goal.returns-in-Err-clause-does
 returns-in-Err-clause-does g c =
     let p : Parties = parties (source_between g.I.Source c.args.input.now c.args.input.now) (devices g.S.Site c.args.site c.refuse.result.site) (sink_between g.O.Sink c.args.output.now c.refuse.new.output) in
-    refused_does (meaning (map string_bytes c.args.words.now)) (g.C.Choose.may c.args.chooser) p c.refuse.result.status c.refuse.result.session c.in-Err.line
+    refused_does (meaning (map string_bytes c.args.words.now)) (g.C.Choose.may c.args.chooser) (NarrowMay g.F.Fn c.args.other) p c.refuse.result.status c.refuse.result.session c.in-Err.line
     c.in-Err.ensures.asks (search rules) (search rules) c.refuse.ensures.session c.refuse.ensures.put
 
 pub returns-in-Err-clause-whole : goal.returns-in-Err-clause-whole
@@ -55,8 +57,9 @@ returns-in-Err-clause-whole g c =
     let p : Parties = parties (source_between g.I.Source c.args.input.now c.args.input.now) (devices g.S.Site c.args.site c.refuse.result.site) (sink_between g.O.Sink c.args.output.now c.refuse.new.output) in
     let asked : Option Command = meaning (map string_bytes c.args.words.now) in
     let may = g.C.Choose.may c.args.chooser in
-    whole_of asked may p c.refuse.result.status c.refuse.result.session
-    (refused_does asked may p c.refuse.result.status c.refuse.result.session c.in-Err.line c.in-Err.ensures.asks (search rules) (search rules) c.refuse.ensures.session c.refuse.ensures.put)
+    let other = NarrowMay g.F.Fn c.args.other in
+    whole_of asked may other p c.refuse.result.status c.refuse.result.session
+    (refused_does asked may other p c.refuse.result.status c.refuse.result.session c.in-Err.line c.in-Err.ensures.asks (search rules) (search rules) c.refuse.ensures.session c.refuse.ensures.put)
 
 pub returns-in-Err-clause-unread : goal.returns-in-Err-clause-unread
 returns-in-Err-clause-unread g c = λ stop.

@@ -1,0 +1,4 @@
+pub mod Alone
+pub mod Comparing
+pub mod Texts
+pub mod Same
