@@ -4,12 +4,13 @@ use Rattle.std.proofs.lemmas.Bool.{lt-ltb, le-ltb, and_from, and_left, and_right
 use Rattle.std.proofs.lemmas.List.{append-nil}
 use Rattle.std.proofs.lemmas.Result.{on_ok_weaker}
 use Rattle.mss_base.specs.declared.place.BlockPlace.{BlockPlace}
+use Rattle.mss_base.specs.Blocks.{WritesBlock, block_of}
 use Rattle.mss_base.specs.Content.{Content, Item, wrote, synced, unsynced, SiteLog, content, Got, Settles, ChangesBlock, AreWithin, write_at}
 use Rattle.mss_base.proofs.Moments.{content_grown, ended_with}
 use Rattle.mss_base.proofs.BlindMoments.{block_blind}
 use Rattle.mss_base.proofs.Settling.{got_then}
 use Rattle.ckd_track.specs.Track.{is_open, place_after}
-use Rattle.ckd_track.specs.Formatting.{EndsAfter, Holds, StandsShut, WritesBehind, WritesBlock, block_of, is_behind}
+use Rattle.ckd_track.specs.Formatting.{EndsAfter, Holds, StandsShut, WritesBehind, is_behind}
 use Rattle.ckd_track.proofs.FrontLemmas.{place_after-ge}
 use Rattle.ckd_track.proofs.LogLemmas.{settles_within}
 use Rattle.ckd_track.proofs.StepLemmas.{next_stays, holds_after}

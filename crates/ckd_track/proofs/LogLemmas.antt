@@ -5,7 +5,7 @@ use Rattle.std.proofs.lemmas.Bool.{and_left, and_parts, and_right, cases_Bool, f
 use Rattle.mss_base.specs.declared.place.UnitNo.{UnitNo}
 use Rattle.mss_base.specs.declared.site.Site.{Ghosts}
 use Rattle.mss_base.specs.Content.{Write, Item, wrote, synced, synced_all, unsynced, SiteLog, Places, nowhere, in_range, same_unit, loose_with, loose_after, Got, Adds, Settles, AreWithin}
-use Rattle.mss_base.specs.Counts.{HasCause, Rises}
+use Rattle.mss_base.specs.Counts.{HasCause, HasCounted, Rises}
 use Rattle.mss_base.specs.Sites.{MayWrite, WritesAtMost}
 use Rattle.mss_base.specs.Sound.{StaysSound}
 use Rattle.mss_base.proofs.Settling.{loose-append}
@@ -41,13 +41,13 @@ counted_since before mid now later (Err e) rose = omega (arith, later, rose)
 
 module _ {S T E : Type 0} (g : Ghosts S) (old new : S) (r : Result T E) where
   -- a call that makes one item
-  pub one_item : g.spare old ≤ g.spare new + 1 → g.writes old ≤ g.writes new → StaysSound g.never_fails_but old new → (g.tells → (x : Item) × Got (x ∷ []) (g.told old) (g.told new))
-      → HasCause (g.faults old) (g.faults new) r → Rises (g.writes old) (g.writes new) → ((but : UnitNo → Bool) → g.never_fails_but old but → IsOk r) → WritesAtMost g 1 old new r
-  one_item room kept sound got cause made works = record {
-    devices = record { room = room; written = kept; later = cause.later; sound = sound };
+  pub one_item : g.spare old ≤ g.spare new + 1 → HasCounted (g.writes old) (g.writes new) → StaysSound g.never_fails_but old new → (g.tells → (x : Item) × Got (x ∷ []) (g.told old) (g.told new))
+      → HasCause (g.faults old) (g.faults new) r → ((but : UnitNo → Bool) → g.never_fails_but old but → IsOk r) → WritesAtMost g 1 old new r
+  one_item room made sound got cause works = record {
+    devices = record { room = room; written = made.later; later = cause.later; sound = sound };
     few = λ tells. let x = got tells in got_few (x.0 ∷ []) (g.told old) (g.told new) x.1;
     cause = cause;
-    counted = on_err_always r made;
+    counted = on_err_always r made.rises;
     works = works;
   }
 

@@ -1,18 +1,10 @@
 -- What formatting a record makes of a track.
 use Rattle.std.specs.Prelude.{◌≡◌, ◌≤◌, ◌<◌, nat_lt, ℕ, ◌+◌, ◌-◌, Bool, false, not, ◌&&◌, ◌||◌, List, [], ◌∷◌, ◌++◌, length, take, slice_index, None}
 use Rattle.mss_base.specs.declared.place.BlockPlace.{BlockPlace}
-use Rattle.mss_base.specs.Content.{SiteLog, Item, content, Got, Writes, ChangesBlock, AreWithin}
+use Rattle.mss_base.specs.Content.{SiteLog, Item, Got, AreWithin}
 use Rattle.ckd_track.specs.Data.{RecordData, cost, cost_of}
 use Rattle.ckd_track.specs.Track.{Reading, reading, reading_of, record_length, record_at, is_open, place_after}
 use Rattle.ckd_track.specs.declared.layout.TheConstants.{TRACK_COST}
-
--- the bytes of a block
-abbrev pub block_of : SiteLog → BlockPlace → List ℕ
-block_of s at = content s at.unit at.block
-
--- the log got writes into this block alone, and P holds of the block at each moment since
-abbrev pub WritesBlock : BlockPlace → (List ℕ → Type 0) → SiteLog → SiteLog → Type 0
-WritesBlock at P old new = Writes (ChangesBlock at.unit at.block P (content old)) old new
 
 -- a count of eight bytes, and then as many bytes as its lengths say
 pub record IsRecord (bytes : List ℕ) : Type 0 where

@@ -1,10 +1,11 @@
 // Formatting a record: at most four writes and three syncs, such that a stop at any moment leaves a track.
 ghost use Rattle.std.specs.Prelude.{◌≡◌, ◌⊎◌, ◌≤◌, ◌<◌, ℕ, ◌+◌, ◌-◌, true, false, length, take, slice_index, OnOk};
+ghost use Rattle.mss_base.specs.Blocks.{WritesBlock, block_of};
 ghost use Rattle.mss_base.specs.Content.{Settles};
 ghost use Rattle.mss_base.specs.Sites.{WritesAtMost};
 ghost use Rattle.ckd_track.specs.Data.{IsTrack, cost, cost_of};
 ghost use Rattle.ckd_track.specs.Track.{reading, reading_of, record_at, is_open, place_after};
-ghost use Rattle.ckd_track.specs.Formatting.{block_of, WritesBlock, formatted, IsRecord, IsFormatting, MayFormat};
+ghost use Rattle.ckd_track.specs.Formatting.{formatted, IsRecord, IsFormatting, MayFormat};
 ghost use Rattle.ckd_track.specs.Formatting.{EndsAfter, EndsBefore, StandsShut, WritesBehind};
 
 use crate::layout::{FIRST_PLACE, GATES, GATES_END, TRACK_COST, record_length};

@@ -1,9 +1,9 @@
 // Updating a record: one write and a sync, such that a stop at any moment changes that record's bytes alone.
 ghost use Rattle.std.specs.Prelude.{◌≡◌, ◌≤◌, ◌<◌, ◌+◌, ◌-◌, [], length, OnOk};
+ghost use Rattle.mss_base.specs.Blocks.{WritesBlock, block_of};
 ghost use Rattle.mss_base.specs.Content.{Settles};
 ghost use Rattle.mss_base.specs.Sites.{WritesAtMost};
 ghost use Rattle.ckd_track.specs.Track.{reading, record_length};
-ghost use Rattle.ckd_track.specs.Formatting.{block_of, WritesBlock};
 ghost use Rattle.ckd_track.specs.Updating.{IsUpdating, MayUpdate, updated, bytes_place};
 
 use crate::layout::key_length;

@@ -6,7 +6,7 @@ use Rattle.volume_table.specs.Row.{RowValue}
 use Rattle.volume_table.specs.Listed.{listed}
 use Rattle.table_pair.specs.declared.copy.SlotsUsed.{SlotsUsed}
 use Rattle.table_pair.specs.Pair.{ChangesRow, HoldsRow, OldOrNew}
-use Rattle.table_pair.specs.Slots.{HasSlots, IsChanged, used_at}
+use Rattle.table_pair.specs.Slots.{HasSlots, IsChanged, used_at, with_used_after}
 use Rattle.core_state.specs.declared.session.Message.{Message}
 use Rattle.core_state.specs.declared.session.Session.{Session}
 use Rattle.core_state.specs.SessionData.{with_last_message, with_stop}
@@ -30,6 +30,13 @@ pub record WritesRow {T E : Type 0} (volume : ℕ) (row : RowValue) (used : Slot
   pub moments : Rewrites volume row old new
   pub changed : OnOk result (IsChanged row used volume old new)
   pub grown : OnOk result (length old.log < length new.log)
+
+-- of the slots that are counted: those of the volume's copies after the change; where it failed, as
+-- before
+pub record CountsSlots {T E : Type 0} (volume : ℕ) (old new : List SlotsUsed)
+    (result : Result T E) : Type 0 where
+  pub done : OnOk result (new ≡ with_used_after volume old)
+  pub failed : OnErr result (new ≡ old)
 
 -- and of a session: the message behind the others, or that it stopped after so many faults; the
 -- rest stays, with its room

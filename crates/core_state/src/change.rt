@@ -1,12 +1,12 @@
 // A change of a row: in the list of rows, in both copies, and on the console.
-ghost use Rattle.std.specs.Prelude.{◌≡◌, ◌≤◌, OnOk, OnErr, length};
+ghost use Rattle.std.specs.Prelude.{◌≡◌, ◌≤◌, length};
 ghost use Rattle.std.specs.Option.{ForSome};
 ghost use Rattle.mss_base.specs.Content.{content};
 ghost use Rattle.mss_base.specs.Sites.{WritesAtMost};
 ghost use Rattle.volume_table.specs.Changes.{IsAllowed, effect};
 ghost use Rattle.volume_table.specs.Listed.{HasRow, listed, with_changed};
-ghost use Rattle.table_pair.specs.Slots.{used_after, used_at, with_used_after};
-ghost use Rattle.core_state.specs.Rows.{HaveListed, TellsChange, WritesRow};
+ghost use Rattle.table_pair.specs.Slots.{used_after, used_at};
+ghost use Rattle.core_state.specs.Rows.{CountsSlots, HaveListed, TellsChange, WritesRow};
 ghost use Rattle.core_state.specs.Agrees.{freed_by, message_of};
 
 use crate::looks::frame_in;
@@ -47,8 +47,7 @@ pub fn write_change<S: Site>(
     requires room_console { 1 ≤ session.old.console.spare }
 
     ensures rows { rows.new ≡ with_changed volume change.now rows.old }
-    ensures used { OnOk result (used.new.items ≡ with_used_after volume used.old.items) }
-    ensures unused { OnErr result (used.new.items ≡ used.old.items) }
+    ensures used { CountsSlots volume used.old.items used.new.items result }
     ensures session { TellsChange (message_of (S.writes site.new) volume change.now (listed rows.old))
         (S.faults site.new) session.old session.new result }
     ensures copies { S.tells → ForSome (listed rows.old volume)

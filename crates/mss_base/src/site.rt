@@ -2,7 +2,7 @@
 ghost use Rattle.std.specs.Prelude.{◌≡◌, ℕ, ◌+◌, ◌≤◌, ◌++◌, [], ◌∷◌, List, length, Bool, false, IsOk, OnOk, OnErr};
 ghost use Rattle.mss_base.specs.Sound.{StaysSound};
 ghost use Rattle.mss_base.specs.Content.{SiteLog, content, AddsBytes, Got, synced, synced_all, unsynced};
-ghost use Rattle.mss_base.specs.Counts.{Rises, HasCause};
+ghost use Rattle.mss_base.specs.Counts.{HasCause, HasCounted};
 ghost use Rattle.mss_base.specs.declared.place.UnitNo.{UnitNo};
 
 use crate::block::BLOCK_BYTES;
@@ -86,8 +86,7 @@ pub trait Site {
         ensures logged { tells → (left : List ℕ) × (length left ≡ length bytes.now)
             × AddsBytes unit block offset left (told self.old) (told self.new) }
         ensures spare { spare self.old ≤ spare self.new + 1 }
-        ensures writes { Rises (writes self.old) (writes self.new) }
-        ensures kept { writes self.old ≤ writes self.new }
+        ensures writes { HasCounted (writes self.old) (writes self.new) }
         ensures cause { HasCause (faults self.old) (faults self.new) result }
         ensures works { (but : UnitNo → Bool) → never_fails_but self.old but → IsOk result }
         ensures sound { StaysSound never_fails_but self.old self.new };
@@ -100,8 +99,7 @@ pub trait Site {
         ensures err { tells
             → OnErr result (Got (unsynced ∷ []) (told self.old) (told self.new)) }
         ensures spare { spare self.old ≤ spare self.new + 1 }
-        ensures writes { Rises (writes self.old) (writes self.new) }
-        ensures kept { writes self.old ≤ writes self.new }
+        ensures writes { HasCounted (writes self.old) (writes self.new) }
         ensures cause { HasCause (faults self.old) (faults self.new) result }
         ensures works { (but : UnitNo → Bool) → never_fails_but self.old but → IsOk result }
         ensures sound { StaysSound never_fails_but self.old self.new };
@@ -113,8 +111,7 @@ pub trait Site {
         ensures err { tells
             → OnErr result (Got (unsynced ∷ []) (told self.old) (told self.new)) }
         ensures spare { spare self.old ≤ spare self.new + 1 }
-        ensures writes { Rises (writes self.old) (writes self.new) }
-        ensures kept { writes self.old ≤ writes self.new }
+        ensures writes { HasCounted (writes self.old) (writes self.new) }
         ensures cause { HasCause (faults self.old) (faults self.new) result }
         ensures works { (but : UnitNo → Bool) → never_fails_but self.old but → IsOk result }
         ensures sound { StaysSound never_fails_but self.old self.new };

@@ -13,7 +13,7 @@ use Rattle.shown_volumes.specs.declared.refused.Refused.{Refused}
 use Rattle.shown_volumes.specs.declared.refused.Refused.TheVariants.{Memory}
 use Rattle.mss_restart.specs.Cartridges.{IsLowestFree}
 use Rattle.mss_restart.specs.Opening.{missing, IsNewRow, HasNewRow, Creates}
-use Rattle.mss_restart.specs.Creations.{IsCreation, AreCreations, IsFrontCreated, AreCounted, CreatesWhole}
+use Rattle.mss_restart.specs.Creations.{IsCreation, AreCreations, IsFrontCreated, AreCounted, CreatesRows, CreatesWhole}
 use Rattle.mss_restart.specs.declared.creations.Creation.{Creation}
 use Rattle.mss_restart.proofs.Creating.{creates_last, missing_past}
 
@@ -98,10 +98,10 @@ module _ (all : List VolumeData) (start rows : RowsOf) (made : List Creation) (v
     })
 
 -- none are to come
-pub all_come : (all : List VolumeData) (start rows : RowsOf) (written writes : ℕ) (made : List Creation) → AreComing all start written writes rows made [] → Creates (missing start all) start rows × AreCounted written writes (missing start all) made
+pub all_come : (all : List VolumeData) (start rows : RowsOf) (written writes : ℕ) (made : List Creation) → AreComing all start written writes rows made [] → CreatesRows all made start rows written writes
 all_come all start rows written writes made is =
     let whole : is.done ≡ missing start all = sym (append-nil is.done) ∙ is.order in
-    (subst (λ (vs : List VolumeData). Creates vs start rows) whole is.created, subst (λ (vs : List VolumeData). AreCounted written writes vs made) whole is.counted)
+    record { rows = subst (λ (vs : List VolumeData). Creates vs start rows) whole is.created; counted = subst (λ (vs : List VolumeData). AreCounted written writes vs made) whole is.counted }
 
 pub all_logged : (all : List VolumeData) (start rows : RowsOf) (begun now : SiteLog) (made : List Creation) → AreLogged all start begun now rows made [] → AreCreations (missing start all) made start rows begun now
 all_logged all start rows begun now made is =

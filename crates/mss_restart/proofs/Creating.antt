@@ -15,7 +15,7 @@ use Rattle.mss_base.proofs.Settling.{settles_none, settles_then}
 use Rattle.ckd_track.specs.Data.{Volumes}
 use Rattle.volume_table.specs.Row.{RowValue}
 use Rattle.table_pair.specs.declared.copy.SlotsUsed.{SlotsUsed}
-use Rattle.table_pair.specs.Slots.{AreUsed}
+use Rattle.table_pair.specs.Slots.{AreUsed, with_none_used}
 use Rattle.shown_volumes.specs.Shown.{RowsOf, shown}
 use Rattle.shown_volumes.specs.Sound.{IsSound, SoundAs}
 use Rattle.shown_volumes.specs.Changing.{WithOrWithout, with_row, with_blank}
@@ -23,7 +23,7 @@ use Rattle.std.proofs.Math.Seq.{drop-cons}
 use Rattle.volume_table.specs.Listed.{listed}
 use Rattle.mss_restart.specs.Creations.{RepairsOthers}
 use Rattle.mss_restart.proofs.OtherRows.{nothing_else, others_then, others_of, is_apart}
-use Rattle.mss_restart.specs.Opening.{AreKnown, missing, with_none_used, with_blanks, ShowsFront, IsNewRow, Creates, IsCreated, AreCreated}
+use Rattle.mss_restart.specs.Opening.{AreKnown, missing, with_blanks, ShowsFront, IsNewRow, Creates, IsCreated, AreCreated}
 
 abbrev pub AreRising : List VolumeData → Type 0
 AreRising vs = IsStrictlySortedBy nat_cmp (map (λ v. v.0) vs)

@@ -14,7 +14,7 @@ use Rattle.volume_table.specs.Listed.{listed}
 use Rattle.mss_restart.specs.Walks.{rest_fault}
 use Rattle.mss_restart.specs.Survey.{AreFaultless}
 use Rattle.mss_restart.specs.Opening.{RowsAre, missing}
-use Rattle.mss_restart.specs.Creations.{IsStop, AreRepaired, IsFrontCreated, AreCounted, RepairsWhole, CreatesWhole, CompletesWhole}
+use Rattle.mss_restart.specs.Creations.{IsStop, AreRepaired, IsFrontCreated, AreCounted, CreatesRows, RepairsWhole, CreatesWhole, CompletesWhole}
 use Rattle.mss_restart.specs.Answers.{RefusesAs, KeepsOpening, RefusalLeaves}
 use Rattle.mss_restart.specs.declared.creations.Creation.{Creation}
 use Rattle.mss_restart.proofs.ReadRows.{right_readings}
@@ -63,6 +63,9 @@ counted_since begun before now [] [] start is = omega (arith, start, is)
 counted_since begun before now [] (m ∷ ms) start is = absurd is
 counted_since begun before now (v ∷ vs) [] start is = absurd is
 counted_since begun before now (v ∷ vs) (m ∷ ms) start is = (is.0, omega (arith, start, is.1), is.2)
+
+pub creates_since : (volumes : List VolumeData) (made : List Creation) (before after : RowsOf) (begun mid now : ℕ) → begun ≤ mid → CreatesRows volumes made before after mid now → CreatesRows volumes made before after begun now
+creates_since volumes made before after begun mid now start is = record { rows = is.rows; counted = counted_since begun mid now (missing before volumes) made start is.counted }
 
 -- what a refusal leaves and keeps
 pub unwritten_refusal : (written writes before now : ℕ) (e : Refused) → writes ≡ written → RefusalLeaves written writes before now e

@@ -1,5 +1,5 @@
 -- One repair after another.
-use Rattle.std.proofs.Common.{◌≡◌, ℕ, suc, ◌+◌, ◌<◌, false, Err, List, length, set, ◌==◌, inl, inr, refl, sym, ◌∙◌, ap, subst, arith}
+use Rattle.std.proofs.Common.{◌≡◌, ℕ, suc, ◌+◌, ◌<◌, false, Result, Err, List, length, set, ◌==◌, inl, inr, refl, sym, ◌∙◌, ap, subst, arith}
 use Rattle.std.proofs.lemmas.Bool.{cases_Bool, cases_lt, eqb-true, eq-eqb, false≢true}
 use Rattle.mss_base.specs.Content.{SiteLog, content, Settles, Writes}
 use Rattle.mss_base.specs.declared.place.UnitNo.TheVariants.{TableA, TableB}
@@ -14,7 +14,7 @@ use Rattle.mss_base.specs.Sites.{MayWrite}
 use Rattle.mss_base.specs.declared.site.Site.{Ghosts}
 use Rattle.shown_volumes.specs.declared.refused.Refused.{Refused}
 use Rattle.shown_volumes.specs.declared.refused.Refused.TheVariants.{Memory}
-use Rattle.mss_restart.specs.Creations.{IsStop, WritesOn, IsRepair, AreRepaired, RepairsWhole}
+use Rattle.mss_restart.specs.Creations.{IsStop, StopsAlone, StepsOn, WritesOn, IsRepair, AreRepaired, RepairsWhole}
 use Rattle.shown_volumes.specs.Shown.{shown}
 use Rattle.shown_volumes.specs.Sound.{IsSound, SoundAs}
 use Rattle.shown_volumes.proofs.MomentFacts.{repair_moments}
@@ -91,6 +91,10 @@ one_repaired n volume begun mid now before same one =
     let e : suc n ≡ n + 1 = omega arith in
     subst (λ (k : ℕ). AreRepaired k begun now) e (mid, before, subst (λ (v : ℕ). IsRepair v mid now) same one)
 
+-- a stop of a later part of a call, before which none failed
+pub stop_since : (begun before now : ℕ) (e : Refused) → before ≡ begun → IsStop before now e → IsStop begun now e
+stop_since begun before now e same stops = subst (λ (n : ℕ). IsStop n now e) same stops
+
 -- writes as often as there is room for
 module _ {S : Type 0} (g : Ghosts S) where
   pub nothing_written : (s : S) → WritesOn g s s
@@ -106,9 +110,21 @@ module _ {S : Type 0} (g : Ghosts S) where
   pub may_be_written : (most : ℕ) (a b : S) → MayWrite g most a b → WritesOn g a b
   may_be_written most a b may = record { written = may.written; later = may.later; sound = may.sound }
 
--- a stop of a later part of a call, before which none failed
-pub stop_since : (begun before now : ℕ) (e : Refused) → before ≡ begun → IsStop before now e → IsStop begun now e
-stop_since begun before now e same stops = subst (λ (n : ℕ). IsStop n now e) same stops
+  -- a step behind others, of which none failed
+  pub step_on : {T : Type 0} (a b c : S) (r : Result T Refused) → WritesOn g a b → g.faults b ≡ g.faults a → StepsOn g b c r → StepsOn g a c r
+  step_on a b c r before same step = record {
+    devices = written_on a b c before step.devices;
+    stops = subst (λ (n : ℕ). StopsAlone n (g.faults c) r) same step.stops;
+    works = λ never. step.works (before.sound (λ unit. false) never);
+  }
+
+  -- and one that failed, whatever was wanted of it
+  pub step_fails : {T U : Type 0} (a b c : S) (e : Refused) → WritesOn g a b → g.faults b ≡ g.faults a → StepsOn {T = T} g b c (Err e) → StepsOn {T = U} g a c (Err e)
+  step_fails a b c e before same step = record {
+    devices = written_on a b c before step.devices;
+    stops = stop_since (g.faults a) (g.faults b) (g.faults c) e same step.stops;
+    works = λ never. step.works (before.sound (λ unit. false) never);
+  }
 
 -- want of memory leaves the repairs that were made
 pub memory_repairs : (count : ℕ) (begun mid now : SiteLog) (e : Refused) → AreRepaired count begun mid → (e ≡ Memory → now ≡ mid) → RepairsWhole {T = Unit {0}} begun now (Err e)

@@ -18,8 +18,10 @@ use Rattle.shown_volumes.specs.declared.refused.Refused.TheVariants.{Stopped, Me
 use Rattle.shown_volumes.specs.Shown.{RowsOf, shown}
 use Rattle.shown_volumes.specs.Sound.{IsSound}
 use Rattle.shown_volumes.specs.Changing.{with_row}
-use Rattle.mss_restart.specs.Opening.{AreCreated, IsNewRow, ShowsFront, missing}
+use Rattle.mss_restart.specs.Opening.{AreCreated, Creates, IsNewRow, ShowsFront, missing}
+use Rattle.mss_restart.specs.Survey.{NeverFails, TellsNoFailure}
 use Rattle.mss_restart.specs.declared.creations.Creation.{Creation}
+use Rattle.mss_restart.specs.declared.opening.Opened.{Opened}
 
 -- a site that was read, and written as often as it made room for
 pub record WritesOn {S : Type 0} (g : Ghosts S) (old new : S) : Type 0 where
@@ -36,6 +38,13 @@ IsStop before now _ = ⊥
 abbrev pub StopsAlone : {T : Type 0} → ℕ → ℕ → Result T Refused → Type 0
 StopsAlone before now (Ok value) = now ≡ before
 StopsAlone before now (Err e) = IsStop before now e
+
+-- what a step of the opening leaves of a site, whatever the site tells. It stops only for a failed call, which it tells,
+-- or for want of memory; where no call fails it tells no failure.
+pub record StepsOn {S T : Type 0} (g : Ghosts S) (old new : S) (result : Result T Refused) : Type 0 where
+  pub devices : WritesOn g old new
+  pub stops : StopsAlone (g.faults old) (g.faults new) result
+  pub works : NeverFails g old → TellsNoFailure result
 
 -- a volume's row was repaired: it is the same at each moment, as the made marks are, and stands in
 -- both copies now, firm; copies that needed no repair weren't written
@@ -107,6 +116,11 @@ AreCounted before now [] [] = before ≤ now
 AreCounted before now (v ∷ vs) (made ∷ more) = (made.volume ≡ v.0) × (before ≤ made.writes) × AreCounted made.writes now vs more
 AreCounted before now _ _ = ⊥
 
+-- the volumes of a list that had no row have one now, in order, and each its creation, whatever the site tells
+pub record CreatesRows (volumes : List VolumeData) (made : List Creation) (before after : RowsOf) (written writes : ℕ) : Type 0 where
+  pub rows : Creates (missing before volumes) before after
+  pub counted : AreCounted written writes (missing before volumes) made
+
 -- what repairs leave: all of them, or after want of memory some, each to its end
 abbrev pub RepairsWhole : {T : Type 0} → SiteLog → SiteLog → Result T Refused → Type 0
 RepairsWhole old new (Ok value) = AreRepaired 32 old new
@@ -122,14 +136,22 @@ CreatesWhole volumes made rows last old new (Err e) = Unit {0}
 -- creations of the volumes of a list that had no row, over a site that tells: what a sound content shows at each moment,
 -- and that no other row is more than repaired; what is made where none failed, with so many slots in use, and that each was
 -- written to its end
-pub record CreatesVolumes {T : Type 0} (volumes : List VolumeData) (made : List Creation) (before after : List (Option RowValue)) (used : List SlotsUsed) (old new : SiteLog) (result : Result T Refused) : Type 0 where
+pub record CreatesVolumes {T : Type 0} (volumes : List VolumeData) (before : List (Option RowValue)) (left : Opened) (old new : SiteLog) (result : Result T Refused) : Type 0 where
   pub moments : (frames : ℕ) → IsSound frames (content old) → Writes (ShowsFront frames (missing (listed before) volumes) (shown (content old))) old new
   pub others : RepairsOthers (missing (listed before) volumes) old new
-  pub created : OnOk result (AreCreated volumes (content old) (content new) before after used)
-  pub complete : CreatesWhole (missing (listed before) volumes) made (listed before) (listed after) old new result
+  pub created : OnOk result (AreCreated volumes (content old) (content new) before left.rows left.used.items)
+  pub complete : CreatesWhole (missing (listed before) volumes) left.creations.items (listed before) (listed left.rows) old new result
 
 -- what repairs and then creations leave
 abbrev pub CompletesWhole : {T : Type 0} → List VolumeData → List Creation → RowsOf → RowsOf → SiteLog → SiteLog → Result T Refused → Type 0
 CompletesWhole volumes made rows last old new (Ok value) = (mid : SiteLog) × AreRepaired 32 old mid × AreCreations volumes made rows last mid new
 CompletesWhole volumes made rows last old new (Err Memory) = (count : ℕ) × ((mid : SiteLog) × AreRepaired count old mid × IsFrontCreated volumes rows mid new)
 CompletesWhole volumes made rows last old new (Err e) = Unit {0}
+
+-- repairs and then creations of the volumes of a list that had no row, over a site that tells: as `CreatesVolumes`, with the
+-- repairs that come first
+pub record CompletesVolumes {T : Type 0} (volumes : List VolumeData) (before : List (Option RowValue)) (left : Opened) (old new : SiteLog) (result : Result T Refused) : Type 0 where
+  pub moments : (frames : ℕ) → IsSound frames (content old) → Writes (ShowsFront frames (missing (listed before) volumes) (shown (content old))) old new
+  pub others : RepairsOthers (missing (listed before) volumes) old new
+  pub created : OnOk result (AreCreated volumes (content old) (content new) before left.rows left.used.items)
+  pub complete : CompletesWhole (missing (listed before) volumes) left.creations.items (listed before) (listed left.rows) old new result

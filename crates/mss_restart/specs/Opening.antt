@@ -1,12 +1,12 @@
 -- What opening the rows of a site makes of it: the volumes that have no row are created, blank, in order.
-use Rattle.std.specs.Prelude.{◌≡◌, ◌<◌, ℕ, false, if◌then◌else◌, List, [], ◌∷◌, ◌++◌, length, slice_set, Option, Some, None, is_some, Result, Ok, Err}
+use Rattle.std.specs.Prelude.{◌≡◌, ◌<◌, ℕ, false, if◌then◌else◌, List, [], ◌∷◌, ◌++◌, length, Option, Some, None, is_some, Result, Ok, Err}
 use Rattle.mss_base.specs.Content.{Content}
 use Rattle.mss_base.specs.Configs.{ConfigData, VolumeData}
 use Rattle.ckd_plain.specs.Plain.{serial_in}
 use Rattle.ckd_track.specs.Data.{Volumes}
 use Rattle.volume_table.specs.Row.{RowValue, blank_row}
 use Rattle.table_pair.specs.Pair.{HoldsRow, known, row_of}
-use Rattle.table_pair.specs.Slots.{AreUsed, no_slots}
+use Rattle.table_pair.specs.Slots.{AreUsed, with_none_used}
 use Rattle.table_pair.specs.declared.copy.SlotsUsed.{SlotsUsed}
 use Rattle.shown_volumes.specs.Shown.{RowsOf, rows_of, shown}
 use Rattle.shown_volumes.specs.Sound.{IsSound, SoundAs}
@@ -29,10 +29,6 @@ pub record AreKnown (rows : List (Option RowValue)) (used : List SlotsUsed) (c :
   pub told : RowsAre rows c
   pub held : AreHeld (listed rows) c
   pub slots_ : AreUsed used c
-
--- with no slots of one volume in use
-abbrev pub with_none_used : ℕ → List SlotsUsed → List SlotsUsed
-with_none_used volume used = slice_set used volume no_slots
 
 -- the volumes of a list that have no row
 abbrev pub missing : RowsOf → List VolumeData → List VolumeData

@@ -4,29 +4,20 @@ ghost use Rattle.std.specs.Ordering.{nat_cmp};
 ghost use Rattle.std.specs.List.Sorted.{IsStrictlySortedBy};
 ghost use Rattle.mss_base.specs.Content.{content, Writes};
 ghost use Rattle.table_pair.specs.Repairs.{LeavesSite};
+ghost use Rattle.table_pair.specs.Slots.{with_none_used};
 ghost use Rattle.shown_volumes.specs.Shown.{shown};
 ghost use Rattle.shown_volumes.specs.Sound.{IsSound};
 ghost use Rattle.shown_volumes.specs.Changing.{WithOrWithout};
 ghost use Rattle.shown_volumes.specs.declared.refused.Refused.TheVariants.{Memory};
 ghost use Rattle.volume_table.specs.Listed.{listed};
-ghost use Rattle.mss_restart.specs.Opening.{
-  AreKnown,
-  Creates,
-  HasNewRow,
-  IsCreated,
-  RowsAre,
-  missing,
-  with_none_used,
-};
+ghost use Rattle.mss_restart.specs.Opening.{AreKnown, HasNewRow, IsCreated, RowsAre};
 ghost use Rattle.mss_restart.specs.Creations.{
-  AreCounted,
+  CreatesRows,
   CreatesVolumes,
   IsCreation,
   RepairsOthers,
-  StopsAlone,
-  WritesOn,
+  StepsOn,
 };
-ghost use Rattle.mss_restart.specs.Survey.{NeverFails, TellsNoFailure};
 
 use crate::cartridges::lowest_free;
 use mss_base::{Listed, Serial, Site, VolumeNo};
@@ -69,9 +60,7 @@ fn create_volume<S: Site>(
     ensures counted { IfOk result (λ made.
         (made.volume ≡ volume) × (made.writes ≡ S.writes site.new)) }
     ensures memory { result ≡ Err Memory → LeavesSite S.Site site.old site.new }
-    ensures stops { StopsAlone (S.faults site.old) (S.faults site.new) result }
-    ensures works { NeverFails S.Site site.old → TellsNoFailure result }
-    ensures devices { WritesOn S.Site site.old site.new }
+    ensures site_ { StepsOn S.Site site.old site.new result }
 {
     rows.look();
     let first = lowest_free(rows, None);
@@ -114,16 +103,13 @@ pub fn create_volumes<S: Site>(
     requires rising { IsStrictlySortedBy nat_cmp (map (λ v. v.0) volumes.now) }
     requires known { S.tells → AreKnown rows.old used.old.items (content (S.told site.old)) }
     requires places { length used.old.items ≡ 32 }
-    ensures told { S.tells → CreatesVolumes volumes.now creations.new.items rows.old rows.new
-        used.new.items (S.told site.old) (S.told site.new) result }
+    ensures told { S.tells → CreatesVolumes volumes.now rows.old
+        (record { rows = rows.new; used = used.new; creations = creations.new })
+        (S.told site.old) (S.told site.new) result }
     ensures places { length used.new.items ≡ 32 }
-    ensures rows { OnOk result (Creates (missing (listed rows.old) volumes.now)
-        (listed rows.old) (listed rows.new)) }
-    ensures counted { OnOk result (AreCounted (S.writes site.old) (S.writes site.new)
-        (missing (listed rows.old) volumes.now) creations.new.items) }
-    ensures stops { StopsAlone (S.faults site.old) (S.faults site.new) result }
-    ensures works { NeverFails S.Site site.old → TellsNoFailure result }
-    ensures devices { WritesOn S.Site site.old site.new }
+    ensures rows { OnOk result (CreatesRows volumes.now creations.new.items
+        (listed rows.old) (listed rows.new) (S.writes site.old) (S.writes site.new)) }
+    ensures site_ { StepsOn S.Site site.old site.new result }
 {
     for entry in volumes {
         let missing = rows.row(entry.0).is_none();

@@ -8,20 +8,12 @@ ghost use Rattle.shown_volumes.specs.Sound.{IsSound};
 ghost use Rattle.shown_volumes.specs.Faults.{first_fault};
 ghost use Rattle.volume_table.specs.Listed.{listed};
 ghost use Rattle.mss_restart.specs.Usable.{AreUsable};
-ghost use Rattle.mss_restart.specs.Opening.{
-  AreCreated,
-  Creates,
-  RowsAre,
-  ShowsFront,
-  answer_of,
-  missing,
-  site_of,
-};
+ghost use Rattle.mss_restart.specs.Opening.{RowsAre, ShowsFront, answer_of, missing, site_of};
 ghost use Rattle.mss_restart.specs.Creations.{
-  AreCounted,
-  CompletesWhole,
+  CompletesVolumes,
+  CreatesRows,
   RepairsOthers,
-  StopsAlone,
+  StepsOn,
   WritesOn,
 };
 ghost use Rattle.mss_restart.specs.Answers.{
@@ -95,24 +87,13 @@ fn complete_rows<S: Site>(
     requires room { length config.now.volumes ≤ creations.old.spare }
     requires places { length used.old.items ≡ 32 }
     requires told { S.tells → RowsAre rows.old (content (S.told site.old)) }
-    ensures moments { S.tells → (frames : ℕ) → IsSound frames (content (S.told site.old)) → Writes
-        (ShowsFront frames (missing (listed rows.old) config.now.volumes)
-        (shown (content (S.told site.old)))) (S.told site.old) (S.told site.new) }
-    ensures created { S.tells → OnOk result (AreCreated config.now.volumes
-        (content (S.told site.old)) (content (S.told site.new)) rows.old rows.new used.new.items) }
-    ensures places { length used.new.items ≡ 32 }
-    ensures complete { S.tells → CompletesWhole (missing (listed rows.old) config.now.volumes)
-        creations.new.items (listed rows.old) (listed rows.new)
+    ensures told { S.tells → CompletesVolumes config.now.volumes rows.old
+        (record { rows = rows.new; used = used.new; creations = creations.new })
         (S.told site.old) (S.told site.new) result }
-    ensures others { S.tells → RepairsOthers (missing (listed rows.old) config.now.volumes)
-        (S.told site.old) (S.told site.new) }
-    ensures rows { OnOk result (Creates (missing (listed rows.old) config.now.volumes)
-        (listed rows.old) (listed rows.new)) }
-    ensures counted { OnOk result (AreCounted (S.writes site.old) (S.writes site.new)
-        (missing (listed rows.old) config.now.volumes) creations.new.items) }
-    ensures stops { StopsAlone (S.faults site.old) (S.faults site.new) result }
-    ensures works { NeverFails S.Site site.old → TellsNoFailure result }
-    ensures devices { WritesOn S.Site site.old site.new }
+    ensures places { length used.new.items ≡ 32 }
+    ensures rows { OnOk result (CreatesRows config.now.volumes creations.new.items
+        (listed rows.old) (listed rows.new) (S.writes site.old) (S.writes site.new)) }
+    ensures site_ { StepsOn S.Site site.old site.new result }
 {
     rows.look();
     let volumes = config.volumes.as_slice();

@@ -13,10 +13,9 @@ ghost use Rattle.mss_restart.specs.Creations.{
   IsStop,
   RepairsOthers,
   RepairsWhole,
-  StopsAlone,
-  WritesOn,
+  StepsOn,
 };
-ghost use Rattle.mss_restart.specs.Survey.{IsNoFailure, NeverFails, TellsNoFailure};
+ghost use Rattle.mss_restart.specs.Survey.{IsNoFailure};
 
 use mss_base::{Site, volume_at};
 use shown_volumes::Refused;
@@ -55,9 +54,7 @@ pub fn repair_rows<S: Site>(
     ensures places { length used.new.items ≡ 32 }
     ensures complete { S.tells → RepairsWhole (S.told site.old) (S.told site.new) result }
     ensures others { S.tells → RepairsOthers [] (S.told site.old) (S.told site.new) }
-    ensures stops { StopsAlone (S.faults site.old) (S.faults site.new) result }
-    ensures works { NeverFails S.Site site.old → TellsNoFailure result }
-    ensures devices { WritesOn S.Site site.old site.new }
+    ensures site_ { StepsOn S.Site site.old site.new result }
 {
     for number in 0..32 {
         match repair(alloc, site, volume_at(number)) {

@@ -1,9 +1,10 @@
 -- The two writes of an appending, on a site's log.
 use Rattle.std.proofs.Common.{◌≡◌, inl, inr, ℕ, suc, ◌+◌, ◌*◌, ◌≤◌, ◌<◌, true, ◌==◌, List, [], ◌∷◌, ◌++◌, length, take, get_or, ◌∙◌, ap, arith, length-append}
 use Rattle.mss_base.specs.declared.place.BlockPlace.{BlockPlace}
+use Rattle.mss_base.specs.Blocks.{WritesBlock, block_of}
 use Rattle.mss_base.specs.Content.{SiteLog, Write, wrote, synced, unsynced, content, write_at, Adds, Settles, ChangesBlock}
 use Rattle.mss_base.proofs.Moments.{block_write, block_written, ended_with, weaker, then_firm}
-use Rattle.table_journal.specs.Slots.{is_slot_open, slot_body, slots, IsAppending, block_of, slots_on, WritesBlock, AppendsSlot}
+use Rattle.table_journal.specs.Slots.{is_slot_open, slot_body, slots, IsAppending, slots_on, AppendsSlot}
 use Rattle.table_journal.specs.Appending.{KeepsSlots, IsNextClosed}
 use Rattle.table_journal.proofs.SlotLemmas.{body_put, next_put, put_length, put_first, put_last, keeps_same, keeps_behind, opened_slots, appending_gate, appending_none, appending_then}
 

@@ -1,7 +1,8 @@
 -- The slots of a block: eight bytes each, from place 512 on, one behind another. A slot is a gate and a body of seven
 -- bytes. In use are the slots before the first whose gate is closed.
 use Rattle.std.specs.Prelude.{◌≡◌, ◌⊎◌, ℕ, zero, suc, ◌+◌, ◌*◌, Bool, ◌==◌, if◌then◌else◌, List, [], ◌∷◌, ◌++◌, length, take, drop, slice_index}
-use Rattle.mss_base.specs.Content.{SiteLog, content, Writes, ChangesBlock}
+use Rattle.mss_base.specs.Blocks.{WritesBlock, block_of}
+use Rattle.mss_base.specs.Content.{SiteLog}
 use Rattle.mss_base.specs.declared.block.TheConstants.{OPEN}
 use Rattle.mss_base.specs.declared.place.BlockPlace.{BlockPlace}
 use Rattle.table_journal.specs.declared.layout.TheConstants.{SLOTS, SLOTS_AT, SLOT_BYTES, SLOT_BODY_BYTES}
@@ -32,16 +33,9 @@ pub record IsAppending (body old now : List ℕ) : Type 0 where
   pub head : take SLOTS_AT now ≡ take SLOTS_AT old
   pub slots_ : (slots now ≡ slots old) ⊎ (slots now ≡ slots old ++ body ∷ [])
 
--- the bytes of a block of a site, and its slots in use
-abbrev pub block_of : SiteLog → BlockPlace → List ℕ
-block_of s at = content s at.unit at.block
-
+-- the slots in use of a block of a site
 abbrev pub slots_on : SiteLog → BlockPlace → List (List ℕ)
 slots_on s at = slots (block_of s at)
-
--- the log got writes into this block alone, and P holds of the block at each moment since
-abbrev pub WritesBlock : BlockPlace → (List ℕ → Type 0) → SiteLog → SiteLog → Type 0
-WritesBlock at P old new = Writes (ChangesBlock at.unit at.block P (content old)) old new
 
 -- the log got writes into this block alone, which append a slot with this body
 abbrev pub AppendsSlot : List ℕ → BlockPlace → SiteLog → SiteLog → Type 0

@@ -1,8 +1,9 @@
 // Appending a slot: two firm writes, such that a stop at any moment leaves the slots as they were, or with one more.
 ghost use Rattle.std.specs.Prelude.{◌≡◌, ◌≤◌, ◌<◌, ℕ, ◌+◌, ◌++◌, [], ◌∷◌, List, false, length, OnOk};
+ghost use Rattle.mss_base.specs.Blocks.{WritesBlock, block_of};
 ghost use Rattle.mss_base.specs.Content.{Adds, Settles, write_at};
 ghost use Rattle.mss_base.specs.Sites.{WritesAtMost};
-ghost use Rattle.table_journal.specs.Slots.{AppendsSlot, block_of, is_slot_open, slot_body, slots_on, WritesBlock};
+ghost use Rattle.table_journal.specs.Slots.{AppendsSlot, is_slot_open, slot_body, slots_on};
 ghost use Rattle.table_journal.specs.Appending.{IsNextClosed, KeepsSlots};
 
 use crate::layout::{SLOT_BODY_BYTES, SLOT_BYTES, SLOTS, slot_place};

@@ -1,6 +1,7 @@
 -- One copy of a row, while the row is changed: by a slot more, or by a rewriting.
 use Rattle.std.proofs.Common.{◌≡◌, inl, inr, ℕ, ◌+◌, ◌≤◌, ◌<◌, nat_lt, true, not, ◌==◌, List, [], ◌∷◌, ◌++◌, length, take, Result, Ok, refl, sym, ◌∙◌, ap, subst, arith, length-append}
 use Rattle.std.proofs.lemmas.Bool.{false≢true, cond-true, cond-false, lt-ltb, le-ltb}
+use Rattle.mss_base.specs.Blocks.{block_of}
 use Rattle.mss_base.specs.Content.{SiteLog, content, ChangesBlock}
 use Rattle.mss_base.specs.declared.place.BlockPlace.{BlockPlace}
 use Rattle.mss_base.proofs.Moments.{block_weaker, ended_with}
@@ -10,7 +11,7 @@ use Rattle.volume_table.specs.Changes.{IsInRange}
 use Rattle.volume_table.specs.Slots.{slot_of}
 use Rattle.volume_table.specs.declared.changes.Change.{Change}
 use Rattle.volume_table.proofs.SlotFacts.{told_one_more, told_by-none}
-use Rattle.table_journal.specs.Slots.{slots, IsAppending, block_of, slots_on, AppendsSlot}
+use Rattle.table_journal.specs.Slots.{slots, IsAppending, slots_on, AppendsSlot}
 use Rattle.table_journal.proofs.SlotFacts.{byte_before}
 use Rattle.table_pair.specs.Copies.{CopyView, copy_at, copy_on, filled, HasGates, IsRewriting, WritesCopy}
 use Rattle.table_pair.specs.Pair.{IsOpenWith}

@@ -1,6 +1,7 @@
 -- One copy of a row, and what it may be while it is written.
 use Rattle.std.specs.Prelude.{◌≡◌, ◌⊎◌, ℕ, Bool, true, false, not, ◌==◌, List, [], slice_index}
-use Rattle.mss_base.specs.Content.{SiteLog, content, Writes, ChangesBlock}
+use Rattle.mss_base.specs.Blocks.{WritesBlock, block_of}
+use Rattle.mss_base.specs.Content.{SiteLog}
 use Rattle.mss_base.specs.declared.place.BlockPlace.{BlockPlace}
 use Rattle.mss_base.specs.declared.block.TheConstants.{OPEN}
 use Rattle.volume_table.specs.Grammar.{body}
@@ -53,11 +54,11 @@ IsRewriting bytes old now = (now ≡ old) ⊎ IsFilling bytes old now
 
 -- the byte at a place of a block of a site, and the copy in the block
 abbrev pub byte_on : SiteLog → BlockPlace → ℕ → ℕ
-byte_on s at place = slice_index (content s at.unit at.block) place
+byte_on s at place = slice_index (block_of s at) place
 
 abbrev pub copy_on : SiteLog → BlockPlace → CopyView
-copy_on s at = copy_at (content s at.unit at.block)
+copy_on s at = copy_at (block_of s at)
 
 -- the log got writes into this block alone, and P holds of the copy in it at each moment since
 abbrev pub WritesCopy : BlockPlace → (CopyView → Type 0) → SiteLog → SiteLog → Type 0
-WritesCopy at P old new = Writes (ChangesBlock at.unit at.block (λ block. P (copy_at block)) (content old)) old new
+WritesCopy at P old new = WritesBlock at (λ block. P (copy_at block)) old new

@@ -1,6 +1,6 @@
 -- When copies need no repair, which one is to be rewritten, and what a failed repair keeps.
 use Rattle.std.specs.Prelude.{◌≡◌, ◌≢◌, ◌⊎◌, ◌≤◌, ℕ, false, length, Option, Some, None, Result, Ok, Err}
-use Rattle.mss_base.specs.Content.{Content}
+use Rattle.mss_base.specs.Content.{Content, SiteLog, Settles, content}
 use Rattle.mss_base.specs.declared.place.UnitNo.TheVariants.{TableA, TableB}
 use Rattle.volume_table.specs.Row.{RowValue}
 use Rattle.table_pair.specs.declared.copy.TableCopy.{TableCopy}
@@ -80,6 +80,14 @@ LosesSlots which volume old new = (used : SlotsUsed) → HasSlots used volume ol
 -- the row that was told, if any, stands in both copies
 abbrev pub HoldsToldRow : ℕ → Content → Content → Type 0
 HoldsToldRow volume old new = (row : RowValue) → row_of old volume ≡ known (Some row) false → HoldsRow row volume new
+
+-- what a repair leaves that was done: the row that was told, if any, stands in both copies, firm; so many of their slots
+-- are in use, and they need no repair
+pub record RepairsCopies (used : SlotsUsed) (volume : ℕ) (old new : SiteLog) : Type 0 where
+  pub held : HoldsToldRow volume (content old) (content new)
+  pub slots_ : HasSlots used volume (content new)
+  pub settled : NeedsNoRepair volume (content new)
+  pub firm : Settles old new
 
 -- a failed call is told with the count of faults behind it, which rose in the call. Elsewhere no call failed
 abbrev pub KeepsRepairFault : {T : Type 0} → ℕ → ℕ → Result T RepairFault → Type 0

@@ -55,6 +55,10 @@ used_at used volume = slice_index_or used volume no_slots
 abbrev pub with_used_after : ℕ → List SlotsUsed → List SlotsUsed
 with_used_after volume used = slice_set used volume (used_after (used_at used volume))
 
+-- with no slots of one volume in use
+abbrev pub with_none_used : ℕ → List SlotsUsed → List SlotsUsed
+with_none_used volume used = slice_set used volume no_slots
+
 -- so many slots of the copies of each volume are in use
 abbrev pub AreUsed : List SlotsUsed → Content → Type 0
 AreUsed used c = (volume : ℕ) → volume < 32 → HasSlots (used_at used volume) volume c

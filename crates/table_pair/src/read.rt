@@ -1,5 +1,6 @@
 // Reading a row, where reads may fail.
 ghost use Rattle.std.specs.Prelude.{◌≡◌, ◌≢◌, ◌≤◌, ℕ, length, IfOk, is_some};
+ghost use Rattle.mss_base.specs.Blocks.{block_of};
 ghost use Rattle.mss_base.specs.Content.{content};
 ghost use Rattle.mss_base.specs.Sites.{OnlyReads};
 ghost use Rattle.mss_base.specs.declared.place.UnitNo.TheVariants.{TableA, TableB};
@@ -42,7 +43,7 @@ fn read_copy<S: Site>(
 ) -> Result<CopyState, NoMemory>
     requires { length block.old ≡ BLOCK_BYTES }
     ensures copy { S.tells → IfOk result (λ c. IsReadOf (S.faults site.old) (S.faults site.new)
-        (content (S.told site.old) at.now.unit at.now.block) (seen c)) }
+        (block_of (S.told site.old) at.now) (seen c)) }
     ensures kept { CopyKeeps (S.faults site.old) (S.faults site.new) result }
     ensures works { IsReadable S.Site site.old at.now.unit → IfOk result (λ c. seen c ≢ unread) }
     ensures devices { OnlyReads S.Site site.old site.new }

@@ -1,13 +1,13 @@
 // Making two copies tell the same row.
 ghost use Rattle.std.specs.Prelude.{◌≡◌, ◌≤◌, ℕ, length, IfOk, OnOk, IsOk, IsTrue, ◌↔◌, Some, Err};
+ghost use Rattle.mss_base.specs.Blocks.{block_of};
 ghost use Rattle.mss_base.specs.Content.{content, Settles, Writes};
 ghost use Rattle.mss_base.specs.Sites.{OnlyReads, MayWrite, WritesAtMost};
 ghost use Rattle.mss_base.specs.declared.place.UnitNo.TheVariants.{TableA, TableB};
 ghost use Rattle.table_pair.specs.Copies.{copy_at};
 ghost use Rattle.table_pair.specs.Pair.{ChangesRow};
 ghost use Rattle.table_pair.specs.Reads.{IsReadable};
-ghost use Rattle.table_pair.specs.Repairs.{NeedsNoRepair, TellsRow, MayBeStale, IsStaleOn, IsFound, IsFoundOn, KeepsRow, KeepsMarks, HoldsToldRow, LosesSlots, KeepsRepairFault, GotRoom, LeavesSite, FailsNever};
-ghost use Rattle.table_pair.specs.Slots.{HasSlots};
+ghost use Rattle.table_pair.specs.Repairs.{NeedsNoRepair, TellsRow, MayBeStale, IsStaleOn, IsFound, IsFoundOn, KeepsRow, KeepsMarks, HoldsToldRow, LosesSlots, KeepsRepairFault, RepairsCopies, GotRoom, LeavesSite, FailsNever};
 ghost use Rattle.table_pair.specs.declared.copy.RepairFault.TheVariants.{Memory};
 
 use crate::copy::{CopyState, RepairFault, SlotsUsed, TableCopy, place_of};
@@ -147,7 +147,7 @@ fn follow<S: Site>(site: &mut S, volume: VolumeNo, stale: &Stale) -> Result<(), 
 /// Reads a block, or tells the count of faults after the read.
 fn read_block<S: Site>(site: &mut S, at: &BlockPlace, block: &mut [u8]) -> Result<(), RepairFault>
     requires { length block.old ≡ BLOCK_BYTES }
-    ensures block { S.tells → OnOk result (block.new ≡ content (S.told site.old) at.now.unit at.now.block) }
+    ensures block { S.tells → OnOk result (block.new ≡ block_of (S.told site.old) at.now) }
     ensures devices { OnlyReads S.Site site.old site.new }
     ensures kept { KeepsRepairFault (S.faults site.old) (S.faults site.new) result }
     ensures works { IsReadable S.Site site.old at.now.unit → IsOk result }
@@ -195,14 +195,10 @@ pub fn repair<S: Site>(
         (S.told site.old) (S.told site.new) }
     ensures marks { S.tells → Writes (KeepsMarks volume (content (S.told site.old)))
         (S.told site.old) (S.told site.new) }
-    ensures done { S.tells → OnOk result
-        (HoldsToldRow volume (content (S.told site.old)) (content (S.told site.new))) }
-    ensures used { S.tells → IfOk result (λ used.
-        HasSlots used volume (content (S.told site.new))) }
-    ensures settled { S.tells → OnOk result (NeedsNoRepair volume (content (S.told site.new))) }
+    ensures done { S.tells → IfOk result (λ used.
+        RepairsCopies used volume (S.told site.old) (S.told site.new)) }
     ensures untouched { S.tells → NeedsNoRepair volume (content (S.told site.old))
         → S.told site.new ≡ S.told site.old }
-    ensures firm { S.tells → OnOk result (Settles (S.told site.old) (S.told site.new)) }
     ensures memory { result ≡ Err Memory → LeavesSite S.Site site.old site.new }
     ensures devices { MayWrite S.Site COPY_ITEMS site.old site.new }
     ensures kept { KeepsRepairFault (S.faults site.old) (S.faults site.new) result }

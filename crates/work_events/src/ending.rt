@@ -1,19 +1,28 @@
 // The event that ends a transfer, all of whose tracks are copied.
-ghost use Rattle.std.specs.Prelude.{◌≡◌, ◌≢◌, ◌≤◌, ◌<◌, Bool, IsOk, OnOk, OnErr};
+ghost use Rattle.std.specs.Prelude.{◌≡◌, ◌≢◌, ◌≤◌, ◌<◌, Bool, false, IsOk, IsSome, None, OnErr, OnOk, length, slice_set};
 ghost use Rattle.mss_base.specs.Sites.{MayWrite};
 ghost use Rattle.mss_base.specs.declared.place.UnitNo.{UnitNo};
 ghost use Rattle.transfers.specs.declared.transfer.TransferKind.TheVariants.{Destage};
 ghost use Rattle.transfers.specs.Copies.{target_unit};
 ghost use Rattle.core_state.specs.CoreValue.{seen_site};
 ghost use Rattle.core_state.specs.Devices.{FailSync, SyncUnit};
+ghost use Rattle.core_state.specs.SessionData.{with_last_event};
+ghost use Rattle.core_state.specs.Sessions.{session_data};
 ghost use Rattle.core_state.specs.WorkRules.{work_rule};
+ghost use Rattle.core_state.specs.declared.rule.WorkAnswer.TheVariants.{Did};
+ghost use Rattle.core_state.specs.declared.rule.WorkKind.TheVariants.{End};
 ghost use Rattle.core_state.specs.declared.rule.WorkRule.TheVariants.{Ends};
+ghost use Rattle.core_state.specs.declared.session.Event.TheVariants.{Work};
+ghost use Rattle.fault_queue.specs.Requests.{request_of, with_state};
+ghost use Rattle.fault_queue.specs.declared.queue.RequestState.TheVariants as state;
+ghost use Rattle.staging_adapter.specs.Frames.{IsFrame, with_moving};
 ghost use Rattle.work_events.specs.Steps.{FailsNone, WorkStep};
 
 use crate::parts::{did, end_task, put_task, served, stop};
-use core_state::{Core, Task, WorkAnswer, WorkKind, make_room, write_change};
-use fault_queue::RequestState;
+use core_state::{Core, Session, Task, WorkAnswer, WorkKind, make_room, write_change};
+use fault_queue::{Queue, RequestState};
 use mss_base::{Failed, RecorderNo, Site};
+use staging_adapter::Frames;
 use table_pair::CHANGE_ITEMS;
 use transfers::{Transfer, TransferKind};
 use victim_choice::Choose;
@@ -33,6 +42,33 @@ fn sync_copies<S: Site>(site: &mut S, transfer: &Transfer) -> Result<(), Failed>
     ensures works { (but : UnitNo → Bool) → S.never_fails_but site.old but → IsOk result }
 {
     site.sync(transfer.unit())
+}
+
+/// The end of a task whose copies a sync that failed left loose: its request has failed, with the count
+/// of faults.
+fn end_unsynced(
+    frames: &mut Frames,
+    requests: &mut Queue,
+    tasks: &mut Vec<Option<Task>>,
+    session: &mut Session,
+    recorder: RecorderNo,
+    task: &Task,
+    fault: u64,
+) -> WorkAnswer
+    requires frame { IsFrame frames.old task.now.frame }
+    requires asked { IsSome (request_of requests.old task.now.host) }
+    requires fits { recorder < length tasks.old.items }
+    requires room { 1 ≤ session.old.events.spare }
+    ensures frames { frames.new ≡ with_moving task.now.frame false frames.old }
+    ensures requests { requests.new ≡ with_state task.now.host (state.Failed fault) requests.old }
+    ensures tasks { tasks.new.items ≡ slice_set tasks.old.items recorder None }
+    ensures told { session_data session.new ≡
+        with_last_event (Work recorder) (session_data session.old) }
+    ensures answer { result ≡ Did End }
+{
+    let failed = RequestState::Failed { fault };
+    end_task(frames, requests, tasks, recorder, task, failed);
+    did(session, recorder, WorkKind::End)
 }
 
 /// Notes in the row that the victim's cylinder is destaged, once its copies are firm. The task goes on
@@ -59,16 +95,15 @@ fn end_destage<S: Site, C: Choose>(
     }
     if sync_copies(&mut core.site, &transfer).is_err() {
         let fault = core.site.faults();
-        let failed = RequestState::Failed { fault };
-        end_task(
+        return end_unsynced(
             &mut core.frames,
             &mut core.requests,
             &mut core.tasks,
+            &mut core.session,
             recorder,
             &task,
-            failed,
+            fault,
         );
-        return did(&mut core.session, recorder, WorkKind::End);
     }
     let volume = transfer.volume;
     let change = Change::Destaged {
@@ -118,16 +153,15 @@ fn end_stage<S: Site, C: Choose>(
     }
     if sync_copies(&mut core.site, &transfer).is_err() {
         let fault = core.site.faults();
-        let failed = RequestState::Failed { fault };
-        end_task(
+        return end_unsynced(
             &mut core.frames,
             &mut core.requests,
             &mut core.tasks,
+            &mut core.session,
             recorder,
             &task,
-            failed,
+            fault,
         );
-        return did(&mut core.session, recorder, WorkKind::End);
     }
     let volume = transfer.volume;
     let change = Change::Staged {

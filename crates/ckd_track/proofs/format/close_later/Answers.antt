@@ -19,7 +19,7 @@ returns-then-any_open-clause-next g c = λ tells.
 
 pub returns-then-any_open-clause-site_ : goal.returns-then-any_open-clause-site_
 returns-then-any_open-clause-site_ g c =
-    one_item g.S.Site _ _ c.write.result c.write.ensures.spare c.write.ensures.kept c.write.ensures.sound (λ tells. (_, (c.write.ensures.logged tells).2)) c.write.ensures.cause c.write.ensures.writes c.write.ensures.works
+    one_item g.S.Site _ _ c.write.result c.write.ensures.spare c.write.ensures.writes c.write.ensures.sound (λ tells. (_, (c.write.ensures.logged tells).2)) c.write.ensures.cause c.write.ensures.works
 
 pub returns-clause-behind : goal.returns-clause-behind
 returns-clause-behind g c = λ tells. behind_none c.args.before c.args.block.now c.args.at.now _

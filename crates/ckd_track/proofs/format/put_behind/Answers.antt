@@ -24,5 +24,5 @@ returns-in_err-write_behind-clause-site_ g c =
 
 pub returns-clause-site_ : goal.returns-clause-site_
 returns-clause-site_ g c =
-    let sync = one_item g.S.Site _ _ c.sync.result c.sync.ensures.spare c.sync.ensures.kept c.sync.ensures.sound (λ tells. sync_item _ _ _ (either_way c.sync.result (c.sync.ensures.ok tells) (c.sync.ensures.err tells))) c.sync.ensures.cause c.sync.ensures.writes c.sync.ensures.works in
+    let sync = one_item g.S.Site _ _ c.sync.result c.sync.ensures.spare c.sync.ensures.writes c.sync.ensures.sound (λ tells. sync_item _ _ _ (either_way c.sync.result (c.sync.ensures.ok tells) (c.sync.ensures.err tells))) c.sync.ensures.cause c.sync.ensures.works in
     writes_then g.S.Site _ _ _ 2 1 _ _ c.in_ok-write_behind.ensures.site_ sync

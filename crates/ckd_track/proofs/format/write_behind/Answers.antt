@@ -23,5 +23,5 @@ returns-in_err-close_later-clause-site_ g c =
 
 pub returns-clause-site_ : goal.returns-clause-site_
 returns-clause-site_ g c =
-    let put = one_item g.S.Site _ _ c.write.result c.write.ensures.spare c.write.ensures.kept c.write.ensures.sound (λ tells. (_, (c.write.ensures.logged tells).2)) c.write.ensures.cause c.write.ensures.writes c.write.ensures.works in
+    let put = one_item g.S.Site _ _ c.write.result c.write.ensures.spare c.write.ensures.writes c.write.ensures.sound (λ tells. (_, (c.write.ensures.logged tells).2)) c.write.ensures.cause c.write.ensures.works in
     writes_then g.S.Site _ _ _ 1 1 _ _ c.in_ok-close_later.ensures.site_ put

@@ -51,7 +51,7 @@ invariant_of-core-in-Ok-write_change g c =
     let S = g.S.Site in
     marked_kept g.row.S.Denot S c.args.core.now c.core.view_is (vec_len c.core.inside.buffer) c.core.invariant c.args.host (call_of c.args.call.now) c.args.volume c.args.cylinder c.requires.rule
     c.prepare.new.site c.prepare.ensures.site _ c.write_change.new.site c.in-Ok-write_change.ensures.site_ (λ tl. g.met.S.Site.counted c.write_change.new.site tl)
-    c.in-Ok-write_change.ensures.copies c.write_change.new.rows c.write_change.ensures.rows _ refl c.write_change.new.used.items c.in-Ok-write_change.ensures.used
+    c.in-Ok-write_change.ensures.copies c.write_change.new.rows c.write_change.ensures.rows _ refl c.write_change.new.used.items c.in-Ok-write_change.ensures.used.done
     c.make_ready.new.requests (ready_is c.args.host (ready_for c.args.volume c.args.cylinder) c.core.inside.requests c.is_some-had.result (c.is_some-had.ensures ∙ ap is_some c.of.ensures) c.ask.new.requests c.in-Ok-ask.ensures.ok c.make_ready.new.requests c.make_ready.ensures)
     c.touch_all.new.tasks.items (c.touch_all.ensures ∙ ap (λ n. touched_all c.args.volume n c.core.inside.tasks.items) c.page.ensures)
     (session_data c.note.new.self) (c.note.ensures.noted ∙ ap (with_last_event (Host c.args.host)) (c.in-Ok-write_change.ensures.session.told ∙ (λ i. with_last_message (message_of (S.writes c.write_change.new.site) c.args.volume (Changed c.args.cylinder) (listed c.core.inside.rows)) (c.prepare.ensures.session i))))
@@ -61,7 +61,7 @@ returns-in-Ok-write_change-clause-event g c =
     let S = g.S.Site in
     marked_event g.row.S.Denot S c.args.core.now c.core.view_is (vec_len c.core.inside.buffer) c.core.invariant c.args.host (call_of c.args.call.now) c.args.volume c.args.cylinder c.requires.rule
     c.prepare.new.site c.prepare.ensures.site _ c.write_change.new.site c.in-Ok-write_change.ensures.site_ (λ tl. g.met.S.Site.counted c.write_change.new.site tl)
-    c.in-Ok-write_change.ensures.copies c.write_change.new.rows c.write_change.ensures.rows _ refl c.write_change.new.used.items c.in-Ok-write_change.ensures.used
+    c.in-Ok-write_change.ensures.copies c.write_change.new.rows c.write_change.ensures.rows _ refl c.write_change.new.used.items c.in-Ok-write_change.ensures.used.done
     c.make_ready.new.requests (ready_is c.args.host (ready_for c.args.volume c.args.cylinder) c.core.inside.requests c.is_some-had.result (c.is_some-had.ensures ∙ ap is_some c.of.ensures) c.ask.new.requests c.in-Ok-ask.ensures.ok c.make_ready.new.requests c.make_ready.ensures)
     c.touch_all.new.tasks.items (c.touch_all.ensures ∙ ap (λ n. touched_all c.args.volume n c.core.inside.tasks.items) c.page.ensures)
     (session_data c.note.new.self) (c.note.ensures.noted ∙ ap (with_last_event (Host c.args.host)) (c.in-Ok-write_change.ensures.session.told ∙ (λ i. with_last_message (message_of (S.writes c.write_change.new.site) c.args.volume (Changed c.args.cylinder) (listed c.core.inside.rows)) (c.prepare.ensures.session i))))
@@ -72,7 +72,7 @@ invariant_of-core-in-Err g c =
     unmarked_kept g.row.S.Denot S c.args.core.now c.core.view_is (vec_len c.core.inside.buffer) c.core.invariant c.args.host (call_of c.args.call.now) c.args.volume c.args.cylinder c.requires.rule
     c.prepare.new.site c.prepare.ensures.site _ c.write_change.new.site c.in-Err.ensures.site_ (λ tl. g.met.S.Site.counted c.write_change.new.site tl)
     c.in-Err.ensures.copies c.write_change.new.rows c.write_change.ensures.rows
-    _ refl c.write_change.new.used.items c.in-Err.ensures.unused c.give_up.new.requests (gone_is c.args.host (ready_for c.args.volume c.args.cylinder) c.core.inside.requests c.is_some-had.result (c.is_some-had.ensures ∙ ap is_some c.of.ensures) c.ask.new.requests c.in-Ok-ask.ensures.ok c.give_up.new.requests c.give_up.ensures) c.faults-fault.result c.faults-fault.ensures
+    _ refl c.write_change.new.used.items c.in-Err.ensures.used.failed c.give_up.new.requests (gone_is c.args.host (ready_for c.args.volume c.args.cylinder) c.core.inside.requests c.is_some-had.result (c.is_some-had.ensures ∙ ap is_some c.of.ensures) c.ask.new.requests c.in-Ok-ask.ensures.ok c.give_up.new.requests c.give_up.ensures) c.faults-fault.result c.faults-fault.ensures
     (session_data c.enter.new.session) (c.enter.ensures ∙ (λ i. with_reply c.args.host (c.in-Ok.ensures.copy i) stopped (Some c.faults-fault.result) (c.writes-mark.ensures i) ((c.in-Err.ensures.session.stopped ∙ (λ j. with_stop (S.faults c.write_change.new.site) (c.prepare.ensures.session j))) i)))
 
 pub returns-in-Err-clause-event : goal.returns-in-Err-clause-event
@@ -81,5 +81,5 @@ returns-in-Err-clause-event g c =
     unmarked_event g.row.S.Denot S c.args.core.now c.core.view_is (vec_len c.core.inside.buffer) c.core.invariant c.args.host (call_of c.args.call.now) c.args.volume c.args.cylinder c.requires.rule
     c.prepare.new.site c.prepare.ensures.site _ c.write_change.new.site c.in-Err.ensures.site_ (λ tl. g.met.S.Site.counted c.write_change.new.site tl)
     c.in-Err.ensures.copies c.write_change.new.rows c.write_change.ensures.rows
-    _ refl c.write_change.new.used.items c.in-Err.ensures.unused c.give_up.new.requests (gone_is c.args.host (ready_for c.args.volume c.args.cylinder) c.core.inside.requests c.is_some-had.result (c.is_some-had.ensures ∙ ap is_some c.of.ensures) c.ask.new.requests c.in-Ok-ask.ensures.ok c.give_up.new.requests c.give_up.ensures) c.faults-fault.result c.faults-fault.ensures
+    _ refl c.write_change.new.used.items c.in-Err.ensures.used.failed c.give_up.new.requests (gone_is c.args.host (ready_for c.args.volume c.args.cylinder) c.core.inside.requests c.is_some-had.result (c.is_some-had.ensures ∙ ap is_some c.of.ensures) c.ask.new.requests c.in-Ok-ask.ensures.ok c.give_up.new.requests c.give_up.ensures) c.faults-fault.result c.faults-fault.ensures
     (session_data c.enter.new.session) (c.enter.ensures ∙ (λ i. with_reply c.args.host (c.in-Ok.ensures.copy i) stopped (Some c.faults-fault.result) (c.writes-mark.ensures i) ((c.in-Err.ensures.session.stopped ∙ (λ j. with_stop (S.faults c.write_change.new.site) (c.prepare.ensures.session j))) i)))

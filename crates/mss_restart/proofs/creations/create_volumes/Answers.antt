@@ -6,10 +6,11 @@ use Rattle.volume_table.specs.Row.{RowValue}
 use Rattle.volume_table.specs.Listed.{listed}
 use Rattle.mss_restart.proofs.Creating.{AreRising, IsCreating, nothing_created, rest_is, rising_first, passed_over, moments_on, others_on, created_too, all_created}
 use Rattle.mss_restart.proofs.Counting.{AreComing, AreLogged, none_coming, none_logged, coming_past, coming_on, logged_past, logged_on, all_come, all_logged, memory_creates}
-use Rattle.mss_restart.proofs.Repaired.{nothing_written, written_on, stop_since}
+use Rattle.mss_restart.proofs.Repaired.{nothing_written, written_on, step_fails}
 use Rattle.std.proofs.lemmas.Result.{err_from_is_err_and}
 use Rattle.shown_volumes.specs.declared.refused.Refused.{Refused}
-use Rattle.mss_restart.specs.Creations.{CreatesVolumes, StopsAlone}
+use Rattle.mss_restart.specs.Creations.{CreatesVolumes, StepsOn}
+use Rattle.mss_restart.specs.declared.opening.Opened.{Opened}
 use Rattle.mss_restart.proofs.creations.create_volumes.Goals as goal
 use Rattle.mss_restart.proofs.creations.create_volumes.Goals.{then-missing+in_ok-create_volume, else-missing}
 
@@ -36,13 +37,14 @@ returns-in_err-create_volume-clause-told g c = λ tells.
     let rows = c.loop-entry.rows in
     let used = c.loop-entry.used.items in
     let made = c.loop-entry.creations.items in
+    let left : Opened = record { rows = c.create_volume.new.rows; used = c.loop-entry.used; creations = c.loop-entry.creations } in
     let behind : List VolumeData = drop (c.loop-entry.entry-index + 1) all in
     let v : VolumeData = c.entry-item.result in
     let known = c.loop-entry.invariant in
     let rest = rest_is all c.loop-entry.entry-index v (omega (arith, c.loop-entry-test.true)) c.entry-item.is in
     let creating = subst (λ (x : List VolumeData). IsCreating all start begun mid rows used x) rest (known.creating tells) in
     let fresh = ap (λ (o : Option RowValue). is_some o) (sym c.row.ensures) ∙ c.is_none-missing.ensures ∙ ap not c.if-missing.true in
-    subst (λ (r : Result (Unit {0}) Refused). CreatesVolumes all made c.args.rows.now c.create_volume.new.rows used begun now r) (sym (p.1 ∙ ap Err p.2)) (record {
+    subst (λ (r : Result (Unit {0}) Refused). CreatesVolumes all c.args.rows.now left begun now r) (sym (p.1 ∙ ap Err p.2)) (record {
       moments = moments_on all start begun mid rows used v behind creating fresh now (c.create_volume.ensures.moments tells);
       others = others_on all start begun mid rows used v behind creating fresh now (c.create_volume.ensures.others tells);
       created = tt;
@@ -76,7 +78,7 @@ loop-entry-preserved g c =
             coming_on all start (listed rows) c.loop-entry.creations.items v behind (g.S.Site.writes c.args.site.now) (g.S.Site.writes c.loop-entry.site)
             (subst (λ (x : List VolumeData). AreComing all start (g.S.Site.writes c.args.site.now) (g.S.Site.writes c.loop-entry.site) (listed rows) c.loop-entry.creations.items x) rest known.coming)
             (listed w.create_volume.new.rows) w.push.new.self.items (g.S.Site.writes w.create_volume.new.site) w.in_ok-create_volume.field-0 w.push.ensures.items
-            (ap (λ (o : Option RowValue). is_some o) row ∙ c.is_none-missing.ensures ∙ ap not w.if-missing.true) w.in_ok-create_volume.ensures.row rising.0 w.create_volume.ensures.devices.written
+            (ap (λ (o : Option RowValue). is_some o) row ∙ c.is_none-missing.ensures ∙ ap not w.if-missing.true) w.in_ok-create_volume.ensures.row rising.0 w.create_volume.ensures.site_.devices.written
             w.in_ok-create_volume.ensures.counted.0 w.in_ok-create_volume.ensures.counted.1;
         logged = λ tells.
             logged_on all start (listed rows) c.loop-entry.creations.items v behind begun mid
@@ -86,8 +88,8 @@ loop-entry-preserved g c =
         places = search rules;
         rising = rising.1;
         room = omega (arith, known.room, w.push.ensures.spare);
-        count = w.in_ok-create_volume.ensures.stops ∙ known.count;
-        devices = written_on g.S.Site c.args.site.now c.loop-entry.site w.create_volume.new.site known.devices w.create_volume.ensures.devices;
+        count = w.in_ok-create_volume.ensures.site_.stops ∙ known.count;
+        devices = written_on g.S.Site c.args.site.now c.loop-entry.site w.create_volume.new.site known.devices w.create_volume.ensures.site_.devices;
       })
       | else-missing w ↦ rw (w.site-is, w.rows-is, w.used-is, w.creations-is) (record {
         creating = λ tells.
@@ -109,15 +111,11 @@ loop-entry-preserved g c =
       })
     ]
 
-pub returns-in_err-create_volume-clause-stops : goal.returns-in_err-create_volume-clause-stops
-returns-in_err-create_volume-clause-stops g c =
+pub returns-in_err-create_volume-clause-site_ : goal.returns-in_err-create_volume-clause-site_
+returns-in_err-create_volume-clause-site_ g c =
     let p = err_from_is_err_and c.from_residual.result c.from_residual.ensures.1 in
-    subst (λ (r : Result (Unit {0}) Refused). StopsAlone (g.S.Site.faults c.args.site.now) (g.S.Site.faults c.create_volume.new.site) r) (sym (p.1 ∙ ap Err p.2))
-    (stop_since (g.S.Site.faults c.args.site.now) (g.S.Site.faults c.loop-entry.site) (g.S.Site.faults c.create_volume.new.site) c.in_err-create_volume.field-0.0 c.loop-entry.invariant.count c.in_err-create_volume.ensures.stops)
-
-pub returns-in_err-create_volume-clause-devices : goal.returns-in_err-create_volume-clause-devices
-returns-in_err-create_volume-clause-devices g c =
-    written_on g.S.Site c.args.site.now c.loop-entry.site c.create_volume.new.site c.loop-entry.invariant.devices c.create_volume.ensures.devices
+    subst (λ (r : Result (Unit {0}) Refused). StepsOn g.S.Site c.args.site.now c.create_volume.new.site r) (sym (p.1 ∙ ap Err p.2))
+    (step_fails g.S.Site c.args.site.now c.loop-entry.site c.create_volume.new.site c.in_err-create_volume.field-0.0 c.loop-entry.invariant.devices c.loop-entry.invariant.count c.in_err-create_volume.ensures.site_)
 
 pub returns-clause-told : goal.returns-clause-told
 returns-clause-told g c = λ tells.
@@ -141,12 +139,8 @@ pub returns-clause-rows : goal.returns-clause-rows
 returns-clause-rows g c =
     let none : drop c.loop-entry.entry-index c.args.volumes.now ≡ [] = drop_of_length-le c.args.volumes.now {i = c.loop-entry.entry-index} (omega (arith, c.loop-entry-test.false)) in
     let start = listed c.args.rows.now in
-    (all_come c.args.volumes.now start (listed c.loop-entry.rows) (g.S.Site.writes c.args.site.now) (g.S.Site.writes c.loop-entry.site) c.loop-entry.creations.items
-    (subst (λ (x : List VolumeData). AreComing c.args.volumes.now start (g.S.Site.writes c.args.site.now) (g.S.Site.writes c.loop-entry.site) (listed c.loop-entry.rows) c.loop-entry.creations.items x) none c.loop-entry.invariant.coming)).0
+    all_come c.args.volumes.now start (listed c.loop-entry.rows) (g.S.Site.writes c.args.site.now) (g.S.Site.writes c.loop-entry.site) c.loop-entry.creations.items
+    (subst (λ (x : List VolumeData). AreComing c.args.volumes.now start (g.S.Site.writes c.args.site.now) (g.S.Site.writes c.loop-entry.site) (listed c.loop-entry.rows) c.loop-entry.creations.items x) none c.loop-entry.invariant.coming)
 
-pub returns-clause-counted : goal.returns-clause-counted
-returns-clause-counted g c =
-    let none : drop c.loop-entry.entry-index c.args.volumes.now ≡ [] = drop_of_length-le c.args.volumes.now {i = c.loop-entry.entry-index} (omega (arith, c.loop-entry-test.false)) in
-    let start = listed c.args.rows.now in
-    (all_come c.args.volumes.now start (listed c.loop-entry.rows) (g.S.Site.writes c.args.site.now) (g.S.Site.writes c.loop-entry.site) c.loop-entry.creations.items
-    (subst (λ (x : List VolumeData). AreComing c.args.volumes.now start (g.S.Site.writes c.args.site.now) (g.S.Site.writes c.loop-entry.site) (listed c.loop-entry.rows) c.loop-entry.creations.items x) none c.loop-entry.invariant.coming)).1
+pub returns-clause-site_ : goal.returns-clause-site_
+returns-clause-site_ g c = record { devices = c.loop-entry.invariant.devices; stops = c.loop-entry.invariant.count; works = λ never. tt }

@@ -21,12 +21,12 @@ use Rattle.mss_restart.proofs.opening.open_lent.Goals as goal
 pub returns-in_err-complete_rows-clause-moments : goal.returns-in_err-complete_rows-clause-moments
 returns-in_err-complete_rows-clause-moments g c = λ tells.
     moments_at (g.S.Site.told c.args.site.now) (g.S.Site.told c.known_rows.new.site) (g.S.Site.told c.complete_rows.new.site) c.in_ok-rows.rows c.args.config.now.volumes (c.known_rows.ensures.devices.log tells)
-    c.look.ensures.places (c.in_ok-rows.ensures.known tells) (c.complete_rows.ensures.moments tells)
+    c.look.ensures.places (c.in_ok-rows.ensures.known tells) (c.complete_rows.ensures.told tells).moments
 
 pub returns-clause-moments : goal.returns-clause-moments
 returns-clause-moments g c = λ tells.
     moments_at (g.S.Site.told c.args.site.now) (g.S.Site.told c.known_rows.new.site) (g.S.Site.told c.complete_rows.new.site) c.in_ok-rows.rows c.args.config.now.volumes (c.known_rows.ensures.devices.log tells)
-    c.look.ensures.places (c.in_ok-rows.ensures.known tells) (c.complete_rows.ensures.moments tells)
+    c.look.ensures.places (c.in_ok-rows.ensures.known tells) (c.complete_rows.ensures.told tells).moments
 
 pub returns-clause-opens : goal.returns-clause-opens
 returns-clause-opens g c = λ tells.
@@ -37,7 +37,7 @@ returns-clause-opens g c = λ tells.
     let volumes = c.args.config.now.volumes in
     opened c.args.config.now (content (g.S.Site.told c.args.site.now)) now before after used (subst (λ (x : ConfigData). AreRising x.volumes) c.config.view_is c.config.invariant.rising) c.look.ensures.places
     (c.in_ok-rows.ensures.known tells) (c.in_ok-rows.ensures.faultless tells) c.look-2.ensures.places
-    (subst (λ (x : SiteLog). AreCreated volumes (content x) now before after used) (c.known_rows.ensures.devices.log tells) (c.in_ok-complete_rows.ensures.created tells))
+    (subst (λ (x : SiteLog). AreCreated volumes (content x) now before after used) (c.known_rows.ensures.devices.log tells) (c.in_ok-complete_rows.ensures.told tells).created)
 
 pub returns-in_err-reserve-clause-complete : goal.returns-in_err-reserve-clause-complete
 returns-in_err-reserve-clause-complete g c = λ tells.
@@ -70,7 +70,7 @@ returns-in_err-complete_rows-clause-opens g c = λ tells.
     let after = g.S.Site.faults c.complete_rows.new.site in
     subst (λ (r : Result Opened Refused). Opens before after c.args.config.now s now r) (sym (p.1 ∙ ap Err p.2))
     (stop_refuses before after c.args.config.now s now c.in_ok-rows.rows c.in_err-complete_rows.field-0.0 (c.in_ok-rows.ensures.known tells) (c.in_ok-rows.ensures.faultless tells)
-    (stop_since before (g.S.Site.faults c.known_rows.new.site) after c.in_err-complete_rows.field-0.0 c.in_ok-rows.ensures.kept c.in_err-complete_rows.ensures.stops))
+    (stop_since before (g.S.Site.faults c.known_rows.new.site) after c.in_err-complete_rows.field-0.0 c.in_ok-rows.ensures.kept c.in_err-complete_rows.ensures.site_.stops))
 
 pub returns-in_err-complete_rows-clause-complete : goal.returns-in_err-complete_rows-clause-complete
 returns-in_err-complete_rows-clause-complete g c = λ tells.
@@ -81,7 +81,7 @@ returns-in_err-complete_rows-clause-complete g c = λ tells.
     let rows = c.in_ok-rows.rows in
     subst (λ (r : Result Opened Refused). OpensWhole c.args.config.now s now r) (sym (p.1 ∙ ap Err p.2))
     (refusal_complete c.args.config.now.volumes c.complete_rows.new.creations.items (listed rows) (listed c.complete_rows.new.rows) s mid now c.in_err-complete_rows.field-0.0 (c.known_rows.ensures.devices.log tells)
-    (rows_listed rows (content s) c.look.ensures.places (c.in_ok-rows.ensures.known tells)) (c.in_err-complete_rows.ensures.complete tells))
+    (rows_listed rows (content s) c.look.ensures.places (c.in_ok-rows.ensures.known tells)) (c.in_err-complete_rows.ensures.told tells).complete)
 
 pub returns-clause-complete : goal.returns-clause-complete
 returns-clause-complete g c = λ tells.
@@ -91,8 +91,8 @@ returns-clause-complete g c = λ tells.
     let rows = c.in_ok-rows.rows in
     let after = c.complete_rows.new.rows in
     answer_complete c.args.config.now.volumes c.complete_rows.new.creations.items (listed rows) (listed after) s mid now (c.known_rows.ensures.devices.log tells)
-    (rows_listed rows (content s) c.look.ensures.places (c.in_ok-rows.ensures.known tells)) (rows_listed after (content now) c.look-2.ensures.places (c.in_ok-complete_rows.ensures.created tells).are)
-    (c.in_ok-complete_rows.ensures.complete tells)
+    (rows_listed rows (content s) c.look.ensures.places (c.in_ok-rows.ensures.known tells)) (rows_listed after (content now) c.look-2.ensures.places (c.in_ok-complete_rows.ensures.told tells).created.are)
+    (c.in_ok-complete_rows.ensures.told tells).complete
 
 pub returns-in_err-complete_rows-clause-untouched : goal.returns-in_err-complete_rows-clause-untouched
 returns-in_err-complete_rows-clause-untouched g c = λ tells. inr (c.in_ok-rows.ensures.faultless tells)
@@ -102,7 +102,7 @@ returns-clause-untouched g c = λ tells. inr (c.in_ok-rows.ensures.faultless tel
 
 pub returns-clause-usable : goal.returns-clause-usable
 returns-clause-usable g c = record {
-  rows_ = usable_for c.args.config.now c.in_ok-rows.rows c.complete_rows.new.rows (subst IsConfig c.config.view_is c.config.invariant) c.look.ensures.places c.in_ok-rows.ensures.usable c.in_ok-complete_rows.ensures.rows;
+  rows_ = usable_for c.args.config.now c.in_ok-rows.rows c.complete_rows.new.rows (subst IsConfig c.config.view_is c.config.invariant) c.look.ensures.places c.in_ok-rows.ensures.usable c.in_ok-complete_rows.ensures.rows.rows;
   used_ = c.complete_rows.ensures.places;
 }
 
@@ -124,12 +124,12 @@ returns-in_err-rows-clause-others g c = λ tells.
 pub returns-in_err-complete_rows-clause-others : goal.returns-in_err-complete_rows-clause-others
 returns-in_err-complete_rows-clause-others g c = λ tells.
     others_at (g.S.Site.told c.args.site.now) (g.S.Site.told c.known_rows.new.site) (g.S.Site.told c.complete_rows.new.site) c.in_ok-rows.rows c.args.config.now.volumes (c.known_rows.ensures.devices.log tells)
-    c.look.ensures.places (c.in_ok-rows.ensures.known tells) (c.complete_rows.ensures.others tells)
+    c.look.ensures.places (c.in_ok-rows.ensures.known tells) (c.complete_rows.ensures.told tells).others
 
 pub returns-clause-others : goal.returns-clause-others
 returns-clause-others g c = λ tells.
     others_at (g.S.Site.told c.args.site.now) (g.S.Site.told c.known_rows.new.site) (g.S.Site.told c.complete_rows.new.site) c.in_ok-rows.rows c.args.config.now.volumes (c.known_rows.ensures.devices.log tells)
-    c.look.ensures.places (c.in_ok-rows.ensures.known tells) (c.complete_rows.ensures.others tells)
+    c.look.ensures.places (c.in_ok-rows.ensures.known tells) (c.complete_rows.ensures.told tells).others
 
 pub returns-in_err-reserve-clause-moments : goal.returns-in_err-reserve-clause-moments
 returns-in_err-reserve-clause-moments g c = λ tells frames sound.

@@ -16,24 +16,23 @@ pub returns-in-Err-clause-rows : goal.returns-in-Err-clause-rows
 returns-in-Err-clause-rows g c = λ tells.
     (repaired_too (g.S.Site.told c.args.site.now) (g.S.Site.told c.loop-number.site) (g.S.Site.told c.repair.new.site) c.volume_at.result (c.loop-number.invariant.repaired tells) (repaired_firm c.loop-number.number (g.S.Site.told c.args.site.now) (g.S.Site.told c.loop-number.site) (c.loop-number.invariant.complete tells)) (c.repair.ensures.moments tells)).rows
 
-pub returns-in-Err-clause-stops : goal.returns-in-Err-clause-stops
-returns-in-Err-clause-stops g c =
-    stop_since _ (g.S.Site.faults c.loop-number.site) _ c.refused_repair.result c.loop-number.invariant.count (c.refused_repair.ensures.kept (g.S.Site.faults c.loop-number.site) (g.S.Site.faults c.repair.new.site) c.in-Err.ensures.kept)
-
 pub returns-in-Err-clause-complete : goal.returns-in-Err-clause-complete
 returns-in-Err-clause-complete g c = λ tells.
     memory_repairs c.loop-number.number (g.S.Site.told c.args.site.now) (g.S.Site.told c.loop-number.site) (g.S.Site.told c.repair.new.site) c.refused_repair.result (c.loop-number.invariant.complete tells)
     (λ memory. (c.in-Err.ensures.memory (ap Err (c.refused_repair.ensures.memory memory))).log tells)
 
-pub returns-in-Err-clause-works : goal.returns-in-Err-clause-works
-returns-in-Err-clause-works g c = λ never.
-    let here = c.loop-number.invariant.devices.sound (λ unit. false) never in
-    c.refused_repair.ensures.works (c.in-Err.ensures.works (λ unit. false, here, refl) (λ unit. false, here, refl))
-
-pub returns-in-Err-clause-devices : goal.returns-in-Err-clause-devices
-returns-in-Err-clause-devices g c =
-    written_on g.S.Site c.args.site.now c.loop-number.site c.repair.new.site c.loop-number.invariant.devices
-    (may_be_written g.S.Site 7 c.loop-number.site c.repair.new.site c.repair.ensures.devices)
+pub returns-in-Err-clause-site_ : goal.returns-in-Err-clause-site_
+returns-in-Err-clause-site_ g c =
+    let before = c.loop-number.invariant.devices in
+    record {
+      devices = written_on g.S.Site c.args.site.now c.loop-number.site c.repair.new.site before (may_be_written g.S.Site 7 c.loop-number.site c.repair.new.site c.repair.ensures.devices);
+      stops =
+          stop_since _ (g.S.Site.faults c.loop-number.site) _ c.refused_repair.result c.loop-number.invariant.count
+          (c.refused_repair.ensures.kept (g.S.Site.faults c.loop-number.site) (g.S.Site.faults c.repair.new.site) c.in-Err.ensures.kept);
+      works = λ never.
+          let here = before.sound (λ unit. false) never in
+          c.refused_repair.ensures.works (c.in-Err.ensures.works (λ unit. false, here, refl) (λ unit. false, here, refl));
+    }
 
 pub loop-number-preserved : goal.loop-number-preserved
 loop-number-preserved g c = let place : c.from.result ≡ c.loop-number.number = search rules in record {
@@ -41,15 +40,15 @@ loop-number-preserved g c = let place : c.from.result ≡ c.loop-number.number =
       repaired_too (g.S.Site.told c.args.site.now) (g.S.Site.told c.loop-number.site) (g.S.Site.told c.repair.new.site) c.volume_at.result (c.loop-number.invariant.repaired tells) (repaired_firm c.loop-number.number (g.S.Site.told c.args.site.now) (g.S.Site.told c.loop-number.site) (c.loop-number.invariant.complete tells)) (c.repair.ensures.moments tells);
   held = λ tells.
       held_too (g.S.Site.told c.args.site.now) (g.S.Site.told c.loop-number.site) (g.S.Site.told c.repair.new.site) c.volume_at.result (c.loop-number.invariant.repaired tells) (repaired_firm c.loop-number.number (g.S.Site.told c.args.site.now) (g.S.Site.told c.loop-number.site) (c.loop-number.invariant.complete tells)) (c.repair.ensures.moments tells)
-      c.loop-number.number (c.loop-number.invariant.held tells) c.volume_at.ensures (c.in-Ok.ensures.done tells);
+      c.loop-number.number (c.loop-number.invariant.held tells) c.volume_at.ensures (c.in-Ok.ensures.done tells).held;
   slots = λ tells.
       slots_too (g.S.Site.told c.args.site.now) (g.S.Site.told c.loop-number.site) (g.S.Site.told c.repair.new.site) c.volume_at.result (c.loop-number.invariant.repaired tells) (repaired_firm c.loop-number.number (g.S.Site.told c.args.site.now) (g.S.Site.told c.loop-number.site) (c.loop-number.invariant.complete tells)) (c.repair.ensures.moments tells)
       c.loop-number.number c.loop-number.used.items c.set.new.self.items c.in-Ok.slots (let places = c.loop-number.invariant.places in let low = c.loop-number-test.true in omega (arith, places, low)) (c.loop-number.invariant.slots tells) c.volume_at.ensures
-      (c.in-Ok.ensures.used tells) (c.set.ensures.items ∙ (λ i. set c.loop-number.used.items (place i) c.in-Ok.slots));
+      (c.in-Ok.ensures.done tells).slots_ (c.set.ensures.items ∙ (λ i. set c.loop-number.used.items (place i) c.in-Ok.slots));
   places = search rules;
   complete = λ tells.
       one_repaired c.loop-number.number c.volume_at.result (g.S.Site.told c.args.site.now) (g.S.Site.told c.loop-number.site) (g.S.Site.told c.repair.new.site) (c.loop-number.invariant.complete tells) c.volume_at.ensures
-      (record { moments = c.repair.ensures.moments tells; marks = c.repair.ensures.marks tells; held = c.in-Ok.ensures.done tells; alone = c.repair.ensures.untouched tells; firm = c.in-Ok.ensures.firm tells });
+      (record { moments = c.repair.ensures.moments tells; marks = c.repair.ensures.marks tells; held = (c.in-Ok.ensures.done tells).held; alone = c.repair.ensures.untouched tells; firm = (c.in-Ok.ensures.done tells).firm });
   others = λ tells.
       others_then [] (g.S.Site.told c.args.site.now) (g.S.Site.told c.loop-number.site) (g.S.Site.told c.repair.new.site) (repaired_firm c.loop-number.number (g.S.Site.told c.args.site.now) (g.S.Site.told c.loop-number.site) (c.loop-number.invariant.complete tells)) (c.loop-number.invariant.others tells)
       (repair_others c.volume_at.result (g.S.Site.told c.loop-number.site) (g.S.Site.told c.repair.new.site) (c.repair.ensures.moments tells) (c.repair.ensures.marks tells) (c.repair.ensures.untouched tells));
@@ -73,3 +72,6 @@ pub returns-in-Err-clause-others : goal.returns-in-Err-clause-others
 returns-in-Err-clause-others g c = λ tells.
     others_then [] (g.S.Site.told c.args.site.now) (g.S.Site.told c.loop-number.site) (g.S.Site.told c.repair.new.site) (repaired_firm c.loop-number.number (g.S.Site.told c.args.site.now) (g.S.Site.told c.loop-number.site) (c.loop-number.invariant.complete tells)) (c.loop-number.invariant.others tells)
     (repair_others c.volume_at.result (g.S.Site.told c.loop-number.site) (g.S.Site.told c.repair.new.site) (c.repair.ensures.moments tells) (c.repair.ensures.marks tells) (c.repair.ensures.untouched tells))
+
+pub returns-clause-site_ : goal.returns-clause-site_
+returns-clause-site_ g c = record { devices = c.loop-number.invariant.devices; stops = c.loop-number.invariant.count; works = λ never. tt }

@@ -52,21 +52,16 @@ returns-in_err-stale-clause-memory g c = λ is.
 
 pub returns-in_default-clause-done : goal.returns-in_default-clause-done
 returns-in_default-clause-done g c = λ tells.
-    equal_hold c.args.volume _ _
-    (subst (λ (o : Option Stale). MayBeStale o (copy_a c.args.volume (g.S.Site.told c.args.site.now)) (copy_b c.args.volume (g.S.Site.told c.args.site.now))) c.in_default.is (c.in_ok-stale.ensures.found tells).stale) (c.find_stale.ensures.reads.log tells)
-
-pub returns-in_default-clause-settled : goal.returns-in_default-clause-settled
-returns-in_default-clause-settled g c = λ tells.
-    none_settled c.args.volume _ _
-    (subst (λ (o : Option Stale). MayBeStale o (copy_a c.args.volume (g.S.Site.told c.args.site.now)) (copy_b c.args.volume (g.S.Site.told c.args.site.now))) c.in_default.is (c.in_ok-stale.ensures.found tells).stale) (c.find_stale.ensures.reads.log tells)
-
-pub returns-in_default-clause-used : goal.returns-in_default-clause-used
-returns-in_default-clause-used g c = λ tells.
-    found_slots _ c.args.volume _ _ (c.find_stale.ensures.reads.log tells) (c.in_ok-stale.ensures.found tells)
-
-pub returns-in_default-clause-firm : goal.returns-in_default-clause-firm
-returns-in_default-clause-firm g c = λ tells.
-    none_firm c.args.volume _ _ (c.find_stale.ensures.reads.log tells)
+    let log = c.find_stale.ensures.reads.log tells in
+    let found = c.in_ok-stale.ensures.found tells in
+    let none =
+    subst (λ (o : Option Stale). MayBeStale o (copy_a c.args.volume (g.S.Site.told c.args.site.now)) (copy_b c.args.volume (g.S.Site.told c.args.site.now))) c.in_default.is found.stale in
+    record {
+      held = equal_hold c.args.volume _ _ none log;
+      slots_ = found_slots _ c.args.volume _ _ log found;
+      settled = none_settled c.args.volume _ _ none log;
+      firm = none_firm c.args.volume _ _ log;
+    }
 
 pub follow-requires-clause-stale : goal.follow-requires-clause-stale
 follow-requires-clause-stale g c = λ tells.
@@ -115,12 +110,13 @@ returns-clause-devices g c =
 pub returns-in-Ok-clause-done : goal.returns-in-Ok-clause-done
 returns-in-Ok-clause-done g c = λ tells.
     let r : g.S.Site.told c.find_stale.new.site ≡ g.S.Site.told c.args.site.now = c.find_stale.ensures.reads.log tells in
-    λ row told. c.in-Ok.ensures.done tells row (ap (λ (q : SiteLog). row_of (content q) c.args.volume) r ∙ told)
-
-pub returns-in-Ok-clause-firm : goal.returns-in-Ok-clause-firm
-returns-in-Ok-clause-firm g c = λ tells.
-    let r : g.S.Site.told c.find_stale.new.site ≡ g.S.Site.told c.args.site.now = c.find_stale.ensures.reads.log tells in
-    firm_since (g.S.Site.told c.args.site.now) _ _ r (c.in-Ok.ensures.firm tells)
+    let slots = found_slots _ c.args.volume _ _ r (c.in_ok-stale.ensures.found tells) in
+    record {
+      held = λ row told. c.in-Ok.ensures.done tells row (ap (λ (q : SiteLog). row_of (content q) c.args.volume) r ∙ told);
+      slots_ = subst (λ (u : SlotsUsed). HasSlots u c.args.volume (content (g.S.Site.told c.follow.new.site))) (sym c.without.ensures) (c.in-Ok.ensures.emptied tells _ slots);
+      settled = c.in-Ok.ensures.settled tells;
+      firm = firm_since (g.S.Site.told c.args.site.now) _ _ r (c.in-Ok.ensures.firm tells);
+    }
 
 pub returns-in-Ok-clause-kept : goal.returns-in-Ok-clause-kept
 returns-in-Ok-clause-kept g c =
@@ -133,8 +129,3 @@ returns-clause-kept g c =
 pub returns-clause-works : goal.returns-clause-works
 returns-clause-works g c = λ a_readable _.
     never_err (Unit {0}) c.in-Err.field-0 ⊥ (c.in-Err.ensures.site_.works a_readable.0 (c.find_stale.ensures.reads.sound a_readable.0 a_readable.1))
-
-pub returns-in-Ok-clause-used : goal.returns-in-Ok-clause-used
-returns-in-Ok-clause-used g c = λ tells.
-    subst (λ (u : SlotsUsed). HasSlots u c.args.volume (content (g.S.Site.told c.follow.new.site))) (sym c.without.ensures)
-    (c.in-Ok.ensures.emptied tells _ (found_slots _ c.args.volume _ _ (c.find_stale.ensures.reads.log tells) (c.in_ok-stale.ensures.found tells)))

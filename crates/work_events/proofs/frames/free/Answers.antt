@@ -67,7 +67,7 @@ invariant_of-core-in-Ok g c =
     let may : MayFree now c.served.result.0 c.args.volume c.args.page = says.may c.served.result.0 c.served.result.1 c.served.ensures.serves in
     let is = c.core.view_is in
     let x = c.write_change.new.site in
-    let done_ = row_changed g.S.Site has c.args.volume (Free c.args.page) x c.write_change.ensures.rows c.write_change.ensures.site_.devices _ c.in-Ok.ensures.copies _ refl c.in-Ok.ensures.used c.in-Ok.ensures.session.told (g.met.S.Site.counted x) c.in-Ok.ensures.site_.cause.same in
+    let done_ = row_changed g.S.Site has c.args.volume (Free c.args.page) x c.write_change.ensures.rows c.write_change.ensures.site_.devices _ c.in-Ok.ensures.copies _ refl c.in-Ok.ensures.used.done c.in-Ok.ensures.session.told (g.met.S.Site.counted x) c.in-Ok.ensures.site_.cause.same in
     let told : session_data c.did.new.session ≡ with_last_event (Work c.args.recorder) (with_last_message (message_of (g.S.Site.writes x) c.args.volume (Free c.args.page) (listed now.rows)) (data_of now)) = c.did.ensures.told ∙ ap (with_last_event (Work c.args.recorder)) done_.told in
     let owners : c.set_owner.new.self.owners ≡ slice_set now.owners c.served.result.0.frame None = ap (λ f. f.owners) c.set_owner.ensures ∙ (λ i. slice_set (is i).owners c.served.result.0.frame None) in
     let moving : c.set_owner.new.self.moving ≡ now.moving = ap (λ f. f.moving) c.set_owner.ensures ∙ ap (λ (z : CoreValue g.row.S.Denot g.row.C.Denot). z.moving) is in
@@ -82,7 +82,7 @@ returns-in-Ok-clause-event g c =
     let has = has_room g.S.Site _ now c.core.view_is c.core.invariant c.make_room.new.site _ c.make_room.ensures.session c.make_room.ensures.site in
     let is = c.core.view_is in
     let x = c.write_change.new.site in
-    let done_ = row_changed g.S.Site has c.args.volume (Free c.args.page) x c.write_change.ensures.rows c.write_change.ensures.site_.devices _ c.in-Ok.ensures.copies _ refl c.in-Ok.ensures.used c.in-Ok.ensures.session.told (g.met.S.Site.counted x) c.in-Ok.ensures.site_.cause.same in
+    let done_ = row_changed g.S.Site has c.args.volume (Free c.args.page) x c.write_change.ensures.rows c.write_change.ensures.site_.devices _ c.in-Ok.ensures.copies _ refl c.in-Ok.ensures.used.done c.in-Ok.ensures.session.told (g.met.S.Site.counted x) c.in-Ok.ensures.site_.cause.same in
     let told : session_data c.did.new.session ≡ with_last_event (Work c.args.recorder) (with_last_message (message_of (g.S.Site.writes x) c.args.volume (Free c.args.page) (listed now.rows)) (data_of now)) = c.did.ensures.told ∙ ap (with_last_event (Work c.args.recorder)) done_.told in
     let owners : c.set_owner.new.self.owners ≡ slice_set now.owners c.served.result.0.frame None = ap (λ f. f.owners) c.set_owner.ensures ∙ (λ i. slice_set (is i).owners c.served.result.0.frame None) in
     let moving : c.set_owner.new.self.moving ≡ now.moving = ap (λ f. f.moving) c.set_owner.ensures ∙ ap (λ (z : CoreValue g.row.S.Denot g.row.C.Denot). z.moving) is in
@@ -97,4 +97,4 @@ invariant_of-core-in-Err g c =
     let says = rule_frees now c.args.recorder c.requires.fits has.kept.whole.kept c.args.volume c.args.page c.requires.rule in
     let may : MayFree now c.served.result.0 c.args.volume c.args.page = says.may c.served.result.0 c.served.result.1 c.served.ensures.serves in
     let due = due_freed g.row.S.Denot g.S.Site.tells (g.S.Site.told now.site) now has.kept.whole says.going c.args.recorder c.served.result.0 c.served.result.1 c.served.ensures.serves c.args.volume c.args.page may in
-    row_stopped g.S.Site has c.args.volume (Free c.args.page) c.write_change.new.site c.write_change.ensures.rows c.write_change.ensures.site_.devices _ c.in-Err.ensures.copies due says.going c.args.recorder c.in-Err.ensures.site_.cause.failed c.in-Err.ensures.unused c.in-Err.ensures.session.stopped c.stop.ensures.told
+    row_stopped g.S.Site has c.args.volume (Free c.args.page) c.write_change.new.site c.write_change.ensures.rows c.write_change.ensures.site_.devices _ c.in-Err.ensures.copies due says.going c.args.recorder c.in-Err.ensures.site_.cause.failed c.in-Err.ensures.used.failed c.in-Err.ensures.session.stopped c.stop.ensures.told
