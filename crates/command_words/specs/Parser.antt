@@ -1,5 +1,5 @@
 -- The commands as the parser is told them, and what it makes of the words.
-use Rattle.std.specs.Prelude.{false, true, List, [], ◌∷◌, Option, Some, None, codes, map}
+use Rattle.std.specs.Prelude.{false, true, List, [], ◌∷◌, ◌++◌, Option, Some, None, codes, map}
 use Rattle.std.specs.List.{find}
 use Rattle.std.specs.Option.{option_map}
 use Rattle.std.specs.Str.{bytes_eq}
@@ -37,6 +37,10 @@ option_rule name = record (new_rule name) { long = Some name }
 
 abbrev pub command_shape : CommandForm → Shape
 command_shape form = record (new_shape form.0) { rules = map option_rule form.1 }
+
+-- a command with one option more
+abbrev pub with_option : Text → Shape → Shape
+with_option name shape = record shape { rules = shape.rules ++ option_rule name ∷ [] }
 
 -- the program before it has commands
 abbrev pub bare_app : App

@@ -3,25 +3,36 @@ ghost use Rattle.std.specs.Prelude.{◌≡◌, ◌≢◌, [], false, map, string
 ghost use Rattle.clap.specs.Simple.{app_of, shape_of};
 ghost use Rattle.clap.specs.declared.builder.command.Command.TheViews.{out-Command as fields_of};
 ghost use Rattle.command_words.specs.Outcomes.{Parses};
-ghost use Rattle.command_words.specs.Parser.{app, audit, bare_app, command_shape, serial};
+ghost use Rattle.command_words.specs.Parser.{app, audit, bare_app, command_shape, serial, with_option};
 
 use crate::command::CommandFault;
 use clap::error::ErrorKind;
 use clap::{Arg, ArgMatches, Command};
 use std::alloc::{AllocError, Global};
 
+/// A command with one option more, which takes a value.
+fn with_option<'a>(
+    alloc: Global,
+    command: Command<'a>,
+    name: &'a str,
+) -> Result<Command<'a>, AllocError>
+    requires { (fields_of command).has_globals ≡ false }
+    ensures shape { IfOk result (λ parser. shape_of parser
+        ≡ with_option name.entry.now (shape_of command.entry)) }
+    ensures local { IfOk result (λ parser. (fields_of parser).has_globals ≡ false) }
+{
+    command.arg(Arg::new(alloc, name).long(name))
+}
+
 /// `serial`, with its options.
 fn serial_parser<'a>(alloc: Global) -> Result<Command<'a>, AllocError>
     ensures shape { IfOk result (λ parser. shape_of parser ≡ command_shape serial) }
     ensures local { IfOk result (λ parser. (fields_of parser).has_globals ≡ false) }
 {
-    let order = Arg::new(alloc, "order").long("order");
-    let turns = Arg::new(alloc, "turns").long("turns");
-    let load = Arg::new(alloc, "load").long("load");
-    Command::new(alloc, "serial")
-        .arg(order)?
-        .arg(turns)?
-        .arg(load)
+    let parser = plain_parser(alloc, "serial");
+    let parser = with_option(alloc, parser, "order")?;
+    let parser = with_option(alloc, parser, "turns")?;
+    with_option(alloc, parser, "load")
 }
 
 /// `audit`, with its option.
@@ -29,8 +40,7 @@ fn audit_parser<'a>(alloc: Global) -> Result<Command<'a>, AllocError>
     ensures shape { IfOk result (λ parser. shape_of parser ≡ command_shape audit) }
     ensures local { IfOk result (λ parser. (fields_of parser).has_globals ≡ false) }
 {
-    let frames = Arg::new(alloc, "frames").long("frames");
-    Command::new(alloc, "audit").arg(frames)
+    with_option(alloc, plain_parser(alloc, "audit"), "frames")
 }
 
 /// A command without options.
@@ -62,8 +72,7 @@ fn parser<'a>(alloc: Global) -> Result<Command<'a>, AllocError>
     let program = program.subcommand(plain_parser(alloc, "threads"))?;
     let program = program.subcommand(plain_parser(alloc, "show"))?;
     let audit = audit_parser(alloc)?;
-    let program = program.subcommand(audit)?;
-    Ok(program)
+    program.subcommand(audit)
 }
 
 /// The fault of a parse that failed.

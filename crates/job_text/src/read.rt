@@ -64,17 +64,17 @@ fn take_first<'t>(
     Ok(behind)
 }
 
-/// What all lines of a text say.
-fn read_lines(alloc: Global, text: &[u8]) -> Result<Reading, JobFault>
+/// Takes all lines of a text.
+fn take_lines(alloc: Global, reading: &mut Reading, text: &[u8]) -> Result<(), JobFault>
     requires { length text.now < 2 ^ 31 }
-    ensures { Reads so_far result (lines_after nothing 1 (lines_of text.now)) }
+    ensures { Reads (λ _. so_far reading.new) result
+        (lines_after (so_far reading.old) 1 (lines_of text.now)) }
 {
-    let mut reading = Reading::new(alloc);
     let mut words = Vec::new(alloc);
     let mut number = 1u32;
     let mut rest = text;
     while !rest.is_empty() {
-        match take_first(alloc, &mut reading, &mut words, rest) {
+        match take_first(alloc, reading, &mut words, rest) {
             Ok(behind) => rest = behind,
             Err(LineFault::Bad(kind)) => return Err(JobFault::Bad { line: number, kind }),
             Err(LineFault::Memory) => return Err(JobFault::Memory),
@@ -87,6 +87,16 @@ fn read_lines(alloc: Global, text: &[u8]) -> Result<Reading, JobFault>
             kind: JobKind::Ended,
         });
     }
+    Ok(())
+}
+
+/// What all lines of a text say.
+fn read_lines(alloc: Global, text: &[u8]) -> Result<Reading, JobFault>
+    requires { length text.now < 2 ^ 31 }
+    ensures { Reads so_far result (lines_after nothing 1 (lines_of text.now)) }
+{
+    let mut reading = Reading::new(alloc);
+    take_lines(alloc, &mut reading, text)?;
     Ok(reading)
 }
 

@@ -46,13 +46,22 @@ pub fn spelling(keyword: Keyword) -> &'static str
     }
 }
 
-fn keyword_if(keyword: Keyword, word: &[u8]) -> Option<Keyword>
-    ensures { result ≡ find (λ k. bytes_eq (spelling k) word.now) (keyword ∷ []) }
+/// The keywords that are allowed at a place.
+fn allowed(place: Place) -> &'static [Keyword]
+    ensures { result.now ≡ allowed place }
 {
-    if is_word(word, spelling(keyword)) {
-        Some(keyword)
-    } else {
-        None
+    match place {
+        Place::Head => &[Keyword::Mss],
+        Place::Volumes => &[Keyword::Volume, Keyword::Host, Keyword::Done],
+        Place::Host => &[
+            Keyword::Host,
+            Keyword::Done,
+            Keyword::Mount,
+            Keyword::Demount,
+            Keyword::Program,
+        ],
+        Place::Program => &[Keyword::Ccw, Keyword::Tic, Keyword::End],
+        Place::After => &[],
     }
 }
 
@@ -60,21 +69,10 @@ fn keyword_if(keyword: Keyword, word: &[u8]) -> Option<Keyword>
 fn keyword_at(place: Place, word: &[u8]) -> Option<Keyword>
     ensures { result ≡ keyword_at place word.now }
 {
-    match place {
-        Place::Head => keyword_if(Keyword::Mss, word),
-        Place::Volumes => keyword_if(Keyword::Volume, word)
-            .or_else(|| keyword_if(Keyword::Host, word))
-            .or_else(|| keyword_if(Keyword::Done, word)),
-        Place::Host => keyword_if(Keyword::Host, word)
-            .or_else(|| keyword_if(Keyword::Done, word))
-            .or_else(|| keyword_if(Keyword::Mount, word))
-            .or_else(|| keyword_if(Keyword::Demount, word))
-            .or_else(|| keyword_if(Keyword::Program, word)),
-        Place::Program => keyword_if(Keyword::Ccw, word)
-            .or_else(|| keyword_if(Keyword::Tic, word))
-            .or_else(|| keyword_if(Keyword::End, word)),
-        Place::After => None,
-    }
+    allowed(place)
+        .iter()
+        .copied()
+        .find(|keyword| is_word(word, spelling(*keyword)))
 }
 
 /// What the lines so far said.

@@ -1,8 +1,9 @@
 // Writes.
-ghost use Rattle.std.specs.Prelude.{◌≡◌, ◌+◌, ◌-◌, ◌<◌, ◌≤◌, [], ◌∷◌, ◌++◌, length, take, slice_set, slice_index_or, IsTrue, IfOk, OnOk, OnErr};
+ghost use Rattle.std.specs.Prelude.{◌≡◌, ◌+◌, ◌-◌, ◌<◌, ◌≤◌, ◌^◌, [], ◌∷◌, ◌++◌, length, take, drop, slice_set, slice_index_or, IsTrue, IfOk, OnOk, OnErr};
 ghost use Rattle.channel_commands.specs.Codes.{least};
 ghost use Rattle.ckd_track.specs.Data.{blank_record, cost_of, cost, HasCount};
 ghost use Rattle.ckd_plain.specs.Checks.{is_prior_permitted};
+ghost use Rattle.ckd_plain.specs.Data.{padded};
 ghost use Rattle.ckd_plain.specs.Effects.{new_record, write_, prior_number};
 ghost use Rattle.plain_machine.specs.Outcomes.{GivesWritten};
 
@@ -68,6 +69,28 @@ fn format(track: &mut Track, count: usize, new: Record) -> Result<(), NoMemory>
     Ok(())
 }
 
+/// A key and data of these lengths: the bytes, cut or padded with zeros.
+fn key_and_body(
+    alloc: Global,
+    key_length: usize,
+    body_length: usize,
+    bytes: &[u8],
+) -> Result<(Bytes, Bytes), NoMemory>
+    requires { key_length + body_length < 2 ^ 64 }
+    ensures key { IfOk result (λ both. both.0.items
+        ≡ take key_length (padded (key_length + body_length) bytes.now)) }
+    ensures body { IfOk result (λ both. both.1.items
+        ≡ drop key_length (padded (key_length + body_length) bytes.now)) }
+    ensures key_length { IfOk result (λ both. length both.0.items ≡ key_length) }
+    ensures body_length { IfOk result (λ both. length both.1.items ≡ body_length) }
+{
+    let bytes = Bytes::padded(alloc, key_length + body_length, bytes)?;
+    let (key, body) = bytes.as_slice().split_at(key_length);
+    let key = Bytes::of(alloc, key)?;
+    let body = Bytes::of(alloc, body)?;
+    Ok((key, body))
+}
+
 /// The record that a count, a key and data spell.
 fn new_record(alloc: Global, argument: &[u8]) -> Result<Record, NoMemory>
     requires { 8 ≤ length argument.now }
@@ -76,8 +99,7 @@ fn new_record(alloc: Global, argument: &[u8]) -> Result<Record, NoMemory>
 {
     let key_length = usize::from(argument[5]);
     let body_length = usize::from(number_at(argument, 6));
-    let bytes = Bytes::padded(alloc, key_length + body_length, &argument[8..])?;
-    let (key, body) = bytes.as_slice().split_at(key_length);
+    let (key, body) = key_and_body(alloc, key_length, body_length, &argument[8..])?;
     Ok(Record {
         id: [
             argument[0],
@@ -86,8 +108,8 @@ fn new_record(alloc: Global, argument: &[u8]) -> Result<Record, NoMemory>
             argument[3],
             argument[4],
         ],
-        key: Bytes::of(alloc, key)?,
-        body: Bytes::of(alloc, body)?,
+        key,
+        body,
     })
 }
 
@@ -104,14 +126,15 @@ fn write_data(
         (write_ track.old host.now left WriteKind.Data argument.now) }
 {
     let number = left.number();
-    let (status, key, length) = match &same_record(track, host, number) {
+    let (status, copied, length) = match &same_record(track, host, number) {
         Ok(found) => (
             found.status(),
-            Bytes::of(alloc, found.key)?,
+            Bytes::of(alloc, found.key),
             found.body.len(),
         ),
         Err(refusal) => return Err(Trouble::Refused(*refusal)),
     };
+    let key = copied?;
     let body = Bytes::padded(alloc, length, argument)?;
     set_key_body(track, usize::from(number) - 1, key, body);
     Ok(written(alloc, host, status, number, host.prior))
@@ -134,10 +157,7 @@ fn write_key_data(
         Ok(found) => (found.status(), found.key.len(), found.body.len()),
         Err(refusal) => return Err(Trouble::Refused(*refusal)),
     };
-    let bytes = Bytes::padded(alloc, key_length + body_length, argument)?;
-    let (key, body) = bytes.as_slice().split_at(key_length);
-    let key = Bytes::of(alloc, key)?;
-    let body = Bytes::of(alloc, body)?;
+    let (key, body) = key_and_body(alloc, key_length, body_length, argument)?;
     set_key_body(track, usize::from(number) - 1, key, body);
     Ok(written(alloc, host, status, number, host.prior))
 }

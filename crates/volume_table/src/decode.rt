@@ -1,5 +1,6 @@
 // Reading a row.
-ghost use Rattle.std.specs.Prelude.{◌≡◌, ◌≤◌, ℕ, ◌*◌, ◌+◌, ◌||◌, ◌==◌, nat_lt, None, length, map, IfOk, slice_index};
+ghost use Rattle.std.specs.Prelude.{◌≡◌, ◌≤◌, ◌<◌, ℕ, ◌*◌, ◌+◌, ◌||◌, ◌==◌, nat_lt, None, length, map, IfOk, slice_index};
+ghost use Rattle.volume_table.specs.Grammar.{◌then◌, pages_part, states_part, spares_part};
 ghost use Rattle.volume_table.specs.Grammar.{body, decode, row_at, first_fault, first_in, unless, two_at, cartridge_fault, serial_fault, is_page_byte, page_fault, is_state, state_fault, spare_fault, Finds, Gives};
 
 use crate::fault::{DecodeFault, RowFault, RowField};
@@ -84,24 +85,43 @@ fn check_spares(bytes: &[u8]) -> Result<(), RowFault>
     Ok(())
 }
 
+/// The number of two bytes, the higher one first.
+fn two_at(body: &[u8], place: usize) -> u16
+    requires { place + 1 < length body.now }
+    ensures { result ≡ two_at place body.now }
+{
+    u16::from_be_bytes([body[place], body[place + 1]])
+}
+
+/// Looks for the first field from the pages on that no row has so.
+fn check_places(body: &[u8]) -> Result<(), RowFault>
+    requires { length body.now ≡ BODY_BYTES }
+    ensures { Finds result (first_in page_fault 0 (pages_part body.now)
+        then spare_fault 0 (slice_index body.now SPARE_AT)
+        then first_in (state_fault (pages_part body.now)) 0 (states_part body.now)
+        then first_in spare_fault 1 (spares_part body.now)) }
+{
+    let spare = body[SPARE_AT];
+    check_pages(&body[PAGES_AT..SPARE_AT])?;
+    check(spare == 0, RowField::Spare(0), spare as u16)?;
+    check_states(&body[PAGES_AT..SPARE_AT], &body[STATES_AT..SPARES_AT])?;
+    check_spares(&body[SPARES_AT..BODY_BYTES])
+}
+
 /// Looks for the first field of a body that no row has so.
 #[tactic(auto, unfolding(crate::specs::Grammar::first_fault))]
 fn check_body(body: &[u8]) -> Result<(), RowFault>
     requires { length body.now ≡ BODY_BYTES }
     ensures { Finds result (first_fault body.now) }
 {
-    let first = u16::from_be_bytes([body[FIRST_AT], body[FIRST_AT + 1]]);
-    let second = u16::from_be_bytes([body[SECOND_AT], body[SECOND_AT + 1]]);
     let version = body[VERSION_AT];
-    let spare = body[SPARE_AT];
+    let first = two_at(body, FIRST_AT);
+    let second = two_at(body, SECOND_AT);
     check(version == VERSION, RowField::Version, version as u16)?;
     check_serial(&body[SERIAL_AT..FIRST_AT])?;
     check(first < 2048, RowField::First, first)?;
     check(second < 2048, RowField::Second, second)?;
-    check_pages(&body[PAGES_AT..SPARE_AT])?;
-    check(spare == 0, RowField::Spare(0), spare as u16)?;
-    check_states(&body[PAGES_AT..SPARE_AT], &body[STATES_AT..SPARES_AT])?;
-    check_spares(&body[SPARES_AT..BODY_BYTES])
+    check_places(body)
 }
 
 /// The row of a body that is in the grammar.
@@ -113,11 +133,8 @@ fn row_of(alloc: Global, body: &[u8]) -> Result<VolumeRow, NoMemory>
     let pages = pages_of(alloc, &body[PAGES_AT..SPARE_AT])?;
     let states = states_of(alloc, &body[STATES_AT..SPARES_AT])?;
     let serial = Serial::of([body[1], body[2], body[3], body[4], body[5], body[6]]).unwrap();
-    let first = CartridgeNo::of(u16::from_be_bytes([body[FIRST_AT], body[FIRST_AT + 1]])).unwrap();
-    let second = CartridgeNo::of(u16::from_be_bytes([
-        body[SECOND_AT],
-        body[SECOND_AT + 1],
-    ])).unwrap();
+    let first = CartridgeNo::of(two_at(body, FIRST_AT)).unwrap();
+    let second = CartridgeNo::of(two_at(body, SECOND_AT)).unwrap();
     Ok(VolumeRow {
         serial,
         first,

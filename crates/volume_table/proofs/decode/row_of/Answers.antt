@@ -3,7 +3,7 @@ use Rattle.std.proofs.lemmas.Grind.{common_steps}
 use Rattle.mss_base.specs.Serial.{IsSerial}
 use Rattle.volume_table.specs.States.{state_number}
 use Rattle.volume_table.specs.Row.{IsRow, RowValue}
-use Rattle.volume_table.specs.Grammar.{row_at, two_at}
+use Rattle.volume_table.specs.Grammar.{row_at}
 use Rattle.volume_table.proofs.GrammarLemmas.{six_at, serial_good, first_good, second_good, row_good}
 use Rattle.volume_table.proofs.decode.row_of.Goals as goal
 
@@ -13,14 +13,12 @@ unwrap-serial-requires c = c.of.ensures.in_range.1 (subst IsSerial (six_at c.arg
 pub unwrap-first-requires : goal.unwrap-first-requires
 unwrap-first-requires c =
     let f = first_good c.args.body.now c.requires.long c.requires.good in
-    let e : c.from_be_bytes.result ≡ two_at 7 c.args.body.now = first_of (omega arith, search rules) in
-    c.of-2.ensures.in_range.1 (omega (arith, f))
+    c.of-2.ensures.in_range.1 (omega (arith, f, c.two_at.ensures))
 
 pub unwrap-second-requires : goal.unwrap-second-requires
 unwrap-second-requires c =
     let f = second_good c.args.body.now c.requires.long c.requires.good in
-    let e : c.from_be_bytes-2.result ≡ two_at 9 c.args.body.now = first_of (omega arith, search rules) in
-    c.of-3.ensures.in_range.1 (omega (arith, f))
+    c.of-3.ensures.in_range.1 (omega (arith, f, c.two_at-2.ensures))
 
 pub invariant_of-result : goal.invariant_of-result
 invariant_of-result c =
