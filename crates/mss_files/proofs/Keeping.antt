@@ -1,11 +1,15 @@
--- A block that is kept goes on being what the files hold.
-use Rattle.std.proofs.Common.{◌≡◌, ℕ, ◌+◌, ◌-◌, ◌≤◌, ◌<◌, ◌⊎◌, inl, inr, true, ◌&&◌, ◌==◌, List, ◌++◌, length, take, drop, refl, sym, ◌∙◌, ap, ap₂, subst, arith}
+-- Blocks that are kept go on being what the files hold.
+use Rattle.std.proofs.Common.{◌≡◌, ℕ, zero, suc, ◌+◌, ◌-◌, ◌≤◌, ◌<◌, ◌⊎◌, inl, inr, true, ◌&&◌, ◌==◌, List, [], ◌∷◌, ◌++◌, length, take, drop, refl, sym, ◌∙◌, ap, ap₂, subst, arith}
+use Rattle.std.proofs.Common.{Option, None, Some, Result, Ok, Err, OnOk, OnErr, slice_index_or, slice_set, get_or-set_other}
 use Rattle.std.proofs.Math.Seq.{take-append_seam, drop-append_seam}
 use Rattle.std.proofs.lemmas.Bool.{eq-eqb, eqb-true, and_from, and_parts, cases_Bool, cases_lt}
 use Rattle.mss_base.proofs.ContentLemmas.{same_unit-refl, same_unit-true}
 use Rattle.mss_base.specs.Content.{same_unit}
 use Rattle.mss_base.specs.declared.place.UnitNo.{UnitNo}
 use Rattle.mss_base.specs.declared.place.BlockPlace.{BlockPlace}
+use Rattle.mss_files.specs.Blocks.{block_from, ChangesBlock}
+use Rattle.mss_files.specs.KeptBlocks.{slot_of, slot_start, Stands, Keeps, HasBytes, IsHeld}
+use Rattle.mss_files.specs.declared.kept_blocks.KeptBlocks.{KeptBlocks}
 use Rattle.mss_files.specs.Files.{FileBytes, bytes_at, file_place, ChangesOnly}
 use Rattle.mss_files.proofs.Transfers.{length-bytes_at, bytes_at-more, bytes_at-same}
 
@@ -97,7 +101,7 @@ here f g place offset bytes block inside changed put is =
     (ap (λ (k : ℕ). bytes_at (g place.unit) k (length bytes)) first ∙ put))
 
 -- what was kept, behind a write that is made
-pub still_held : (f g : FileBytes) (place kept : BlockPlace) (offset at : ℕ) (bytes old new : List ℕ) → offset + length bytes ≤ 16384
+still_held : (f g : FileBytes) (place kept : BlockPlace) (offset at : ℕ) (bytes old new : List ℕ) → offset + length bytes ≤ 16384
     → at ≡ file_place place.block offset
     → ChangesOnly place.unit at (length bytes) f g
     → bytes_at (g place.unit) at (length bytes) ≡ bytes
@@ -116,7 +120,7 @@ still_held f g place kept offset at bytes old new inside from changed put same a
     ]
 
 -- what was kept of another block, behind a write that failed
-pub held_apart : (f g : FileBytes) (place kept : BlockPlace) (offset at n : ℕ) (old new : List ℕ) → offset + n ≤ 16384
+held_apart : (f g : FileBytes) (place kept : BlockPlace) (offset at n : ℕ) (old new : List ℕ) → offset + n ≤ 16384
     → at ≡ file_place place.block offset
     → ChangesOnly place.unit at n f g
     → (place ≡ kept → ⊥)
@@ -125,3 +129,136 @@ pub held_apart : (f g : FileBytes) (place kept : BlockPlace) (offset at n : ℕ)
     → new ≡ bytes_at (g kept.unit) (file_place kept.block 0) 16384
 held_apart f g place kept offset at n old new inside from changed differ same is =
     same ∙ is ∙ sym (elsewhere f g place kept offset n inside differ (subst (λ (k : ℕ). ChangesOnly place.unit k n f g) from changed))
+
+-- ---- all blocks that are kept
+
+-- two slots are one, or one lies wholly before the other
+slots_apart : (a b : BlockPlace) → (slot_of a ≡ slot_of b) ⊎ ((slot_start a + 16384 ≤ slot_start b) ⊎ (slot_start b + 16384 ≤ slot_start a))
+slots_apart a b = elim (cases_lt (slot_of a) (slot_of b)) [
+  | inl below ↦ inr (inl (omega (arith, below)))
+  | inr from ↦ elim (cases_lt (slot_of b) (slot_of a)) [
+    | inl above ↦ inr (inr (omega (arith, above)))
+    | inr upto ↦ inl (omega (arith, from, upto))
+  ]
+]
+
+-- one slot has one block
+one_stands : (kept : KeptBlocks) (a b : BlockPlace) → slot_of a ≡ slot_of b → Stands kept a → Stands kept b → a ≡ b
+one_stands kept a b one first second =
+    let e : Some a ≡ Some b = sym first ∙ ap (λ (n : ℕ). slice_index_or kept.places n None) one ∙ second in
+    cc
+
+-- what was noted for a slot
+noted : (xs : List (Option BlockPlace)) (i : ℕ) (a b : BlockPlace) → slice_index_or (slice_set xs i (Some a)) i None ≡ Some b → a ≡ b
+noted [] i a b e = absurd (let f : None ≡ Some b = e in cc)
+noted (x ∷ xs) zero a b e = cc
+noted (x ∷ xs) (suc i) a b e = noted xs i a b e
+
+none_noted : (xs : List (Option BlockPlace)) (i : ℕ) → slice_index_or (slice_set xs i None) i None ≡ None
+none_noted [] i = refl
+none_noted (x ∷ xs) zero = refl
+none_noted (x ∷ xs) (suc i) = none_noted xs i
+
+-- behind a write that is made
+pub held_behind : (f g : FileBytes) (place : BlockPlace) (offset at : ℕ) (bytes : List ℕ) (old new : KeptBlocks) → offset + length bytes ≤ 16384
+    → at ≡ file_place place.block offset
+    → ChangesOnly place.unit at (length bytes) f g
+    → bytes_at (g place.unit) at (length bytes) ≡ bytes
+    → new.places ≡ old.places
+    → (Keeps old place → block_from (slot_start place) new.bytes.items
+    ≡ take offset (block_from (slot_start place) old.bytes.items) ++ (bytes ++ drop (offset + length bytes) (block_from (slot_start place) old.bytes.items)))
+    → ((Keeps old place → ⊥) → new.bytes.items ≡ old.bytes.items)
+    → ChangesBlock (slot_start place) old.bytes.items new.bytes.items
+    → IsHeld f old → IsHeld g new
+held_behind f g place offset at bytes old new inside from changed put places patch apart changes held = λ other stands.
+    let was : Stands old other = ap (λ (l : List (Option BlockPlace)). slice_index_or l (slot_of other) None) (sym places) ∙ stands in
+    let has = held other was in
+    record {
+      inside = omega (arith, has.inside, changes.long);
+      bytes = still_held f g place other offset at bytes (block_from (slot_start other) old.bytes.items) (block_from (slot_start other) new.bytes.items) inside from changed put
+          (λ e. subst (λ (p : BlockPlace). block_from (slot_start p) new.bytes.items ≡ take offset (block_from (slot_start p) old.bytes.items) ++ (bytes ++ drop (offset + length bytes) (block_from (slot_start p) old.bytes.items))) (sym e)
+          (patch (record { stands = subst (Stands old) e was; inside = subst (λ (p : BlockPlace). slot_start p + 16384 ≤ length old.bytes.items) e has.inside })))
+          (λ differ. elim (slots_apart other place) [
+            | inl one ↦ ap (block_from (slot_start other)) (apart (λ keeps. differ (one_stands old other place one was keeps.stands)))
+            | inr two ↦ changes.others (slot_start other) has.inside two
+          ])
+          has.bytes;
+    }
+
+-- behind a write that failed
+pub held_failed : (f g : FileBytes) (place : BlockPlace) (offset at n : ℕ) (old new : KeptBlocks) → offset + n ≤ 16384
+    → at ≡ file_place place.block offset
+    → ChangesOnly place.unit at n f g
+    → (Stands new place → ⊥)
+    → ((other : BlockPlace) → Stands new other → Stands old other)
+    → new.bytes.items ≡ old.bytes.items
+    → IsHeld f old → IsHeld g new
+held_failed f g place offset at n old new inside from changed gone others same held = λ other stands.
+    let has = held other (others other stands) in
+    record {
+      inside = subst (λ (l : List ℕ). slot_start other + 16384 ≤ length l) (sym same) has.inside;
+      bytes = held_apart f g place other offset at n (block_from (slot_start other) old.bytes.items) (block_from (slot_start other) new.bytes.items) inside from changed
+          (λ e. gone (subst (Stands new) (sym e) stands)) (ap (block_from (slot_start other)) same) has.bytes;
+    }
+
+-- the slot of a block that was brought, or couldn't be
+brought_there : {T E : Type 0} (result : Result T E) (f : FileBytes) (place other : BlockPlace) (old mid new : List (Option BlockPlace)) (room : List ℕ)
+    → slot_of other ≡ slot_of place
+    → mid ≡ slice_set old (slot_of place) None
+    → slot_start place + 16384 ≤ length room
+    → OnOk result (new ≡ slice_set mid (slot_of place) (Some place))
+    → OnErr result (new ≡ mid)
+    → OnOk result (block_from (slot_start place) room ≡ bytes_at (f place.unit) (file_place place.block 0) 16384)
+    → slice_index_or new (slot_of other) None ≡ Some other
+    → HasBytes room (f other.unit) other
+brought_there (Ok _) f place other old mid new room one cleared inside ok err block stands =
+    let seen : slice_index_or (slice_set mid (slot_of place) (Some place)) (slot_of place) None ≡ Some other =
+    ap (λ (l : List (Option BlockPlace)). slice_index_or l (slot_of place) None) (sym ok) ∙ ap (λ (n : ℕ). slice_index_or new n None) (sym one) ∙ stands in
+    subst (λ (p : BlockPlace). HasBytes room (f p.unit) p) (noted mid (slot_of place) place other seen) (record { inside = inside; bytes = block })
+brought_there (Err _) f place other old mid new room one cleared inside ok err block stands =
+    let seen : slice_index_or (slice_set old (slot_of place) None) (slot_of place) None ≡ Some other =
+    ap (λ (l : List (Option BlockPlace)). slice_index_or l (slot_of place) None) (sym (err ∙ cleared)) ∙ ap (λ (n : ℕ). slice_index_or new n None) (sym one) ∙ stands in
+    absurd (let f : None ≡ Some other = sym (none_noted old (slot_of place)) ∙ seen in cc)
+
+-- another slot
+brought_elsewhere : {T E : Type 0} (result : Result T E) (place other : BlockPlace) (old mid new : List (Option BlockPlace))
+    → (slot_of other ≡ slot_of place → ⊥)
+    → mid ≡ slice_set old (slot_of place) None
+    → OnOk result (new ≡ slice_set mid (slot_of place) (Some place))
+    → OnErr result (new ≡ mid)
+    → slice_index_or new (slot_of other) None ≡ slice_index_or old (slot_of other) None
+brought_elsewhere (Ok _) place other old mid new differ cleared ok err =
+    ap (λ (l : List (Option BlockPlace)). slice_index_or l (slot_of other) None) (ok ∙ ap (λ (l : List (Option BlockPlace)). slice_set l (slot_of place) (Some place)) cleared)
+    ∙ get_or-set_other (slice_set old (slot_of place) None) (slot_of place) (slot_of other) (Some place) None differ
+    ∙ get_or-set_other old (slot_of place) (slot_of other) None None differ
+brought_elsewhere (Err _) place other old mid new differ cleared ok err =
+    ap (λ (l : List (Option BlockPlace)). slice_index_or l (slot_of other) None) (err ∙ cleared)
+    ∙ get_or-set_other old (slot_of place) (slot_of other) None None differ
+
+-- behind a block that was brought, or couldn't be
+pub held_brought : {T E : Type 0} (result : Result T E) (f g : FileBytes) (place : BlockPlace) (old mid new : KeptBlocks)
+    → mid.places ≡ slice_set old.places (slot_of place) None
+    → slot_start place + 16384 ≤ length mid.bytes.items
+    → ChangesBlock (slot_start place) old.bytes.items mid.bytes.items
+    → OnOk result (new.places ≡ slice_set mid.places (slot_of place) (Some place))
+    → OnErr result (new.places ≡ mid.places)
+    → ChangesBlock (slot_start place) mid.bytes.items new.bytes.items
+    → OnOk result (block_from (slot_start place) new.bytes.items ≡ bytes_at (f place.unit) (file_place place.block 0) 16384)
+    → g ≡ f
+    → IsHeld f old → IsHeld g new
+held_brought result f g place old mid new cleared room first ok err next block same held = λ other stands.
+    subst (λ (h : FileBytes). HasBytes new.bytes.items (h other.unit) other) (sym same)
+    (elim (slots_apart other place) [
+      | inl one ↦ brought_there result f place other old.places mid.places new.places new.bytes.items one cleared (omega (arith, room, next.long)) ok err block stands
+      | inr two ↦
+          let differ : slot_of other ≡ slot_of place → ⊥ = λ e. elim two [
+            | inl low ↦ absurd (omega (arith, low, e))
+            | inr high ↦ absurd (omega (arith, high, e))
+          ] in
+          let was : Stands old other = sym (brought_elsewhere result place other old.places mid.places new.places differ cleared ok err) ∙ stands in
+          let has = held other was in
+          record {
+            inside = omega (arith, has.inside, first.long, next.long);
+            bytes = next.others (slot_start other) (omega (arith, has.inside, first.long)) two ∙ first.others (slot_start other) has.inside two ∙ has.bytes;
+          }
+    ])

@@ -1,4 +1,5 @@
 pub mod Transfers
+pub mod BlockFacts
 pub mod Keeping
 pub mod Appending
 pub mod Known

@@ -1,10 +1,10 @@
 -- What a clause sees of a site in files.
 use Rattle.std.specs.Prelude.{ℕ}
-use Rattle.mss_files.specs.declared.kept_block.KeptBlock.{KeptBlock}
+use Rattle.mss_files.specs.declared.kept_blocks.KeptBlocks.{KeptBlocks}
 
--- the files, the block that is kept, how many writes were made, and how many calls failed
+-- the files, the blocks that are kept, how many writes were made, and how many calls failed
 pub record FileSiteValue (F : Type 0) : Type 0 where
   pub files : F
-  pub kept : KeptBlock
+  pub kept : KeptBlocks
   pub writes : ℕ
   pub faults : ℕ

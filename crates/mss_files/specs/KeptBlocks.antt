@@ -1,10 +1,33 @@
--- The block that a site in files keeps.
-use Rattle.std.specs.Prelude.{◌≡◌, Some}
+-- The blocks that a site in files keeps.
+use Rattle.std.specs.Prelude.{◌≡◌, ℕ, ◌+◌, ◌*◌, ◌%◌, ◌≤◌, List, length, None, Some, slice_index_or}
 use Rattle.mss_base.specs.declared.place.BlockPlace.{BlockPlace}
+use Rattle.mss_files.specs.Blocks.{block_from}
 use Rattle.mss_files.specs.Files.{FileBytes, bytes_at, file_place}
-use Rattle.mss_files.specs.declared.kept_block.KeptBlock.{KeptBlock}
+use Rattle.mss_files.specs.declared.kept_blocks.KeptBlocks.{KeptBlocks}
 
--- the block that is kept, if one is, is what the files hold at its place
-abbrev pub IsHeld : FileBytes → KeptBlock → Type 0
-IsHeld byte kept = (place : BlockPlace) → kept.place ≡ Some place
-    → kept.bytes.items ≡ bytes_at (byte place.unit) (file_place place.block 0) 16384
+-- the slot of a block: those of one cylinder have one each
+abbrev pub slot_of : BlockPlace → ℕ
+slot_of place = place.block % 19
+
+-- where the bytes of its slot begin
+abbrev pub slot_start : BlockPlace → ℕ
+slot_start place = place.block % 19 * 16384
+
+-- this block is the one that is noted for its slot
+abbrev pub Stands : KeptBlocks → BlockPlace → Type 0
+Stands kept place = slice_index_or kept.places (slot_of place) None ≡ Some place
+
+-- this block is kept
+pub record Keeps (kept : KeptBlocks) (place : BlockPlace) : Type 0 where
+  pub stands : Stands kept place
+  pub inside : slot_start place + 16384 ≤ length kept.bytes.items
+
+-- its slot has the bytes of this file
+pub record HasBytes (room : List ℕ) (file : ℕ → ℕ) (place : BlockPlace) : Type 0 where
+  pub inside : slot_start place + 16384 ≤ length room
+  pub bytes : block_from (slot_start place) room ≡ bytes_at file (file_place place.block 0) 16384
+
+-- each block that is kept is what the files hold at its place
+abbrev pub IsHeld : FileBytes → KeptBlocks → Type 0
+IsHeld byte kept = (place : BlockPlace) → Stands kept place
+    → HasBytes kept.bytes.items (byte place.unit) place

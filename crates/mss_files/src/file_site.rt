@@ -1,10 +1,13 @@
 // A site whose units are files.
-ghost use Rattle.std.specs.Prelude.{◌≡◌, ◌+◌, ◌≤◌, true, length, is_err, None, Some};
+ghost use Rattle.std.specs.Prelude.{◌≡◌, ◌≢◌, ◌+◌, ◌≤◌, true, length, is_err};
 ghost use Rattle.std.specs.Prelude.{IfOk, OnOk, OnErr, string_bytes};
 ghost use Rattle.mss_base.specs.Counts.{HasCause, next_count, count_after};
+ghost use Rattle.mss_files.specs.Blocks.{block_from};
 ghost use Rattle.mss_files.specs.Files.{file_place, bytes_at, ChangesOnly};
+ghost use Rattle.mss_files.specs.KeptBlocks.{slot_of, slot_start, Stands, Keeps};
+ghost use Rattle.mss_base.specs.declared.place.BlockPlace.{BlockPlace};
 
-use crate::kept_block::KeptBlock;
+use crate::kept_blocks::KeptBlocks;
 use crate::transfer::{sync_unit, sync_units};
 use crate::{Folder, UnitFiles};
 use mss_base::{BLOCK_BYTES, BlockPlace, Failed, NoMemory, Site, UnitNo};
@@ -16,13 +19,14 @@ use std::rt::Files;
 /// A site in files, one for each unit. Block n begins at byte 16,384 n; behind a file's end are
 /// zeros.
 ///
-/// What is written is firm once its unit, or all, is synced. The block that was brought last is
-/// kept, and is brought again without a call of the files. Clauses on bytes speak of files that tell;
-/// to the layers above no site in files tells.
+/// What is written is firm once its unit, or all, is synced. As many blocks as a cylinder has are
+/// kept, those that were brought last of their numbers by 19, and are brought again without a call
+/// of the files. Clauses on bytes speak of files that tell; to the layers above no site in files
+/// tells.
 #[derive(Drop)]
 pub struct FileSite<F: UnitFiles> {
     files: F,
-    kept: KeptBlock,
+    kept: KeptBlocks,
     writes: u64,
     faults: u64,
 }
@@ -48,7 +52,8 @@ impl<R: Files<File = File> + AllocGlobal + Drop> FileSite<Folder<R>> {
     pub fn at(rt: R, folder: &str) -> Result<Self, NoMemory>
         ensures path { IfOk result
             (λ site. string_bytes site.files.paths.folder ≡ folder.now) }
-        ensures kept { IfOk result (λ site. site.kept.place ≡ None) }
+        ensures kept { IfOk result (λ site.
+            (place : BlockPlace) → Stands site.kept place → ⊥) }
         ensures unwritten { IfOk result (λ site. site.writes ≡ 0) }
         ensures unfailed { IfOk result (λ site. site.faults ≡ 0) }
     {
@@ -61,11 +66,12 @@ impl<F: UnitFiles + Drop> FileSite<F> {
     /// The site in these files. It keeps no block yet.
     pub fn over(alloc: Global, files: F) -> Result<Self, NoMemory>
         ensures files { IfOk result (λ site. site.files ≡ files) }
-        ensures kept { IfOk result (λ site. site.kept.place ≡ None) }
+        ensures kept { IfOk result (λ site.
+            (place : BlockPlace) → Stands site.kept place → ⊥) }
         ensures unwritten { IfOk result (λ site. site.writes ≡ 0) }
         ensures unfailed { IfOk result (λ site. site.faults ≡ 0) }
     {
-        let kept = KeptBlock::new(alloc)?;
+        let kept = KeptBlocks::new(alloc)?;
         Ok(FileSite {
             files,
             kept,
@@ -101,7 +107,7 @@ impl<F: UnitFiles> Site for FileSite<F> {
 
     ghost never_fails_but = { λ s _. F.never_fails s.files };
 
-    ghost brought = { λ s. s.kept.bytes.items };
+    ghost brought = { λ s. block_from s.kept.from s.kept.bytes.items };
 
     ghost whole = { λ _ _ _ none. absurd none };
 
@@ -120,12 +126,12 @@ impl<F: UnitFiles> Site for FileSite<F> {
     }
 
     /// Reads a block, as far as the file reaches; the rest is zeros. It fails where a call of the
-    /// files fails. The block that is kept is read without one.
+    /// files fails. A block that is kept is read without one.
     fn read(&mut self, unit: UnitNo, block: u32, into: &mut [u8]) -> Result<(), Failed>
         requires { length into.old ≡ BLOCK_BYTES }
         ensures bytes { F.tells → OnOk result (into.new
             ≡ bytes_at (F.byte self.old.files unit) (file_place block 0) (length into.old)) }
-        ensures at_once { self.old.kept.place ≡ Some (record { unit = unit; block = block })
+        ensures at_once { Keeps self.old.kept (record { unit = unit; block = block })
             → IsOk result × (self.new ≡ self.old) }
         ensures stays { self.new.kept ≡ self.old.kept }
         ensures kept { F.tells → F.byte self.new.files ≡ F.byte self.old.files }
@@ -143,15 +149,22 @@ impl<F: UnitFiles> Site for FileSite<F> {
     }
 
     /// Brings a block, as far as the file reaches; the rest is zeros. It fails where a call of the
-    /// files fails, and then no block is kept. The block that is kept is brought without one.
+    /// files fails, and then this block isn't kept. A block that is kept is brought without one.
     fn bring(&mut self, unit: UnitNo, block: u32) -> Result<(), Failed>
-        ensures bytes { F.tells → OnOk result (self.new.kept.bytes.items
+        ensures bytes { F.tells → OnOk result
+            (block_from self.new.kept.from self.new.kept.bytes.items
             ≡ bytes_at (F.byte self.old.files unit) (file_place block 0) 16384) }
-        ensures at_once { self.old.kept.place ≡ Some (record { unit = unit; block = block })
-            → IsOk result × (self.new ≡ self.old) }
-        ensures here { OnOk result
-            (self.new.kept.place ≡ Some (record { unit = unit; block = block })) }
-        ensures lost { OnErr result (self.new.kept.place ≡ None) }
+        ensures at_once { Keeps self.old.kept (record { unit = unit; block = block })
+            → IsOk result × (self.new.files ≡ self.old.files)
+            × (self.new.kept.places ≡ self.old.kept.places)
+            × (self.new.kept.bytes.items ≡ self.old.kept.bytes.items) }
+        ensures here { OnOk result (Keeps self.new.kept (record { unit = unit; block = block })
+            × (self.new.kept.from ≡ slot_start (record { unit = unit; block = block }))) }
+        ensures lost { OnErr result
+            (Stands self.new.kept (record { unit = unit; block = block }) → ⊥) }
+        ensures others { (other : BlockPlace)
+            → slot_of other ≢ slot_of (record { unit = unit; block = block })
+            → Keeps self.old.kept other → Keeps self.new.kept other }
         ensures kept { F.tells → F.byte self.new.files ≡ F.byte self.old.files }
         ensures writes { self.new.writes ≡ self.old.writes }
         ensures counted { self.new.faults ≡ count_after (is_err result) self.old.faults }
@@ -167,11 +180,11 @@ impl<F: UnitFiles> Site for FileSite<F> {
     }
 
     fn brought(&self) -> &[u8] {
-        self.kept.bytes()
+        self.kept.brought()
     }
 
     /// Writes into a block. The bytes are firm once their unit is synced. It fails where a call of
-    /// the files fails. The block that is kept gets the bytes as well, and isn't kept any more where
+    /// the files fails. A block that is kept gets the bytes as well, and isn't kept any more where
     /// writing into it failed.
     fn write(&mut self, unit: UnitNo, block: u32, offset: u16, bytes: &[u8]) -> Result<(), Failed>
         requires inside { offset + length bytes.now ≤ BLOCK_BYTES }
@@ -179,7 +192,8 @@ impl<F: UnitFiles> Site for FileSite<F> {
             (file_place block offset) (length bytes.now) ≡ bytes.now) }
         ensures only { F.tells → ChangesOnly unit (file_place block offset) (length bytes.now)
             (F.byte self.old.files) (F.byte self.new.files) }
-        ensures stays { OnOk result (self.new.kept.place ≡ self.old.kept.place) }
+        ensures stays { OnOk result (self.new.kept.places ≡ self.old.kept.places) }
+        ensures from { self.new.kept.from ≡ self.old.kept.from }
         ensures writes { self.new.writes ≡ next_count self.old.writes }
         ensures kept { self.old.writes ≤ self.new.writes }
         ensures counted { self.new.faults ≡ count_after (is_err result) self.old.faults }

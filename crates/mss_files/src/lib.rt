@@ -3,8 +3,9 @@
 //! `FileSite` is a site whose units are files. It tells nothing, so the layers above rely on
 //! nothing but `Site`'s counts. Below that its work is proved over any files (`UnitFiles`): it
 //! fails only where a call of the files fails, and where they tell what they hold
-//! (`specs/Files.antt`), it reads and writes the right bytes, and a sync makes them last. The block
-//! that it brought last is kept, and goes on being what the files hold (`specs/KeptBlocks.antt`).
+//! (`specs/Files.antt`), it reads and writes the right bytes, and a sync makes them last. The blocks
+//! of the cylinder that it brought last are kept, and go on being what the files hold
+//! (`specs/KeptBlocks.antt`).
 //! That real files (`Folder`) are such files is trusted. All memory is taken when the site is made,
 //! so no call fails for want of it. `StdSource` and `StdSink` are a reader and a writer as a source
 //! and a sink, which tell where the reader and the writer do. What lies in the folder:
@@ -13,7 +14,7 @@
 
 mod file_site;
 mod folder;
-mod kept_block;
+mod kept_blocks;
 mod names;
 mod paths;
 mod site_file;

@@ -1,0 +1,306 @@
+// The blocks that a site in files keeps.
+ghost use Rattle.std.specs.Prelude.{◌≡◌, ◌≢◌, ℕ, ◌+◌, ◌%◌, ◌<◌, ◌≤◌, ◌++◌, None, Some, true, false};
+ghost use Rattle.std.specs.Prelude.{length, take, drop, vec_capacity, slice_set};
+ghost use Rattle.std.specs.Prelude.{IsOk, IfOk, OnOk, OnErr};
+ghost use Rattle.mss_files.specs.Blocks.{block_from, ChangesBlock};
+ghost use Rattle.mss_files.specs.Files.{file_place, bytes_at, ChangesOnly};
+
+use crate::UnitFiles;
+use crate::transfer::{read_all, write_all};
+use mss_base::{BLOCK_BYTES, BlockPlace, HEADS, NoMemory};
+use std::alloc::Global;
+use std::io;
+
+/// How many blocks are kept: as many as a cylinder has.
+const SLOTS: usize = 19;
+
+/// Room for as many blocks as a cylinder has, and the places whose blocks stand there.
+///
+/// The blocks of a cylinder follow one another, so each has a slot of its own: its number by 19.
+/// The room is taken at once, but no byte of it is touched before its slot, or one behind it, is
+/// used.
+#[derive(Drop)]
+pub struct KeptBlocks {
+    places: [Option<BlockPlace>; 19],
+    bytes: Vec<u8>,
+    from: usize,
+    ghost room: { 311296 ≤ vec_capacity bytes },
+    ghost inside: { from + 16384 ≤ length bytes.items },
+    ghost whole: { length (block_from from bytes.items) ≡ 16384 },
+}
+
+/// Where a byte of a block stands in its unit's file.
+fn file_place(block: u32, offset: u16) -> u64
+    ensures { result ≡ file_place block offset }
+{
+    block as u64 * 16_384 + offset as u64
+}
+
+/// The slot of a block.
+fn slot_of(place: &BlockPlace) -> usize
+    ensures number { result ≡ place.now.block % 19 }
+    ensures below { result < 19 }
+{
+    (place.block % u32::from(HEADS)) as usize
+}
+
+/// The block that begins here.
+#[tactic(auto, using(crate::proofs::BlockFacts::block_is))]
+fn block_from(bytes: &[u8], from: usize) -> &[u8]
+    requires { from + 16384 ≤ length bytes.now }
+    ensures bytes { result.now ≡ block_from from bytes.now }
+    ensures whole { length result.now ≡ 16384 }
+{
+    &bytes[from..from + BLOCK_BYTES]
+}
+
+/// Reads a block of the files to the place that begins here.
+fn read_to<F: UnitFiles>(
+    bytes: &mut [u8],
+    from: usize,
+    files: &mut F,
+    place: &BlockPlace,
+) -> io::Result<()>
+    requires { from + 16384 ≤ length bytes.old }
+    ensures block { F.tells → OnOk result (block_from from bytes.new
+        ≡ bytes_at (F.byte files.old place.now.unit) (file_place place.now.block 0) 16384) }
+    ensures others { ChangesBlock from bytes.old bytes.new }
+    ensures files { F.tells → F.byte files.new ≡ F.byte files.old }
+    ensures works { F.never_fails files.old → IsOk result }
+    ensures sound { F.never_fails files.old → F.never_fails files.new }
+{
+    let at = file_place(place.block, 0);
+    read_all(files, &place.unit, at, &mut bytes[from..from + BLOCK_BYTES])
+}
+
+/// Writes bytes into a block, from a place on.
+fn overwrite(block: &mut [u8], offset: u16, bytes: &[u8])
+    requires { offset + length bytes.now ≤ length block.old }
+    ensures { block.new ≡ take offset block.old
+        ++ (bytes.now ++ drop (offset + length bytes.now) block.old) }
+{
+    let from = offset as usize;
+    block[from..from + bytes.len()].copy_from_slice(bytes);
+}
+
+/// Writes bytes into the block that begins here.
+fn overwrite_from(bytes: &mut [u8], from: usize, offset: u16, new: &[u8])
+    requires inside { from + 16384 ≤ length bytes.old }
+    requires fits { offset + length new.now ≤ 16384 }
+    ensures block { block_from from bytes.new ≡ take offset (block_from from bytes.old)
+        ++ (new.now ++ drop (offset + length new.now) (block_from from bytes.old)) }
+    ensures others { ChangesBlock from bytes.old bytes.new }
+{
+    overwrite(&mut bytes[from..from + BLOCK_BYTES], offset, new);
+}
+
+impl KeptBlocks {
+    ghost use Rattle.mss_files.specs.KeptBlocks.{slot_of, slot_start, Stands, Keeps, IsHeld};
+    ghost use Rattle.mss_base.specs.declared.place.BlockPlace.{BlockPlace};
+
+    /// The room, in which no block stands yet.
+    #[tactic(auto, using(crate::proofs::BlockFacts::whole_block))]
+    pub fn new(alloc: Global) -> Result<Self, NoMemory>
+        ensures { IfOk result (λ kept. (place : BlockPlace) → Stands kept place → ⊥) }
+    {
+        let mut bytes = Vec::with_capacity(alloc, SLOTS * BLOCK_BYTES)?;
+        bytes.resize(BLOCK_BYTES, 0)?;
+        Ok(KeptBlocks {
+            places: [None; SLOTS],
+            bytes,
+            from: 0,
+        })
+    }
+
+    /// The block that was brought last.
+    pub fn brought(&self) -> &[u8]
+        ensures { result.now ≡ block_from self.now.from self.now.bytes.items }
+    {
+        block_from(&self.bytes, self.from)
+    }
+
+    /// Whether the block of this place stands here.
+    fn keeps(&self, place: &BlockPlace) -> bool
+        ensures there { result ≡ true → Keeps self.now place.now }
+        ensures elsewhere { result ≡ false → Keeps self.now place.now → ⊥ }
+    {
+        let slot = slot_of(place);
+        if self.places[slot] != Some(*place) {
+            return false;
+        }
+        (slot + 1) * BLOCK_BYTES <= self.bytes.len()
+    }
+
+    /// Brings a block here. One that is here already isn't read again. Where a read fails, it isn't
+    /// here.
+    #[tactic(auto, using(crate::proofs::BlockFacts::whole_block))]
+    pub fn bring<F: UnitFiles>(&mut self, files: &mut F, place: &BlockPlace) -> io::Result<()>
+        requires { F.tells → IsHeld (F.byte files.old) self.old }
+        ensures held { F.tells → IsHeld (F.byte files.new) self.new }
+        ensures at_once { Keeps self.old place.now → IsOk result × (files.new ≡ files.old)
+            × (self.new.places ≡ self.old.places)
+            × (self.new.bytes.items ≡ self.old.bytes.items) }
+        ensures here { OnOk result
+            (Keeps self.new place.now × (self.new.from ≡ slot_start place.now)) }
+        ensures lost { OnErr result (Stands self.new place.now → ⊥) }
+        ensures others { (other : BlockPlace) → slot_of other ≢ slot_of place.now
+            → Keeps self.old other → Keeps self.new other }
+        ensures files { F.tells → F.byte files.new ≡ F.byte files.old }
+        ensures works { F.never_fails files.old → IsOk result }
+        ensures sound { F.never_fails files.old → F.never_fails files.new }
+    {
+        if self.keeps(place) {
+            self.from = slot_of(place) * BLOCK_BYTES;
+            return Ok(());
+        }
+        self.clear_slot(place);
+        self.fetch(files, place)
+    }
+
+    /// Notes no block for the slot of this one any more, and makes it whole.
+    fn clear_slot(&mut self, place: &BlockPlace)
+        ensures places { self.new.places
+            ≡ slice_set self.old.places (slot_of place.now) None }
+        ensures inside { slot_start place.now + 16384 ≤ length self.new.bytes.items }
+        ensures others { ChangesBlock (slot_start place.now)
+            self.old.bytes.items self.new.bytes.items }
+    {
+        let slot = slot_of(place);
+        self.places[slot] = None;
+        self.reach((slot + 1) * BLOCK_BYTES);
+    }
+
+    /// Uses so many bytes of the room at least.
+    #[tactic(auto, using(crate::proofs::BlockFacts::whole_block))]
+    fn reach(&mut self, count: usize)
+        requires { count ≤ 311296 }
+        ensures places { self.new.places ≡ self.old.places }
+        ensures reached { count ≤ length self.new.bytes.items }
+        ensures long { length self.old.bytes.items ≤ length self.new.bytes.items }
+        ensures blocks { (other : ℕ) → other + 16384 ≤ length self.old.bytes.items
+            → block_from other self.new.bytes.items ≡ block_from other self.old.bytes.items }
+    {
+        if self.bytes.len() < count {
+            self.bytes.resize(count, 0).unwrap();
+        }
+    }
+
+    /// Reads a block from the files to its slot.
+    fn fetch<F: UnitFiles>(&mut self, files: &mut F, place: &BlockPlace) -> io::Result<()>
+        requires inside { slot_start place.now + 16384 ≤ length self.old.bytes.items }
+        ensures ok { OnOk result (self.new.places
+            ≡ slice_set self.old.places (slot_of place.now) (Some place.now)) }
+        ensures err { OnErr result (self.new.places ≡ self.old.places) }
+        ensures from { OnOk result (self.new.from ≡ slot_start place.now) }
+        ensures block { F.tells → OnOk result
+            (block_from (slot_start place.now) self.new.bytes.items
+            ≡ bytes_at (F.byte files.old place.now.unit) (file_place place.now.block 0) 16384) }
+        ensures others { ChangesBlock (slot_start place.now)
+            self.old.bytes.items self.new.bytes.items }
+        ensures files { F.tells → F.byte files.new ≡ F.byte files.old }
+        ensures works { F.never_fails files.old → IsOk result }
+        ensures sound { F.never_fails files.old → F.never_fails files.new }
+    {
+        let slot = slot_of(place);
+        let from = slot * BLOCK_BYTES;
+        match read_to(&mut self.bytes, from, files, place) {
+            Ok(()) => {
+                self.places[slot] = Some(*place);
+                self.from = from;
+                Ok(())
+            }
+            Err(error) => Err(error),
+        }
+    }
+
+    /// Reads a block into a buffer: the one that is here, or else from the files.
+    pub fn read<F: UnitFiles>(
+        &self,
+        files: &mut F,
+        place: &BlockPlace,
+        into: &mut [u8],
+    ) -> io::Result<()>
+        requires whole { length into.old ≡ BLOCK_BYTES }
+        requires held { F.tells → IsHeld (F.byte files.old) self.now }
+        ensures bytes { F.tells → OnOk result (into.new
+            ≡ bytes_at (F.byte files.old place.now.unit) (file_place place.now.block 0) 16384) }
+        ensures at_once { Keeps self.now place.now → IsOk result × (files.new ≡ files.old) }
+        ensures kept { F.tells → F.byte files.new ≡ F.byte files.old }
+        ensures works { F.never_fails files.old → IsOk result }
+        ensures sound { F.never_fails files.old → F.never_fails files.new }
+    {
+        if self.keeps(place) {
+            into.copy_from_slice(block_from(&self.bytes, slot_of(place) * BLOCK_BYTES));
+            return Ok(());
+        }
+        read_all(files, &place.unit, file_place(place.block, 0), into)
+    }
+
+    /// Writes into a block of the files, and into the one that is here if it is the same. The bytes
+    /// are firm once their unit is synced. Where the files fail in that, it isn't here.
+    pub fn write<F: UnitFiles>(
+        &mut self,
+        files: &mut F,
+        place: &BlockPlace,
+        offset: u16,
+        bytes: &[u8],
+    ) -> io::Result<()>
+        requires inside { offset + length bytes.now ≤ BLOCK_BYTES }
+        requires held { F.tells → IsHeld (F.byte files.old) self.old }
+        ensures held { F.tells → IsHeld (F.byte files.new) self.new }
+        ensures bytes { F.tells → OnOk result (bytes_at (F.byte files.new place.now.unit)
+            (file_place place.now.block offset) (length bytes.now) ≡ bytes.now) }
+        ensures only { F.tells → ChangesOnly place.now.unit (file_place place.now.block offset)
+            (length bytes.now) (F.byte files.old) (F.byte files.new) }
+        ensures stays { OnOk result (self.new.places ≡ self.old.places) }
+        ensures from { self.new.from ≡ self.old.from }
+        ensures long { length self.old.bytes.items ≤ length self.new.bytes.items }
+        ensures works { F.never_fails files.old → IsOk result }
+        ensures sound { F.never_fails files.old → F.never_fails files.new }
+    {
+        let at = file_place(place.block, offset);
+        match write_all(files, &place.unit, at, bytes) {
+            Ok(()) => {
+                self.patch(place, offset, bytes);
+                Ok(())
+            }
+            Err(error) => {
+                self.forget(place);
+                Err(error)
+            }
+        }
+    }
+
+    /// Writes bytes into the block that is here, if it is the one of this place.
+    fn patch(&mut self, place: &BlockPlace, offset: u16, bytes: &[u8])
+        requires { offset + length bytes.now ≤ BLOCK_BYTES }
+        ensures places { self.new.places ≡ self.old.places }
+        ensures from { self.new.from ≡ self.old.from }
+        ensures here { Keeps self.old place.now
+            → block_from (slot_start place.now) self.new.bytes.items
+            ≡ take offset (block_from (slot_start place.now) self.old.bytes.items) ++ (bytes.now
+            ++ drop (offset + length bytes.now)
+            (block_from (slot_start place.now) self.old.bytes.items)) }
+        ensures elsewhere { (Keeps self.old place.now → ⊥)
+            → self.new.bytes.items ≡ self.old.bytes.items }
+        ensures others { ChangesBlock (slot_start place.now)
+            self.old.bytes.items self.new.bytes.items }
+    {
+        if self.keeps(place) {
+            overwrite_from(&mut self.bytes, slot_of(place) * BLOCK_BYTES, offset, bytes);
+        }
+    }
+
+    /// Keeps the block of this place no longer, if it is here.
+    fn forget(&mut self, place: &BlockPlace)
+        ensures here { Stands self.new place.now → ⊥ }
+        ensures others { (other : BlockPlace) → Stands self.new other → Stands self.old other }
+        ensures bytes { self.new.bytes.items ≡ self.old.bytes.items }
+        ensures from { self.new.from ≡ self.old.from }
+    {
+        let slot = slot_of(place);
+        if self.places[slot] == Some(*place) {
+            self.places[slot] = None;
+        }
+    }
+}
