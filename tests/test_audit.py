@@ -33,6 +33,18 @@ FOUND = [
         ["frame 7 twice volume 0 page 0 volume 0 page 50", "frame 7 twice volume 0 page 0 volume 1 page 3"],
     ),
     ("copy A closed", [("a", 1, 0, "00")], "", ["volume 1 copy A closed"]),
+    (
+        "a slot of copy B that says what the body of copy A does",
+        [("a", 0, 12, "07"), ("b", 0, 512, "C101000007000000")],
+        "--frames 8",
+        [],
+    ),
+    (
+        "copy A that spells no row, and copy B closed",
+        [("a", 0, 64, "09"), ("b", 0, 0, "00")],
+        "",
+        ["volume 0 copy A row state 0 value 9"],
+    ),
     ("copies that differ", [("b", 0, 12, "07")], "", ["volume 0 copies differ place 12 values 255 7"]),
     ("a copy that spells no row", [("b", 0, 64, "09")], "", ["volume 0 copy B also damaged state 0 value 9"]),
     (
@@ -42,6 +54,16 @@ FOUND = [
         [
             "cartridge 0 twice volume 0 half 1 volume 0 half 2",
             "cartridge 0 twice volume 0 half 1 volume 1 half 1",
+        ],
+    ),
+    (
+        "a cartridge of three halves, and a frame that isn't there",
+        [(copy, block, 11, "00") for copy in "ab" for block in (0, 1)] + [(copy, 1, 12, "08") for copy in "ab"],
+        "--frames 8",
+        [
+            "cartridge 0 twice volume 0 half 1 volume 0 half 2",
+            "cartridge 0 twice volume 0 half 1 volume 1 half 2",
+            "frame 8 gone",
         ],
     ),
     ("a frame that isn't there", [(copy, 0, 12, "08") for copy in "ab"], "--frames=8 --", ["frame 8 gone"]),

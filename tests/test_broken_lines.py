@@ -29,15 +29,19 @@ BROKEN = [
     ("test_policies.Counts", "tests/test_policies.py", '("clean", 3, 0, 1)', '("clean", 3, 1, 1)'),
     ("test_policies.Compared.test_as", "tests/test_policies.py", "destaged 0 free 1", "destaged 1 free 1"),
     ("test_power_cuts.PowerCuts.test_first", "tests/test_power_cuts.py", '(firm if call', '([] if call'),
+    ("test_programs.Programs.test_programs_on_blank", "tests/cases/programs/reads.programs", "0C 414243", "0C 414244"),
     ("test_refused_jobs.RefusedJobs.test_0", "tests/refused_texts.py", '(2, "Unknown"', '(1, "Unknown"'),
     ("test_replay.Changed", "tests/test_replay.py", '"change 11")', '"change 12")'),
+    ("test_rows.Pairs.test_closed", "tests/test_rows.py", '("closed", "row", "B")', '("closed", "row", "A")'),
     ("test_sites.Histories", "tests/test_sites.py", "asked VOL009", "asked VOL008"),
     ("test_slots.Slots.test_changes", "tests/test_slots.py", '"03000500000000"', '"03000600000000"'),
     ("test_spoiled_sites.SpoiledSites.test_frame", "tests/cases/spoiled/frame_twice.site", "1 page 3", "1 page 4"),
     ("test_stops.FailedCalls.test_first", "tests/test_stops.py", "refused stopped", "refused halted"),
     ("test_threads.Threads.test_an_option", "tests/test_threads.py", "words refused", "words taken"),
     ("test_tools.Progress", "tools/formats/progress.py", "told + 1:", "told + 9:"),
+    ("test_worked_faults.FailedCalls.test_a_write", "tests/test_worked_faults.py", "31 status 0E", "31 status 0D"),
     ("test_worked_jobs.WorkedJobs.test_bind", "tests/cases/bind.report", "END", "LIMIT"),
+    ("test_worked_stops.WorkedStops.test_an_update", "tests/test_worked_stops.py", '1, "414243"', '1, "414244"'),
 ]
 
 

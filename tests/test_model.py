@@ -9,6 +9,7 @@ from fixtures import CASES, PROGRAM, SiteTest, Test, difference, run_on_blank, t
 from formats import plain
 from formats.draws import drawn_turns
 from formats.jobs import read_job
+from formats.loads import load
 from formats.staging_model import Model
 
 DRAWN = 300
@@ -30,6 +31,24 @@ SPELLED = [
     ("the highest order", "--order 18446744073709551615 --turns 50", 2**64 - 1, 50),
     ("the most turns", "--order 00000000000000000007 --turns 100000", 7, 100_000),
 ]
+
+# The first words of each order, and turns of an order among so many actors, by a program that steps PCG32 by hand, on
+# numbers without bounds. With state 42 and stream 54 it gives a15c02b7, 7b47f409, .., as PCG's own demonstration does. A
+# load of five programs, by the same, stands in a file.
+WORDS = [
+    (298703107, 4236525527, 336081875),
+    (866585574, 2109535214, 3403630417),
+    (663514024, 4050668357, 535747897),
+    (1170342731, 636832815, 4217149081),
+    (668795775, 367880767, 1936662788),
+    (3086511542, 1342643712, 28595221),
+    (2045517856, 2268375300, 982895230),
+    (2442223337, 414063806, 2743600285),
+    (3046447000, 1793657967, 3828792021),
+    (3429093174, 673120095, 3444530991),
+]
+SHARED = [(0, 7, [3, 3, 3, 1, 0, 3, 2, 6]), (2**64 - 1, 7, [4, 0, 2, 5, 5, 1, 3, 6]), (3, 1, [])]
+LOAD_OF_FIVE = (CASES / "load_of_five").read_text()
 
 SPELLED_LOADS = [("one program", "--turns=0 --load=1 --order=0", 1), ("a thousand", "--load 1000", 1000)]
 
@@ -106,6 +125,27 @@ class SpelledLoads(SiteTest):
 
     def check(self, words, programs):
         self.assert_told(f"{summary(0, programs)}status 0", self.told("serial", *words.split()))
+
+
+class Draws(SiteTest):
+    """What numbers draw here is what another program draws; that the program draws the same, the jobs by orders show."""
+
+    def test_words(self):
+        for order, words in enumerate(WORDS):
+            self.assertEqual(drawn_turns(order, len(words), 2**32 - 1), list(words))
+
+    def test_turns(self):
+        for order, actors, turns in SHARED:
+            self.assertEqual(drawn_turns(order, len(turns), actors), turns)
+
+    def test_a_load_of_five(self):
+        self.assert_told(LOAD_OF_FIVE, load(3, 5))
+        told = self.told_on_blank("serial", "--order=3", "--load=5")
+        shown = self.told("show")
+        report = self.told_on_blank("serial", "--order=3", text=LOAD_OF_FIVE)
+        self.assertIn("record 0116001001 - 866AB6D8", shown)
+        self.assert_told(self.told("show"), shown)
+        self.assertIn(f"entries {report.count('entry ')}\n", told)
 
 
 class Shrinking(Test):

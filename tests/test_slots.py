@@ -1,10 +1,11 @@
 """Changes of the table's rows, by the bytes that docs/FORMATS.md gives them: each appends a slot to both copies, and a copy
 of which all slots are in use is written whole. A run that is killed within that leaves a site that shows the same."""
 
+import re
 import signal
 import unittest
 
-from fixtures import EXAMPLES, PROGRAM, SiteTest, remove_site, run
+from fixtures import CASES, EXAMPLES, PROGRAM, SiteTest, remove_site, run
 from test_stops import may_trace
 
 BLOCK, SLOTS_AT, SLOTS, SLOT = 16_384, 512, 1_984, 8
@@ -16,6 +17,14 @@ VOLUME_ALONE = b"mss 1 frames 1 recorders 1\nvolume 0 VOL001\ndone\n"
 # What the first job does to its volume's row: page 0 gets frame 0, and cylinder 5 is staged and then changed.
 ASSIGNED, STAGED, CHANGED = (bytes.fromhex(body) for body in ("01000000000000", "03000500000000", "04000500000000"))
 FREED = bytes.fromhex("02000000000000")
+CHANGE = re.compile(r"^change \d+ volume (\d+) (assign|free|staged|changed|destaged) (.*)$", re.M)
+SPELLED = {
+    "assign": lambda page, frame: bytes([1, 0, page, frame, 0, 0, 0]),
+    "free": lambda page, frame: bytes([2, 0, page, 0, 0, 0, 0]),
+    "staged": lambda cylinder: bytes([3, *divmod(cylinder, 256), 0, 0, 0, 0]),
+    "changed": lambda cylinder: bytes([4, *divmod(cylinder, 256), 0, 0, 0, 0]),
+    "destaged": lambda cylinder: bytes([5, *divmod(cylinder, 256), 0, 0, 0, 0]),
+}
 # A change appends by two writes to each copy, and writes a full copy by four. A cylinder is copied by 19 writes, and a
 # record that is the first of its track is written by two.
 APPENDING, WHOLE, CYLINDER, RECORD = 2 * 2, 2 * 4, 19, 2
@@ -57,6 +66,18 @@ class Slots(SiteTest):
         for row in self.rows():
             self.assertEqual(slots_of(row), [ASSIGNED, STAGED, CHANGED])
             self.assertEqual(row[FRAME_OF_PAGE_0], 0xFF, "the frame in the body")
+
+    def test_each_change_has_its_slot(self):
+        """Those of two jobs, of which the second one frees pages that the first one wrote, as their reports list them."""
+        due = {}
+        for path in (CASES / "cartridges.job", CASES / "left/cartridges.job"):
+            self.assertEqual(self.ran("serial", text=path.read_bytes()).returncode, 0)
+            for volume, change, rest in CHANGE.findall(path.with_suffix(".report").read_text()):
+                due.setdefault(int(volume), []).append(SPELLED[change](*(int(word) for word in re.findall(r"\d+", rest))))
+        for name in ("table_a", "table_b"):
+            table = (self.site / name).read_bytes()
+            for volume, slots in due.items():
+                self.assertEqual(slots_of(table[BLOCK * volume : BLOCK * (volume + 1)]), slots, f"{name}, volume {volume}")
 
     def test_a_full_row_is_written_whole(self):
         self.fill()

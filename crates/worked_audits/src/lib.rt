@@ -1,7 +1,7 @@
-//! Audits of devices in memory, each said by the text that is put.
+//! An audit of devices in memory, said by the text that is put.
 //!
-//! Nothing stands on this crate. Two good rows are put in both copies, by their bytes, then some bytes are put otherwise;
-//! the audit is told as a program would tell it.
+//! Nothing stands on this crate. A row is put in both copies, by its bytes, with two serials; the audit is told as a
+//! program would tell it that asks for one of them. All else that an audit lists, `tests/test_audit.py` shows.
 #![tactic(auto)]
 
 #[cfg(test)]

@@ -1,8 +1,8 @@
 // Devices that fail below an event.
 use crate::events::{Course, other_answer};
-use crate::failing::CALLS_OF_RESTART;
 use crate::items::{
-    APPEND_ITEMS, CHANGE_ITEMS, COPY_ITEMS, CREATE_ITEMS, STAGE_ITEMS, TRACK_ITEMS,
+    APPEND_ITEMS, CALLS_OF_RESTART, CHANGE_ITEMS, COPY_ITEMS, CREATE_ITEMS, STAGE_ITEMS,
+    TRACK_ITEMS,
 };
 use crate::steps::{Row, Step, Told};
 use core_state::WorkKind;
@@ -148,10 +148,44 @@ fn a_staging_that_cant_be_synced_isnt_told_in_its_row(rt: HostRuntime) {
     );
 }
 
+/// Behind the 19 tracks of the second staging the row can't be written, and the second fault has its own number.
+const ROW_BEHIND: u64 = STAGING_SYNC + COPY_ITEMS + 1;
+
+const STAGING_AND_ROW_FAIL: &[Row] = &[
+    (1, Step::Mount(1, 0), Told::Mounted),
+    (1, Step::Ask(1, 0x31, R0), Told::Fault(0)),
+    (1, Step::Work, Told::Did(WorkKind::Pick)),
+    (1, Step::Work, Told::Did(WorkKind::Assign)),
+    (19, Step::Work, Told::Did(WorkKind::Copy)),
+    (1, Step::Work, Told::Did(WorkKind::End)),
+    (1, Step::Ask(1, 0x31, R0), Told::EquipmentCheck),
+    (1, Step::Ask(1, 0x31, R0), Told::Fault(0)),
+    (1, Step::Work, Told::Did(WorkKind::Pick)),
+    (19, Step::Work, Told::Did(WorkKind::Copy)),
+    (1, Step::Work, Told::Stopped(2)),
+    (1, Step::Ask(1, 0x31, R0), Told::Stopped(2)),
+];
+
+const UNSTAGED: Course = Course {
+    job: ONE_VOLUME,
+    rows: STAGING_AND_ROW_FAIL,
+    entries: 2,
+    changes: 2,
+    state: None,
+};
+
+#[test]
+fn two_failed_calls_have_two_numbers(rt: HostRuntime) {
+    assert_eq!(rt;
+        other_answer(rt.alloc(), [STAGING_SYNC, ROW_BEHIND], &UNSTAGED),
+        None
+    );
+}
+
 const TWO_VOLUMES: &str = "mss 1 frames 1 recorders 1\nvolume 0 VOL001\nvolume 1 VOL002\ndone\n";
 
-/// The restart creates one volume more; then a cylinder is staged, searched, told as changed, read and written. The first
-/// copy to the cartridge can't read the frame.
+/// The restart creates one volume more; then a cylinder is staged, searched, told as changed, read and written. The
+/// first copy to the cartridge can't read the frame.
 const FRAME_UNREAD: u64 = CALLS_OF_RESTART
     + (CREATE_ITEMS + 2)
     + (STAGE_ITEMS + 1)
@@ -196,8 +230,9 @@ fn a_destage_that_cant_be_synced_leaves_its_cylinder_changed(rt: HostRuntime) {
     );
 }
 
-/// The host that waits for the first copy is told. At its next try it gets the frame: the cylinder is copied, the row changes
-/// four times, the other one is staged, and its search reads a track. Two changes later the cartridge can't be read.
+/// The host that waits for the first copy is told. At its next try it gets the frame: the cylinder is copied, the
+/// row changes four times, the other one is staged, and its search reads a track. Two changes later the cartridge
+/// can't be read.
 const CARTRIDGE_UNREAD: u64 = FRAME_UNREAD
     + (TRACK_ITEMS + COPY_ITEMS)
     + (4 * CHANGE_ITEMS + COPY_ITEMS + 1)

@@ -102,25 +102,44 @@ fn played<S: Site + Drop, C: Choose + Drop>(
     }
 }
 
-fn play<S: Site + Drop>(alloc: Global, site: S, course: &Course) -> Option<Result<S, usize>> {
-    let job = job_of(alloc, course.job)?;
-    let core = begin(alloc, &job, site, Lru)?;
-    Some(played(alloc, core, course))
-}
-
-/// Each row is answered so in a session on devices, which comes to that; and the least recently used page is the one that
-/// is replaced. Gives the devices, or the place of the first row that is answered otherwise; behind the last row that of
-/// an end which is another.
-fn answers_on<S: Site + Drop>(alloc: Global, site: S, course: &Course) -> Result<S, usize> {
-    play(alloc, site, course).unwrap_or(Err(usize::MAX))
+/// Each row is answered so in a session on devices, which comes to that, where the chooser takes the pages that are
+/// replaced. Gives the devices, or the place of the first row that is answered otherwise; behind the last row that
+/// of an end which is another.
+fn answers_on<S: Site + Drop, C: Choose + Drop>(
+    alloc: Global,
+    site: S,
+    chooser: C,
+    course: &Course,
+) -> Result<S, usize>
+    requires { C.can_choose chooser }
+{
+    let Some(job) = job_of(alloc, course.job) else {
+        return Err(usize::MAX);
+    };
+    match begin(alloc, &job, site, chooser) {
+        Some(core) => played(alloc, core, course),
+        None => Err(usize::MAX),
+    }
 }
 
 /// The same on blank devices, of which these calls fail: the place of what is otherwise.
-pub fn other_answer(alloc: Global, failing: Failing, course: &Course) -> Option<usize> {
+pub fn other_by<C: Choose + Drop>(
+    alloc: Global,
+    failing: Failing,
+    chooser: C,
+    course: &Course,
+) -> Option<usize>
+    requires { C.can_choose chooser }
+{
     match failing_site(alloc, failing) {
-        Some(site) => answers_on(alloc, site, course).err(),
+        Some(site) => answers_on(alloc, site, chooser, course).err(),
         None => Some(usize::MAX),
     }
+}
+
+/// The same, where the least recently used page is the one that is replaced.
+pub fn other_answer(alloc: Global, failing: Failing, course: &Course) -> Option<usize> {
+    other_by(alloc, failing, Lru, course)
 }
 
 fn other_on<S: Site + Drop>(
@@ -129,8 +148,8 @@ fn other_on<S: Site + Drop>(
     first: &Course,
     second: &Course,
 ) -> Option<usize> {
-    match answers_on(alloc, site, first) {
-        Ok(site) => answers_on(alloc, site, second).err(),
+    match answers_on(alloc, site, Lru, first) {
+        Ok(site) => answers_on(alloc, site, Lru, second).err(),
         Err(place) => Some(place),
     }
 }

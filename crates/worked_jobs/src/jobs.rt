@@ -1,4 +1,14 @@
-// Jobs that several tests run.
+// Jobs of whole runs.
+
+/// A host looks at a cylinder that was never written.
+pub const ONE_SEARCH: &str = "mss 1 frames 1 recorders 1\n\
+    volume 0 VOL001\n\
+    host 1\n\
+    mount VOL001\n\
+    program\n\
+    ccw 31 0000000000\n\
+    end\n\
+    done\n";
 
 /// A host writes a record on cylinder 5, head 3, and reads it back.
 pub const WRITE_AND_READ: &str = "mss 1 frames 1 recorders 1\n\
@@ -17,11 +27,6 @@ pub const WRITE_AND_READ: &str = "mss 1 frames 1 recorders 1\n\
     tic 1\n\
     ccw 06\n\
     end\n\
-    done\n";
-
-/// The same devices, of which no host asks anything.
-pub const ONE_VOLUME: &str = "mss 1 frames 1 recorders 1\n\
-    volume 0 VOL001\n\
     done\n";
 
 /// One frame for two pages: a record on cylinder 0, one on cylinder 8, and the first is read back.
@@ -47,14 +52,6 @@ pub const REPLACEMENT: &str = "mss 1 frames 1 recorders 1\n\
     tic 1\n\
     ccw 06\n\
     end\n\
-    done\n";
-
-/// Four volumes, of which no host asks anything.
-pub const FOUR_VOLUMES: &str = "mss 1 frames 8 recorders 2\n\
-    volume 0 VOL001\n\
-    volume 1 VOL002\n\
-    volume 2 VOL003\n\
-    volume 3 VOL004\n\
     done\n";
 
 /// Each host writes a record on its own volume and reads it back; the first then writes it on the fourth volume.
@@ -129,17 +126,21 @@ pub const THREE_HOSTS: &str = "mss 1 frames 8 recorders 2\n\
     end\n\
     done\n";
 
-/// What the volumes of the three hosts, and the fourth, show at the end.
-pub const THREE_HOSTS_LEFT: &str = "\nvolume 0 VOL001\n\
-    track 1 1\n\
-    record 0001000101 - 484F535431\n\
-    volume 1 VOL002\n\
-    track 2 2\n\
-    record 0002000201 - 484F535432\n\
-    volume 2 VOL003\n\
-    track 3 3\n\
-    record 0003000301 - 484F535433\n\
-    volume 3 VOL004\n\
-    track 1 1\n\
-    record 0001000101 - 484F535431\n\
-    END\n";
+/// Three records on a track; then a new second one is written behind the first.
+pub const THREE_RECORDS: &str = "mss 1 frames 1 recorders 1\n\
+    volume 0 VOL001\n\
+    host 1\n\
+    mount VOL001\n\
+    program\n\
+    ccw 31 0000000000\n\
+    tic 0\n\
+    ccw 1D 000000000100000141\n\
+    ccw 1D 000000000200000142\n\
+    ccw 1D 000000000300000143\n\
+    end\n\
+    program\n\
+    ccw 31 0000000001\n\
+    tic 0\n\
+    ccw 1D 000000000200000158\n\
+    end\n\
+    done\n";

@@ -1,8 +1,8 @@
 //! The parts of the machine, each said by value.
 //!
 //! Nothing stands on this crate. Its tests show moves of the accessors and of cartridges, recorders,
-//! the codes of the manual, channel programs, requests for cylinders, tracks in frames, choosers and
-//! touches, and what two hosts have seen of a history.
+//! requests for cylinders, choosers, and what two hosts have seen of a history. Codes and channel
+//! programs, `tests/test_programs.py` shows on the built program; tracks in frames, `tests/test_rows.py`.
 #![tactic(auto)]
 
 #[cfg(test)]
@@ -12,14 +12,8 @@ mod cells;
 #[cfg(test)]
 mod choosers;
 #[cfg(test)]
-mod codes;
-#[cfg(test)]
-mod programs;
-#[cfg(test)]
 mod rails;
 #[cfg(test)]
 mod recorders;
 #[cfg(test)]
 mod requests;
-#[cfg(test)]
-mod staged;

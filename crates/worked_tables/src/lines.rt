@@ -6,7 +6,5 @@ pub mod copies;
 pub mod devices;
 pub mod numbers;
 pub mod restarts;
-pub mod rows;
 pub mod runs;
-pub mod slots;
 pub mod words;

@@ -1,6 +1,5 @@
 // Tracks copied each way, each call failing in turn, and a copy stopped at each moment.
 use crate::lines::runs::run;
-use std::test::Fail;
 
 // The first track of a volume. Its block in the frame begins with 11 and ends with 12, the one on the
 // cartridge begins with 21 and ends with 22.
@@ -127,11 +126,11 @@ has cartridge 7 3837 0 11
 has cartridge 7 3837 16383 12";
 
 #[test]
-fn a_track_is_copied_whole(rt: HostRuntime) -> Result<(), Fail> {
-    run(&rt, rt.alloc(), AT_FIRST, FIRST)?;
-    run(&rt, rt.alloc(), AT_LAST_OF_HALF, LAST_OF_HALF)?;
-    run(&rt, rt.alloc(), AT_SECOND_HALF, SECOND_HALF)?;
-    run(&rt, rt.alloc(), AT_LAST, LAST)
+fn a_track_is_copied_whole(rt: HostRuntime) {
+    run(&rt, rt.alloc(), AT_FIRST, FIRST);
+    run(&rt, rt.alloc(), AT_LAST_OF_HALF, LAST_OF_HALF);
+    run(&rt, rt.alloc(), AT_SECOND_HALF, SECOND_HALF);
+    run(&rt, rt.alloc(), AT_LAST, LAST);
 }
 
 // Which call fails; whether the copy does, and what is next; how many writes it made.
@@ -177,8 +176,8 @@ writes -> 5
 faults -> 0";
 
 #[test]
-fn a_failed_copy_is_due_again(rt: HostRuntime) -> Result<(), Fail> {
-    run(&rt, rt.alloc(), AT_FIRST, FAILURES)
+fn a_failed_copy_is_due_again(rt: HostRuntime) {
+    run(&rt, rt.alloc(), AT_FIRST, FAILURES);
 }
 
 // What stands in the blocks where a stop leaves of the write nothing, 00 or C1, and after the write.
@@ -238,6 +237,6 @@ stop 5 0 0 has cartridge 7 3837 0 11
 stop 5 0 0 has cartridge 7 3837 16383 12";
 
 #[test]
-fn a_stop_leaves_all_other_blocks(rt: HostRuntime) -> Result<(), Fail> {
-    run(&rt, rt.alloc(), AT_LAST, STOPS)
+fn a_stop_leaves_all_other_blocks(rt: HostRuntime) {
+    run(&rt, rt.alloc(), AT_LAST, STOPS);
 }

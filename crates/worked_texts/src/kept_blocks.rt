@@ -1,22 +1,22 @@
-// The block that a site keeps: brought again, written into, and lost; and syncs that fail.
-use mss_base::{Failed, Site, UnitNo};
+// The blocks that a site keeps: brought again, written into, and lost; and syncs that fail.
+use mss_base::{Site, UnitNo};
 use mss_files::{FileSite, UnitFiles};
 use std::alloc::Global;
 use std::io;
 use std::io::ErrorKind;
-use std::process::Abort;
+use std::test::Fail;
 
-/// Files of sevens that forget what is written. The first read of them succeeds, and no other;
-/// each write and each sync of a unit does, but those of the table's second copy. No sync of all
+/// Files of sevens that forget what is written. So many reads of them succeed, and no other; each
+/// write and each sync of a unit does, but those of the table's second copy. No sync of all
 /// succeeds.
 #[derive(Drop)]
-struct ReadOnce {
-    was_read: bool,
+struct FewReads {
+    left: u8,
 }
 
-type OnceSite = FileSite<ReadOnce>;
+type SevensSite = FileSite<FewReads>;
 
-impl UnitFiles for ReadOnce {
+impl UnitFiles for FewReads {
     ghost use Rattle.std.specs.Prelude.{false};
 
     ghost tells = { ⊥ };
@@ -26,10 +26,10 @@ impl UnitFiles for ReadOnce {
     ghost lasts = { λ _ _. false };
 
     fn read_some(&mut self, _unit: &UnitNo, _at: u64, into: &mut [u8]) -> io::Result<usize> {
-        if self.was_read {
+        if self.left == 0 {
             return Err(io::Error::from(ErrorKind::PermissionDenied));
         }
-        self.was_read = true;
+        self.left -= 1;
         into.fill(7);
         Ok(into.len())
     }
@@ -53,79 +53,140 @@ impl UnitFiles for ReadOnce {
     }
 }
 
-fn site_of_sevens(rt: &impl Abort, alloc: Global) -> OnceSite {
-    let files = ReadOnce { was_read: false };
-    FileSite::over(alloc, files).expect(rt, "a site")
+/// A call: `b` brings a block and `r` reads it, which then begins with these bytes, or fails where there are none;
+/// `w` writes them, behind as many bytes as stand there, or fails where the letter is `f`; `s` syncs the unit,
+/// which fails where the letter is `t`; any other letter is a sync of all, which fails. The unit is a copy of the
+/// table, or the first staging disk.
+type Step = (u8, u8, u32, u16, &'static [u8]);
+
+const SEVENS: &[u8] = &[7, 7, 7];
+
+fn brings(site: &mut SevensSite, unit: UnitNo, block: u32, due: &[u8]) -> bool {
+    let is_brought = site.bring(unit, block).is_ok();
+    is_brought != due.is_empty() && (!is_brought || site.brought().starts_with(due))
 }
 
-/// Whether a block can be brought, and begins with these bytes.
-fn brings(site: &mut OnceSite, unit: UnitNo, block: u32, expected: &[u8]) -> bool {
-    site.bring(unit, block).is_ok() && site.brought().starts_with(expected)
-}
-
-/// Whether a block can be read, and begins with these bytes.
-fn reads(alloc: Global, site: &mut OnceSite, unit: UnitNo, block: u32, expected: &[u8]) -> bool {
+fn reads(alloc: Global, site: &mut SevensSite, unit: UnitNo, block: u32, due: &[u8]) -> bool {
     let Ok(mut bytes) = vec![in alloc; 0u8; 16384] else {
         return false;
     };
-    site.read(unit, block, &mut bytes).is_ok() && bytes.as_slice().starts_with(expected)
+    site.read(unit, block, &mut bytes).is_ok() && bytes.as_slice().starts_with(due)
 }
 
-/// Whether a block takes a few bytes, at its begin or behind its first byte.
-fn takes(site: &mut OnceSite, unit: UnitNo, block: u32, offset: u16, bytes: &[u8]) -> bool {
+fn takes(site: &mut SevensSite, unit: UnitNo, block: u32, offset: u16, bytes: &[u8]) -> bool {
     offset <= 1 && bytes.len() <= 100 && site.write(unit, block, offset, bytes).is_ok()
 }
 
-#[test]
-fn a_kept_block_is_brought_and_read_without_a_call(rt: HostRuntime) {
-    let mut site = site_of_sevens(&rt, rt.alloc());
-    assert!(rt; brings(&mut site, UnitNo::TableA, 3, &[7, 7, 7]));
-    assert!(rt; brings(&mut site, UnitNo::TableA, 3, &[7, 7, 7]));
-    assert!(rt; reads(rt.alloc(), &mut site, UnitNo::TableA, 3, &[7, 7, 7]));
-    assert_eq!(rt; site.faults(), 0);
+fn unit_of(letter: u8) -> UnitNo {
+    match letter {
+        b'A' => UnitNo::TableA,
+        b'B' => UnitNo::TableB,
+        _ => UnitNo::Staging(0),
+    }
 }
 
-#[test]
-fn a_kept_block_has_what_is_written_into_it(rt: HostRuntime) {
-    let mut site = site_of_sevens(&rt, rt.alloc());
-    assert!(rt; brings(&mut site, UnitNo::TableA, 3, &[7, 7, 7]));
-    assert!(rt; takes(&mut site, UnitNo::TableA, 3, 1, b"row"));
-    assert!(rt; brings(&mut site, UnitNo::TableA, 3, b"\x07row\x07"));
-    assert!(rt; takes(&mut site, UnitNo::TableA, 4, 1, b"next"));
-    assert!(rt; takes(&mut site, UnitNo::Staging(0), 3, 1, b"disk"));
-    assert!(rt; brings(&mut site, UnitNo::TableA, 3, b"\x07row\x07"));
-    assert_eq!(rt; site.faults(), 0);
+fn is_done(alloc: Global, site: &mut SevensSite, step: &Step) -> bool {
+    let (letter, unit, block, offset, bytes) = *step;
+    let unit = unit_of(unit);
+    match letter {
+        b'b' => brings(site, unit, block, bytes),
+        b'r' => reads(alloc, site, unit, block, bytes),
+        b'w' => takes(site, unit, block, offset, bytes),
+        b'f' => !takes(site, unit, block, offset, bytes),
+        b's' => site.sync(unit).is_ok(),
+        b't' => site.sync(unit).is_err(),
+        _ => site.sync_all().is_err(),
+    }
 }
 
-#[test]
-fn a_block_that_cannot_be_brought_is_not_kept(rt: HostRuntime) {
-    let mut site = site_of_sevens(&rt, rt.alloc());
-    assert!(rt; brings(&mut site, UnitNo::TableA, 3, &[7, 7, 7]));
-    assert_eq!(rt; site.bring(UnitNo::TableA, 4), Err(Failed));
-    assert_eq!(rt; site.bring(UnitNo::TableA, 4), Err(Failed));
-    assert_eq!(rt; site.bring(UnitNo::TableA, 3), Err(Failed));
-    assert_eq!(rt; site.faults(), 3);
+/// Whether these calls do so on files of sevens of which so many reads succeed, and so many faults and
+/// writes and syncs are counted then.
+fn all_are_done(
+    alloc: Global,
+    steps: &[Step],
+    reads: u8,
+    faults: u64,
+    writes: u64,
+) -> Option<bool> {
+    let files = FewReads { left: reads };
+    let mut site = FileSite::over(alloc, files).ok()?;
+    for step in steps {
+        if !is_done(alloc, &mut site, step) {
+            return Some(false);
+        }
+    }
+    Some(site.faults() == faults && site.writes() == writes)
 }
 
-#[test]
-fn a_block_that_cannot_be_written_is_not_kept(rt: HostRuntime) {
-    let mut site = site_of_sevens(&rt, rt.alloc());
-    assert!(rt; brings(&mut site, UnitNo::TableB, 0, &[7, 7, 7]));
-    assert!(rt; !takes(&mut site, UnitNo::TableB, 1, 0, b"row"));
-    assert!(rt; brings(&mut site, UnitNo::TableB, 0, &[7, 7, 7]));
-    assert!(rt; !takes(&mut site, UnitNo::TableB, 0, 0, b"row"));
-    assert_eq!(rt; site.bring(UnitNo::TableB, 0), Err(Failed));
-    assert_eq!(rt; site.faults(), 3);
-}
+/// A block that was brought is brought and read again without a call.
+const AGAIN: [Step; 3] = [
+    (b'b', b'A', 3, 0, SEVENS),
+    (b'b', b'A', 3, 0, SEVENS),
+    (b'r', b'A', 3, 0, SEVENS),
+];
+
+/// It has what is written into it, and nothing of other blocks and units.
+const WRITTEN: [Step; 6] = [
+    (b'b', b'A', 3, 0, SEVENS),
+    (b'w', b'A', 3, 1, b"row"),
+    (b'b', b'A', 3, 0, b"\x07row\x07"),
+    (b'w', b'A', 4, 1, b"next"),
+    (b'w', b'0', 3, 1, b"disk"),
+    (b'b', b'A', 3, 0, b"\x07row\x07"),
+];
+
+/// Blocks of a cylinder are kept side by side.
+const SIDE_BY_SIDE: [Step; 5] = [
+    (b'b', b'A', 3, 0, SEVENS),
+    (b'b', b'A', 4, 0, SEVENS),
+    (b'w', b'A', 3, 1, b"row"),
+    (b'b', b'A', 3, 0, b"\x07row\x07"),
+    (b'b', b'A', 4, 0, SEVENS),
+];
+
+/// A block that can't be brought is not kept, nor is the one 19 before it, whose place it takes.
+const UNREAD: [Step; 4] = [
+    (b'b', b'A', 3, 0, SEVENS),
+    (b'b', b'A', 22, 0, &[]),
+    (b'b', b'A', 22, 0, &[]),
+    (b'b', b'A', 3, 0, &[]),
+];
+
+/// Nor is one that can't be written.
+const UNWRITTEN: [Step; 5] = [
+    (b'b', b'B', 0, 0, SEVENS),
+    (b'f', b'B', 1, 0, b"row"),
+    (b'b', b'B', 0, 0, SEVENS),
+    (b'f', b'B', 0, 0, b"row"),
+    (b'b', b'B', 0, 0, &[]),
+];
+
+/// A sync that fails is counted, and one that doesn't; the block is kept.
+const SYNCED: [Step; 5] = [
+    (b'b', b'B', 0, 0, SEVENS),
+    (b's', b'A', 0, 0, &[]),
+    (b't', b'B', 0, 0, &[]),
+    (b'a', b'B', 0, 0, &[]),
+    (b'b', b'B', 0, 0, SEVENS),
+];
+
+/// Calls, how many reads succeed, and how many faults there are then, and writes and syncs.
+const CALLS: [(&[Step], u8, u64, u64); 6] = [
+    (&AGAIN, 1, 0, 0),
+    (&WRITTEN, 1, 0, 3),
+    (&SIDE_BY_SIDE, 2, 0, 1),
+    (&UNREAD, 1, 3, 0),
+    (&UNWRITTEN, 1, 3, 2),
+    (&SYNCED, 1, 2, 3),
+];
 
 #[test]
-fn a_sync_that_fails_is_counted(rt: HostRuntime) {
-    let mut site = site_of_sevens(&rt, rt.alloc());
-    assert!(rt; brings(&mut site, UnitNo::TableB, 0, &[7, 7, 7]));
-    assert_eq!(rt; site.sync(UnitNo::TableA), Ok(()));
-    assert_eq!(rt; site.sync(UnitNo::TableB), Err(Failed));
-    assert_eq!(rt; site.sync_all(), Err(Failed));
-    assert!(rt; brings(&mut site, UnitNo::TableB, 0, &[7, 7, 7]));
-    assert_eq!(rt; site.faults(), 2);
-    assert_eq!(rt; site.writes(), 3);
+fn a_block_is_kept_as_long_as_it_is_known(rt: HostRuntime) -> Result<(), Fail> {
+    for (steps, reads, faults, writes) in CALLS {
+        assert!(rt;
+            all_are_done(rt.alloc(), steps, reads, faults, writes) == Some(true),
+            "{reads} {faults} {writes}"
+        );
+    }
+    Ok(())
 }

@@ -1,14 +1,11 @@
-//! Jobs, draws, lines and files, each said by value.
+//! Jobs, lines and files, each said by value.
 //!
-//! Nothing stands on this crate. Its tests show a job text that is read and written; the turns and
-//! the load that a number draws, by another program; what is put where a put fails; a site in a
-//! folder, and the block that a site over failing files keeps. Which words and jobs are refused or
-//! taken, and each line of reports and listings, the scripts of `checks` and the examples show on
-//! the built program; reports of which a read fails, `worked_jobs`.
+//! Nothing stands on this crate. Its tests show a job text that is read and written; what is put where
+//! a put fails; a site in a folder, and the blocks that a site over failing files keeps. Which words and
+//! jobs are refused or taken, what numbers draw, and each line of reports and listings, `tests` and the
+//! examples show on the built program; reports of which a read fails, `worked_jobs`.
 #![tactic(auto)]
 
-#[cfg(test)]
-mod drawn;
 #[cfg(test)]
 mod job_texts;
 #[cfg(test)]

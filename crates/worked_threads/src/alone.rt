@@ -1,13 +1,7 @@
 // Hosts without recorders' own workers: who came first and left, or comes when all is done.
-use crate::gates::{Counter, Waits};
-use crate::running::{ended_well, run};
-use memory_devices::MemorySink;
-use mss_run::{Actor, Gate, Point};
+use crate::gates::{ENTER, HOSTS, LEAVE, NONE, RECORDERS, Rule, WORK};
+use crate::running::counted;
 use std::test::Fail;
-
-const HOSTS: u64 = 2;
-
-const WORKERS: u64 = 2;
 
 const JOB: &str = "mss 1 frames 1 recorders 2\n\
     volume 0 VOL001\n\
@@ -24,80 +18,41 @@ const JOB: &str = "mss 1 frames 1 recorders 2\n\
     end\n\
     done\n";
 
-/// Hosts come in once each worker has left, or workers once each host has.
-#[derive(Drop)]
-struct LateGate {
-    are_hosts_late: bool,
-    left_hosts: Counter,
-    left_workers: Counter,
-    hosts_worked: Counter,
-    workers_worked: Counter,
-    waits: Waits,
-}
+/// What the counters count.
+const HOSTS_WORKED: usize = 0;
 
-impl LateGate {
-    fn new(are_hosts_late: bool) -> LateGate {
-        LateGate {
-            are_hosts_late,
-            left_hosts: Counter::new(),
-            left_workers: Counter::new(),
-            hosts_worked: Counter::new(),
-            workers_worked: Counter::new(),
-            waits: Waits::new(),
-        }
-    }
+const WORKERS_WORKED: usize = 1;
 
-    fn pass_host(&self, point: Point) {
-        match point {
-            Point::Enter if self.are_hosts_late => self.waits.wait_for(&self.left_workers, WORKERS),
-            Point::Work(_) => self.hosts_worked.add(),
-            Point::Leave => self.left_hosts.add(),
-            Point::Enter | Point::Host(_) => {}
-        }
-    }
+const LEFT: usize = 2;
 
-    fn pass_worker(&self, point: Point) {
-        match point {
-            Point::Enter if !self.are_hosts_late => self.waits.wait_for(&self.left_hosts, HOSTS),
-            Point::Work(_) => self.workers_worked.add(),
-            Point::Leave => self.left_workers.add(),
-            Point::Enter | Point::Host(_) => {}
-        }
-    }
+/// Hosts come in once both workers have left.
+const LATE_HOSTS: [Rule; 4] = [
+    (HOSTS, WORK, HOSTS_WORKED, NONE, 0),
+    (RECORDERS, WORK, WORKERS_WORKED, NONE, 0),
+    (RECORDERS, LEAVE, LEFT, NONE, 0),
+    (HOSTS, ENTER, NONE, LEFT, 2),
+];
 
-    /// Whether hosts did all the work, and nobody waited in vain.
-    fn saw_hosts_work(&self) -> bool {
-        self.waits.are_over() && self.workers_worked.get() == 0 && self.hosts_worked.get() > 0
-    }
-}
-
-impl Gate for LateGate {
-    fn pass(&self, actor: Actor, point: Point) {
-        match actor {
-            Actor::Host(_) => self.pass_host(point),
-            Actor::Recorder(_) => self.pass_worker(point),
-        }
-    }
-}
+/// Workers come in once both hosts have left.
+const LATE_WORKERS: [Rule; 4] = [
+    (HOSTS, WORK, HOSTS_WORKED, NONE, 0),
+    (RECORDERS, WORK, WORKERS_WORKED, NONE, 0),
+    (HOSTS, LEAVE, LEFT, NONE, 0),
+    (RECORDERS, ENTER, NONE, LEFT, 2),
+];
 
 // A worker that sees no host in leaves. Hosts then do its work, replacements too: there is one frame for both.
 #[test]
 fn hosts_work_for_workers_that_left(rt: HostRuntime) -> Result<(), Fail> {
-    let gate = LateGate::new(true);
-    let mut output = MemorySink::new(rt.alloc(), &[])?;
-    let end = run(&rt, JOB, &gate, &[], &mut output)?;
-    ended_well(&end, 2)?;
-    assert!(rt; gate.saw_hosts_work());
+    let counts = counted(&rt, JOB, &LATE_HOSTS, 2)?;
+    assert!(rt; counts[HOSTS_WORKED] > 0 && counts[WORKERS_WORKED] == 0);
     Ok(())
 }
 
 // A worker is in only from its coming on.
 #[test]
 fn hosts_work_for_workers_that_are_late(rt: HostRuntime) -> Result<(), Fail> {
-    let gate = LateGate::new(false);
-    let mut output = MemorySink::new(rt.alloc(), &[])?;
-    let end = run(&rt, JOB, &gate, &[], &mut output)?;
-    ended_well(&end, 2)?;
-    assert!(rt; gate.saw_hosts_work());
+    let counts = counted(&rt, JOB, &LATE_WORKERS, 2)?;
+    assert!(rt; counts[HOSTS_WORKED] > 0 && counts[WORKERS_WORKED] == 0);
     Ok(())
 }

@@ -1,15 +1,10 @@
 // A host that is answered while a recorder is held between two copies, and a run that a failed write ends.
-use crate::gates::{Counter, Waits};
-use crate::running::{RunEnd, run};
-use core_state::WorkKind;
-use memory_devices::{MemorySink, SiteFault};
-use mss_base::HostNo;
-use mss_run::{Actor, Gate, OpenGate, Point};
+use crate::gates::{ANSWER, COPY, ENTER, NONE, RECORDERS, Rule, RuleGate, WORK};
+use crate::running::tells;
+use memory_devices::SiteFault;
+use mss_run::OpenGate;
 use mss_top::Status;
-use std::alloc::Global;
-use std::sync::Wait;
 use std::test::Fail;
-use std::thread::Threads;
 
 const JOB: &str = "mss 1 frames 1 recorders 1\n\
     volume 0 VOL001\n\
@@ -23,107 +18,25 @@ const JOB: &str = "mss 1 frames 1 recorders 1\n\
     mount VOL002\n\
     done\n";
 
+/// What the counters count.
+const ANSWERED_1: usize = 0;
+
+const ANSWERED_2: usize = 1;
+
+const WORKED: usize = 2;
+
+const COPIED: usize = 3;
+
 /// The recorder stands between its first two copies until host 2 was answered, which enters only then.
-#[derive(Drop)]
-struct HoldingGate {
-    host_1_answered: Counter,
-    host_2_answered: Counter,
-    recorder_worked: Counter,
-    recorder_copied: Counter,
-    waits: Waits,
-}
-
-impl HoldingGate {
-    fn new() -> HoldingGate {
-        HoldingGate {
-            host_1_answered: Counter::new(),
-            host_2_answered: Counter::new(),
-            recorder_worked: Counter::new(),
-            recorder_copied: Counter::new(),
-            waits: Waits::new(),
-        }
-    }
-
-    fn pass_first_host(&self, point: Point) {
-        match point {
-            Point::Host(_) => self.host_1_answered.add(),
-            Point::Work(_) => self.waits.wait_for(&self.recorder_worked, 1),
-            Point::Enter | Point::Leave => {}
-        }
-    }
-
-    fn pass_second_host(&self, point: Point) {
-        match point {
-            Point::Enter => self.waits.wait_for(&self.recorder_copied, 1),
-            Point::Host(_) => self.host_2_answered.add(),
-            Point::Work(_) | Point::Leave => {}
-        }
-    }
-
-    fn pass_host(&self, host: HostNo, point: Point) {
-        if host.get() == 1 {
-            self.pass_first_host(point);
-        } else {
-            self.pass_second_host(point);
-        }
-    }
-
-    fn pass_recorder(&self, point: Point) {
-        match point {
-            Point::Enter => self.waits.wait_for(&self.host_1_answered, 1),
-            Point::Work(kind) => {
-                self.recorder_worked.add();
-                if kind == WorkKind::Copy {
-                    self.recorder_copied.add();
-                    self.waits.wait_for(&self.host_2_answered, 1);
-                }
-            }
-            Point::Host(_) | Point::Leave => {}
-        }
-    }
-}
-
-impl Gate for HoldingGate {
-    fn pass(&self, actor: Actor, point: Point) {
-        match actor {
-            Actor::Host(host) => self.pass_host(host, point),
-            Actor::Recorder(_) => self.pass_recorder(point),
-        }
-    }
-}
-
-/// How the hosts of a run ended: whether each came to the end of its script, and the places of its entries.
-fn hosts_of(alloc: Global, end: &RunEnd) -> Result<String, Fail> {
-    let mut text = String::new(alloc);
-    for host in end.hosts.as_slice() {
-        let own = host.own.as_slice();
-        let line = format!(in alloc; "host {} {} {:?}\n", host.host.get(), host.finished, own)?;
-        text.push_str(line.as_str())?;
-    }
-    Ok(text)
-}
-
-/// What is behind a report in a text.
-fn hosts_told<'a>(report: &[u8], text: &'a str) -> Option<&'a str> {
-    text.strip_prefix(str::from_utf8(report).ok()?)
-}
-
-/// A job on blank devices, of which these calls fail, has this report, and behind it how each host ended.
-fn tells<G: Gate + Sync, R: Threads + Wait + Sync + AllocGlobal>(
-    rt: &R,
-    text: &str,
-    gate: &G,
-    failing: &[SiteFault],
-    expected: &str,
-) -> Result<Status, Fail> {
-    let mut output = MemorySink::new(rt.alloc(), &[])?;
-    let end = run(rt, text, gate, failing, &mut output)?;
-    let hosts = hosts_of(rt.alloc(), &end)?;
-    if hosts_told(output.bytes(), expected) == Some(hosts.as_str()) {
-        return Ok(end.status);
-    }
-    Err("told otherwise".into())
-}
+const HOLDING: [Rule; 7] = [
+    (1, ANSWER, ANSWERED_1, NONE, 0),
+    (1, WORK, NONE, WORKED, 1),
+    (2, ENTER, NONE, COPIED, 1),
+    (2, ANSWER, ANSWERED_2, NONE, 0),
+    (RECORDERS, ENTER, NONE, ANSWERED_1, 1),
+    (RECORDERS, WORK, WORKED, NONE, 0),
+    (RECORDERS, COPY, COPIED, ANSWERED_2, 1),
+];
 
 /// The recorder works only once host 1 has mounted its volume, and host 2 mounts its own between two copies.
 const BETWEEN_COPIES: &str = "MSS REPORT 1\n\
@@ -140,16 +53,20 @@ const BETWEEN_COPIES: &str = "MSS REPORT 1\n\
     host 1 true [0, 2]\n\
     host 2 true [1]\n";
 
+fn has_copied(gate: &RuleGate) -> bool {
+    match gate.counts() {
+        Some(counts) => counts[COPIED] == 19 && counts[ANSWERED_2] == 1,
+        None => false,
+    }
+}
+
 // Host 1 waits for a cylinder; while that is copied, host 2 enters, and is answered. On one thread nobody could answer
 // it then, and the gate would give up; a run that passes no gate would copy nothing that it counts.
 #[test]
 fn a_host_is_answered_between_two_copies(rt: HostRuntime) -> Result<(), Fail> {
-    let gate = HoldingGate::new();
+    let gate = RuleGate::new(rt.alloc(), &HOLDING)?;
     let status = tells(&rt, JOB, &gate, &[], BETWEEN_COPIES)?;
-    assert_eq!(rt; status, Status::Done);
-    assert!(rt; gate.waits.are_over());
-    assert_eq!(rt; gate.recorder_copied.get(), 19);
-    assert_eq!(rt; gate.host_2_answered.get(), 1);
+    assert!(rt; status == Status::Done && has_copied(&gate));
     Ok(())
 }
 
@@ -171,8 +88,7 @@ const STOPPED: &str = "MSS REPORT 1\n\
 // The recorder's first write, which gives the frame to the page, fails behind the 143 calls of the restart.
 #[test]
 fn a_failed_write_ends_the_run(rt: HostRuntime) -> Result<(), Fail> {
-    let failing = [SiteFault::Call(144)];
-    let status = tells(&rt, ONE_SEARCH, &OpenGate, &failing, STOPPED)?;
-    assert_eq!(rt; status, Status::Stopped);
+    let status = tells(&rt, ONE_SEARCH, &OpenGate, &[SiteFault::Call(144)], STOPPED)?;
+    assert!(rt; status == Status::Stopped);
     Ok(())
 }

@@ -1,11 +1,11 @@
 // Each actor passes its first and its last gate once, and one behind each event.
-use crate::gates::Counter;
+use crate::gates::{ANSWER, ENTER, HOSTS, LEAVE, NONE, RECORDER, RECORDERS, Rule, RuleGate, WORK};
 use crate::running::{RunEnd, ended_well, run};
 use core_state::{Event, Session};
 use memory_devices::MemorySink;
-use mss_run::{Actor, Gate, Point};
-use std::alloc::{AllocError, Global};
+use std::sync::Wait;
 use std::test::Fail;
+use std::thread::Threads;
 use volume_table::Change;
 
 const JOB: &str = "mss 1 frames 1 recorders 2\n\
@@ -35,79 +35,33 @@ const JOB: &str = "mss 1 frames 1 recorders 2\n\
     end\n\
     done\n";
 
-const HOSTS: usize = 3;
+/// Behind the counters of the five actors' first and last points: all these points, and those behind replies and marks, and
+/// behind work.
+const ALL: usize = 10;
 
-const ACTORS: usize = 5;
+const ANSWERED: usize = 11;
 
-/// Hosts 1 to 8 have the places 0 to 7, and recorders 0 to 7 those from 8 on.
-const PLACES: usize = 16;
+const WORKED: usize = 12;
 
-/// Counts what each actor passes, and holds nobody.
-#[derive(Drop)]
-struct CountingGate {
-    entered: Vec<Counter>,
-    left: Vec<Counter>,
-    answered: Counter,
-    worked: Counter,
-}
-
-fn counters(alloc: Global) -> Result<Vec<Counter>, AllocError> {
-    let mut list = Vec::new(alloc);
-    for _ in 0..PLACES {
-        list.push(Counter::new())?;
-    }
-    Ok(list)
-}
-
-fn place_of(actor: Actor) -> usize {
-    match actor {
-        Actor::Host(host) => usize::from(host.get()) - 1,
-        Actor::Recorder(recorder) => 8 + usize::from(recorder.get()),
-    }
-}
-
-fn add_at(list: &[Counter], actor: Actor) {
-    if let Some(counter) = list.get(place_of(actor)) {
-        counter.add();
-    }
-}
-
-/// How many actors came by, where each did so once; none where one did so again.
-fn count_of(list: &[Counter]) -> Option<usize> {
-    let mut count = 0usize;
-    for counter in list {
-        match counter.get() {
-            0 => {}
-            1 if count < PLACES => count += 1,
-            _ => return None,
-        }
-    }
-    Some(count)
-}
-
-impl CountingGate {
-    fn new(alloc: Global) -> Result<CountingGate, AllocError> {
-        let entered = counters(alloc)?;
-        let left = counters(alloc)?;
-        Ok(CountingGate {
-            entered,
-            left,
-            answered: Counter::new(),
-            worked: Counter::new(),
-        })
-    }
-}
-
-impl Gate for CountingGate {
-    fn pass(&self, actor: Actor, point: Point) {
-        match point {
-            Point::Enter => add_at(self.entered.as_slice(), actor),
-            Point::Host(_) => self.answered.add(),
-            Point::Work(_) => self.worked.add(),
-            Point::Leave => add_at(self.left.as_slice(), actor),
-        }
-    }
-}
+const RULES: [Rule; 17] = [
+    (1, ENTER, 0, NONE, 0),
+    (2, ENTER, 1, NONE, 0),
+    (3, ENTER, 2, NONE, 0),
+    (RECORDER, ENTER, 3, NONE, 0),
+    (RECORDER + 1, ENTER, 4, NONE, 0),
+    (1, LEAVE, 5, NONE, 0),
+    (2, LEAVE, 6, NONE, 0),
+    (3, LEAVE, 7, NONE, 0),
+    (RECORDER, LEAVE, 8, NONE, 0),
+    (RECORDER + 1, LEAVE, 9, NONE, 0),
+    (HOSTS, ENTER, ALL, NONE, 0),
+    (RECORDERS, ENTER, ALL, NONE, 0),
+    (HOSTS, LEAVE, ALL, NONE, 0),
+    (RECORDERS, LEAVE, ALL, NONE, 0),
+    (HOSTS, ANSWER, ANSWERED, NONE, 0),
+    (HOSTS, WORK, WORKED, NONE, 0),
+    (RECORDERS, WORK, WORKED, NONE, 0),
+];
 
 /// How many replies and marks a session has. A mark stands before the first write of a cylinder.
 fn answers_of(session: &Session) -> usize {
@@ -121,30 +75,34 @@ fn works_of(session: &Session) -> usize {
     session.events.as_slice().iter().filter(is_work).count()
 }
 
-/// That each actor came and left once, and that there was a point behind each event.
-fn each_point_is_passed_once(gate: &CountingGate, end: &RunEnd) -> Result<(), Fail> {
-    let session = end.session.as_ref().ok_or("session")?;
-    let actors = (
-        count_of(gate.entered.as_slice()),
-        count_of(gate.left.as_slice()),
-    );
-    if actors != (Some(ACTORS), Some(ACTORS)) {
-        return Err("an actor came or left otherwise".into());
+/// What the counters are due to come to: each actor came and left once, and there was a point behind each event.
+fn due(end: &RunEnd) -> Option<[u64; 13]> {
+    let session = end.session.as_ref()?;
+    let (answers, works) = (answers_of(session) as u64, works_of(session) as u64);
+    Some([1, 1, 1, 1, 1, 1, 1, 1, 1, 1, 10, answers, works])
+}
+
+fn are_due(gate: &RuleGate, end: &RunEnd) -> bool {
+    match (gate.counts(), due(end)) {
+        (Some(counts), Some(due)) => counts.starts_with(&due),
+        _ => false,
     }
-    if gate.answered.get() != answers_of(session) as u64 {
-        return Err("other points behind replies and marks".into());
-    }
-    if gate.worked.get() != works_of(session) as u64 {
-        return Err("other points behind work".into());
-    }
-    Ok(())
+}
+
+fn are_passed<R: Threads + Wait + Sync + AllocGlobal>(
+    rt: &R,
+    gate: &RuleGate,
+    output: &mut MemorySink,
+) -> Result<bool, Fail> {
+    let end = run(rt, JOB, gate, &[], output)?;
+    ended_well(&end, 3)?;
+    Ok(are_due(gate, &end))
 }
 
 #[test]
 fn actors_pass_each_point_once(rt: HostRuntime) -> Result<(), Fail> {
-    let gate = CountingGate::new(rt.alloc())?;
+    let gate = RuleGate::new(rt.alloc(), &RULES)?;
     let mut output = MemorySink::new(rt.alloc(), &[])?;
-    let end = run(&rt, JOB, &gate, &[], &mut output)?;
-    ended_well(&end, HOSTS)?;
-    each_point_is_passed_once(&gate, &end)
+    assert!(rt; are_passed(&rt, &gate, &mut output)?);
+    Ok(())
 }

@@ -1,7 +1,9 @@
 // Devices in memory, with their faults and stops, and where tracks lie.
-use crate::sites::{play, play_with_stops};
-use memory_devices::{MemorySite, SilentSite, SiteFault};
+use crate::lines::{run, run_stopped};
+use crate::sites::is_so;
+use memory_devices::SilentSite;
 use mss_base::{Cylinder, FrameNo, Head, Serial, UnitNo, cartridge_block, frame_block};
+use std::alloc::Global;
 use std::test::Fail;
 
 /// The last bytes of a block and of no other.
@@ -15,13 +17,13 @@ r C 0 16383 00 ok
 n A 1 0 -";
 
 #[test]
-fn a_block_reads_as_it_was_written(rt: HostRuntime) -> Result<(), Fail> {
-    let mut site = MemorySite::new(rt.alloc())?;
-    play(&rt, rt.alloc(), &mut site, WRITTEN)
+fn a_block_reads_as_it_was_written(rt: HostRuntime) {
+    run(&rt, rt.alloc(), "", WRITTEN);
 }
 
 /// The second call fails, and reads of copy A.
 const FAILING: &str = "\
+x A 2 0 -
 r B 0 0 00 ok
 r B 0 0 - !
 r A 0 0 - !
@@ -37,19 +39,18 @@ r A 0 0 00 ok
 n A 0 0 -";
 
 #[test]
-fn a_call_fails_where_it_was_told_to(rt: HostRuntime) -> Result<(), Fail> {
-    let faults = [SiteFault::Call(2), SiteFault::ReadsOf(UnitNo::TableA)];
-    let mut site = MemorySite::new(rt.alloc())?;
-    play_with_stops(&rt, rt.alloc(), &mut site, &faults, FAILING, UNFAILING)
+fn a_call_fails_where_it_was_told_to(rt: HostRuntime) {
+    run_stopped(&rt, rt.alloc(), "", FAILING, UNFAILING);
 }
 
 /// Two writes that overlap.
 const OVERLAPPING: &str = "\
+x A 0 0 -
 w A 5 10 616263 ok
 w A 5 11 58595A ok";
 
-/// A tear of the next write is cut at its end, and bytes that lack are zeros. A byte may fill all that isn't firm, here
-/// both writes, or all of it is lost. No call of what is left fails.
+/// A tear of the next write is cut at its end, and bytes that lack are zeros. A byte may fill all that isn't firm,
+/// here both writes, or all of it is lost. No call of what is left fails.
 const LEFT: &str = "\
 0 -
 r A 5 10 00000000 ok
@@ -87,14 +88,13 @@ r A 5 10 00000000 ok
 none";
 
 #[test]
-fn a_stop_leaves_the_first_writes_and_a_tear(rt: HostRuntime) -> Result<(), Fail> {
-    let faults = [SiteFault::ReadsOf(UnitNo::TableA)];
-    let mut site = MemorySite::new(rt.alloc())?;
-    play_with_stops(&rt, rt.alloc(), &mut site, &faults, OVERLAPPING, LEFT)
+fn a_stop_leaves_the_first_writes_and_a_tear(rt: HostRuntime) {
+    run_stopped(&rt, rt.alloc(), "", OVERLAPPING, LEFT);
 }
 
 /// A write, and syncs of its unit, of another one and of all; the second sync fails. What was written stays.
 const SYNCED: &str = "\
+x C 3 0 -
 w A 5 10 616263 ok
 s A 0 0 - ok
 s B 0 0 - !
@@ -102,7 +102,8 @@ a A 0 0 - ok
 r A 5 10 616263 ok
 n A 4 1 -";
 
-/// A sync is an item of the log like a write. Before that of its unit a stop may tear the write, and behind it none does.
+/// A sync is an item of the log like a write. Before that of its unit a stop may tear the write, and behind it none
+/// does.
 const LEFT_BY_SYNCS: &str = "\
 0 58595A
 r A 5 10 58595A ok
@@ -129,10 +130,8 @@ r A 5 10 616263 ok
 none";
 
 #[test]
-fn a_sync_is_counted_and_leaves_what_was_written(rt: HostRuntime) -> Result<(), Fail> {
-    let faults = [SiteFault::Call(3)];
-    let mut site = MemorySite::new(rt.alloc())?;
-    play_with_stops(&rt, rt.alloc(), &mut site, &faults, SYNCED, LEFT_BY_SYNCS)
+fn a_sync_is_counted_and_leaves_what_was_written(rt: HostRuntime) {
+    run_stopped(&rt, rt.alloc(), "", SYNCED, LEFT_BY_SYNCS);
 }
 
 /// Each byte is C1, whatever was written. The second call fails, and the last.
@@ -145,10 +144,20 @@ s 3 0 0 - ok
 a 3 0 0 - !
 n A 3 2 -";
 
+fn forgets(alloc: Global, site: &mut SilentSite) -> bool {
+    for line in FORGOTTEN.lines() {
+        if is_so(alloc, site, line) != Some(true) {
+            return false;
+        }
+    }
+    true
+}
+
 #[test]
 fn a_silent_site_forgets(rt: HostRuntime) -> Result<(), Fail> {
     let mut site = SilentSite::of(rt.alloc(), 193, &[2, 6])?;
-    play(&rt, rt.alloc(), &mut site, FORGOTTEN)
+    assert!(rt; forgets(rt.alloc(), &mut site));
+    Ok(())
 }
 
 /// Whether a track lies in these blocks of the first staging disk and of its cartridge.

@@ -1,10 +1,5 @@
 // A slot appended: the first one, one in the midst, and the last; with a stop at each moment, and each call failing.
-use crate::sites::{play, play_with_stops};
-use crate::words::number_of;
-use memory_devices::{MemorySite, SiteFault};
-use std::alloc::Global;
-use std::process::Abort;
-use std::test::Fail;
+use crate::lines::{run, run_stopped};
 
 const FIRST: &str = "\
 l A 5 0 -
@@ -13,8 +8,8 @@ l A 5 1 11223344556677
 r A 5 511 00C11122334455667700 ok
 n A 4 0 -";
 
-/// Body and next gate, a sync, the gate, a sync. A tear of the body opens nothing, and one of the gate opens all or nothing.
-/// Until its sync the gate may be lost.
+/// Body and next gate, a sync, the gate, a sync. A tear of the body opens nothing, and one of the gate opens all or
+/// nothing. Until its sync the gate may be lost.
 const LEFT_OF_FIRST: &str = "\
 0 C1*8
 l A 5 0 -
@@ -54,9 +49,8 @@ l A 5 1 11223344556677
 none";
 
 #[test]
-fn appends_the_first_slot(rt: HostRuntime) -> Result<(), Fail> {
-    let mut site = MemorySite::new(rt.alloc())?;
-    play_with_stops(&rt, rt.alloc(), &mut site, &[], FIRST, LEFT_OF_FIRST)
+fn appends_the_first_slot(rt: HostRuntime) {
+    run_stopped(&rt, rt.alloc(), "", FIRST, LEFT_OF_FIRST);
 }
 
 /// Behind slot 0 stands a closed one, and behind that an open one that isn't in use.
@@ -89,9 +83,8 @@ l A 5 2 22222222222222
 l A 5 2 22222222222222";
 
 #[test]
-fn appends_a_slot_in_the_midst(rt: HostRuntime) -> Result<(), Fail> {
-    let mut site = MemorySite::new(rt.alloc())?;
-    play_with_stops(&rt, rt.alloc(), &mut site, &[], MIDST, LEFT_IN_THE_MIDST)
+fn appends_a_slot_in_the_midst(rt: HostRuntime) {
+    run_stopped(&rt, rt.alloc(), "", MIDST, LEFT_IN_THE_MIDST);
 }
 
 /// Slot 1,983 ends with the block, so it has no next gate.
@@ -124,49 +117,37 @@ l A 5 1984 22222222222222
 l A 5 1984 22222222222222";
 
 #[test]
-fn appends_the_last_slot(rt: HostRuntime) -> Result<(), Fail> {
-    let mut site = MemorySite::new(rt.alloc())?;
-    play_with_stops(&rt, rt.alloc(), &mut site, &[], LAST, LEFT_OF_LAST)
+fn appends_the_last_slot(rt: HostRuntime) {
+    run_stopped(&rt, rt.alloc(), "", LAST, LEFT_OF_LAST);
 }
 
 /// Which call fails, of the read and the four items. A failing write leaves its bytes here.
 const FAILING: &str = "\
-2
+x C 2 0 -
 p A 5 0 11223344556677 !
 l A 5 0 -
 n A 1 1 -
 
-3
+x C 3 0 -
 p A 5 0 11223344556677 !
 l A 5 0 -
 n A 2 1 -
 
-4
+x C 4 0 -
 p A 5 0 11223344556677 !
 l A 5 1 11223344556677
 n A 3 1 -
 
-5
+x C 5 0 -
 p A 5 0 11223344556677 !
 l A 5 1 11223344556677
 n A 4 1 -
 
-6
+x C 6 0 -
 p A 5 0 11223344556677 ok
 n A 4 0 -";
 
-fn play_failing(rt: &impl Abort, alloc: Global, text: &str) -> Result<(), Fail> {
-    let (call, calls) = text.split_once("\n").ok_or("no calls")?;
-    let call = u64::from(number_of(Some(call))?);
-    let mut site = MemorySite::new(alloc)?;
-    site.fail(&[SiteFault::Call(call)])?;
-    play(rt, alloc, &mut site, calls)
-}
-
 #[test]
-fn tells_each_failing_call(rt: HostRuntime) -> Result<(), Fail> {
-    for text in FAILING.split("\n\n") {
-        play_failing(&rt, rt.alloc(), text)?;
-    }
-    Ok(())
+fn tells_each_failing_call(rt: HostRuntime) {
+    run(&rt, rt.alloc(), "", FAILING);
 }

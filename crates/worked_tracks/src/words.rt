@@ -1,8 +1,13 @@
-//! Words of the tests' texts, read.
+//! Words of the tests' lines, read by their place. No function holds what it has to let go over several exits,
+//! since a plan of borrows costs most where one does.
 ghost use Rattle.std.specs.Prelude.{◌<◌, IfSome};
 
 use std::alloc::Global;
-use std::test::Fail;
+
+/// The word at a place of a line.
+pub fn word(line: &str, at: usize) -> Option<&str> {
+    line.split(" ").nth(at)
+}
 
 fn digit_value(digit: u8) -> Option<u8>
     ensures { IfSome result (λ value. value < 16) }
@@ -19,32 +24,57 @@ fn byte_of(pair: &[u8]) -> Option<u8> {
     Some(digit_value(high)? * 16 + digit_value(low)?)
 }
 
-fn repeated(alloc: Global, byte: u8, count: u32) -> Result<Vec<u8>, Fail> {
-    Ok(vec![in alloc; byte; count as usize]?)
-}
-
-/// The bytes of a word: pairs of hexadecimal digits, `-` for none, or as `C1*8` a pair and how often it stands.
-pub fn bytes_of(alloc: Global, word: &str) -> Result<Vec<u8>, Fail> {
-    if let Some((pair, count)) = word.split_once("*") {
-        return repeated(alloc, single_byte(Some(pair))?, number_of(Some(count))?);
-    }
-    let mut bytes = Vec::new(alloc);
-    if word == "-" {
-        return Ok(bytes);
-    }
-    for pair in word.as_bytes().chunks(2) {
-        bytes.push(byte_of(pair).ok_or("no pair of digits")?)?;
-    }
-    Ok(bytes)
-}
-
 /// The byte of a word.
-pub fn single_byte(word: Option<&str>) -> Result<u8, Fail> {
-    let word = word.ok_or("no word")?;
-    Ok(byte_of(word.as_bytes()).ok_or("no byte")?)
+pub fn byte(word: &str) -> Option<u8> {
+    byte_of(word.as_bytes())
+}
+
+pub fn byte_at(line: &str, at: usize) -> Option<u8> {
+    byte(word(line, at)?)
 }
 
 /// The number of a word.
-pub fn number_of(word: Option<&str>) -> Result<u32, Fail> {
-    Ok(word.ok_or("no word")?.parse::<u32>()?)
+pub fn number(word: &str) -> Option<u32> {
+    word.parse::<u32>().ok()
+}
+
+pub fn number_at(line: &str, at: usize) -> Option<u32> {
+    number(word(line, at)?)
+}
+
+fn repeated(alloc: Global, pair: &str, count: &str) -> Option<Vec<u8>> {
+    let (byte, count) = (byte(pair)?, number(count)?);
+    vec![in alloc; byte; count as usize].ok()
+}
+
+fn push_pair(bytes: &mut Vec<u8>, pair: &[u8]) -> Option<()> {
+    bytes.push(byte_of(pair)?).ok()
+}
+
+fn push_pairs(bytes: &mut Vec<u8>, digits: &[u8]) -> Option<()> {
+    for pair in digits.chunks(2) {
+        push_pair(bytes, pair)?;
+    }
+    Some(())
+}
+
+fn pairs(alloc: Global, digits: &str) -> Option<Vec<u8>> {
+    let mut bytes = Vec::new(alloc);
+    push_pairs(&mut bytes, digits.as_bytes())?;
+    Some(bytes)
+}
+
+/// The bytes of a word: pairs of hexadecimal digits, `-` for none, or as `C1*8` a pair and how often it stands.
+pub fn bytes(alloc: Global, word: &str) -> Option<Vec<u8>> {
+    if word == "-" {
+        return Some(Vec::new(alloc));
+    }
+    match word.split_once("*") {
+        Some((pair, count)) => repeated(alloc, pair, count),
+        None => pairs(alloc, word),
+    }
+}
+
+pub fn bytes_at(alloc: Global, line: &str, at: usize) -> Option<Vec<u8>> {
+    bytes(alloc, word(line, at)?)
 }

@@ -1,20 +1,8 @@
-// What sessions are made of: one volume or three, with eight frames.
+// What surveys and openings are asked for: three volumes, with eight frames.
 ghost use Rattle.std.specs.Prelude.{◌≡◌, ◌<◌, IfSome, [], ◌∷◌};
 
-use crate::lines::numbers::{is_word, serial, volume};
 use mss_base::{Config, NoMemory, Serial, VolumeList, VolumeNo};
 use std::alloc::Global;
-
-fn one(alloc: Global, volume: VolumeNo, serial: Serial) -> Result<Config, NoMemory> {
-    let mut volumes = VolumeList::new(alloc);
-    volumes.reserve(1)?;
-    volumes.push((volume, serial));
-    Ok(Config {
-        frames: 8,
-        recorders: 1,
-        volumes,
-    })
-}
 
 fn volume_at(number: u8) -> VolumeNo
     requires { number < 32 }
@@ -50,18 +38,10 @@ fn three_of(alloc: Global, one: Serial, four: Serial, six: Serial) -> Result<Con
     })
 }
 
-// The volumes 0, 3 and 5.
-fn three(alloc: Global) -> Option<Config> {
+/// The volumes 0, 3 and 5, as VOL001, VOL004 and VOL006.
+pub fn three(alloc: Global) -> Option<Config> {
     let one = serial_with(49)?;
     let four = serial_with(52)?;
     let six = serial_with(54)?;
     three_of(alloc, one, four, six).ok()
-}
-
-/// The volumes that a line asks for: `three`, or one with its serial, as `3 VOL004`.
-pub fn asked(alloc: Global, words: &[u64]) -> Option<Config> {
-    if is_word(words, 1, "three") {
-        return three(alloc);
-    }
-    one(alloc, volume(words, 1)?, serial(words, 2)?).ok()
 }

@@ -1,6 +1,6 @@
 // What the numbers of a line stand for.
 use crate::lines::words::code;
-use mss_base::{CartridgeNo, Cylinder, FrameNo, Page, Serial, UnitNo, VolumeNo};
+use mss_base::{CartridgeNo, Cylinder, FrameNo, Serial, UnitNo, VolumeNo};
 
 /// The word at a place of a line.
 pub fn word(words: &[u64], at: usize) -> Option<u64> {
@@ -23,20 +23,12 @@ pub fn block(words: &[u64], at: usize) -> Option<u32> {
     u32::try_from(word(words, at)?).ok()
 }
 
-pub fn length(words: &[u64], at: usize) -> Option<usize> {
-    usize::try_from(word(words, at)?).ok()
-}
-
 pub fn volume(words: &[u64], at: usize) -> Option<VolumeNo> {
     VolumeNo::of(byte(words, at)?)
 }
 
 pub fn cartridge(words: &[u64], at: usize) -> Option<CartridgeNo> {
     CartridgeNo::of(short(words, at)?)
-}
-
-pub fn page(words: &[u64], at: usize) -> Option<Page> {
-    Page::of(byte(words, at)?)
 }
 
 pub fn frame(words: &[u64], at: usize) -> Option<FrameNo> {

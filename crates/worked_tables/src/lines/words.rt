@@ -31,8 +31,8 @@ fn number_of(digits: &[u8], base: u64) -> Option<u64> {
     Some(value)
 }
 
-// A number, also in hexadecimal digits behind an x; the number of the turn as N, or so much less as N-1; any other word
-// stands for its letters.
+// A number, also in hexadecimal digits behind an x; the number of the turn as N, or so much less as N-1; any other
+// word stands for its letters.
 fn value_of(word: &str, turn: u64) -> Option<u64> {
     match word.as_bytes() {
         [b'0'..=b'9', ..] => number_of(word.as_bytes(), 10),
@@ -43,11 +43,20 @@ fn value_of(word: &str, turn: u64) -> Option<u64> {
     }
 }
 
+fn push_words(words: &mut Vec<u64>, line: &str, turn: u64) -> Option<()> {
+    for word in line.split(" ") {
+        push_word(words, word, turn)?;
+    }
+    Some(())
+}
+
+fn push_word(words: &mut Vec<u64>, word: &str, turn: u64) -> Option<()> {
+    words.push(value_of(word, turn)?).ok()
+}
+
 /// The words of a line, in the turn of this number.
 pub fn words_of(alloc: Global, line: &str, turn: u64) -> Option<Vec<u64>> {
     let mut words = Vec::new(alloc);
-    for word in line.split(" ") {
-        words.push(value_of(word, turn)?).ok()?;
-    }
+    push_words(&mut words, line, turn)?;
     Some(words)
 }

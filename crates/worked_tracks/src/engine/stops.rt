@@ -1,11 +1,8 @@
 //! What a stop within a command's writes leaves of a track: block 98 is that of cylinder 5, head 3.
-use crate::engine::twins::Twins;
-use crate::sites::play_stops;
-use std::process::Abort;
-use std::test::Fail;
+use crate::lines::run_stopped;
 
-/// A record takes two writes, each with a sync, and an update one with its sync. Until its sync a write may be lost, or
-/// leave any bytes.
+/// A record takes two writes, each with a sync, and an update one with its sync. Until its sync a write may be
+/// lost, or leave any bytes.
 const UPDATE: &str = "\
 # a record of a blank track, and other data
 07 000000050003 0C
@@ -62,8 +59,8 @@ t 0 98 1 58595A ok
 7 -
 none";
 
-/// Three records take four items each. The second is formatted again: its gate is closed and synced; the next is closed,
-/// it is put, and both are synced; its gate is opened and synced.
+/// Three records take four items each. The second is formatted again: its gate is closed and synced; the next is
+/// closed, it is put, and both are synced; its gate is opened and synced.
 const FORMATS: &str = "\
 # three records, and the second again
 07 000000050003 0C
@@ -134,8 +131,8 @@ t 0 98 2 41424358595A ok
 20 -
 none";
 
-/// A record takes four items, and six where it is formatted again: its gate alone is closed and synced first. Behind it
-/// one without data takes four; an update of that makes none.
+/// A record takes four items, and six where it is formatted again: its gate alone is closed and synced first.
+/// Behind it one without data takes four; an update of that makes none.
 const TWICE: &str = "\
 # a record of a blank track, it again, one without data behind it, and an update of that
 07 000000050003 0C
@@ -188,32 +185,17 @@ t 0 98 2 58595A ok
 15 -
 none";
 
-/// A program on blank tracks, and what stops leave of its writes.
-fn play_with_stops(
-    rt: &impl Abort,
-    twins: &mut Twins,
-    program: &str,
-    stops: &str,
-) -> Result<(), Fail> {
-    twins.mount(false)?;
-    twins.play(rt, program)?;
-    play_stops(rt, twins.alloc, &twins.site, stops)
+#[test]
+fn a_torn_update_shows_its_bytes(rt: HostRuntime) {
+    run_stopped(&rt, rt.alloc(), "", UPDATE, TORN);
 }
 
 #[test]
-fn a_torn_update_shows_its_bytes(rt: HostRuntime) -> Result<(), Fail> {
-    let mut twins = Twins::blank(rt.alloc())?;
-    play_with_stops(&rt, &mut twins, UPDATE, TORN)
+fn a_stop_within_a_format_ends_the_track_before_its_record(rt: HostRuntime) {
+    run_stopped(&rt, rt.alloc(), "", FORMATS, ENDED);
 }
 
 #[test]
-fn a_stop_within_a_format_ends_the_track_before_its_record(rt: HostRuntime) -> Result<(), Fail> {
-    let mut twins = Twins::blank(rt.alloc())?;
-    play_with_stops(&rt, &mut twins, FORMATS, ENDED)
-}
-
-#[test]
-fn a_format_closes_no_gate_that_is_shut(rt: HostRuntime) -> Result<(), Fail> {
-    let mut twins = Twins::blank(rt.alloc())?;
-    play_with_stops(&rt, &mut twins, TWICE, ENDED_TWICE)
+fn a_format_closes_no_gate_that_is_shut(rt: HostRuntime) {
+    run_stopped(&rt, rt.alloc(), "", TWICE, ENDED_TWICE);
 }
