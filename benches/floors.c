@@ -287,7 +287,7 @@ static void scan(const long *numbers) {
         read_blocks(frames, 0, numbers[1]);
 }
 
-// again N: one block read N times, by a program that keeps none.
+// again N: one block read N times, where the head comes to it anew.
 static void again(const long *numbers) {
     for (long number = 0; number < numbers[0]; number++)
         read_blocks(frames, 0, 1);
