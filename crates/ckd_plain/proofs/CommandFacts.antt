@@ -96,11 +96,11 @@ pub control_sees_none : (a b : Tracks) (host : HostState) (c : Command) (argumen
 unfolding performed
 control_sees_none a b host c argument chained isn't = ap (λ (o : Outcome). answered c chained o) (same_effect a b (cleared c host) host.prior c argument isn't)
 
--- ---- what a command does leaves the volume that is mounted, and the sense
+-- ---- what a command does leaves the volume that is mounted, what the host knows of it, and the sense
 
-module _ (m : Option (ℕ × Bool)) (sense_ : List ℕ) where
+module _ (m : Option (ℕ × Bool)) (sense_ : List ℕ) (mark : Bool) where
   abbrev pub Has : HostState → Type 0
-  Has host = (host.mounted ≡ m) × (host.sense ≡ sense_)
+  Has host = (host.mounted ≡ m) × (host.sense ≡ sense_) × (host.protected ≡ mark)
 
   abbrev pub Refuses : Refusal → Type 0
   Refuses r = Has r.host
@@ -208,24 +208,41 @@ module _ (m : Option (ℕ × Bool)) (sense_ : List ℕ) where
   effect-leaves tracks host left (command.Read kind multi) argument has = read-leaves tracks host kind multi has
   effect-leaves tracks host left (command.Write kind) argument has = write_-leaves (tracks host.head) host left kind argument has
 
+-- both hosts have the same volume mounted, and know the same of it
+abbrev pub HaveSameVolume : HostState → HostState → Type 0
+HaveSameVolume a b = (a.mounted ≡ b.mounted) × (a.protected ≡ b.protected)
+
 -- a unit check changes the sense, and leaves the volume
-answered_mounted : (m : Option (ℕ × Bool)) (sense_ : List ℕ) (c : Command) (chained : Bool) (o : Outcome) → Leaves m sense_ o → (answered c chained o).host.mounted ≡ m
-answered_mounted m sense_ c chained (Ok e) leaves = leaves.0
-answered_mounted m sense_ c chained (Err r) leaves = leaves.0
+answered_volume : (host : HostState) (sense_ : List ℕ) (c : Command) (chained : Bool) (o : Outcome) → Leaves host.mounted sense_ host.protected o
+    → HaveSameVolume (answered c chained o).host host
+answered_volume host sense_ c chained (Ok e) leaves = (leaves.0, leaves.2)
+answered_volume host sense_ c chained (Err r) leaves = (leaves.0, leaves.2)
 
-performed_mounted : (tracks : Tracks) (host : HostState) (c : Command) (argument : List ℕ) (chained : Bool) → (performed tracks host c argument chained).host.mounted ≡ host.mounted
+performed_volume : (tracks : Tracks) (host : HostState) (c : Command) (argument : List ℕ) (chained : Bool) → HaveSameVolume (performed tracks host c argument chained).host host
 unfolding performed
-performed_mounted tracks host c argument chained =
-    answered_mounted host.mounted (cleared c host).sense c chained _ (effect-leaves host.mounted (cleared c host).sense tracks (cleared c host) host.prior c argument (refl, refl))
+performed_volume tracks host c argument chained =
+    answered_volume host (cleared c host).sense c chained _
+    (effect-leaves host.mounted (cleared c host).sense host.protected tracks (cleared c host) host.prior c argument (refl, refl, refl))
 
-judged_mounted : (tracks : Tracks) (host : HostState) (argument : List ℕ) (chained : Bool) (r : Result Command UnitCheck) → (judged tracks host argument chained r).host.mounted ≡ host.mounted
-judged_mounted tracks host argument chained (Ok c) = performed_mounted tracks host c argument chained
-judged_mounted tracks host argument chained (Err check) = refl
+judged_volume : (tracks : Tracks) (host : HostState) (argument : List ℕ) (chained : Bool) (r : Result Command UnitCheck) → HaveSameVolume (judged tracks host argument chained r).host host
+judged_volume tracks host argument chained (Ok c) = performed_volume tracks host c argument chained
+judged_volume tracks host argument chained (Err check) = (refl, refl)
+
+opened_volume : (host : HostState) → HaveSameVolume (opened host) host
+opened_volume host =
+    elim host.chain_open as (λ (b : Bool). HaveSameVolume (cond b host (record host { chain_open = true; mask = 0; position = position.Start; passes = 0; prior = prior.Nothing })) host)
+    [ true ↦ (refl, refl) | false ↦ (refl, refl) ]
 
 pub opened_mounted : (host : HostState) → (opened host).mounted ≡ host.mounted
-opened_mounted host =
-    elim host.chain_open as (λ (b : Bool). (cond b host (record host { chain_open = true; mask = 0; position = position.Start; passes = 0; prior = prior.Nothing })).mounted ≡ host.mounted) [ true ↦ refl | false ↦ refl ]
+opened_mounted host = (opened_volume host).0
+
+pub opened_protected : (host : HostState) → (opened host).protected ≡ host.protected
+opened_protected host = (opened_volume host).1
 
 pub volume_stays : (tracks : Tracks) (host : HostState) (code : ℕ) (argument : List ℕ) (chained : Bool) → (run tracks host code argument chained).host.mounted ≡ host.mounted
 unfolding run
-volume_stays tracks host code argument chained = judged_mounted tracks (opened host) argument chained (admitted (opened host) code argument) ∙ opened_mounted host
+volume_stays tracks host code argument chained = (judged_volume tracks (opened host) argument chained (admitted (opened host) code argument)).0 ∙ opened_mounted host
+
+pub mark_stays : (tracks : Tracks) (host : HostState) (code : ℕ) (argument : List ℕ) (chained : Bool) → (run tracks host code argument chained).host.protected ≡ host.protected
+unfolding run
+mark_stays tracks host code argument chained = (judged_volume tracks (opened host) argument chained (admitted (opened host) code argument)).1 ∙ opened_protected host

@@ -1,5 +1,5 @@
 -- Which entries may come next, and what they leave.
-use Rattle.std.proofs.Common.{◌≡◌, ℕ, ◌+◌, Bool, true, false, cond, List, None, Result, Ok, Err, refl, sym, ap, subst, ◌∙◌}
+use Rattle.std.proofs.Common.{◌≡◌, ℕ, ◌+◌, Bool, true, false, cond, List, Option, Some, None, Result, Ok, Err, refl, sym, ap, subst, ◌∙◌}
 use Rattle.std.specs.Prelude.{IsSome, is_some}
 use Rattle.channel_commands.specs.declared.call.BreakCause.TheVariants as cause
 use Rattle.channel_commands.specs.declared.command.Command.{Command}
@@ -10,7 +10,7 @@ use Rattle.ckd_plain.specs.declared.unit_check.UnitCheck.TheVariants as check
 use Rattle.ckd_plain.specs.Data.{State}
 use Rattle.ckd_plain.specs.Index.{Tracks}
 use Rattle.ckd_plain.specs.Effects.{Outcome}
-use Rattle.ckd_plain.specs.Plain.{opened, answered, performed, judged, run, plain, responded}
+use Rattle.ckd_plain.specs.Plain.{opened, answered, performed, judged, run, plain, responded, mark_for, mounted_by}
 use Rattle.ckd_plain.specs.History.{EntryData, IsAnswered, IsNextEntry, IsAlone, IsDataCommand, IsWriteCommand, keeps_fault, excepted, left_by, next}
 
 -- ---- the plain machine gives no exception
@@ -34,10 +34,14 @@ unfolding performed
 judged_plain tracks host argument chained (Ok c) = answered_plain c chained _
 judged_plain tracks host argument chained (Err check) = refl
 
+mounted_plain : (host : HostState) (volume : ℕ) (bind : Bool) (mark : Option Bool) → IsPlain (mounted_by host volume bind mark).0 ≡ true
+mounted_plain host volume bind (Some read_only) = refl
+mounted_plain host volume bind None = refl
+
 plain_is_plain : (s : State) (h : ℕ) (c : CallData) → IsPlain (plain s h c).0 ≡ true
 unfolding plain responded run
 plain_is_plain s h (mount volume bind) =
-    chosen (s.host h).chain_open _ _ refl (chosen (is_some (s.host h).mounted) _ _ refl (chosen (is_some (s.volumes.serial volume)) _ _ refl refl))
+    chosen (s.host h).chain_open _ _ refl (chosen (is_some (s.host h).mounted) _ _ refl (mounted_plain (s.host h) volume bind (mark_for s.volumes (mount volume bind))))
 plain_is_plain s h demount = chosen (s.host h).chain_open _ _ refl (chosen (is_some (s.host h).mounted) _ _ refl refl)
 plain_is_plain s h (command code argument chained) = judged_plain _ (opened (s.host h)) argument chained _
 plain_is_plain s h (break cause.Program) = refl

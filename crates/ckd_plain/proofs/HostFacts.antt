@@ -5,7 +5,7 @@ use Rattle.std.proofs.lemmas.Bool.Decides.{eqb_tells}
 use Rattle.channel_commands.specs.Data.{CallData, mount, demount, command, break, ReplyData}
 use Rattle.ckd_plain.specs.declared.host.HostState.{HostState}
 use Rattle.ckd_plain.specs.Data.{State}
-use Rattle.ckd_plain.specs.Plain.{Replied, Answer, plain, responded, there_for, with_response, run, with_host, tracks_under, written_to}
+use Rattle.ckd_plain.specs.Plain.{Replied, Answer, plain, responded, mark_for, with_response, run, with_host, tracks_under, written_to}
 use Rattle.ckd_plain.specs.Laws.{IsSameFor}
 
 pub host_itself : (hosts : ℕ → HostState) (h : ℕ) (x : HostState) → cond (h == h) x (hosts h) ≡ x
@@ -24,10 +24,10 @@ module _ (h : ℕ) where
   with_same s t x y volumes e = record { volumes = volumes; host = host_itself s.host h x ∙ e ∙ sym (host_itself t.host h y) }
 
   response_same : (s t : State) (call : CallData) → IsSameFor h s t
-      → AreSame h (with_response s h (responded (s.host h) (there_for s.volumes.serial call) call)) (with_response t h (responded (t.host h) (there_for t.volumes.serial call) call))
+      → AreSame h (with_response s h (responded (s.host h) (mark_for s.volumes call) call)) (with_response t h (responded (t.host h) (mark_for t.volumes call) call))
   response_same s t call p =
-      let same : responded (s.host h) (there_for s.volumes.serial call) call ≡ responded (t.host h) (there_for t.volumes.serial call) call =
-      (λ i. responded (p.host i) (there_for (p.volumes i).serial call) call) in
+      let same : responded (s.host h) (mark_for s.volumes call) call ≡ responded (t.host h) (mark_for t.volumes call) call =
+      (λ i. responded (p.host i) (mark_for (p.volumes i) call) call) in
       (ap (λ (r : ReplyData × HostState). r.0) same, with_same s t _ _ p.volumes (ap (λ (r : ReplyData × HostState). r.1) same))
 
   pub plain_same : (s t : State) (call : CallData) → IsSameFor h s t → AreSame h (plain s h call) (plain t h call)

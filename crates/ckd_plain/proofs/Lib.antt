@@ -7,6 +7,7 @@ pub mod LooksFacts
 pub mod Entries
 pub mod HostFacts
 pub mod VolumeFacts
+mod MarkFacts
 pub mod CheckFacts
 pub mod CostFacts
 pub mod SenseFacts

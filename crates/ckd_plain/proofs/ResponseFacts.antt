@@ -13,7 +13,7 @@ use Rattle.ckd_plain.specs.Checks.{admitted}
 use Rattle.ckd_plain.specs.Data.{State}
 use Rattle.ckd_plain.specs.Effects.{is_data}
 use Rattle.ckd_plain.specs.Index.{Tracks}
-use Rattle.ckd_plain.specs.Plain.{Answer, NeedsNoTrack, opened, judged, run, plain, responded, there_for, with_host, with_response, tracks_under, written_to}
+use Rattle.ckd_plain.specs.Plain.{Answer, NeedsNoTrack, opened, judged, run, plain, responded, mark_for, with_host, with_response, tracks_under, written_to}
 use Rattle.ckd_plain.proofs.CommandFacts.{only_writes, control_sees_none}
 use Rattle.ckd_plain.proofs.VolumeFacts.{unwritten}
 
@@ -37,7 +37,7 @@ judged_anywhere tracks others host argument chained (Ok c) none =
 judged_anywhere tracks others host argument chained (Err check) none = (refl, refl)
 
 pub call_responds : (s : State) (h : ℕ) (call : CallData) → NeedsNoTrack (s.host h) call
-    → plain s h call ≡ with_response s h (responded (s.host h) (there_for s.volumes.serial call) call)
+    → plain s h call ≡ with_response s h (responded (s.host h) (mark_for s.volumes call) call)
 unfolding plain responded run
 call_responds s h (mount volume bind) none = refl
 call_responds s h demount none = refl
@@ -51,7 +51,7 @@ call_responds s h (command code argument chained) none =
     ∙ (λ i. ((p.0 i).reply, with_host s h (p.0 i).host))
 
 pub no_command_responds : (s : State) (h : ℕ) (call : CallData) → is_command call ≡ false
-    → plain s h call ≡ with_response s h (responded (s.host h) (there_for s.volumes.serial call) call)
+    → plain s h call ≡ with_response s h (responded (s.host h) (mark_for s.volumes call) call)
 no_command_responds s h (mount volume bind) none = call_responds s h (mount volume bind) tt
 no_command_responds s h demount none = call_responds s h demount tt
 no_command_responds s h (break cause) none = call_responds s h (break cause) tt
@@ -61,7 +61,7 @@ no_command_responds s h (command code argument chained) none = absurd cc
 pub command_responds : (host : HostState) (code : ℕ) (argument : List ℕ) (chained : Bool) (r : Result Command UnitCheck) (now : HostState) (reply : Reply)
     → admitted (opened host) code argument ≡ r → reply_of reply ≡ (judged (λ head. []) (opened host) argument chained r).reply
     → now ≡ (judged (λ head. []) (opened host) argument chained r).host
-    → (there : Bool) → ◌≡◌ {A = ReplyData × HostState} (reply_of reply, now) (responded host there (command code argument chained))
+    → (mark : Option Bool) → ◌≡◌ {A = ReplyData × HostState} (reply_of reply, now) (responded host mark (command code argument chained))
 unfolding responded run
-command_responds host code argument chained r now reply is reply_is host_is there =
+command_responds host code argument chained r now reply is reply_is host_is mark =
     (λ i. (reply_is i, host_is i)) ∙ sym (λ i. let a : Answer = judged (λ head. []) (opened host) argument chained (is i) in (a.reply, a.host))

@@ -1,5 +1,5 @@
 -- The plain machine's replies to whole programs, computed by the definition.
-use Rattle.std.proofs.Common.{◌≡◌, ℕ, zero, suc, ◌+◌, true, false, List, [], ◌∷◌, ◌++◌, refl}
+use Rattle.std.proofs.Common.{◌≡◌, ℕ, zero, suc, ◌+◌, Bool, true, false, List, [], ◌∷◌, ◌++◌, refl}
 use Rattle.std.specs.Prelude.{map, replicate}
 use Rattle.channel_commands.specs.Data.{CallData, mount, demount, command, ReplyData, done, mounted, demounted, already_mounted, no_volume, in_chain}
 use Rattle.ckd_plain.specs.Checks.{admitted}
@@ -7,9 +7,15 @@ use Rattle.ckd_plain.specs.Index.{pass_index, next_within, next_record, same_rec
 use Rattle.ckd_plain.specs.Effects.{search, read, write_, effect}
 use Rattle.ckd_plain.specs.Plain.{performed, run, plain, responded, start_of, blank_volumes, replies_of, sense}
 
--- what host 1 is told, where volume 0 with serial VOL001 is blank at first
+abbrev VOL001 : List ℕ
+VOL001 = 86 ∷ 79 ∷ 76 ∷ 48 ∷ 48 ∷ 49 ∷ []
+
+-- what host 1 is told, where volume 0 with serial VOL001 is blank at first, and read-only or not
+abbrev replies_where : Bool → List CallData → List ReplyData
+replies_where read_only calls = replies_of (start_of (blank_volumes ((0, VOL001, read_only) ∷ []))) (map (λ (call : CallData). (1, call)) calls)
+
 abbrev replies : List CallData → List ReplyData
-replies calls = replies_of (start_of (blank_volumes ((0, 86 ∷ 79 ∷ 76 ∷ 48 ∷ 48 ∷ 49 ∷ []) ∷ []))) (map (λ (call : CallData). (1, call)) calls)
+replies calls = replies_where false calls
 
 abbrev then : ℕ → List ℕ → CallData
 then code argument = command code argument true
@@ -76,6 +82,13 @@ a_write_needs_its_search : replies (mounts ∷ first_record ++ last 0x05 (0x41 �
     ≡ mounted ∷ ok ∷ met ∷ ok ∷ checked ∷ gives (sense 0x80 0 0) ∷ ok ∷ ok ∷ ok ∷ met ∷ checked ∷ gives (sense 0x80 0 0) ∷ []
 unfolding admitted pass_index next_within next_record same_record to_home search read write_ effect performed run plain responded replies_of
 a_write_needs_its_search = refl
+
+-- on a read-only volume a write is file protected, whose sense says so, and searches and reads go on; a write that isn't
+-- permitted is rejected as elsewhere
+a_read_only_volume_takes_no_write : replies_where true (mounts ∷ first_record ++ last 0x04 [] ∷ seek 5 3 ∷ then 0x31 (id 5 3 1) ∷ last 0x1A [] ∷ last 0x05 (0x41 ∷ []) ∷ last 0x04 [] ∷ [])
+    ≡ mounted ∷ ok ∷ met ∷ checked ∷ gives (sense 0 0x04 0) ∷ ok ∷ ok ∷ gives (0 ∷ 0 ∷ 5 ∷ 0 ∷ 3 ∷ []) ∷ checked ∷ gives (sense 0x80 0 0) ∷ []
+unfolding admitted pass_index next_within next_record same_record to_home search read write_ effect performed run plain responded replies_of
+a_read_only_volume_takes_no_write = refl
 
 -- search ID equal or high that is met by equality lets no write follow
 only_a_search_equal_lets_a_write_follow : replies (mounts ∷ first_record ++ seek 5 3 ∷ then 0x71 (id 5 3 1) ∷ then 0x71 (id 5 3 1) ∷ last 0x05 (0x58 ∷ []) ∷ seek 5 3 ∷ then 0x31 (id 5 3 1) ∷ then 0x31 (id 5 3 1) ∷ last 0x05 (0x58 ∷ []) ∷ last 0x06 [] ∷ [])

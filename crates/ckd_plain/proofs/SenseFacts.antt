@@ -159,16 +159,17 @@ told s h code argument chained check argument' chained' is =
 
 -- ---- the sense after a command without unit check
 
-outcome_clears : (m : Option (ℕ × Bool)) (sense_ : List ℕ) (c : Command) (chained : Bool) (o : Outcome) → Leaves m sense_ o → refusal_in o ≡ None → (answered c chained o).host.sense ≡ sense_
-outcome_clears m sense_ c chained (Ok e) leaves none = leaves.1
-outcome_clears m sense_ c chained (Err r) leaves none = absurd cc
+outcome_clears : (m : Option (ℕ × Bool)) (sense_ : List ℕ) (mark : Bool) (c : Command) (chained : Bool) (o : Outcome) → Leaves m sense_ mark o → refusal_in o ≡ None → (answered c chained o).host.sense ≡ sense_
+outcome_clears m sense_ mark c chained (Ok e) leaves none = leaves.1
+outcome_clears m sense_ mark c chained (Err r) leaves none = absurd cc
 
 judged_clears : (tracks : Tracks) (host : HostState) (argument : List ℕ) (chained : Bool) (c : Command) (r : Result Command UnitCheck)
     → r ≡ Ok c → check_of tracks host argument r ≡ None → (judged tracks host argument chained r).host.sense ≡ (cleared c host).sense
 unfolding performed
 judged_clears tracks host argument chained c (Ok d) is none =
     let same : d ≡ c = cc in
-    outcome_clears host.mounted (cleared d host).sense d chained _ (effect-leaves host.mounted (cleared d host).sense tracks (cleared d host) host.prior d argument (refl, refl)) none
+    outcome_clears host.mounted (cleared d host).sense host.protected d chained _
+    (effect-leaves host.mounted (cleared d host).sense host.protected tracks (cleared d host) host.prior d argument (refl, refl, refl)) none
     ∙ ap (λ (x : Command). (cleared x host).sense) same
 judged_clears tracks host argument chained c (Err check) is none = absurd cc
 

@@ -37,14 +37,18 @@ module _ (volumes : Volumes) (host : HostState) where
   unwritten None = refl
   unwritten (Some m) = refl
 
-  serials_there : (v : ℕ) (o : Option (List ℕ)) (track : List RecordData) → (written_there volumes v host o track).serial ≡ volumes.serial
-  serials_there v (Some serial) track = refl
-  serials_there v None track = refl
+  -- the serials and the marks are as they were
+  abbrev pub KeepsLabels : Volumes → Type 0
+  KeepsLabels new = (new.serial ≡ volumes.serial) × (new.read_only ≡ volumes.read_only)
 
-  serials_stay : (m : Option (ℕ × Bool)) (o : Option (List RecordData)) → (written_mounted volumes m host o).serial ≡ volumes.serial
-  serials_stay None o = refl
-  serials_stay (Some m) None = refl
-  serials_stay (Some m) (Some track) = serials_there m.0 (volumes.serial m.0) track
+  labels_there : (v : ℕ) (o : Option (List ℕ)) (track : List RecordData) → KeepsLabels (written_there volumes v host o track)
+  labels_there v (Some serial) track = (refl, refl)
+  labels_there v None track = (refl, refl)
+
+  pub labels_stay : (m : Option (ℕ × Bool)) (o : Option (List RecordData)) → KeepsLabels (written_mounted volumes m host o)
+  labels_stay None o = (refl, refl)
+  labels_stay (Some m) None = (refl, refl)
+  labels_stay (Some m) (Some track) = labels_there m.0 (volumes.serial m.0) track
 
   -- a track is as it was, or it is under the head and written
   abbrev pub IsWritten : Option (List RecordData) → ℕ → ℕ → ℕ → List RecordData → Type 0
@@ -104,4 +108,4 @@ unfolding plain
 serials s h (mount volume bind) = ap (λ (x : Volumes). x.serial) (mount_leaves s h volume bind)
 serials s h demount = ap (λ (x : Volumes). x.serial) (demount_leaves s h)
 serials s h (break cause) = refl
-serials s h (command code argument chained) = serials_stay s.volumes (s.host h) (s.host h).mounted _
+serials s h (command code argument chained) = (labels_stay s.volumes (s.host h) (s.host h).mounted _).0

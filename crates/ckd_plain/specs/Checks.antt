@@ -4,7 +4,7 @@ use Rattle.channel_commands.specs.declared.command.Command.{Command}
 use Rattle.channel_commands.specs.declared.command.Command.TheVariants as command
 use Rattle.channel_commands.specs.declared.command.SeekKind.TheVariants as seek
 use Rattle.channel_commands.specs.declared.command.WriteKind.TheVariants as write
-use Rattle.channel_commands.specs.Codes.{command_of, least}
+use Rattle.channel_commands.specs.Codes.{command_of, is_write, least}
 use Rattle.mss_base.specs.declared.numbers.TheConstants.{CYLINDERS, HEADS}
 use Rattle.ckd_plain.specs.declared.host.HostState.{HostState}
 use Rattle.ckd_plain.specs.declared.host.Prior.{Prior}
@@ -59,6 +59,10 @@ is_prior_permitted (prior.KeyEqual k) (command.Write write.Data) = nat_lt 0 k
 is_prior_permitted _ (command.Write write.Data) = false
 is_prior_permitted _ _ = true
 
+-- nothing is written on a read-only volume
+abbrev pub is_change_allowed : Bool → Command → Bool
+is_change_allowed read_only command = not (read_only && is_write command)
+
 -- a seek's address BB CC HH lies on the volume
 abbrev pub is_address : Command → List ℕ → Bool
 is_address (command.Seek seek.Head) argument = nat_lt (number_at argument 4) HEADS
@@ -76,11 +80,13 @@ admitted host code argument = do
   is_long_enough ← demand (not (nat_lt (length argument) (least command))) check.CommandReject
   may_seek ← demand (is_seek_allowed host.mask command) check.FileProtected
   may_write ← demand (is_prior_permitted host.prior command && is_write_allowed host.mask command) check.CommandReject
+  may_change ← demand (is_change_allowed host.protected command) check.FileProtected
   address_is_there ← demand (is_address command argument) check.CommandReject
   Ok command
 
 -- what a command that is admitted can rely on
 pub record Passes (host : HostState) (command : Command) (argument : List ℕ) : Type 0 where
   pub long : least command ≤ length argument
+  pub change_ : IsTrue (is_change_allowed host.protected command)
   pub address : IsTrue (is_address command argument)
   pub prior_ : IsTrue (is_prior_permitted host.prior command)

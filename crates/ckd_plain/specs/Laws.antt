@@ -44,6 +44,16 @@ abbrev pub HasNoBytes : ReplyData → Type 0
 HasNoBytes (done status bytes) = bytes ≡ []
 HasNoBytes _ = ⊥
 
+-- ---- read-only volumes
+
+-- the host knows whether the volume that it has mounted is read-only
+abbrev pub KnowsMark : Volumes → HostState → Type 0
+KnowsMark volumes host = (v : ℕ) (bind : Bool) → host.mounted ≡ Some (v, bind) → host.protected ≡ volumes.read_only v
+
+-- each host does
+abbrev pub KnowMarks : State → Type 0
+KnowMarks s = (h : ℕ) → KnowsMark s.volumes (s.host h)
+
 -- ---- sense
 
 abbrev pub refusal_in : Outcome → Option UnitCheck

@@ -1,5 +1,5 @@
 -- The plain machine: each call's reply, and the state after it.
-use Rattle.std.specs.Prelude.{◌≡◌, ℕ, ◌==◌, Bool, true, false, ◌&&◌, not, List, [], ◌∷◌, replicate, Option, Some, None, Result, Ok, Err, is_some, if◌then◌else◌}
+use Rattle.std.specs.Prelude.{◌≡◌, ℕ, ◌==◌, Bool, true, false, ◌&&◌, not, List, [], ◌∷◌, replicate, Option, Some, None, Result, Ok, Err, is_some, option_map, if◌then◌else◌}
 use Rattle.channel_commands.specs.declared.call.BreakCause.{BreakCause}
 use Rattle.channel_commands.specs.declared.call.BreakCause.TheVariants as cause
 use Rattle.channel_commands.specs.declared.command.Command.{Command}
@@ -147,8 +147,10 @@ Replied = ReplyData × State
 abbrev pub commanded : State → ℕ → Answer → Replied
 commanded s h a = (a.reply, with_host (record s { volumes = written_to s.volumes (s.host h) a.written }) h a.host)
 
-abbrev pub with_volume : HostState → ℕ → Bool → HostState
-with_volume host volume bind = record host { mounted = Some (volume, bind); cylinder = 0; head = 0; sense = no_sense }
+-- the host with this volume mounted, which is read-only or not
+abbrev pub with_volume : HostState → ℕ → Bool → Bool → HostState
+with_volume host volume bind read_only =
+    record host { mounted = Some (volume, bind); protected = read_only; cylinder = 0; head = 0; sense = no_sense }
 
 -- ---- calls that need no track
 
@@ -156,30 +158,34 @@ abbrev pub break_reply : BreakCause → ReplyData
 break_reply cause.Program = program_check
 break_reply cause.Limit = chain_limit
 
--- whether the volume that a call asks for is there
-abbrev pub there_for : (ℕ → Option (List ℕ)) → CallData → Bool
-there_for serials (mount volume bind) = is_some (serials volume)
-there_for serials _ = false
+-- whether the volume that a call asks for is read-only, where it is there
+abbrev pub mark_for : Volumes → CallData → Option Bool
+mark_for volumes (mount volume bind) = option_map (λ serial. volumes.read_only volume) (volumes.serial volume)
+mark_for volumes _ = None
 
 -- the call looks at no track: it is no command, or one that the checks refuse, or no search, read or write
 abbrev pub NeedsNoTrack : HostState → CallData → Type 0
 NeedsNoTrack host (ask code argument chained) = (c : Command) → admitted (opened host) code argument ≡ Ok c → is_data c ≡ false
 NeedsNoTrack host _ = Unit {0}
 
--- The reply to a call, and its host then, where no track has records; there says whether the volume that the call asks for is there.
--- The first reason against a mount stands.
-unfoldable pub responded : HostState → Bool → CallData → ReplyData × HostState
-responded host there (mount volume bind) =
+-- a mount of a volume that is read-only or not, where it is there
+abbrev pub mounted_by : HostState → ℕ → Bool → Option Bool → ReplyData × HostState
+mounted_by host volume bind (Some read_only) = (mounted, with_volume host volume bind read_only)
+mounted_by host volume bind None = (no_volume, host)
+
+-- The reply to a call, and its host then, where no track has records; the mark says whether the volume that the call asks for
+-- is read-only, where it is there. The first reason against a mount stands.
+unfoldable pub responded : HostState → Option Bool → CallData → ReplyData × HostState
+responded host mark (mount volume bind) =
     if host.chain_open then (in_chain, host)
     else if is_some host.mounted then (already_mounted, host)
-    else if there then (mounted, with_volume host volume bind)
-    else (no_volume, host)
-responded host there demount =
+    else mounted_by host volume bind mark
+responded host mark demount =
     if host.chain_open then (in_chain, host)
     else if is_some host.mounted then (demounted, record host { mounted = None })
     else (not_mounted, host)
-responded host there (break cause) = (break_reply cause, record host { chain_open = false })
-responded host there (ask code argument chained) = let a = run (λ head. []) host code argument chained in (a.reply, a.host)
+responded host mark (break cause) = (break_reply cause, record host { chain_open = false })
+responded host mark (ask code argument chained) = let a = run (λ head. []) host code argument chained in (a.reply, a.host)
 
 -- the state with a host's response
 abbrev pub with_response : State → ℕ → ReplyData × HostState → Replied
@@ -194,24 +200,33 @@ checked why host = record host { chain_open = false; prior = prior.Nothing; sens
 -- the plain machine
 unfoldable pub plain : State → ℕ → CallData → Replied
 plain s h (ask code argument chained) = commanded s h (run (tracks_under s.volumes (s.host h)) (s.host h) code argument chained)
-plain s h call = with_response s h (responded (s.host h) (there_for s.volumes.serial call) call)
+plain s h call = with_response s h (responded (s.host h) (mark_for s.volumes call) call)
 
 -- ---- a session's start
 
 abbrev pub fresh_host : HostState
-fresh_host = record { mounted = None; chain_open = false; cylinder = 0; head = 0; mask = 0; position = position.Start; passes = 0; prior = prior.Nothing; sense = no_sense }
+fresh_host = record { mounted = None; protected = false; chain_open = false; cylinder = 0; head = 0; mask = 0; position = position.Start; passes = 0; prior = prior.Nothing; sense = no_sense }
 
 abbrev pub start_of : Volumes → State
 start_of volumes = record { volumes = volumes; host = λ h. fresh_host }
 
--- the serial of a volume among volumes with their serials
-abbrev pub serial_in : List (ℕ × List ℕ) → ℕ → Option (List ℕ)
+-- a volume's number, its serial, and whether it is read-only
+abbrev pub Labelled : Type 0
+Labelled = ℕ × List ℕ × Bool
+
+-- the serial of a volume among these
+abbrev pub serial_in : List Labelled → ℕ → Option (List ℕ)
 serial_in [] v = None
 serial_in (volume ∷ volumes) v = if v == volume.0 then Some volume.1 else serial_in volumes v
 
+-- whether a volume is among these as a read-only one
+abbrev pub marked_in : List Labelled → ℕ → Bool
+marked_in [] v = false
+marked_in (volume ∷ volumes) v = if v == volume.0 then volume.2 else marked_in volumes v
+
 -- these volumes, each track without records
-abbrev pub blank_volumes : List (ℕ × List ℕ) → Volumes
-blank_volumes volumes = record { serial = serial_in volumes; track = λ v c h. [] }
+abbrev pub blank_volumes : List Labelled → Volumes
+blank_volumes volumes = record { serial = serial_in volumes; read_only = marked_in volumes; track = λ v c h. [] }
 
 -- the replies of the plain machine to calls of hosts
 unfoldable pub replies_of : State → List (ℕ × CallData) → List ReplyData

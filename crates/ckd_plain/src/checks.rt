@@ -1,7 +1,7 @@
 // The checks that a command passes before it does anything.
 ghost use Rattle.std.specs.Prelude.{◌≡◌, ◌+◌, ◌<◌, ◌≤◌, length, IfOk};
 ghost use Rattle.channel_commands.specs.Codes.{least};
-ghost use Rattle.ckd_plain.specs.Checks.{number_at, is_seek_allowed, is_write_allowed, is_prior_permitted, is_address, admitted, Passes};
+ghost use Rattle.ckd_plain.specs.Checks.{number_at, is_seek_allowed, is_write_allowed, is_prior_permitted, is_change_allowed, is_address, admitted, Passes};
 
 use crate::host::{HostState, Prior};
 use crate::unit_check::UnitCheck;
@@ -51,6 +51,12 @@ fn is_prior_permitted(prior: Prior, command: Command) -> bool
     }
 }
 
+fn is_change_allowed(read_only: bool, command: Command) -> bool
+    ensures { result ≡ is_change_allowed read_only command }
+{
+    !(read_only && matches!(command, Command::Write(_)))
+}
+
 fn is_address(command: Command, argument: &[u8]) -> bool
     requires { least command ≤ length argument.now }
     ensures { result ≡ is_address command argument.now }
@@ -87,6 +93,9 @@ pub fn admitted(host: &HostState, code: u8, argument: &[u8]) -> Result<Command, 
     }
     if !is_prior_permitted(host.prior, command) || !is_write_allowed(host.mask, command) {
         return Err(UnitCheck::CommandReject);
+    }
+    if !is_change_allowed(host.protected, command) {
+        return Err(UnitCheck::FileProtected);
     }
     if !is_address(command, argument) {
         return Err(UnitCheck::CommandReject);

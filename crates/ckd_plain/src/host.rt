@@ -30,6 +30,8 @@ pub enum Prior {
 pub struct HostState {
     /// The volume, and whether its pages are bound while it is mounted.
     pub mounted: Option<(VolumeNo, bool)>,
+    /// Whether that volume is read-only. It stays as it was after a demount.
+    pub protected: bool,
     pub chain_open: bool,
     pub cylinder: Cylinder,
     pub head: Head,
@@ -71,6 +73,7 @@ impl HostState {
         let (cylinder, head) = origin();
         HostState {
             mounted: None,
+            protected: false,
             chain_open: false,
             cylinder,
             head,
@@ -82,13 +85,14 @@ impl HostState {
         }
     }
 
-    /// The host with a volume mounted, on its first track.
-    pub fn with_volume(&self, volume: VolumeNo, bind: bool) -> HostState
-        ensures { result ≡ with_volume self.now volume bind }
+    /// The host with a volume mounted, which is read-only or not, on its first track.
+    pub fn with_volume(&self, volume: VolumeNo, bind: bool, read_only: bool) -> HostState
+        ensures { result ≡ with_volume self.now volume bind read_only }
     {
         let (cylinder, head) = origin();
         HostState {
             mounted: Some((volume, bind)),
+            protected: read_only,
             cylinder,
             head,
             sense: [0; 24],

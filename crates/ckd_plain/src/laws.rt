@@ -1,8 +1,8 @@
 //! Laws of histories and of commands, for the layers that keep a history or run commands elsewhere, and what follows
 //! from the definition of the plain machine, for its reader. A function calls a law to have it in its proof.
-ghost use Rattle.std.specs.Prelude.{◌≡◌, ◌≢◌, ◌+◌, ◌≤◌, ◌<◌, ℕ, Bool, true, false, List, [], ◌∷◌, ◌++◌, IsSome, if◌then◌else◌};
+ghost use Rattle.std.specs.Prelude.{◌≡◌, ◌≢◌, ◌+◌, ◌≤◌, ◌<◌, ℕ, Bool, true, false, List, [], ◌∷◌, ◌++◌, IsSome, IsTrue, if◌then◌else◌};
 ghost use Rattle.channel_commands.specs.Data.{CallData, command, done, equipment_check, no_space, stopped};
-ghost use Rattle.ckd_track.specs.Data.{RecordData};
+ghost use Rattle.ckd_track.specs.Data.{RecordData, Volumes};
 ghost use Rattle.ckd_plain.specs.Data.{State};
 ghost use Rattle.ckd_plain.specs.History.{EntryData, IsLegal, IsNextEntry, IsAlone, IsStopped, HasNoStop, IsDataCommand, IsWriteCommand, after, next, excepted, count_of_host};
 ghost use Rattle.channel_commands.specs.Codes.{is_write};
@@ -12,8 +12,8 @@ ghost use Rattle.ckd_plain.specs.declared.unit_check.UnitCheck.{UnitCheck};
 ghost use Rattle.ckd_plain.specs.Checks.{admitted, Passes};
 ghost use Rattle.ckd_plain.specs.Effects.{DONE, new_record, is_data};
 ghost use Rattle.ckd_plain.specs.Index.{Tracks, next_within, next_record};
-ghost use Rattle.ckd_plain.specs.Laws.{IsSameFor, IsUnderHead, IsWithinCost, HasTracks, HasBytes, unit_check_of, IsChecked, IsAtIndex, IsFirst, IsReadBack, HasVolume, met_by, IsPutBehind, IsNewId, HasNoBytes};
-ghost use Rattle.ckd_plain.specs.Plain.{UNIT_CHECK, sense_of, no_sense, keeps_sense, opened, performed, run, plain, NeedsNoTrack, responded, there_for, with_response};
+ghost use Rattle.ckd_plain.specs.Laws.{IsSameFor, IsUnderHead, IsWithinCost, HasTracks, HasBytes, unit_check_of, IsChecked, IsAtIndex, IsFirst, IsReadBack, HasVolume, met_by, IsPutBehind, IsNewId, HasNoBytes, KnowMarks};
+ghost use Rattle.ckd_plain.specs.Plain.{UNIT_CHECK, sense_of, no_sense, keeps_sense, opened, performed, run, plain, NeedsNoTrack, responded, mark_for, with_response, start_of};
 
 use crate::unit_check::UnitCheck;
 use mss_base::HEADS;
@@ -98,7 +98,7 @@ pub fn control_sees_no_track()
 pub fn call_without_track()
     ensures { (s : State) (h : ℕ) (call : CallData) → NeedsNoTrack (s.host h) call
         → plain s h call ≡ with_response s h
-        (responded (s.host h) (there_for s.volumes.serial call) call) }
+        (responded (s.host h) (mark_for s.volumes call) call) }
 {}
 
 /// The reply to a write has no bytes.
@@ -141,6 +141,22 @@ pub fn only_the_track_under_a_write_changes()
         → (plain s h call).1.volumes.track v c head ≡ s.volumes.track v c head }
     ensures serials { (s : State) (h : ℕ) (call : CallData)
         → (plain s h call).1.volumes.serial ≡ s.volumes.serial }
+{}
+
+/// Each host knows whether the volume that it has mounted is read-only, from a session's start on. Nothing in a history
+/// changes which volumes are.
+pub fn hosts_know_their_marks()
+    ensures marks { (s : State) (e : EntryData)
+        → (next s e).volumes.read_only ≡ s.volumes.read_only }
+    ensures start { (volumes : Volumes) → KnowMarks (start_of volumes) }
+    ensures kept { (s : State) (e : EntryData) → KnowMarks s → KnowMarks (next s e) }
+{}
+
+/// Nothing in a history changes a track of a read-only volume.
+pub fn read_only_volumes_stay()
+    ensures { (s : State) (e : EntryData) (v c head : ℕ) → KnowMarks s
+        → IsTrue (s.volumes.read_only v)
+        → (next s e).volumes.track v c head ≡ s.volumes.track v c head }
 {}
 
 /// No track ever costs more than 13,165, and where arguments are bytes, tracks stay tracks.

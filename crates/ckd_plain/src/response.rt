@@ -1,5 +1,5 @@
 // Replies that need no track.
-ghost use Rattle.std.specs.Prelude.{◌≡◌, Bool, [], false, IfOk, OnErr};
+ghost use Rattle.std.specs.Prelude.{◌≡◌, Bool, Option, None, false, [], IfOk, OnErr};
 ghost use Rattle.channel_commands.specs.Data.{mount, demount, is_command};
 ghost use Rattle.channel_commands.specs.Views.{asked_of, call_of, reply_of};
 ghost use Rattle.ckd_plain.specs.Plain.{NeedsNoTrack, responded, break_reply, checked};
@@ -26,8 +26,8 @@ pub fn checked(check: UnitCheck, host: &HostState) -> HostState
 }
 
 #[tactic(auto, unfolding(crate::specs::Plain::responded))]
-fn mount(host: &HostState, there: bool, volume: VolumeNo, bind: bool) -> (Reply, HostState)
-    ensures { (reply_of result.0, result.1) ≡ responded host.now there (mount volume bind) }
+fn mount(host: &HostState, mark: Option<bool>, volume: VolumeNo, bind: bool) -> (Reply, HostState)
+    ensures { (reply_of result.0, result.1) ≡ responded host.now mark (mount volume bind) }
 {
     if host.chain_open {
         return (Reply::InChain, *host);
@@ -35,15 +35,15 @@ fn mount(host: &HostState, there: bool, volume: VolumeNo, bind: bool) -> (Reply,
     if host.mounted.is_some() {
         return (Reply::AlreadyMounted, *host);
     }
-    if !there {
-        return (Reply::NoVolume, *host);
+    match mark {
+        Some(read_only) => (Reply::Mounted, host.with_volume(volume, bind, read_only)),
+        None => (Reply::NoVolume, *host),
     }
-    (Reply::Mounted, host.with_volume(volume, bind))
 }
 
 #[tactic(auto, unfolding(crate::specs::Plain::responded))]
 fn demount(host: &HostState) -> (Reply, HostState)
-    ensures { (reply_of result.0, result.1) ≡ responded host.now false demount }
+    ensures { (reply_of result.0, result.1) ≡ responded host.now None demount }
 {
     if host.chain_open {
         return (Reply::InChain, *host);
@@ -67,15 +67,15 @@ fn break_reply(cause: BreakCause) -> Reply
     }
 }
 
-/// The reply to a call that is no command, and the host then; `there` says whether the volume that the call asks for
-/// is there.
+/// The reply to a call that is no command, and the host then; `mark` says whether the volume that the call asks for is
+/// read-only, and is None where there is no such volume.
 #[tactic(auto, unfolding(crate::specs::Plain::responded))]
-pub fn respond(host: &HostState, there: bool, call: &Call) -> (Reply, HostState)
+pub fn respond(host: &HostState, mark: Option<bool>, call: &Call) -> (Reply, HostState)
     requires { is_command (call_of call.now) ≡ false }
-    ensures { (reply_of result.0, result.1) ≡ responded host.now there (call_of call.now) }
+    ensures { (reply_of result.0, result.1) ≡ responded host.now mark (call_of call.now) }
 {
     match call {
-        Call::Mount { volume, bind } => mount(host, there, *volume, *bind),
+        Call::Mount { volume, bind } => mount(host, mark, *volume, *bind),
         Call::Demount => demount(host),
         Call::Break { cause } => {
             let ended = HostState {
@@ -97,9 +97,9 @@ pub fn respond_command(
     host: &mut HostState,
 ) -> Result<Reply, NoMemory>
     requires { NeedsNoTrack host.old (asked_of command.now) }
-    ensures answer { IfOk result (λ reply. (there : Bool)
+    ensures answer { IfOk result (λ reply. (mark : Option Bool)
         → (reply_of reply, host.new)
-        ≡ responded host.old there (asked_of command.now)) }
+        ≡ responded host.old mark (asked_of command.now)) }
     ensures host_stays { OnErr result (host.new ≡ host.old) }
 {
     let mut now = opened(host);

@@ -1,5 +1,5 @@
 -- Records and tracks as plain data, and volumes of them.
-use Rattle.std.specs.Prelude.{◌≡◌, ℕ, ◌+◌, ◌<◌, ◌≤◌, ◌==◌, List, [], length, Option, sum_by, if◌then◌else◌}
+use Rattle.std.specs.Prelude.{◌≡◌, ℕ, Bool, ◌+◌, ◌<◌, ◌≤◌, ◌==◌, List, [], length, Option, sum_by, if◌then◌else◌}
 use Rattle.std.specs.List.{AllByRecursion}
 use Rattle.ckd_track.specs.declared.layout.TheConstants.{TRACK_COST}
 
@@ -36,7 +36,9 @@ pub record IsTrack (rs : List RecordData) : Type 0 where
   pub cost_ : cost rs ≤ TRACK_COST
   pub each : AllByRecursion HasCount rs
 
--- volumes: a serial where there is one, and the records of each track by volume, cylinder and head
+-- volumes: by number a serial where there is one, and whether no host may write there; and the records of each track by
+-- volume, cylinder and head
 pub record Volumes : Type 0 where
   pub serial : ℕ → Option (List ℕ)
+  pub read_only : ℕ → Bool
   pub track : ℕ → ℕ → ℕ → List RecordData

@@ -4,12 +4,12 @@ use Rattle.std.specs.Prelude.{◌==◌, IsSome, IsTrue, is_some}
 use Rattle.std.specs.List.{AllByRecursion}
 use Rattle.std.proofs.lemmas.Bool.{cond-true}
 use Rattle.std.proofs.lemmas.Bool.Decides.{eqb_tells}
-use Rattle.channel_commands.specs.Data.{CallData, mount, demount, command, break, ReplyData, mounted, demounted, already_mounted, not_mounted, no_volume, in_chain, equipment_check, no_space, stopped}
+use Rattle.channel_commands.specs.Data.{CallData, mount, demount, command, break, ReplyData, demounted, already_mounted, not_mounted, in_chain, equipment_check, no_space, stopped}
 use Rattle.channel_program.specs.Script.{Exchange}
 use Rattle.ckd_plain.specs.declared.host.HostState.{HostState}
 use Rattle.ckd_plain.specs.Data.{State}
 use Rattle.ckd_plain.specs.History.{EntryData, IsAnswered, IsLegalAfter, keeps_fault, left_by, next}
-use Rattle.ckd_plain.specs.Plain.{plain, responded, there_for, tracks_under, with_volume}
+use Rattle.ckd_plain.specs.Plain.{mark_for, mounted_by, plain, responded, tracks_under}
 use Rattle.ckd_plain.proofs.CommandFacts.{volume_stays}
 use Rattle.ckd_plain.proofs.HostFacts.{host_itself, other_stays}
 use Rattle.serial_driver.specs.Scripts.{exchanges_of}
@@ -59,31 +59,31 @@ bound_by volume v bind none is =
     let both : false ≡ true = sym none ∙ bound in cc
 
 module _ (host : HostState) (unbound : HostUnbound host) where
-  mounted_unbound : (volume : ℕ) (bind : Bool) → bind ≡ false → (a b c : Bool)
-      → HostUnbound (cond {A = ReplyData × HostState} a (in_chain, host) (cond b (already_mounted, host) (cond c (mounted, with_volume host volume bind) (no_volume, host)))).1
-  mounted_unbound volume bind none true b c = unbound
-  mounted_unbound volume bind none false true c = unbound
-  mounted_unbound volume bind none false false true = λ v is. bound_by volume v bind none is
-  mounted_unbound volume bind none false false false = unbound
+  mounted_unbound : (volume : ℕ) (bind : Bool) → bind ≡ false → (a b : Bool) (mark : Option Bool)
+      → HostUnbound (cond {A = ReplyData × HostState} a (in_chain, host) (cond b (already_mounted, host) (mounted_by host volume bind mark))).1
+  mounted_unbound volume bind none true b mark = unbound
+  mounted_unbound volume bind none false true mark = unbound
+  mounted_unbound volume bind none false false (Some read_only) = λ v is. bound_by volume v bind none is
+  mounted_unbound volume bind none false false None = unbound
 
   demounted_unbound : (a b : Bool) → HostUnbound (cond {A = ReplyData × HostState} a (in_chain, host) (cond b (demounted, record host { mounted = None }) (not_mounted, host))).1
   demounted_unbound true b = unbound
   demounted_unbound false true = λ v is. cc
   demounted_unbound false false = unbound
 
-  response_unbound : (there : Bool) (call : CallData) → CallBindsNone call → HostUnbound (responded host there call).1
+  response_unbound : (mark : Option Bool) (call : CallData) → CallBindsNone call → HostUnbound (responded host mark call).1
   unfolding responded
-  response_unbound there (mount volume bind) none = mounted_unbound volume bind none host.chain_open (is_some host.mounted) there
-  response_unbound there demount none = demounted_unbound host.chain_open (is_some host.mounted)
-  response_unbound there (break cause) none = unbound
-  response_unbound there (command code argument chained) none = λ v is. unbound v (sym (volume_stays (λ head. []) host code argument chained) ∙ is)
+  response_unbound mark (mount volume bind) none = mounted_unbound volume bind none host.chain_open (is_some host.mounted) mark
+  response_unbound mark demount none = demounted_unbound host.chain_open (is_some host.mounted)
+  response_unbound mark (break cause) none = unbound
+  response_unbound mark (command code argument chained) none = λ v is. unbound v (sym (volume_stays (λ head. []) host code argument chained) ∙ is)
 
 module _ (h : ℕ) (s : State) (unbound : Unbound s) where
   itself_unbound : (call : CallData) → CallBindsNone call → HostUnbound ((plain s h call).1.host h)
   unfolding plain
-  itself_unbound (mount volume bind) none = subst HostUnbound (sym (host_itself s.host h _)) (response_unbound (s.host h) (unbound h) (there_for s.volumes.serial (mount volume bind)) (mount volume bind) none)
-  itself_unbound demount none = subst HostUnbound (sym (host_itself s.host h _)) (response_unbound (s.host h) (unbound h) (there_for s.volumes.serial demount) demount none)
-  itself_unbound (break cause) none = subst HostUnbound (sym (host_itself s.host h _)) (response_unbound (s.host h) (unbound h) (there_for s.volumes.serial (break cause)) (break cause) none)
+  itself_unbound (mount volume bind) none = subst HostUnbound (sym (host_itself s.host h _)) (response_unbound (s.host h) (unbound h) (mark_for s.volumes (mount volume bind)) (mount volume bind) none)
+  itself_unbound demount none = subst HostUnbound (sym (host_itself s.host h _)) (response_unbound (s.host h) (unbound h) (mark_for s.volumes demount) demount none)
+  itself_unbound (break cause) none = subst HostUnbound (sym (host_itself s.host h _)) (response_unbound (s.host h) (unbound h) (mark_for s.volumes (break cause)) (break cause) none)
   itself_unbound (command code argument chained) none = subst HostUnbound (sym (host_itself s.host h _))
       (λ v is. unbound h v (sym (volume_stays (tracks_under s.volumes (s.host h)) (s.host h) code argument chained) ∙ is))
 

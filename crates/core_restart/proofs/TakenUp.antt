@@ -12,7 +12,7 @@ use Rattle.mss_base.specs.declared.site.Site.{Ghosts}
 use Rattle.ckd_track.specs.Data.{Volumes}
 use Rattle.channel_commands.specs.Data.{CallData, ReplyData, equipment_check, no_space, stopped}
 use Rattle.ckd_plain.specs.Data.{State}
-use Rattle.ckd_plain.specs.Plain.{plain, serial_in, start_of}
+use Rattle.ckd_plain.specs.Plain.{plain, start_of}
 use Rattle.ckd_plain.specs.History.{EntryData, left_by as state_left, next, after}
 use Rattle.ckd_plain.specs.Near.{IsNear, unchanged, completed, data_overwritten, key_data_overwritten, ended_before}
 use Rattle.volume_table.specs.Row.{RowValue}
@@ -25,6 +25,7 @@ use Rattle.shown_volumes.specs.Faults.{first_fault}
 use Rattle.shown_volumes.proofs.QuietFacts.{all_firm}
 use Rattle.mss_restart.specs.declared.opening.Opened.{Opened}
 use Rattle.mss_restart.specs.Opening.{ShowsFront, IsOpened, missing, with_blanks}
+use Rattle.mss_restart.specs.Serials.{serial_in}
 use Rattle.mss_restart.proofs.Creating.{AreRising, rising_first}
 use Rattle.mss_restart.proofs.UsableFacts.{AreAsked, asks_own}
 use Rattle.core_state.specs.CoreValue.{CoreValue, DevicesSeen, seen_site}

@@ -3,7 +3,7 @@ use Rattle.std.specs.Prelude.{◌≡◌, ◌≤◌, ◌<◌, ℕ, List, [], leng
 use Rattle.mss_base.specs.Configs.{ConfigData, VolumeData, IsConfig}
 use Rattle.mss_base.specs.Content.{Content, SiteLog, Item, Tear, Got, content, image}
 use Rattle.ckd_track.specs.Data.{Volumes}
-use Rattle.ckd_plain.specs.Plain.{serial_in, start_of}
+use Rattle.ckd_plain.specs.Plain.{start_of}
 use Rattle.shown_volumes.specs.declared.refused.Refused.{Refused}
 use Rattle.shown_volumes.specs.declared.refused.Refused.TheVariants.{Memory}
 use Rattle.shown_volumes.specs.Shown.{rows_of, shown}
@@ -11,6 +11,7 @@ use Rattle.shown_volumes.specs.Sound.{SoundAs}
 use Rattle.shown_volumes.specs.Faults.{first_fault}
 use Rattle.mss_restart.specs.declared.opening.Opened.{Opened}
 use Rattle.mss_restart.specs.Opening.{ShowsFront, missing, with_blanks}
+use Rattle.mss_restart.specs.Serials.{serial_in}
 use Rattle.core_state.specs.CoreValue.{CoreValue, DevicesSeen}
 use Rattle.core_state.specs.IsCore.{IsTold, opening_of}
 use Rattle.core_restart.specs.Opening.{OpensSynced}

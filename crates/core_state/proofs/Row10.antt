@@ -45,7 +45,7 @@ world = record {
     first_faults = 0;
     stopped = None;
   };
-  volumes = blank_volumes ((0, serial) ∷ []);
+  volumes = blank_volumes ((0, serial, false) ∷ []);
 }
 
 -- seek to a cylinder, search of a record of its first track, a format write of R1 with one byte, a read

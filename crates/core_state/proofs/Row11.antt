@@ -48,7 +48,7 @@ world = record {
     first_faults = 0;
     stopped = None;
   };
-  volumes = blank_volumes volumes;
+  volumes = blank_volumes ((0, serial 0x31, false) ∷ (1, serial 0x32, false) ∷ (2, serial 0x33, false) ∷ []);
 }
 
 abbrev pub search_zero : CallData

@@ -53,7 +53,7 @@ world = record {
     first_faults = 0;
     stopped = None;
   };
-  volumes = blank_volumes volumes;
+  volumes = blank_volumes ((0, serial 0x31, false) ∷ (1, serial 0x32, false) ∷ []);
 }
 
 abbrev pub seek : CallData

@@ -50,7 +50,7 @@ core = record {
 }
 
 abbrev pub world : World
-world = record { core = core; volumes = blank_volumes ((0, serial) ∷ []) }
+world = record { core = core; volumes = blank_volumes ((0, serial, false) ∷ []) }
 
 -- search of R0 on cylinder 0, head 0, chained; no-op; a format write of R1
 abbrev pub search_zero : CallData

@@ -1,7 +1,7 @@
 -- What a host's event answers, and the core that it leaves.
 use Rattle.std.specs.Prelude.{◌≡◌, ℕ, Bool, false, if◌then◌else◌, List, length, Option, Some, None}
 use Rattle.std.specs.Prelude.{is_some}
-use Rattle.std.specs.Option.{ForSome}
+use Rattle.std.specs.Option.{ForSome, option_map}
 use Rattle.channel_commands.specs.declared.command.Command.{Command}
 use Rattle.channel_commands.specs.Data.{CallData, mount, command as ask, ReplyData, equipment_check}
 use Rattle.channel_commands.specs.Data.{no_space}
@@ -41,13 +41,14 @@ pub data HostTold : Type 0 where
 
 -- ---- what a host is told without its tracks
 
-abbrev pub is_there : List (Option RowValue) → CallData → Bool
-is_there rows (mount volume bind) = is_some (listed rows volume)
-is_there rows _ = false
+-- whether the volume that a call asks for is read-only, where it is there; no row has a mark yet
+abbrev pub mark_in : List (Option RowValue) → CallData → Option Bool
+mark_in rows (mount volume bind) = option_map (λ row. false) (listed rows volume)
+mark_in rows _ = None
 
 -- the reply, and the host then
 abbrev pub response : CoreData → ℕ → CallData → ReplyData × HostState
-response core h call = responded (host_at core.hosts h) (is_there core.rows call) call
+response core h call = responded (host_at core.hosts h) (mark_in core.rows call) call
 
 -- a reply that plain volumes don't give, and the host then
 abbrev pub exception : UnitCheck → ReplyData → CoreData → ℕ → ReplyData × HostState

@@ -1,28 +1,29 @@
 -- Each answer of an event of a host has its cause.
-use Rattle.std.proofs.Common.{◌≡◌, ◌⊎◌, if◌then◌else◌, inl, inr, ℕ, ◌<◌, Bool, List, [], None, Result, Ok, Err, is_some, length, refl, sym, ◌∙◌, ap, subst, arith}
+use Rattle.std.proofs.Common.{◌≡◌, ◌⊎◌, if◌then◌else◌, inl, inr, ℕ, ◌<◌, Bool, List, [], Option, None, Result, Ok, Err, is_some, length, refl, sym, ◌∙◌, ap, subst, arith}
 use Rattle.std.proofs.lemmas.Bool.{cond_both}
 use Rattle.channel_commands.specs.declared.command.Command.{Command}
 use Rattle.channel_commands.specs.declared.call.BreakCause.{BreakCause}
 use Rattle.channel_commands.specs.declared.call.BreakCause.TheVariants as cause
-use Rattle.channel_commands.specs.Data.{CallData, mount, demount, command as ask, break, ReplyData, done, mounted, demounted, already_mounted, not_mounted, no_volume, in_chain, equipment_check, no_space, stopped}
+use Rattle.channel_commands.specs.Data.{CallData, mount, demount, command as ask, break, ReplyData, done, demounted, already_mounted, not_mounted, in_chain, equipment_check, no_space, stopped}
 use Rattle.ckd_plain.specs.declared.host.HostState.{HostState}
 use Rattle.ckd_plain.specs.declared.unit_check.UnitCheck.{UnitCheck}
 use Rattle.ckd_plain.specs.Checks.{admitted}
 use Rattle.ckd_plain.specs.Effects.{Outcome}
 use Rattle.ckd_plain.specs.Index.{Tracks}
-use Rattle.ckd_plain.specs.Plain.{opened, with_volume, break_reply, answered, performed, judged, run, responded}
+use Rattle.ckd_plain.specs.Plain.{opened, break_reply, answered, performed, judged, run, responded}
 use Rattle.volume_table.specs.Row.{state_of}
 use Rattle.core_state.specs.declared.rule.HostRule.{HostRule}
 use Rattle.core_state.specs.declared.rule.HostRule.TheVariants.{IsStopped, IsFull, IsBusy, IsMoving, IsHeld, Responds, HasFailed, HasNoSpace, Faults, Marks, Runs}
 use Rattle.core_state.specs.declared.rule.Waiting.TheVariants.{Busy, Fault, Held}
 use Rattle.core_state.specs.CoreValue.{CoreData}
-use Rattle.core_state.specs.HostEvents.{HostTold, replied, waits, halts, at_limit, no_memory, is_there, response, HostEvent}
+use Rattle.core_state.specs.HostEvents.{HostTold, replied, waits, halts, at_limit, no_memory, mark_in, response, HostEvent}
 use Rattle.core_state.specs.HostRules.{host_rule}
 use Rattle.core_state.specs.IsCore.{IsCore}
 use Rattle.core_state.specs.Pins.{host_at, owns}
 use Rattle.core_state.proofs.Limits.{host_stopped}
 use Rattle.core_state.proofs.RuleWalks.{some_of}
 use Rattle.host_events.specs.Causes.{Goes, NeedsNoLook, Looks, IsToMark, IsToRun, CauseOfReply, CauseOf, plain_reply_on, IsPlainReply, OrNoMemory, IsOfMark, IsOfRun, AnswersEachCause}
+use Rattle.host_events.proofs.Mounts.{by_mark}
 use Rattle.host_events.proofs.Outcomes.{EachOutcome, outcome}
 use Rattle.host_events.proofs.RuleFacts.{IsLate, AsksFor, RunsOn, rule_goes, rule_stopped, rule_full, rule_busy, rule_moving, rule_held, rule_responds, rule_failed, rule_no_space, rule_faults, rule_marks, rule_runs_on}
 use Rattle.host_events.proofs.RuleParts.{mounted_under, passes_found, state_at, frame_at}
@@ -56,13 +57,13 @@ break_plain : (why : BreakCause) → IsPlain (break_reply why)
 break_plain cause.Program = tt
 break_plain cause.Limit = tt
 
-plain_reply : (host : HostState) (there : Bool) (call : CallData) → IsPlain (responded host there call).0
+plain_reply : (host : HostState) (mark : Option Bool) (call : CallData) → IsPlain (responded host mark call).0
 unfolding responded
-plain_reply host there (mount volume bind) =
-    either host.chain_open (in_chain, host) _ tt (either (is_some host.mounted) (already_mounted, host) _ tt (either there (mounted, with_volume host volume bind) (no_volume, host) tt tt))
-plain_reply host there demount = either host.chain_open (in_chain, host) _ tt (either (is_some host.mounted) (demounted, record host { mounted = None }) (not_mounted, host) tt tt)
-plain_reply host there (break why) = break_plain why
-plain_reply host there (ask code argument chained) = run_plain (λ head. []) host code argument chained
+plain_reply host mark (mount volume bind) =
+    either host.chain_open (in_chain, host) _ tt (either (is_some host.mounted) (already_mounted, host) _ tt (by_mark (λ (r : ReplyData × HostState). IsPlain r.0) host volume bind mark (λ _ _. tt) (λ _. tt)))
+plain_reply host mark demount = either host.chain_open (in_chain, host) _ tt (either (is_some host.mounted) (demounted, record host { mounted = None }) (not_mounted, host) tt tt)
+plain_reply host mark (break why) = break_plain why
+plain_reply host mark (ask code argument chained) = run_plain (λ head. []) host code argument chained
 
 -- ---- the causes
 
@@ -111,7 +112,7 @@ module _ (tells : Type 0) (core : CoreData) (kept : core.stopped ≡ None → Is
           record { let_in = record { goes = on.goes; free = on.free }; quiet = on.quiet; volume = on.volume; binds = on.binds; takes = on.takes };
       responds = λ replied_ is.
           let on = rule_responds core h call kept is in
-          no_look (response core h call).0 (plain_reply (host_at core.hosts h) (is_there core.rows call) call)
+          no_look (response core h call).0 (plain_reply (host_at core.hosts h) (mark_in core.rows call) call)
           (record { let_in = record { goes = on.goes; free = on.free }; quiet = on.quiet; none = on.none; untaken = on.binds }) refl;
       fails = λ fault replied_ is.
           let on = rule_failed core h call kept fault is in

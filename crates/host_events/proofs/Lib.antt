@@ -1,4 +1,5 @@
 pub mod RuleParts
+pub mod Mounts
 pub mod AloneFacts
 pub mod RuleFacts
 pub mod RuleOf

@@ -15,7 +15,7 @@ use Rattle.ckd_plain.specs.Checks.{admitted}
 use Rattle.ckd_plain.specs.Data.{State}
 use Rattle.ckd_plain.specs.Effects.{is_data, Outcome}
 use Rattle.ckd_plain.specs.Index.{Tracks}
-use Rattle.ckd_plain.specs.Plain.{NeedsNoTrack, opened, answered, performed, judged, run, plain, responded, there_for, with_response}
+use Rattle.ckd_plain.specs.Plain.{NeedsNoTrack, opened, answered, performed, judged, run, plain, responded, mark_for, with_response}
 use Rattle.ckd_plain.specs.History.{EntryData, IsAlone, IsNextEntry, IsAnswered, IsDataCommand, keeps_fault, count_of_host, next}
 use Rattle.ckd_plain.proofs.CommandFacts.{volume_stays}
 use Rattle.ckd_plain.proofs.Entries.{plain_entry}
@@ -28,7 +28,7 @@ use Rattle.core_state.specs.declared.task.Task.{Task}
 use Rattle.core_state.specs.Agrees.{EntryAgrees}
 use Rattle.core_state.specs.CoreValue.{CoreValue}
 use Rattle.core_state.specs.Entered.{plain_of, Enters}
-use Rattle.core_state.specs.HostEvents.{is_there}
+use Rattle.core_state.specs.HostEvents.{mark_in}
 use Rattle.core_state.specs.HostRules.{if_data, data_command, would_bind, taken_by, taken_from}
 use Rattle.core_state.specs.IsCore.{IsCore, IsGoing, IsTold}
 use Rattle.core_state.specs.Pins.{host_at, put_host, is_on, asks_for, owns}
@@ -40,6 +40,7 @@ use Rattle.core_state.proofs.RuleWalks.{none_some}
 use Rattle.host_events.specs.Replies.{after_answer, IsUpheld}
 use Rattle.host_events.proofs.ReplyFacts.{Owes, enters_by, upheld_reply, mine_still, unstopped}
 use Rattle.host_events.proofs.Exceptions.{alone_there}
+use Rattle.host_events.proofs.Mounts.{by_mark}
 use Rattle.host_events.proofs.RuleFacts.{OnResponse}
 
 -- ---- which calls look at no track
@@ -80,31 +81,31 @@ chosen P false x y p q = q refl
 abbrev KeepsNone : ReplyData × HostState → Type 0
 KeepsNone r = keeps_fault r.0 ≡ false
 
-response_sound : (host : HostState) (there : Bool) (call : CallData) → keeps_fault (responded host there call).0 ≡ false
+response_sound : (host : HostState) (mark : Option Bool) (call : CallData) → keeps_fault (responded host mark call).0 ≡ false
 unfolding responded run
-response_sound host there (mount volume bind) =
-    chosen KeepsNone host.chain_open _ _ (λ _. refl) (λ _. chosen KeepsNone (is_some host.mounted) _ _ (λ _. refl) (λ _. chosen KeepsNone there _ _ (λ _. refl) (λ _. refl)))
-response_sound host there demount = chosen KeepsNone host.chain_open _ _ (λ _. refl) (λ _. chosen KeepsNone (is_some host.mounted) _ _ (λ _. refl) (λ _. refl))
-response_sound host there (break cause.Program) = refl
-response_sound host there (break cause.Limit) = refl
-response_sound host there (ask code argument chained) = judged_sound (λ head. []) (opened host) argument chained (admitted (opened host) code argument)
+response_sound host mark (mount volume bind) =
+    chosen KeepsNone host.chain_open _ _ (λ _. refl) (λ _. chosen KeepsNone (is_some host.mounted) _ _ (λ _. refl) (λ _. by_mark KeepsNone host volume bind mark (λ _ _. refl) (λ _. refl)))
+response_sound host mark demount = chosen KeepsNone host.chain_open _ _ (λ _. refl) (λ _. chosen KeepsNone (is_some host.mounted) _ _ (λ _. refl) (λ _. refl))
+response_sound host mark (break cause.Program) = refl
+response_sound host mark (break cause.Limit) = refl
+response_sound host mark (ask code argument chained) = judged_sound (λ head. []) (opened host) argument chained (admitted (opened host) code argument)
 
 -- ---- the host then
 
 -- a command leaves it its volume
-command_mounted : (host : HostState) (there : Bool) (code : ℕ) (argument : List ℕ) (chained : Bool) → (responded host there (ask code argument chained)).1.mounted ≡ host.mounted
+command_mounted : (host : HostState) (mark : Option Bool) (code : ℕ) (argument : List ℕ) (chained : Bool) → (responded host mark (ask code argument chained)).1.mounted ≡ host.mounted
 unfolding responded
-command_mounted host there code argument chained = volume_stays (λ head. []) host code argument chained
+command_mounted host mark code argument chained = volume_stays (λ head. []) host code argument chained
 
 -- another call opens no chain
-module _ (host : HostState) (there : Bool) where
+module _ (host : HostState) (mark : Option Bool) where
   abbrev Keeps : ReplyData × HostState → Type 0
   Keeps r = r.1.chain_open ≡ true → (host.chain_open ≡ true) × (r.1.mounted ≡ host.mounted)
 
-  response_keeps : (call : CallData) → is_command call ≡ false → Keeps (responded host there call)
+  response_keeps : (call : CallData) → is_command call ≡ false → Keeps (responded host mark call)
   unfolding responded
   response_keeps (mount volume bind) no_command =
-      chosen Keeps host.chain_open _ _ (λ _ is. (is, refl)) (λ closed. chosen Keeps (is_some host.mounted) _ _ (λ _ is. (is, refl)) (λ _. chosen Keeps there _ _ (λ _ is. absurd (false≢true (sym closed ∙ is))) (λ _ is. (is, refl))))
+      chosen Keeps host.chain_open _ _ (λ _ is. (is, refl)) (λ closed. chosen Keeps (is_some host.mounted) _ _ (λ _ is. (is, refl)) (λ _. by_mark Keeps host volume bind mark (λ _ _ is. absurd (false≢true (sym closed ∙ is))) (λ _ is. (is, refl))))
   response_keeps demount no_command =
       chosen Keeps host.chain_open _ _ (λ _ is. (is, refl)) (λ closed. chosen Keeps (is_some host.mounted) _ _ (λ _ is. absurd (false≢true (sym closed ∙ is))) (λ _ is. (is, refl)))
   response_keeps (break cause) no_command = λ is. absurd (false≢true is)
@@ -131,6 +132,11 @@ abbrev volume_in : Option (ℕ × Bool) → ℕ
 volume_in None = 0
 volume_in (Some m) = m.0
 
+-- a volume that a mark is known of has a row
+marked_there : (o : Option RowValue) (read_only : Bool) → option_map (λ (row : RowValue). false) o ≡ Some read_only → is_some o ≡ true
+marked_there None read_only is = absurd (none_some read_only is)
+marked_there (Some row) read_only is = refl
+
 abbrev bind_in : Option (ℕ × Bool) → Bool
 bind_in None = false
 bind_in (Some m) = m.1
@@ -145,11 +151,12 @@ module _ {S C : Type 0} (v : CoreValue S C) (host : HostState) where
   Binds r = (volume : ℕ) → r.1.mounted ≡ Some (volume, true) → (host.mounted ≡ Some (volume, true)) ⊎ IsNotTaken v.tasks volume
 
   -- no task takes a frame from the volume that is bound then
-  response_binds : (call : CallData) → is_command call ≡ false → ((volume : ℕ) → would_bind v host call ≡ Some volume → taken_from volume v.tasks ≡ None) → Binds (responded host (is_there v.rows call) call)
+  response_binds : (call : CallData) → is_command call ≡ false → ((volume : ℕ) → would_bind v host call ≡ Some volume → taken_from volume v.tasks ≡ None) → Binds (responded host (mark_in v.rows call) call)
   unfolding responded
   response_binds (mount volume bind) no_command untaken =
-      chosen Binds host.chain_open _ _ (λ _ w is. inl is) (λ closed. chosen Binds (is_some host.mounted) _ _ (λ _ w is. inl is) (λ bare. chosen Binds (is_some (listed v.rows volume)) _ _
-      (λ there w is. inr (subst (IsNotTaken v.tasks) (ap volume_in is) (not_taken volume v.tasks (untaken volume (would volume bind (ap bind_in is) closed bare there))))) (λ _ w is. inl is)))
+      chosen Binds host.chain_open _ _ (λ _ w is. inl is) (λ closed. chosen Binds (is_some host.mounted) _ _ (λ _ w is. inl is) (λ bare. by_mark Binds host volume bind (mark_in v.rows (mount volume bind))
+      (λ read_only marked w is. inr (subst (IsNotTaken v.tasks) (ap volume_in is)
+      (not_taken volume v.tasks (untaken volume (would volume bind (ap bind_in is) closed bare (marked_there (listed v.rows volume) read_only marked)))))) (λ _ w is. inl is)))
   response_binds demount no_command untaken =
       chosen Binds host.chain_open _ _ (λ _ w is. inl is) (λ closed. chosen Binds (is_some host.mounted) _ _ (λ _ w is. absurd (none_some (w, true) is)) (λ _ w is. inl is))
   response_binds (break cause) no_command untaken = λ w is. inl is
@@ -159,20 +166,21 @@ module _ {S C : Type 0} (v : CoreValue S C) (host : HostState) where
   HasRows r = (volume : ℕ) → is_on volume r.1.mounted ≡ true → IsSome (listed v.rows volume)
 
   -- the volume that is mounted then has a row
-  response_has : HasRows (stopped, host) → (call : CallData) → is_command call ≡ false → HasRows (responded host (is_there v.rows call) call)
+  response_has : HasRows (stopped, host) → (call : CallData) → is_command call ≡ false → HasRows (responded host (mark_in v.rows call) call)
   unfolding responded
   response_has had (mount volume bind) no_command =
       chosen HasRows host.chain_open _ _ (λ _. had) (λ closed. chosen HasRows (is_some host.mounted) _ _ (λ _. had)
-      (λ _. chosen HasRows (is_some (listed v.rows volume)) _ _ (λ there w is. ap (λ (n : ℕ). is_some (listed v.rows n)) (sym (eqb-true volume w is)) ∙ there) (λ _. had)))
+      (λ _. by_mark HasRows host volume bind (mark_in v.rows (mount volume bind))
+      (λ read_only marked w is. ap (λ (n : ℕ). is_some (listed v.rows n)) (sym (eqb-true volume w is)) ∙ marked_there (listed v.rows volume) read_only marked) (λ _. had)))
   response_has had demount no_command = chosen HasRows host.chain_open _ _ (λ _. had) (λ closed. chosen HasRows (is_some host.mounted) _ _ (λ _ w is. absurd (false≢true is)) (λ _. had))
   response_has had (break cause) no_command = had
   response_has had (ask code argument chained) no_command = absurd (false≢true (sym no_command))
 
-command_stays : (host : HostState) (there : Bool) (call : CallData) → is_command call ≡ true → (responded host there call).1.mounted ≡ host.mounted
-command_stays host there (ask code argument chained) is = command_mounted host there code argument chained
-command_stays host there (mount volume bind) is = absurd (false≢true is)
-command_stays host there demount is = absurd (false≢true is)
-command_stays host there (break cause) is = absurd (false≢true is)
+command_stays : (host : HostState) (mark : Option Bool) (call : CallData) → is_command call ≡ true → (responded host mark call).1.mounted ≡ host.mounted
+command_stays host mark (ask code argument chained) is = command_mounted host mark code argument chained
+command_stays host mark (mount volume bind) is = absurd (false≢true is)
+command_stays host mark demount is = absurd (false≢true is)
+command_stays host mark (break cause) is = absurd (false≢true is)
 
 -- ---- the entry
 
@@ -183,9 +191,10 @@ agrees_plainly frames rows s e no_space sound answered none = absurd (none answe
 agrees_plainly frames rows s e stopped sound answered none = absurd (false≢true (sym sound))
 agrees_plainly frames rows s e _ sound answered none = tt
 
-serials_of : (o : Option RowValue) → is_some (option_map (λ (x : RowValue). x.serial) o) ≡ is_some o
-serials_of None = refl
-serials_of (Some x) = refl
+-- the rows' volumes have no marks
+marks_of : (o : Option RowValue) → option_map (λ (serial : List ℕ). false) (option_map (λ (x : RowValue). x.serial) o) ≡ option_map (λ (x : RowValue). false) o
+marks_of None = refl
+marks_of (Some x) = refl
 
 module _ {S C : Type 0} (s : SiteLog) (v : CoreValue S C) (told : IsTold s v) (core : IsCore v) (open_ : v.stopped ≡ None) (h : ℕ) (low : IsHost h) (call : CallData)
     (none : data_command (host_at v.hosts h) call ≡ None) (alone : IsAlone (plain_of s v) h call) where
@@ -199,19 +208,19 @@ module _ {S C : Type 0} (s : SiteLog) (v : CoreValue S C) (told : IsTold s v) (c
   here = ap (λ (f : ℕ → HostState). f h) going.hosts_
 
   abbrev r : ReplyData × HostState
-  r = responded (host_at v.hosts h) (is_there v.rows call) call
+  r = responded (host_at v.hosts h) (mark_in v.rows call) call
 
-  -- a volume is there in the plain state where it has a row
-  there_is : (k : CallData) → there_for (plain_of s v).volumes.serial k ≡ is_there v.rows k
-  there_is (mount volume bind) =
-      ap (λ (vs : Volumes). is_some (vs.serial volume)) (sym going.shows)
-      ∙ ap (λ (rows : RowsOf). is_some (option_map (λ (x : RowValue). x.serial) (rows volume))) going.rows_ ∙ serials_of (listed v.rows volume)
-  there_is _ = refl
+  -- a volume of the plain state has a mark where it has a row
+  mark_is : (k : CallData) → mark_for (plain_of s v).volumes k ≡ mark_in v.rows k
+  mark_is (mount volume bind) =
+      ap (λ (vs : Volumes). mark_for vs (mount volume bind)) (sym going.shows)
+      ∙ ap (λ (rows : RowsOf). option_map (λ (serial : List ℕ). false) (option_map (λ (x : RowValue). x.serial) (rows volume))) going.rows_ ∙ marks_of (listed v.rows volume)
+  mark_is _ = refl
 
-  answer_is : plain (plain_of s v) h call ≡ with_response (plain_of s v) h (responded (host_at v.hosts h) (is_there v.rows call) call)
+  answer_is : plain (plain_of s v) h call ≡ with_response (plain_of s v) h (responded (host_at v.hosts h) (mark_in v.rows call) call)
   answer_is =
       call_responds st h call (needs_none (st.host h) call (ap (λ (x : HostState). data_command x call) here ∙ none))
-      ∙ (λ i. with_response st h (responded (here i) (there_is call i) call))
+      ∙ (λ i. with_response st h (responded (here i) (mark_is call i) call))
 
   abbrev e : EntryData
   e = entry_of v.history h call r.0 None
@@ -219,11 +228,11 @@ module _ {S C : Type 0} (s : SiteLog) (v : CoreValue S C) (told : IsTold s v) (c
   may : IsNextEntry st (count_of_host h v.history) e × (next st e ≡ (plain st h call).1)
   may = plain_entry st (count_of_host h v.history) e (sym (ap (λ (p : ReplyData × State). p.0) answer_is)) refl refl alone
 
-  pub response_enters : Enters v.config.frames v.rows (plain_of s v) v.history (entry_of v.history h call (responded (host_at v.hosts h) (is_there v.rows call) call).0 None)
-      (put_host v.hosts h (responded (host_at v.hosts h) (is_there v.rows call) call).1) v.tasks s s
+  pub response_enters : Enters v.config.frames v.rows (plain_of s v) v.history (entry_of v.history h call (responded (host_at v.hosts h) (mark_in v.rows call) call).0 None)
+      (put_host v.hosts h (responded (host_at v.hosts h) (mark_in v.rows call) call).1) v.tasks s s
   response_enters =
       enters_by S s v told core open_ h low call None r.0 r.1 (may.0, may.1 ∙ ap (λ (p : ReplyData × State). p.1) answer_is)
-      (agrees_plainly v.config.frames (listed v.rows) st e r.0 (response_sound (host_at v.hosts h) (is_there v.rows call) call) may.0.answered
+      (agrees_plainly v.config.frames (listed v.rows) st e r.0 (response_sound (host_at v.hosts h) (mark_in v.rows call) call) may.0.answered
       (no_data st h call (ap (λ (x : HostState). data_command x call) here ∙ none)))
 
 -- ---- the core then
@@ -235,11 +244,11 @@ module _ {S C : Type 0} (tells : Type 0) (s : SiteLog) (v : CoreValue S C) (whol
   abbrev host : HostState
   host = host_at v.hosts h
 
-  abbrev there : Bool
-  there = is_there v.rows call
+  abbrev mark : Option Bool
+  mark = mark_in v.rows call
 
   abbrev after_ : HostState
-  after_ = (responded host there call).1
+  after_ = (responded host mark call).1
 
   or_false : (a : Bool) → (a || false) ≡ a
   or_false true = refl
@@ -249,32 +258,32 @@ module _ {S C : Type 0} (tells : Type 0) (s : SiteLog) (v : CoreValue S C) (whol
   mine_plainly : is_command call ≡ false → (volume : ℕ) → (is_on volume after_.mounted && (after_.chain_open || asks_for volume None)) ≡ true → (other : ℕ) → owns v.hosts v.requests other volume ≡ true → other ≡ h
   mine_plainly kind volume is other theirs =
       let parts = and_parts (is_on volume after_.mounted) (after_.chain_open || false) is in
-      let kept = response_keeps host there call kind (sym (or_false after_.chain_open) ∙ parts.1) in
+      let kept = response_keeps host mark call kind (sym (or_false after_.chain_open) ∙ parts.1) in
       let on_it : is_on volume host.mounted ≡ true = ap (is_on volume) (sym kept.1) ∙ parts.0 in
       core_.alone volume other h theirs (and_from _ _ on_it (ap (λ (b : Bool). b || asks_for volume (request_of v.requests h)) kept.0))
 
-  response_owes : Owes tells s v h call None (responded (host_at v.hosts h) (is_there v.rows call) call).0 (responded (host_at v.hosts h) (is_there v.rows call) call).1
+  response_owes : Owes tells s v h call None (responded (host_at v.hosts h) (mark_in v.rows call) call).0 (responded (host_at v.hosts h) (mark_in v.rows call) call).1
   response_owes = record {
     mine = elim (cases_Bool (is_command call)) [
-      | inl is ↦ mine_still v h (on.free is) after_ (command_stays host there call is)
+      | inl is ↦ mine_still v h (on.free is) after_ (command_stays host mark call is)
       | inr is ↦ mine_plainly is
     ];
     binds = elim (cases_Bool (is_command call)) [
-      | inl is ↦ λ volume bound. inl (sym (command_stays host there call is) ∙ bound)
+      | inl is ↦ λ volume bound. inl (sym (command_stays host mark call is) ∙ bound)
       | inr is ↦ response_binds v host call is on.binds
     ];
     has = elim (cases_Bool (is_command call)) [
-      | inl is ↦ λ volume at. core_.fit.mounted_ h volume (ap (is_on volume) (sym (command_stays host there call is)) ∙ at)
+      | inl is ↦ λ volume at. core_.fit.mounted_ h volume (ap (is_on volume) (sym (command_stays host mark call is)) ∙ at)
       | inr is ↦ response_has v host (core_.fit.mounted_ h) call is
     ];
     enters = λ tl. let told = whole.told tl in response_enters s v told core_ on.goes.going h low call on.none (alone_there s v (told.going on.goes.going) h call on.free);
-    keeps = ((λ some_. absurd (false≢true some_)), (λ keeps. absurd (false≢true (sym (response_sound host there call) ∙ keeps))));
-    goes_on = unstopped (responded host there call).0 (response_sound host there call);
+    keeps = ((λ some_. absurd (false≢true some_)), (λ keeps. absurd (false≢true (sym (response_sound host mark call) ∙ keeps))));
+    goes_on = unstopped (responded host mark call).0 (response_sound host mark call);
     from = λ kept none. absurd (none_some kept none);
   }
 
 pub upheld_response : {S C : Type 0} (tells : Type 0) (s : SiteLog) (writes faults : ℕ) (v : CoreValue S C) → IsUpheld tells s writes faults v → (tells → writes ≡ length s.log) → (h : ℕ) → IsHost h → (call : CallData)
-    → OnResponse v h call → IsUpheld tells s writes faults (after_answer v writes h call None (responded (host_at v.hosts h) (is_there v.rows call) call))
+    → OnResponse v h call → IsUpheld tells s writes faults (after_answer v writes h call None (responded (host_at v.hosts h) (mark_in v.rows call) call))
 upheld_response tells s writes faults v is counts h low call on =
-    let r = responded (host_at v.hosts h) (is_there v.rows call) call in
+    let r = responded (host_at v.hosts h) (mark_in v.rows call) call in
     upheld_reply tells s writes faults v is counts on.goes h low on.quiet call None r.0 r.1 (response_owes tells s v is.whole h low call on)

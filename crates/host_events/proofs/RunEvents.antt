@@ -100,7 +100,7 @@ here_is w y h v c d is =
 
 -- volumes with the track that is there
 one_same : (V : Volumes) (v c h : ℕ) (track : List RecordData) → track ≡ V.track v c h → with_track V v c h track ≡ V
-one_same V v c h track is = ap (λ (t : ℕ → ℕ → ℕ → List RecordData). let x : Volumes = record { serial = V.serial; track = t } in x)
+one_same V v c h track is = ap (λ (t : ℕ → ℕ → ℕ → List RecordData). let x : Volumes = record { serial = V.serial; read_only = V.read_only; track = t } in x)
     (fun_ext (λ (v' : ℕ). fun_ext (λ (c' : ℕ). fun_ext (λ (h' : ℕ). there v' c' h'))))
   where
     there : (v' c' h' : ℕ) → cond ((v' == v) && (c' == c) && (h' == h)) track (V.track v' c' h') ≡ V.track v' c' h'

@@ -2,7 +2,7 @@
 ghost use Rattle.std.specs.Prelude.{◌≡◌, IfOk};
 ghost use Rattle.channel_commands.specs.Views.{call_of, reply_of};
 ghost use Rattle.ckd_plain.specs.Plain.{NeedsNoTrack, responded};
-ghost use Rattle.core_state.specs.HostEvents.{is_there};
+ghost use Rattle.core_state.specs.HostEvents.{mark_in};
 ghost use Rattle.core_state.specs.HostRules.{host_rule};
 ghost use Rattle.core_state.specs.declared.rule.HostRule.TheVariants.{Responds};
 ghost use Rattle.host_events.specs.Answers.{HostStep};
@@ -19,30 +19,34 @@ use std::alloc::Global;
 use victim_choice::Choose;
 use volume_table::Rows;
 
-/// Whether the volume that a call asks for is there.
-fn is_there(rows: &Rows, call: &Call) -> bool
-    ensures { result ≡ is_there rows.now (call_of call.now) }
+/// Whether the volume that a call asks for is read-only; None where it isn't there. No row has a
+/// mark yet.
+fn mark_of(rows: &Rows, call: &Call) -> Option<bool>
+    ensures { result ≡ mark_in rows.now (call_of call.now) }
 {
-    match call {
-        Call::Mount { volume, .. } => rows.row(*volume).is_some(),
-        _ => false,
+    let Call::Mount { volume, .. } = call else {
+        return None;
+    };
+    match rows.row(*volume) {
+        Some(_) => Some(false),
+        None => None,
     }
 }
 
-/// The reply to a call that needs no track, and the host then; `there` says whether the volume that
-/// the call asks for is there.
+/// The reply to a call that needs no track, and the host then; `mark` says whether the volume that
+/// the call asks for is read-only, where it is there.
 fn response(
     alloc: Global,
     host: &HostState,
-    there: bool,
+    mark: Option<bool>,
     call: &Call,
 ) -> Result<(Reply, HostState), NoMemory>
     requires { NeedsNoTrack host.now (call_of call.now) }
     ensures { IfOk result (λ answer. (reply_of answer.0, answer.1)
-        ≡ responded host.now there (call_of call.now)) }
+        ≡ responded host.now mark (call_of call.now)) }
 {
     let Call::Command(command) = call else {
-        return Ok(respond(host, there, call));
+        return Ok(respond(host, mark, call));
     };
     let mut now = *host;
     let reply = respond_command(alloc, command, &mut now)?;
@@ -62,8 +66,8 @@ pub fn reply_plainly<S: Site, C: Choose>(
     ensures site { core.new.site ≡ core.old.site }
 {
     let state = host_at(core.hosts.as_slice(), host);
-    let there = is_there(&core.rows, call);
-    let Ok((told, now)) = response(core.alloc, &state, there, call) else {
+    let mark = mark_of(&core.rows, call);
+    let Ok((told, now)) = response(core.alloc, &state, mark, call) else {
         return HostAnswer::Memory;
     };
     reply(core, host, call, told, None, &now)

@@ -1,7 +1,7 @@
 // The rows: both copies of each are read.
 ghost use Rattle.std.specs.Prelude.{◌≡◌, ◌≢◌, ◌++◌, IfOk, OnOk};
 ghost use Rattle.mss_base.specs.Content.{content};
-ghost use Rattle.ckd_plain.specs.Plain.{serial_in};
+ghost use Rattle.mss_restart.specs.Serials.{serial_in};
 ghost use Rattle.volume_table.specs.Listed.{listed};
 ghost use Rattle.table_pair.specs.Copies.{copy_at};
 ghost use Rattle.table_pair.specs.Pair.{read_of, row_of, unread};

@@ -6,7 +6,7 @@ use Rattle.std.proofs.lemmas.List.{get_or_past}
 use Rattle.mss_base.specs.Configs.{ConfigData, VolumeData}
 use Rattle.mss_base.specs.Content.{Content, SiteLog, Settles, content, Writes}
 use Rattle.mss_base.proofs.Moments.{then_firm, weaker, ended_with}
-use Rattle.ckd_plain.specs.Plain.{serial_in}
+use Rattle.mss_restart.specs.Serials.{serial_in}
 use Rattle.ckd_track.specs.Data.{Volumes}
 use Rattle.volume_table.specs.Row.{RowValue}
 use Rattle.table_pair.specs.Pair.{known}

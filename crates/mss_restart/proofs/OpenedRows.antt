@@ -4,7 +4,7 @@ use Rattle.std.specs.Prelude.{is_some}
 use Rattle.std.specs.List.{AllByRecursion}
 use Rattle.std.proofs.lemmas.Bool.{cases_Bool, cond-true, cond-false, ne_eqb, eqb-true, eq-eqb}
 use Rattle.mss_base.specs.Configs.{VolumeData}
-use Rattle.ckd_plain.specs.Plain.{serial_in}
+use Rattle.mss_restart.specs.Serials.{serial_in}
 use Rattle.volume_table.specs.Row.{RowValue}
 use Rattle.shown_volumes.specs.Shown.{RowsOf}
 use Rattle.shown_volumes.specs.Sound.{HasSerialsAsked}

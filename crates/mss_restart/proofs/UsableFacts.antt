@@ -9,7 +9,7 @@ use Rattle.std.proofs.lemmas.List.{get_or-replicate, get_or_past, length-replica
 use Rattle.mss_base.specs.Configs.{ConfigData, VolumeData, IsVolume, IsConfig}
 use Rattle.mss_base.specs.Firsts.{first_below}
 use Rattle.mss_base.proofs.FirstFacts.{none_below, none_where}
-use Rattle.ckd_plain.specs.Plain.{serial_in}
+use Rattle.mss_restart.specs.Serials.{serial_in}
 use Rattle.volume_table.specs.Row.{RowValue, frame_of}
 use Rattle.shown_volumes.specs.Shown.{RowsOf}
 use Rattle.shown_volumes.specs.Sound.{cartridge_of, frame_in, HasCartridgesOnce, HasSerialsAsked}

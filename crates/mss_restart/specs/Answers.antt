@@ -4,7 +4,7 @@ use Rattle.mss_base.specs.Configs.{ConfigData}
 use Rattle.mss_base.specs.Content.{Content, SiteLog, content, Writes}
 use Rattle.mss_base.specs.Counts.{IsFaultSince, IsFaultWithin}
 use Rattle.mss_base.specs.declared.site.Site.{Ghosts}
-use Rattle.ckd_plain.specs.Plain.{serial_in}
+use Rattle.mss_restart.specs.Serials.{serial_in}
 use Rattle.shown_volumes.specs.declared.refused.Refused.{Refused}
 use Rattle.shown_volumes.specs.declared.refused.Refused.TheVariants.{RowUnread, Stopped, Memory}
 use Rattle.shown_volumes.specs.Shown.{RowsOf, rows_in, rows_of, shown}

@@ -1,3 +1,4 @@
+pub mod Serials
 pub mod Walks
 pub mod Usable
 pub mod Survey

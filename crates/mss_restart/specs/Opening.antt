@@ -2,7 +2,7 @@
 use Rattle.std.specs.Prelude.{◌≡◌, ◌<◌, ℕ, false, if◌then◌else◌, List, [], ◌∷◌, ◌++◌, length, Option, Some, None, is_some, Result, Ok, Err}
 use Rattle.mss_base.specs.Content.{Content}
 use Rattle.mss_base.specs.Configs.{ConfigData, VolumeData}
-use Rattle.ckd_plain.specs.Plain.{serial_in}
+use Rattle.mss_restart.specs.Serials.{serial_in}
 use Rattle.ckd_track.specs.Data.{Volumes}
 use Rattle.volume_table.specs.Row.{RowValue, blank_row}
 use Rattle.table_pair.specs.Pair.{HoldsRow, known, row_of}

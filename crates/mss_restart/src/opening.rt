@@ -2,7 +2,7 @@
 ghost use Rattle.std.specs.Prelude.{◌≡◌, ◌≤◌, ◌<◌, ℕ, [], Ok, None, OnOk, IfOk, IfErr, length};
 ghost use Rattle.mss_base.specs.Content.{content, Writes};
 ghost use Rattle.mss_base.specs.Sites.{OnlyReads};
-ghost use Rattle.ckd_plain.specs.Plain.{serial_in};
+ghost use Rattle.mss_restart.specs.Serials.{serial_in};
 ghost use Rattle.shown_volumes.specs.Shown.{shown, rows_of};
 ghost use Rattle.shown_volumes.specs.Sound.{IsSound};
 ghost use Rattle.shown_volumes.specs.Faults.{first_fault};

@@ -1,7 +1,7 @@
 // The walk over the rows: each is read by the table of two copies, and its serial compared.
 ghost use Rattle.std.specs.Prelude.{◌≡◌, ◌≤◌, ℕ, List, Option, None, Err, IfOk};
 ghost use Rattle.mss_base.specs.Content.{content};
-ghost use Rattle.ckd_plain.specs.Plain.{serial_in};
+ghost use Rattle.mss_restart.specs.Serials.{serial_in};
 ghost use Rattle.mss_base.specs.Sites.{OnlyReads};
 ghost use Rattle.table_pair.specs.Pair.{RowReading};
 ghost use Rattle.table_pair.specs.Reads.{Tells, KeepsCount, MissesNone};

@@ -14,7 +14,7 @@ use Rattle.ckd_plain.specs.Data.{State}
 use Rattle.ckd_plain.specs.Plain.{Answer, Replied, plain, fresh_host, with_host, with_track, written_to, written_there, written_mounted, run, tracks_under, tracks_mounted}
 use Rattle.plain_machine.specs.Outcomes.{cylinder_of, written_in, Answers}
 use Rattle.ckd_plain.specs.Views.{Responds}
-use Rattle.plain_machine.specs.StateData.{VolumeData, StateData, state_of, AnswersOn, volume_at, track_of, volumes_of, hosts_of}
+use Rattle.plain_machine.specs.StateData.{VolumeData, StateData, state_of, AnswersOn, volume_at, is_read_only, track_of, volumes_of, hosts_of}
 
 pub host_set : (hosts : List HostState) (h : ℕ) (x : HostState) → h < length hosts
     → hosts_of (slice_set hosts h x) ≡ (λ (other : ℕ). cond (other == h) x (hosts_of hosts other))
@@ -24,12 +24,18 @@ host_set hosts h x lt = fun_ext (λ (other : ℕ). elim (eqb_tells other h) [
 ])
 
 module _ (volumes : List (Option VolumeData)) (v c h : ℕ) (old new : VolumeData) (track : List RecordData)
-    (v-in : v < length volumes) (there : volume_at volumes v ≡ Some old) (same : new.serial ≡ old.serial)
+    (v-in : v < length volumes) (there : volume_at volumes v ≡ Some old) (same : new.serial ≡ old.serial) (marked : new.read_only ≡ old.read_only)
     (c-in : c < length old.cylinders) (h-in : h < length (slice_index_or old.cylinders c []))
     (written : new.cylinders ≡ slice_set old.cylinders c (slice_set (slice_index_or old.cylinders c []) h track)) where
   serial_stays : (v' : ℕ) → option_map (λ (x : VolumeData). x.serial) (volume_at (slice_set volumes v (Some new)) v') ≡ option_map (λ (x : VolumeData). x.serial) (volume_at volumes v')
   serial_stays v' = elim (eqb_tells v' v) [
     | inl t ↦ rw (t.1, get_or-set_same volumes v (Some new) None v-in, there, same) refl
+    | inr t ↦ rw (get_or-set_other volumes v v' (Some new) None t.1) refl
+  ]
+
+  mark_stays : (v' : ℕ) → is_read_only (volume_at (slice_set volumes v (Some new)) v') ≡ is_read_only (volume_at volumes v')
+  mark_stays v' = elim (eqb_tells v' v) [
+    | inl t ↦ rw (t.1, get_or-set_same volumes v (Some new) None v-in, there, marked) refl
     | inr t ↦ rw (get_or-set_other volumes v v' (Some new) None t.1) refl
   ]
 
@@ -49,16 +55,11 @@ module _ (volumes : List (Option VolumeData)) (v c h : ℕ) (old new : VolumeDat
   ]
 
   pub track_set : volumes_of (slice_set volumes v (Some new)) ≡ with_track (volumes_of volumes) v c h track
-  track_set =
-      let serials : (volumes_of (slice_set volumes v (Some new))).serial ≡ (volumes_of volumes).serial = fun_ext serial_stays in
-      let tracks : (volumes_of (slice_set volumes v (Some new))).track ≡ (with_track (volumes_of volumes) v c h track).track =
-      fun_ext (λ (v' : ℕ). fun_ext (λ (c' : ℕ). fun_ext (λ (h' : ℕ). track_there v' c' h'))) in
-      ap (λ (s : ℕ → Option (List ℕ)). let w : Volumes = record { serial = s; track = (volumes_of (slice_set volumes v (Some new))).track } in w) serials
-      ∙ ap (λ (t : ℕ → ℕ → ℕ → List RecordData). let w : Volumes = record { serial = (volumes_of volumes).serial; track = t } in w) tracks
+  track_set = λ i. record { serial = λ v'. serial_stays v' i; read_only = λ v'. mark_stays v' i; track = λ v' c' h'. track_there v' c' h' i }
 
 module _ (volumes : List (Option VolumeData)) (v : ℕ) (bind : Bool) (from : HostState) (old new : VolumeData)
     (mounted : from.mounted ≡ Some (v, bind)) (v-in : v < length volumes) (there : volume_at volumes v ≡ Some old)
-    (same : new.serial ≡ old.serial) (c-in : from.cylinder < length old.cylinders) (h-in : from.head < length (slice_index_or old.cylinders from.cylinder [])) where
+    (same : new.serial ≡ old.serial) (marked : new.read_only ≡ old.read_only) (c-in : from.cylinder < length old.cylinders) (h-in : from.head < length (slice_index_or old.cylinders from.cylinder [])) where
   cylinder : List (List RecordData)
   cylinder = slice_index_or old.cylinders from.cylinder []
 
@@ -68,14 +69,14 @@ module _ (volumes : List (Option VolumeData)) (v : ℕ) (bind : Bool) (from : Ho
   volumes_written None e =
       let stays : written_to (volumes_of volumes) from None ≡ volumes_of volumes = ap (λ (m : Option (ℕ × Bool)). written_mounted (volumes_of volumes) m from None) mounted in
       let cylinders : new.cylinders ≡ old.cylinders = e ∙ set-get_or old.cylinders from.cylinder [] in
-      let whole : new ≡ old = ap (λ (s : List ℕ). let w : VolumeData = record { serial = s; cylinders = new.cylinders } in w) same ∙ ap (λ (cs : List (List (List RecordData))). let w : VolumeData = record { serial = old.serial; cylinders = cs } in w) cylinders in
+      let whole : new ≡ old = (λ i. record { serial = same i; read_only = marked i; cylinders = cylinders i }) in
       let kept : slice_set volumes v (Some new) ≡ volumes = ap (λ (x : VolumeData). slice_set volumes v (Some x)) whole ∙ ap (λ (x : Option VolumeData). slice_set volumes v x) (sym there) ∙ set-get_or volumes v None in
       ap volumes_of kept ∙ sym stays
   volumes_written (Some track) e =
       let serial : (volumes_of volumes).serial v ≡ Some old.serial = ap (λ (x : Option VolumeData). option_map (λ (y : VolumeData). y.serial) x) there in
       let definition : written_to (volumes_of volumes) from (Some track) ≡ with_track (volumes_of volumes) v from.cylinder from.head track =
       ap (λ (m : Option (ℕ × Bool)). written_mounted (volumes_of volumes) m from (Some track)) mounted ∙ ap (λ (o : Option (List ℕ)). written_there (volumes_of volumes) v from o track) serial in
-      track_set volumes v from.cylinder from.head old new track v-in there same c-in h-in e ∙ sym definition
+      track_set volumes v from.cylinder from.head old new track v-in there same marked c-in h-in e ∙ sym definition
 
   pub answers_on : (code : ℕ) (argument : List ℕ) (chained : Bool) (host : HostState) (reply : Reply)
       → new.cylinders ≡ slice_set old.cylinders from.cylinder (slice_index_or new.cylinders from.cylinder [])

@@ -1,5 +1,5 @@
 -- What a plain state keeps, and the state that it stands for.
-use Rattle.std.specs.Prelude.{◌≡◌, ℕ, List, [], length, slice_index_or, Option, Some, None, option_map}
+use Rattle.std.specs.Prelude.{◌≡◌, ℕ, Bool, false, List, [], length, slice_index_or, Option, Some, None, option_map}
 use Rattle.channel_commands.specs.declared.call.Reply.{Reply}
 use Rattle.channel_commands.specs.Views.{reply_of}
 use Rattle.mss_base.specs.declared.numbers.TheConstants.{CYLINDERS}
@@ -8,9 +8,10 @@ use Rattle.ckd_plain.specs.declared.host.HostState.{HostState}
 use Rattle.ckd_plain.specs.Data.{State}
 use Rattle.ckd_plain.specs.Plain.{Answer, fresh_host, written_to}
 
--- a volume: its serial, and its tracks by cylinder and head
+-- a volume: its serial, whether it is read-only, and its tracks by cylinder and head
 pub record VolumeData : Type 0 where
   pub serial : List ℕ
+  pub read_only : Bool
   pub cylinders : List (List (List RecordData))
 
 -- hosts and volumes, each at the place of its number
@@ -21,6 +22,11 @@ pub record StateData : Type 0 where
 abbrev pub volume_at : List (Option VolumeData) → ℕ → Option VolumeData
 volume_at volumes v = slice_index_or volumes v None
 
+-- whether a volume is there that is read-only
+abbrev pub is_read_only : Option VolumeData → Bool
+is_read_only None = false
+is_read_only (Some volume) = volume.read_only
+
 abbrev pub track_of : Option VolumeData → ℕ → ℕ → List RecordData
 track_of None c h = []
 track_of (Some volume) c h = slice_index_or (slice_index_or volume.cylinders c []) h []
@@ -28,6 +34,7 @@ track_of (Some volume) c h = slice_index_or (slice_index_or volume.cylinders c [
 abbrev pub volumes_of : List (Option VolumeData) → Volumes
 volumes_of volumes = record {
   serial = λ v. option_map (λ (x : VolumeData). x.serial) (volume_at volumes v);
+  read_only = λ v. is_read_only (volume_at volumes v);
   track = λ v c h. track_of (volume_at volumes v) c h;
 }
 

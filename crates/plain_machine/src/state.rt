@@ -1,8 +1,8 @@
 // The state of the plain machine, and its step.
-ghost use Rattle.std.specs.Prelude.{◌≡◌, ◌≢◌, ◌<◌, [], length, replicate, slice_set, is_some, AllPairs, IfOk, OnErr, IsNone, IfSome, ◌↔◌, None, Some, false};
+ghost use Rattle.std.specs.Prelude.{◌≡◌, ◌≢◌, ◌<◌, [], length, replicate, slice_set, option_map, AllPairs, IfOk, OnErr, IsNone, IfSome, ◌↔◌, None, Some, false};
 ghost use Rattle.channel_commands.specs.Data.{is_command};
 ghost use Rattle.channel_commands.specs.Views.{asked_of, call_of, reply_of};
-ghost use Rattle.ckd_plain.specs.Plain.{plain, there_for, with_host, start_of, blank_volumes, fresh_host};
+ghost use Rattle.ckd_plain.specs.Plain.{plain, mark_for, with_host, start_of, blank_volumes, fresh_host};
 ghost use Rattle.plain_machine.specs.StateData.{state_of};
 
 use crate::volume::{PlainVolume, run_under};
@@ -56,14 +56,20 @@ impl PlainState {
         self.volumes[usize::from(number.get())] = Some(volume);
     }
 
-    /// These volumes, whose numbers differ, without records; no host has mounted one.
-    pub fn blank(alloc: Global, volumes: &[(VolumeNo, Serial)]) -> Result<PlainState, NoMemory>
+    /// A state of these volumes, each without records, and of hosts that have mounted none.
+    ///
+    /// A volume is its number, its serial, and whether it is read-only; the numbers differ. On a read-only volume each
+    /// write is file protected, so its tracks stay blank.
+    pub fn blank(
+        alloc: Global,
+        volumes: &[(VolumeNo, Serial, bool)],
+    ) -> Result<PlainState, NoMemory>
         requires { AllPairs (λ a b. a.0 ≢ b.0) volumes.now }
         ensures { IfOk result (λ s. state_of s ≡ start_of (blank_volumes volumes.now)) }
     {
         let mut state = PlainState::empty(alloc)?;
-        for (number, serial) in volumes {
-            state.put(*number, PlainVolume::blank(alloc, *serial)?);
+        for (number, serial, read_only) in volumes {
+            state.put(*number, PlainVolume::blank(alloc, *serial, *read_only)?);
         }
         Ok(state)
     }
@@ -96,19 +102,25 @@ impl PlainState {
         self.hosts[usize::from(host.get())] = new;
     }
 
-    fn has_volume(&self, volume: VolumeNo) -> bool
-        ensures { result ≡ is_some ((state_of self.now).volumes.serial volume) }
+    /// Whether a volume is read-only, where it is there.
+    fn mark(&self, volume: VolumeNo) -> Option<bool>
+        ensures { result ≡ option_map
+            (λ serial. (state_of self.now).volumes.read_only volume)
+            ((state_of self.now).volumes.serial volume) }
     {
-        self.volumes[usize::from(volume.get())].is_some()
+        match &self.volumes[usize::from(volume.get())] {
+            Some(kept) => Some(kept.is_read_only()),
+            None => None,
+        }
     }
 
-    /// Whether the volume that a call asks for is there.
-    fn is_there(&self, call: &Call) -> bool
-        ensures { result ≡ there_for (state_of self.now).volumes.serial (call_of call.now) }
+    /// Whether the volume that a call asks for is read-only, where it is there.
+    fn mark_of(&self, call: &Call) -> Option<bool>
+        ensures { result ≡ mark_for (state_of self.now).volumes (call_of call.now) }
     {
         match call {
-            Call::Mount { volume, .. } => self.has_volume(*volume),
-            _ => false,
+            Call::Mount { volume, .. } => self.mark(*volume),
+            _ => None,
         }
     }
 
@@ -119,8 +131,8 @@ impl PlainState {
         ensures { (reply_of result, state_of self.new)
             ≡ plain (state_of self.old) host (call_of call.now) }
     {
-        let there = self.is_there(call);
-        let (reply, now) = respond(self.host(host), there, call);
+        let mark = self.mark_of(call);
+        let (reply, now) = respond(self.host(host), mark, call);
         self.set_host(host, now);
         reply
     }

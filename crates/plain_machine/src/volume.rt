@@ -70,10 +70,11 @@ impl CylinderTracks {
     }
 }
 
-/// A volume: its serial and its cylinders.
+/// A volume: its serial, whether it is read-only, and its cylinders.
 #[derive(Drop)]
 pub struct PlainVolume {
     serial: Serial,
+    read_only: bool,
     cylinders: Vec<CylinderTracks>,
 }
 
@@ -83,23 +84,35 @@ impl Model for PlainVolume {
 
     ghost Value = { VolumeData };
 
-    ghost view = { λ v. record { serial = v.serial; cylinders = v.cylinders.items } };
+    ghost view = { λ v. record
+        { serial = v.serial; read_only = v.read_only; cylinders = v.cylinders.items } };
 
     ghost invariant = { λ v. HasCylinders (record
-        { serial = v.serial; cylinders = v.cylinders.items }) };
+        { serial = v.serial; read_only = v.read_only; cylinders = v.cylinders.items }) };
 }
 
 impl PlainVolume {
-    /// A volume without records.
-    pub fn blank(alloc: Global, serial: Serial) -> Result<PlainVolume, NoMemory>
+    /// A volume without records, read-only or not.
+    pub fn blank(alloc: Global, serial: Serial, read_only: bool) -> Result<PlainVolume, NoMemory>
         ensures serial { IfOk result (λ v. v.serial ≡ serial) }
+        ensures read_only { IfOk result (λ v. v.read_only ≡ read_only) }
         ensures cylinders { IfOk result (λ v. v.cylinders ≡ replicate CYLINDERS (replicate HEADS [])) }
     {
         let mut cylinders = Vec::new(alloc);
         for _ in 0..CYLINDERS {
             cylinders.push(CylinderTracks::blank(alloc)?)?;
         }
-        Ok(PlainVolume { serial, cylinders })
+        Ok(PlainVolume {
+            serial,
+            read_only,
+            cylinders,
+        })
+    }
+
+    pub fn is_read_only(&self) -> bool
+        ensures { result ≡ self.now.read_only }
+    {
+        self.read_only
     }
 
     pub fn track(&self, cylinder: Cylinder, head: Head) -> &Track
@@ -117,6 +130,7 @@ impl PlainVolume {
         command: &DeviceCommand,
     ) -> Result<Reply, NoMemory>
         ensures serial { self.new.serial ≡ self.old.serial }
+        ensures read_only { self.new.read_only ≡ self.old.read_only }
         ensures cylinders { let c = host.old.cylinder in
             self.new.cylinders ≡ slice_set self.old.cylinders c (slice_index_or self.new.cylinders c []) }
         ensures answer { let old = slice_index_or self.old.cylinders host.old.cylinder [] in

@@ -1,7 +1,7 @@
 -- What a session begins with, and which histories are legal from there.
-use Rattle.std.specs.Prelude.{ℕ, List, [], None}
+use Rattle.std.specs.Prelude.{List, []}
 use Rattle.ckd_plain.specs.Data.{State}
-use Rattle.ckd_plain.specs.Plain.{fresh_host}
+use Rattle.ckd_plain.specs.Plain.{blank_volumes, start_of}
 use Rattle.ckd_plain.specs.History.{EntryData, IsLegal}
 
 -- whether the site tells, and the plain state that it showed when the session began
@@ -13,7 +13,7 @@ pub record OpeningData : Type 1 where
 abbrev pub no_opening : OpeningData
 no_opening = record {
   tells = ⊥;
-  state = record { volumes = record { serial = λ volume. None; track = λ volume cylinder head. [] }; host = λ host. fresh_host };
+  state = start_of (blank_volumes []);
 }
 
 -- where the site tells, the history is legal from the state at the start

@@ -15,7 +15,7 @@ use Rattle.core_state.specs.declared.session.Event.TheVariants.{Host}
 use Rattle.core_state.specs.declared.rule.HostRule.{HostRule}
 use Rattle.core_state.specs.declared.rule.HostRule.TheVariants.{Marks, Responds, HasFailed, HasNoSpace, Runs}
 use Rattle.core_state.specs.CoreValue.{CoreData}
-use Rattle.core_state.specs.HostEvents.{HostTold, replied, halts, at_limit, no_memory, IsSame, Holds, Asks, is_there, response, equipment, exception, HostEvent}
+use Rattle.core_state.specs.HostEvents.{HostTold, replied, halts, at_limit, no_memory, IsSame, Holds, Asks, mark_in, response, equipment, exception, HostEvent}
 use Rattle.core_state.specs.HostRules.{request_for, host_rule}
 use Rattle.core_state.specs.IsCore.{IsCore}
 use Rattle.core_state.specs.Pins.{host_at, put_host, page_of}
@@ -24,6 +24,7 @@ use Rattle.core_state.proofs.ChainKept.{run_keeps}
 use Rattle.core_state.proofs.HostFacts.{host_same}
 use Rattle.core_state.proofs.RuleWalks.{none_some}
 use Rattle.host_events.proofs.EventLeaves.{going}
+use Rattle.host_events.proofs.Mounts.{by_mark}
 use Rattle.host_events.proofs.Outcomes.{IsMarked, EachOutcome, outcome}
 use Rattle.serial_driver.proofs.ChainedOn.{ChainsOn}
 use Rattle.host_events.proofs.RuleFacts.{IsLate, rule_goes, rule_stopped, rule_marks, OnMark}
@@ -34,14 +35,14 @@ use Rattle.host_events.proofs.RuleFacts.{IsLate, rule_goes, rule_stopped, rule_m
 same_chain : (host : HostState) (b : Bool) (r s : ReplyData × HostState) → r.1.chain_open ≡ host.chain_open → s.1.chain_open ≡ host.chain_open → (cond b r s).1.chain_open ≡ host.chain_open
 same_chain host b r s here there = cond_both b r s (λ (p : ReplyData × HostState). p.1.chain_open ≡ host.chain_open) (λ _. here) (λ _. there)
 
-responds_chain : (host : HostState) (there : Bool) (call : CallData) → (responded host there call).1.chain_open ≡ true → ChainsOn host call (responded host there call).0
+responds_chain : (host : HostState) (mark : Option Bool) (call : CallData) → (responded host mark call).1.chain_open ≡ true → ChainsOn host call (responded host mark call).0
 unfolding responded
-responds_chain host there (mount volume bind) open_ =
-    sym (same_chain host host.chain_open _ _ refl (same_chain host (is_some host.mounted) _ _ refl (same_chain host there _ _ refl refl))) ∙ open_
-responds_chain host there demount open_ =
+responds_chain host mark (mount volume bind) open_ =
+    sym (same_chain host host.chain_open _ _ refl (same_chain host (is_some host.mounted) _ _ refl (by_mark (λ (p : ReplyData × HostState). p.1.chain_open ≡ host.chain_open) host volume bind mark (λ _ _. refl) (λ _. refl)))) ∙ open_
+responds_chain host mark demount open_ =
     sym (same_chain host host.chain_open _ _ refl (same_chain host (is_some host.mounted) _ _ refl refl)) ∙ open_
-responds_chain host there (break cause) open_ = absurd (false≢true open_)
-responds_chain host there (ask code argument chained) open_ =
+responds_chain host mark (break cause) open_ = absurd (false≢true open_)
+responds_chain host mark (ask code argument chained) open_ =
     let keeps = run_keeps (λ head. []) host code argument chained in
     (keeps.asked open_, keeps.smooth open_)
 
@@ -135,7 +136,7 @@ module _ (tells : Type 0) (core : CoreData) (kept : core.stopped ≡ None → Is
       moves = λ cylinder same is. quietly _ (same_quiet same) (λ s. s) (λ s. s);
       holds = λ frame held is. quietly _ (held_quiet held) (λ s. s) (λ s. s);
       responds = λ it is. by_reply Responds is tt (response core h call) (response core h call).0 (length core.history) (ap (λ c. c.stopped) it.1) (ap (λ c. c.hosts) it.1) (ap (λ c. c.requests) it.1)
-          (responds_chain (host_at core.hosts h) (is_there core.rows call) call);
+          (responds_chain (host_at core.hosts h) (mark_in core.rows call) call);
       fails = λ fault it is. by_reply (HasFailed fault) is tt (equipment core h) equipment_check (length core.history) (ap (λ c. c.stopped) it.1) (ap (λ c. c.hosts) it.1) (ap (λ c. c.requests) it.1) (λ open_. absurd (false≢true open_));
       is_full = λ it is. by_reply HasNoSpace is tt (exception check.NoSpace no_space core h) no_space (length core.history) (ap (λ c. c.stopped) it.1) (ap (λ c. c.hosts) it.1) (ap (λ c. c.requests) it.1) (λ open_. absurd (false≢true open_));
       asks = λ volume cylinder it is. quietly _ (asked_quiet volume cylinder it) (λ s. s) (λ s. s);

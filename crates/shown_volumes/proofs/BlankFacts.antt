@@ -108,10 +108,13 @@ module _ (frames : ℕ) (c : Content) (v first second : ℕ) (serial : List ℕ)
       at_row (rows_of c) v new (λ w o. option_map (λ q. q.serial) o ≡ cond (w == v) (Some serial) ((shown c).serial w))
       (sym (cond-true (v == v) (Some serial) ((shown c).serial v) (eq-eqb v v refl))) (λ w other. sym (cond-false (w == v) (Some serial) ((shown c).serial w) other))
 
+  mark_is : (w : ℕ) → (shown_by rows c).read_only w ≡ (with_blank v serial (shown c)).read_only w
+  mark_is w = elim (w == v) as (λ (b : Bool). false ≡ cond b false false) [ true ↦ refl | false ↦ refl ]
+
   track_is : (y h w : ℕ) → track_at c (option_and_then (λ q. source q y h) (rows w)) ≡ (with_blank v serial (shown c)).track w y h
   track_is y h =
       at_row (rows_of c) v new (λ w o. track_at c (option_and_then (λ q. source q y h) o) ≡ cond (w == v) [] ((shown c).track w y h))
       (ap (track_at c) (no_source y h) ∙ sym (cond-true (v == v) [] ((shown c).track v y h) (eq-eqb v v refl))) (λ w other. sym (cond-false (w == v) [] ((shown c).track w y h) other))
 
   pub blank_shown : shown_by rows c ≡ with_blank v serial (shown c)
-  blank_shown = λ i. record { serial = λ w. serial_is w i; track = λ w y h. track_is y h w i }
+  blank_shown = λ i. record { serial = λ w. serial_is w i; read_only = λ w. mark_is w i; track = λ w y h. track_is y h w i }

@@ -109,7 +109,7 @@ module _ (frames : ℕ) (c d : Content) (sound : IsSound frames c) (v y h f : �
   shows_written : shown d ≡ with_track (shown c) v y h put
   shows_written =
       ap (λ (rows : RowsOf). shown_by rows d) (rows_same c d told)
-      ∙ ap (λ (t : ℕ → ℕ → ℕ → List RecordData). let x : Volumes = record { serial = (shown c).serial; track = t } in x) (fun_ext (λ (w : ℕ). fun_ext (λ (a : ℕ). fun_ext (λ (b : ℕ). track_is w a b))))
+      ∙ ap (λ (t : ℕ → ℕ → ℕ → List RecordData). let x : Volumes = record { serial = (shown c).serial; read_only = (shown c).read_only; track = t } in x) (fun_ext (λ (w : ℕ). fun_ext (λ (a : ℕ). fun_ext (λ (b : ℕ). track_is w a b))))
 
   sound_here : IsSoundTrack d r y h
   sound_here = record {

@@ -85,7 +85,7 @@ module _ (frames : ℕ) (c : Content) (v : ℕ) (r : RowValue) (sound : IsSound 
           (past y h ∙ sym (ap (λ (o : Option RowValue). track_at c (option_and_then (λ q. source q y h) o)) there)) (λ w other. refl)
 
       shown_same : shown_by rows c ≡ shown c
-      shown_same = λ i. record { serial = λ w. serial_same w i; track = λ w y h. track_same y h w i }
+      shown_same = λ i. record { serial = λ w. serial_same w i; read_only = λ w. false; track = λ w y h. track_same y h w i }
 
       tracks : (w y h : ℕ) → y < 404 → h < 19 → ForSome (rows w) (λ q. IsSoundTrack c q y h)
       tracks w y h y_low h_low =

@@ -56,6 +56,7 @@ module _ (c d : Content) where
     pub shown_over : shown_by rows d ≡ shown_by rows c
     shown_over = λ i. record {
       serial = λ v. option_map (λ r. r.serial) (rows v);
+      read_only = λ v. false;
       track = λ v y h. track_same (option_and_then (λ r. source r y h) (rows v)) (source_same v y h (rows v) refl) i;
     }
 

@@ -50,10 +50,11 @@ pub record IsFresh (volume first second : ℕ) (c : Content) : Type 0 where
   pub apart : first ≢ second
   pub unnamed : (v : ℕ) (r : RowValue) → rows_of c v ≡ Some r → (r.first ≢ first) × (r.second ≢ first) × (r.first ≢ second) × (r.second ≢ second)
 
--- volumes with a blank one more
+-- volumes with a blank one more, which isn't read-only
 abbrev pub with_blank : ℕ → List ℕ → Volumes → Volumes
 with_blank volume serial volumes = record {
   serial = λ v. if v == volume then Some serial else volumes.serial v;
+  read_only = λ v. if v == volume then false else volumes.read_only v;
   track = λ v cylinder head. if v == volume then [] else volumes.track v cylinder head;
 }
 

@@ -1,5 +1,5 @@
 -- The volumes that a content shows.
-use Rattle.std.specs.Prelude.{◌≡◌, ℕ, ◌/◌, ◌==◌, nat_lt, Bool, true, ◌&&◌, ◌||◌, if◌then◌else◌, List, [], Option, Some, None}
+use Rattle.std.specs.Prelude.{◌≡◌, ℕ, ◌/◌, ◌==◌, nat_lt, Bool, true, false, ◌&&◌, ◌||◌, if◌then◌else◌, List, [], Option, Some, None}
 use Rattle.std.specs.Option.{option_map, option_and_then}
 use Rattle.mss_base.specs.declared.numbers.TheConstants.{CYLINDERS, HEADS}
 use Rattle.mss_base.specs.Content.{Content}
@@ -61,10 +61,11 @@ abbrev pub track_at : Content → Option BlockPlace → List RecordData
 track_at c None = []
 track_at c (Some place) = (reading (block_at c place)).records
 
--- what these rows show over a content
+-- what these rows show over a content; no row makes its volume read-only
 abbrev pub shown_by : RowsOf → Content → Volumes
 shown_by rows c = record {
   serial = λ volume. option_map (λ r. r.serial) (rows volume);
+  read_only = λ volume. false;
   track = λ volume cylinder head. track_at c (option_and_then (λ r. source r cylinder head) (rows volume));
 }
 

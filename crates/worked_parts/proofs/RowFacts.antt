@@ -2,13 +2,13 @@
 use Rattle.std.proofs.Common.{◌≡◌, ℕ, false, List, [], ◌∷◌, refl, sym, subst, Some, None}
 use Rattle.channel_commands.specs.Data.{CallData, ReplyData, mount, demount, mounted, demounted}
 use Rattle.ckd_plain.specs.Data.{State}
-use Rattle.ckd_plain.specs.Plain.{fresh_host, plain, responded}
+use Rattle.ckd_plain.specs.Plain.{plain, responded, start_of}
 use Rattle.ckd_plain.specs.History.{EntryData, IsLegal, next}
 use Rattle.seen_book.specs.Openings.{OpeningData, IsLegalFrom}
 
 -- each volume is there, with blank tracks, and no host has called
 abbrev pub blank_volumes : State
-blank_volumes = record { volumes = record { serial = λ v. Some []; track = λ v c h. [] }; host = λ h. fresh_host }
+blank_volumes = start_of (record { serial = λ v. Some []; read_only = λ v. false; track = λ v c h. [] })
 
 abbrev pub told : ℕ → ℕ → CallData → ReplyData → EntryData
 told host number call reply = record { host = host; number = number; call = call; reply = reply; fault = None }

@@ -1,7 +1,7 @@
 // Two hosts, and what each call answers.
-ghost use Rattle.std.specs.Prelude.{◌≡◌, [], Contains, None};
+ghost use Rattle.std.specs.Prelude.{◌≡◌, [], Contains, None, Some, false};
 ghost use Rattle.channel_commands.specs.Views.{call_of, reply_of};
-ghost use Rattle.ckd_plain.specs.Plain.{fresh_host};
+ghost use Rattle.ckd_plain.specs.Plain.{start_of};
 
 use channel_commands::{Call, Reply};
 use ckd_plain::Entry;
@@ -39,7 +39,8 @@ fn row<N: Name + Send + Sync>(
     requires word { blank ≡ N.table }
     requires hosts { Contains N.hosts one × Contains N.hosts two }
     requires differ { (one ≡ 1) × (two ≡ 2) }
-    requires state { N.opening.state ≡ record { volumes = record { serial = λ v. Some []; track = λ v c h. [] }; host = λ h. fresh_host } }
+    requires state { N.opening.state ≡ start_of (record
+        { serial = λ v. Some []; read_only = λ v. false; track = λ v c h. [] }) }
 {
     let (word, book) = start_book::<N>(blank);
     let (book, first) = host_pass(&word, book, one);

@@ -144,7 +144,7 @@ fn part_is_so(
     before: &str,
     part: &str,
 ) -> Option<bool> {
-    let mut host = HostState::fresh().with_volume(VolumeNo::of(0)?, false);
+    let mut host = HostState::fresh().with_volume(VolumeNo::of(0)?, false, false);
     let is_begun = lines_are_so(alloc, bench, buffer, &mut host, before);
     Some(is_begun && lines_are_so(alloc, bench, buffer, &mut host, part))
 }

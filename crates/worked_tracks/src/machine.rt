@@ -38,9 +38,23 @@ const COMMANDS: &str = "\
 04 - 0C 002000000000000000000000000000000000000000000000
 FF - 0E";
 
-fn blank(alloc: Global) -> Option<PlainState> {
+/// On a read-only volume a write is file protected, though its search was met. The host goes on to read and search, and
+/// finds the track as it was.
+const PROTECTED: &str = "\
+07 000000050003 0C
+31 0005000300 4C
+1D 00050003010200034B31414243 0E
+04 - 0C 000400000000000000000000000000000000000000000000
+07 000000050003 0C
+1A - 0C 0000050003
+31 0005000300 4C
+31 0005000301 0C
+12 - 0E
+04 - 0C 000800000000000000000000000000000000000000000000";
+
+fn blank(alloc: Global, read_only: bool) -> Option<PlainState> {
     let (volume, serial) = (VolumeNo::of(0)?, Serial::of(*b"VOL001")?);
-    PlainState::blank(alloc, &[(volume, serial)]).ok()
+    PlainState::blank(alloc, &[(volume, serial, read_only)]).ok()
 }
 
 fn mount(alloc: Global, state: &mut PlainState, host: HostNo) -> Option<bool> {
@@ -76,8 +90,13 @@ fn is_answered(alloc: Global, state: &mut PlainState, host: HostNo, line: &str) 
 }
 
 /// The first line that is answered otherwise.
-fn first_otherwise(alloc: Global, state: &mut PlainState, host: HostNo) -> &'static str {
-    for line in COMMANDS.lines() {
+fn first_otherwise<'a>(
+    alloc: Global,
+    state: &mut PlainState,
+    host: HostNo,
+    lines: &'a str,
+) -> &'a str {
+    for line in lines.lines() {
         if is_answered(alloc, state, host, line) != Some(true) {
             return line;
         }
@@ -85,14 +104,19 @@ fn first_otherwise(alloc: Global, state: &mut PlainState, host: HostNo) -> &'sta
     "none"
 }
 
-fn answers(alloc: Global) -> Option<&'static str> {
+fn answers(alloc: Global, read_only: bool, lines: &str) -> Option<&str> {
     let host = HostNo::of(1)?;
-    let mut state = blank(alloc)?;
+    let mut state = blank(alloc, read_only)?;
     mount(alloc, &mut state, host)?;
-    Some(first_otherwise(alloc, &mut state, host))
+    Some(first_otherwise(alloc, &mut state, host, lines))
 }
 
 #[test]
 fn the_plain_machine_answers_commands(rt: HostRuntime) {
-    assert_eq!(rt; answers(rt.alloc()), Some("none"));
+    assert_eq!(rt; answers(rt.alloc(), false, COMMANDS), Some("none"));
+}
+
+#[test]
+fn the_plain_machine_protects_read_only_volumes(rt: HostRuntime) {
+    assert_eq!(rt; answers(rt.alloc(), true, PROTECTED), Some("none"));
 }

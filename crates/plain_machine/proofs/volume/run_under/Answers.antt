@@ -15,5 +15,5 @@ returns-in-Some-volumes-clause-answer c =
     let there : volume_at c.args.volumes.now c.from.result ≡ Some c.in-Some-volumes.volume = get_or_default c.args.volumes.now c.from.result None c.index-volumes-from.result inside ∙ c.in-Some-volumes.is in
     IfOk-weaker c.run.result _ _ (λ reply a.
     answers_on c.args.volumes.now c.from.result c.in-Some.field-0-1 c.args.host.now c.in-Some-volumes.volume c.run.new.self
-    mounted inside there c.run.ensures.serial c.run.ensures.place c.run.ensures.head
+    mounted inside there c.run.ensures.serial c.run.ensures.read_only c.run.ensures.place c.run.ensures.head
     _ _ _ c.run.new.host reply c.run.ensures.cylinders a) c.run.ensures.answer
