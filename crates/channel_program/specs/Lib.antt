@@ -1,4 +1,3 @@
 pub mod Script
 pub mod Views
-pub mod Calls
 pub mod Items

@@ -1,24 +1,14 @@
-//! The next call of a program, as a call that its caller owns.
-ghost use Rattle.std.specs.Prelude.{◌≡◌, IfOk, OnErr};
-ghost use Rattle.std.specs.Option.{option_map};
-ghost use Rattle.channel_commands.specs.Data.{is_command};
-ghost use Rattle.channel_commands.specs.Views.{call_of, reply_of};
+// A program's command, as a call that its caller owns.
+ghost use Rattle.std.specs.Prelude.{◌≡◌, IfOk};
+ghost use Rattle.channel_commands.specs.Views.{call_of};
 ghost use Rattle.channel_program.specs.Script.{Standing, next_call};
-ghost use Rattle.channel_program.specs.Views.{standing_of, HoldsCommand, IsNextCommand};
-ghost use Rattle.channel_program.specs.Calls.{GoesOn, NextIs};
+ghost use Rattle.channel_program.specs.Views.{HoldsCommand, IsNextCommand};
 
-use crate::cursor::{Cursor, NextCall, command_at, next};
+use crate::cursor::command_at;
 use crate::program::Program;
-use channel_commands::{BreakCause, Call, DeviceCommand, Reply};
+use channel_commands::{Call, DeviceCommand};
 use mss_base::{Bytes, NoMemory};
 use std::alloc::Global;
-
-/// Whether a call is a command. After a break, a mount or a demount no program goes on.
-pub fn is_command(call: &Call) -> bool
-    ensures { result ≡ is_command (call_of call.now) }
-{
-    matches!(call, Call::Command(_))
-}
 
 /// A copy of the command at a word.
 pub fn command_call(
@@ -38,34 +28,4 @@ pub fn command_call(
         argument,
         chained,
     }))
-}
-
-/// The next call of a program, after the reply to its last; none where it is finished. With no last reply the program
-/// starts at word 0.
-///
-/// Want of memory says that there is a further call. The cursor then is of no use.
-pub fn next_call(
-    alloc: Global,
-    program: &Program,
-    cursor: &mut Cursor,
-    last: Option<&Reply>,
-) -> Result<Option<Call>, NoMemory>
-    ensures next { let reply = option_map (λ reply. reply_of reply.now) last.entry in
-        let at = standing_of program.now cursor.old reply in
-        IfOk result (λ call. NextIs program.now at cursor.new (option_map call_of call)) }
-    ensures memory { let reply = option_map (λ reply. reply_of reply.now) last.entry in
-        OnErr result (GoesOn program.now (standing_of program.now cursor.old reply)) }
-{
-    Ok(match next(program, cursor, last) {
-        NextCall::Ended => None,
-        NextCall::ProgramCheck => Some(Call::Break {
-            cause: BreakCause::Program,
-        }),
-        NextCall::ChainLimit => Some(Call::Break {
-            cause: BreakCause::Limit,
-        }),
-        NextCall::Command { word, chained } => {
-            Some(command_call(alloc, program, word, chained)?)
-        }
-    })
 }

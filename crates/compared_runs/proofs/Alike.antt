@@ -19,7 +19,7 @@ use Rattle.ckd_plain.specs.History.{EntryData}
 use Rattle.job_runs.specs.Runs.{FollowScripts, FollowToEnd}
 use Rattle.job_text.specs.Jobs.{JobData, ScriptData}
 use Rattle.plain_sessions.specs.Sessions.{plain_start}
-use Rattle.serial_driver.specs.Scripts.{exchanges_of, not_begun, script_of}
+use Rattle.script_places.specs.Scripts.{exchanges_of, not_begun, script_of}
 use Rattle.serial_driver.specs.declared.answer.DriveAnswer.{DriveAnswer}
 use Rattle.serial_driver.specs.declared.answer.DriveAnswer.TheVariants.{CommandLimit, Done}
 use Rattle.serial_driver.specs.Drives.{IsFull}

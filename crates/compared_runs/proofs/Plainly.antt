@@ -12,7 +12,7 @@ use Rattle.ckd_plain.specs.History.{EntryData, IsAnswered, IsLegalAfter, keeps_f
 use Rattle.ckd_plain.specs.Plain.{mark_for, mounted_by, plain, responded, tracks_under}
 use Rattle.ckd_plain.proofs.CommandFacts.{volume_stays}
 use Rattle.ckd_plain.proofs.HostFacts.{host_itself, other_stays}
-use Rattle.serial_driver.specs.Scripts.{exchanges_of}
+use Rattle.script_places.specs.Scripts.{exchanges_of}
 use Rattle.core_state.specs.Counted.{fault_at}
 use Rattle.core_state.specs.Agrees.{AllAgree, EntryAgrees}
 use Rattle.shown_volumes.specs.Shown.{RowsOf}

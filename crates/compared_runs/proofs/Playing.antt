@@ -5,7 +5,7 @@ use Rattle.std.specs.List.{AllByRecursion}
 use Rattle.channel_commands.specs.declared.call.BreakCause.TheVariants as cause
 use Rattle.channel_commands.specs.Data.{CallData, mount, demount, command, break, ReplyData, CcwData}
 use Rattle.channel_program.specs.Script.{ItemData, mounting, demounting, program, Exchange, Reached, Standing, at_start, next_call, call_for, is_last, reached, moved, Runs, Gives, Follows, FollowsToEnd, CHAIN_LIMIT}
-use Rattle.serial_driver.specs.Scripts.{Left, Plays, left_after, left_by, next_of, not_begun, program_left}
+use Rattle.script_places.specs.Scripts.{Left, Plays, left_after, left_by, next_of, not_begun, program_left}
 use Rattle.compared_runs.specs.Same.{BindsNone}
 
 -- a list of calls was played, and what is left then has Q

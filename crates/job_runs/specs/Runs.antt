@@ -21,7 +21,7 @@ use Rattle.core_restart.specs.Begins.{Begins}
 use Rattle.core_restart.specs.Opening.{OpensSynced, Restarts, opened_in}
 use Rattle.plain_sessions.specs.Sessions.{BeganOver, IsPlainSession, StopsAnywhere, plain_volumes}
 use Rattle.serial_driver.specs.Drives.{IsFull, RunsOn}
-use Rattle.serial_driver.specs.Scripts.{exchanges_of, script_of}
+use Rattle.script_places.specs.Scripts.{exchanges_of, script_of}
 use Rattle.serial_driver.specs.declared.answer.DriveAnswer.{DriveAnswer}
 use Rattle.serial_driver.specs.declared.answer.DriveAnswer.TheVariants as ended
 use Rattle.session_report.specs.Answers.{Answer, IsPut, SinkCounts}

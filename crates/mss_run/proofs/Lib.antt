@@ -1,6 +1,6 @@
 pub mod EventFacts
 pub mod AnswerFacts
 pub mod OwnPlaces
-pub mod Asking
+pub mod WalkFacts
 pub mod RunFacts
 pub mod GoingOn

@@ -5,4 +5,4 @@ pub mod Presence
 pub mod Answers
 pub mod Owns
 pub mod Runs
-pub mod Programs
+pub mod Walks

@@ -3,8 +3,7 @@ use Rattle.std.specs.Prelude.{◌≡◌, ◌⊎◌, ◌<◌, ◌≤◌, ℕ, ◌
 use Rattle.channel_commands.specs.Data.{CallData, ReplyData, stopped}
 use Rattle.channel_commands.specs.Views.{reply_of}
 use Rattle.channel_commands.specs.declared.call.Reply.{Reply}
-use Rattle.channel_program.specs.Items.{GivesSince}
-use Rattle.channel_program.specs.Script.{Exchange, ItemData}
+use Rattle.channel_program.specs.Script.{Exchange}
 use Rattle.ckd_plain.specs.History.{EntryData, IsStopped}
 use Rattle.seen_book.specs.Books.{PassData}
 use Rattle.seen_book.specs.Entries.{entries_of}
@@ -108,13 +107,3 @@ pub record IsUnanswered (call : CallData) (p q : PassData) : Type 0 where
 abbrev pub Makes : CallData → PassData → Option Reply → PassData → Type 0
 Makes call p (Some reply) q = IsAnswered call (reply_of reply) p q
 Makes call p None q = IsUnanswered call p q
-
--- ---- what comes of an item
-
--- what the host asked since then is of the item: all of it, where the host was told of all
-abbrev pub AreAsked : ItemData → List Exchange → List Exchange → Bool → Type 0
-AreAsked item old new true = GivesSince item old new true
-AreAsked item old new false = (whole : Bool) × GivesSince item old new whole
-
-abbrev pub AsksSince : ItemData → PassData → PassData → Bool → Type 0
-AsksSince item p q finished = AreAsked item (asked_by p) (asked_by q) finished

@@ -7,7 +7,7 @@ use Rattle.channel_commands.specs.Data.{CallData, mount, demount, command, break
 use Rattle.channel_program.specs.Script.{ItemData, mounting, demounting, program, Standing, Reached, next_call, call_for, reached, moved, word_from, word_from_standing, word_after, is_last, has_modifier, CHAIN_LIMIT}
 use Rattle.ckd_plain.specs.declared.host.HostState.{HostState}
 use Rattle.ckd_plain.specs.Plain.{IsSmooth}
-use Rattle.serial_driver.specs.Scripts.{next_of, program_left, left_by}
+use Rattle.script_places.specs.Scripts.{next_of, program_left, left_by}
 use Rattle.serial_driver.specs.Drives.{IsInProgram}
 
 -- the host's chain was open already, or the call kept it open

@@ -8,8 +8,8 @@ use Rattle.job_text.specs.Jobs.{IsScript as IsJobScript}
 use Rattle.ckd_plain.specs.History.{EntryData}
 use Rattle.core_state.specs.CoreValue.{CoreValue}
 use Rattle.fault_queue.specs.Requests.{RequestsData, request_of}
-use Rattle.serial_driver.specs.declared.place.Place.{Place}
-use Rattle.serial_driver.specs.Scripts.{not_begun, Plays, script_of, exchanges_of}
+use Rattle.script_places.specs.declared.place.Place.{Place}
+use Rattle.script_places.specs.Scripts.{not_begun, Plays, script_of, exchanges_of}
 use Rattle.serial_driver.specs.Drives.{IsScript, AllStand, IsDriven, IsUnused}
 
 all_scripts : (volumes : List VolumeData) (ss : List ScriptData) → AllByRecursion (IsJobScript volumes) ss → AllByRecursion IsScript ss

@@ -21,11 +21,11 @@ use Rattle.host_events.specs.Leaves.{LeavesOthers, EntersAsTold, AddsEntry, Keep
 use Rattle.host_events.specs.Causes.{CauseOf}
 use Rattle.host_events.proofs.CauseFacts.{has_cause}
 use Rattle.host_events.proofs.EventLeaves.{enters, leaves_others}
-use Rattle.serial_driver.specs.declared.place.Place.{Place}
-use Rattle.serial_driver.specs.Places.{StandsAt}
-use Rattle.serial_driver.specs.Scripts.{Left, not_begun, next_of, left_after, left_behind, Plays, script_of, exchanges_of, left_of, calls_of}
+use Rattle.script_places.specs.declared.place.Place.{Place}
+use Rattle.script_places.specs.Places.{StandsAt}
+use Rattle.script_places.specs.Scripts.{Left, not_begun, next_of, left_after, left_behind, Plays, script_of, exchanges_of, left_of, calls_of}
 use Rattle.serial_driver.specs.Drives.{IsScript, AllStand, HasMore, IsDriven, IsFull, Halts}
-use Rattle.serial_driver.proofs.ScriptFacts.{left_after-push, Plays-push, ended_has_none}
+use Rattle.script_places.proofs.ScriptFacts.{left_after-push, Plays-push, ended_has_none}
 use Rattle.serial_driver.proofs.ScriptPlaces.{others_entry, its_own, stand_set}
 use Rattle.serial_driver.proofs.ChainedOn.{open_goes_on}
 use Rattle.serial_driver.proofs.HostFacts.{HostFacts, LeavesHost, StopsAs, host_facts}

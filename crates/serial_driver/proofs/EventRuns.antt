@@ -14,7 +14,7 @@ use Rattle.core_state.specs.CoreValue.{CoreData, seen}
 use Rattle.serial_driver.specs.declared.answer.DriveAnswer.{DriveAnswer}
 use Rattle.serial_driver.specs.declared.answer.DriveAnswer.TheVariants.{Done}
 use Rattle.serial_driver.specs.Answers.{of_last}
-use Rattle.serial_driver.specs.Scripts.{Left, not_begun, next_of, left_by, left_after, script_of, exchanges_of, calls_of}
+use Rattle.script_places.specs.Scripts.{Left, not_begun, next_of, left_by, left_after, script_of, exchanges_of, calls_of}
 use Rattle.core_state.proofs.Later.{later_none, later_then}
 use Rattle.serial_driver.specs.Drives.{DriveValue, EventTakes, Halts, Leaves, RunsEvents}
 use Rattle.serial_driver.proofs.ChainFacts.{of_last-cons, host_goes, host_ends, work_goes, work_last}

@@ -18,10 +18,10 @@ use Rattle.host_events.proofs.RuleFacts.{core_seen}
 use Rattle.core_state.proofs.Later.{later_none}
 use Rattle.serial_driver.specs.declared.answer.DriveAnswer.{DriveAnswer}
 use Rattle.serial_driver.specs.declared.answer.DriveAnswer.TheVariants.{Done, Stopped, CommandLimit, Memory}
-use Rattle.serial_driver.specs.declared.place.Place.{Place}
+use Rattle.script_places.specs.declared.place.Place.{Place}
 use Rattle.serial_driver.specs.Answers.{IsUnstopped}
-use Rattle.serial_driver.specs.Places.{StandsAt}
-use Rattle.serial_driver.specs.Scripts.{Left, not_begun, next_of, left_after, left_behind, Plays, script_of, exchanges_of, left_of, calls_of}
+use Rattle.script_places.specs.Places.{StandsAt}
+use Rattle.script_places.specs.Scripts.{Left, not_begun, next_of, left_after, left_behind, Plays, script_of, exchanges_of, left_of, calls_of}
 use Rattle.serial_driver.specs.Drives.{HostTakes, HasMore, IsDriven, IsFull, Halts}
 use Rattle.serial_driver.proofs.ScriptPlaces.{script_at, stand_at, stand_set, as_many}
 use Rattle.serial_driver.proofs.DriveFacts.{nothing_behind, host_driven, host_halts, host_full, host_cause}

@@ -1,5 +1,3 @@
-pub mod ScriptFacts
-pub mod PlaceFacts
 pub mod ChainFacts
 pub mod ScriptPlaces
 pub mod ChainedOn

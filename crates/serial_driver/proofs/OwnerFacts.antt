@@ -13,12 +13,12 @@ use Rattle.job_text.specs.Jobs.{ScriptData}
 use Rattle.core_state.specs.CoreValue.{CoreValue, seen}
 use Rattle.core_state.specs.Pins.{host_at, is_on, asks_for}
 use Rattle.core_progress.specs.Progress.{HasCall, OwnersCall}
-use Rattle.serial_driver.specs.declared.place.Place.{Place}
-use Rattle.serial_driver.specs.Places.{StandsAt, KnowsItem}
-use Rattle.serial_driver.specs.Scripts.{Left, not_begun, next_of, left_after, script_of, exchanges_of, left_of, calls_of}
+use Rattle.script_places.specs.declared.place.Place.{Place}
+use Rattle.script_places.specs.Places.{StandsAt, KnowsItem}
+use Rattle.script_places.specs.Scripts.{Left, not_begun, next_of, left_after, script_of, exchanges_of, left_of, calls_of}
 use Rattle.serial_driver.specs.Drives.{AllStand, IsInProgram, IsDriven}
 use Rattle.serial_driver.proofs.EventRuns.{left_nothing}
-use Rattle.serial_driver.proofs.PlaceFacts.{says_call}
+use Rattle.script_places.proofs.PlaceFacts.{says_call}
 
 pub a_call : (o : Option CallData) → is_some o ≡ true → (call : CallData) × (o ≡ Some call)
 a_call None is = absurd (false≢true is)

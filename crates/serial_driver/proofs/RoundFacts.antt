@@ -19,7 +19,7 @@ use Rattle.host_events.proofs.RuleFacts.{core_seen}
 use Rattle.serial_driver.specs.declared.answer.DriveAnswer.{DriveAnswer}
 use Rattle.serial_driver.specs.declared.answer.DriveAnswer.TheVariants.{Done}
 use Rattle.serial_driver.specs.Answers.{of_host, of_last}
-use Rattle.serial_driver.specs.Scripts.{script_of, calls_of}
+use Rattle.script_places.specs.Scripts.{script_of, calls_of}
 use Rattle.serial_driver.specs.Drives.{DriveValue, IsScript, AreScripts, Leaves, HostTakes, recorders_of, hosts_of, SettlesIt, HostsTurn, NoneCalls, RunsToEnd}
 use Rattle.serial_driver.specs.Turns.{RunFalls}
 use Rattle.serial_driver.proofs.ChainFacts.{not_end, of_last-append, host_goes, host_ends, hosts_then, hosts_halted, settles_then, settles_halted}

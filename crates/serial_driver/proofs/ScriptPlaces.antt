@@ -9,11 +9,11 @@ use Rattle.std.proofs.lemmas.Map.Keys.{IsDistinct-head, IsDistinct-tail}
 use Rattle.channel_program.specs.Script.{Exchange}
 use Rattle.ckd_plain.specs.History.{EntryData}
 use Rattle.job_text.specs.Jobs.{ScriptData}
-use Rattle.serial_driver.specs.declared.place.Place.{Place}
-use Rattle.serial_driver.specs.Places.{StandsAt}
-use Rattle.serial_driver.specs.Scripts.{not_begun, left_after, script_of, exchanges_of}
+use Rattle.script_places.specs.declared.place.Place.{Place}
+use Rattle.script_places.specs.Places.{StandsAt}
+use Rattle.script_places.specs.Scripts.{not_begun, left_after, script_of, exchanges_of}
 use Rattle.serial_driver.specs.Drives.{hosts_of, AllStand}
-use Rattle.serial_driver.proofs.ScriptFacts.{exchanges_of-append}
+use Rattle.script_places.proofs.ScriptFacts.{exchanges_of-append}
 
 -- ---- entries of a host
 

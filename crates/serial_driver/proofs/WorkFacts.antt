@@ -26,9 +26,9 @@ use Rattle.host_events.proofs.RuleFacts.{core_seen}
 use Rattle.work_events.specs.WorkLaws.{AnswerSays}
 use Rattle.work_events.proofs.Outcomes.{Outcome, Restates, outcome}
 use Rattle.work_events.proofs.WorkLawFacts.{answer_says, is_later}
-use Rattle.serial_driver.specs.declared.place.Place.{Place}
+use Rattle.script_places.specs.declared.place.Place.{Place}
 use Rattle.serial_driver.specs.Answers.{of_work}
-use Rattle.serial_driver.specs.Scripts.{not_begun, left_of, Plays, script_of, exchanges_of}
+use Rattle.script_places.specs.Scripts.{not_begun, left_of, Plays, script_of, exchanges_of}
 use Rattle.serial_driver.specs.Drives.{AllStand, HasMore, IsDriven, Halts}
 use Rattle.serial_driver.specs.declared.answer.DriveAnswer.TheVariants as answer
 

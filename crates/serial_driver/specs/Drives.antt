@@ -28,10 +28,10 @@ use Rattle.core_state.specs.declared.session.TheConstants.{ENTRY_LIMIT}
 use Rattle.serial_driver.specs.Answers.{of_host, of_work, of_last}
 use Rattle.serial_driver.specs.declared.answer.DriveAnswer.{DriveAnswer}
 use Rattle.serial_driver.specs.declared.answer.DriveAnswer.TheVariants.{Done, Stopped, CommandLimit}
-use Rattle.serial_driver.specs.declared.place.Place.{Place}
-use Rattle.serial_driver.specs.Places.{StandsAt}
-use Rattle.serial_driver.specs.Scripts.{Left, not_begun, next_of, left_after, Plays, script_of}
-use Rattle.serial_driver.specs.Scripts.{exchanges_of, left_of, calls_of}
+use Rattle.script_places.specs.declared.place.Place.{Place}
+use Rattle.script_places.specs.Places.{StandsAt}
+use Rattle.script_places.specs.Scripts.{Left, not_begun, next_of, left_after, Plays, script_of}
+use Rattle.script_places.specs.Scripts.{exchanges_of, left_of, calls_of}
 
 -- a core, and what each host of the job is to do
 pub record DriveValue (S C : Type 0) : Type 0 where

@@ -13,7 +13,7 @@ use Rattle.serial_driver.specs.declared.answer.DriveAnswer.TheVariants.{Done}
 use Rattle.serial_driver.specs.declared.turn.Turn.{Turn}
 use Rattle.serial_driver.specs.Answers.{of_last}
 use Rattle.serial_driver.specs.Drives.{recorders_of, hosts_of}
-use Rattle.serial_driver.specs.Scripts.{calls_of}
+use Rattle.script_places.specs.Scripts.{calls_of}
 use Rattle.job_text.specs.Jobs.{ScriptData}
 
 -- behind a turn no event is left; it tells whether all were idle

@@ -3,7 +3,7 @@ ghost use Rattle.std.specs.Prelude.{◌≡◌, ◌<◌, ◌+◌, ℕ, length};
 ghost use Rattle.channel_program.specs.Script.{FollowsToEnd};
 ghost use Rattle.core_state.specs.CoreValue.{seen};
 ghost use Rattle.serial_driver.specs.declared.answer.DriveAnswer.TheVariants.{Done};
-ghost use Rattle.serial_driver.specs.Scripts.{script_of, exchanges_of};
+ghost use Rattle.script_places.specs.Scripts.{script_of, exchanges_of};
 
 use crate::answer::DriveAnswer;
 use crate::drive::{Drive, answer_of};

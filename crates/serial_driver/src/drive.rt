@@ -8,15 +8,15 @@ ghost use Rattle.job_text.specs.Jobs.{ScriptData};
 ghost use Rattle.serial_driver.specs.Answers.{of_work};
 ghost use Rattle.std.specs.List.{AllByRecursion};
 ghost use Rattle.serial_driver.specs.Drives.{AllStand, IsNumberOf};
-ghost use Rattle.serial_driver.specs.Places.{StandsAt};
-ghost use Rattle.serial_driver.specs.Scripts.{calls_of, script_of, exchanges_of, not_begun};
+ghost use Rattle.script_places.specs.Places.{StandsAt};
+ghost use Rattle.script_places.specs.Scripts.{calls_of, script_of, exchanges_of, not_begun};
 
 use crate::answer::DriveAnswer;
 use crate::host::{call_host, look};
-use crate::place::{Place, entered, has_call};
 use core_state::{Core, Event, WorkAnswer};
 use job_text::{HostScript, Job};
 use mss_base::{HostNo, NoMemory, RecorderNo, Site};
+use script_places::{Place, entered, has_call};
 use std::alloc::Global;
 use std::marker::Model;
 use victim_choice::Choose;

@@ -10,17 +10,17 @@ ghost use Rattle.host_events.specs.Answers.{told_of};
 ghost use Rattle.job_text.specs.Views.{item_of};
 ghost use Rattle.serial_driver.specs.Answers.{of_host, IsUnstopped};
 ghost use Rattle.serial_driver.specs.Drives.{HostTakes};
-ghost use Rattle.serial_driver.specs.Places.{StandsAt, IsPlace};
-ghost use Rattle.serial_driver.specs.Scripts.{Left, left_behind, next_of};
+ghost use Rattle.script_places.specs.Places.{StandsAt, IsPlace};
+ghost use Rattle.script_places.specs.Scripts.{Left, left_behind, next_of};
 
 use crate::answer::DriveAnswer;
-use crate::place::{Place, due_call, passed};
 use channel_commands::Call;
 use ckd_plain::Entry;
 use core_state::{Core, ENTRY_LIMIT};
 use host_events::{EVENT_ITEMS, HostAnswer, host_event};
 use job_text::{HostScript, Item};
 use mss_base::{HostNo, Site};
+use script_places::{Place, due_call, passed};
 use std::alloc::Global;
 use victim_choice::Choose;
 

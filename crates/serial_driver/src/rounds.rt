@@ -4,7 +4,7 @@ ghost use Rattle.channel_program.specs.Script.{FollowsToEnd};
 ghost use Rattle.core_state.specs.Chains.{has_call};
 ghost use Rattle.core_state.specs.CoreValue.{seen};
 ghost use Rattle.serial_driver.specs.declared.answer.DriveAnswer.TheVariants.{Done};
-ghost use Rattle.serial_driver.specs.Scripts.{script_of, exchanges_of, calls_of};
+ghost use Rattle.script_places.specs.Scripts.{script_of, exchanges_of, calls_of};
 
 use crate::answer::DriveAnswer;
 use crate::drive::Drive;

@@ -17,7 +17,7 @@ use Rattle.core_state.specs.SessionData.{SessionData, data_of}
 use Rattle.mss_run.specs.Runs.{EndData, AskByScript, Leaves, are_finished, hosts_of, run_answer}
 use Rattle.mss_run.specs.declared.ends.RunAnswer.TheVariants as answer
 use Rattle.mss_run.specs.Owns.{asked_of, exchange}
-use Rattle.serial_driver.specs.Scripts.{exchanges_of, script_of}
+use Rattle.script_places.specs.Scripts.{exchanges_of, script_of}
 use Rattle.serial_driver.specs.declared.answer.DriveAnswer.{DriveAnswer}
 use Rattle.session_report.specs.Parties.{Stream}
 use Rattle.job_runs.specs.Parties.{Devices, devices}

@@ -5,7 +5,7 @@ use Rattle.ckd_plain.specs.History.{EntryData}
 use Rattle.core_state.specs.CoreValue.{CoreValue}
 use Rattle.job_text.specs.Jobs.{ScriptData}
 use Rattle.serial_driver.specs.Drives.{AreTurns, DriveValue, Leaves}
-use Rattle.serial_driver.specs.Scripts.{exchanges_of, script_of}
+use Rattle.script_places.specs.Scripts.{exchanges_of, script_of}
 use Rattle.job_runs.proofs.SessionFacts.{follows_none}
 use Rattle.job_runs.proofs.run.run_scripts.Goals as goal
 

@@ -1,5 +1,5 @@
 use Rattle.std.proofs.Common.{[], ◌+◌, List, take, sym, subst}
-use Rattle.serial_driver.specs.declared.place.Place.{Place}
+use Rattle.script_places.specs.declared.place.Place.{Place}
 use Rattle.serial_driver.specs.Drives.{AllStand}
 use Rattle.serial_driver.proofs.ScriptPlaces.{stand_next}
 use Rattle.serial_driver.proofs.drive.places_of.Goals as goal

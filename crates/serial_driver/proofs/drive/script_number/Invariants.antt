@@ -1,5 +1,5 @@
 use Rattle.std.proofs.Common.{◌≡◌, drop}
-use Rattle.serial_driver.specs.Scripts.{script_of}
+use Rattle.script_places.specs.Scripts.{script_of}
 use Rattle.serial_driver.proofs.drive.script_number.Given as goal
 
 abbrev pub invariant-loop-number : goal.invariant-loop-number

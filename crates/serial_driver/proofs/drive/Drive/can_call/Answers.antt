@@ -3,9 +3,9 @@ use Rattle.std.specs.Prelude.{slice_index_or, is_some}
 use Rattle.channel_program.specs.declared.cursor.NextCall.TheVariants.{Ended}
 use Rattle.job_text.specs.Jobs.{ScriptData}
 use Rattle.job_text.specs.Views.{item_of}
-use Rattle.serial_driver.specs.declared.place.Place.{Place}
-use Rattle.serial_driver.specs.Places.{StandsAt}
-use Rattle.serial_driver.specs.Scripts.{calls_of}
+use Rattle.script_places.specs.declared.place.Place.{Place}
+use Rattle.script_places.specs.Places.{StandsAt}
+use Rattle.script_places.specs.Scripts.{calls_of}
 use Rattle.serial_driver.specs.Drives.{DriveValue}
 use Rattle.serial_driver.proofs.HostTurns.{as_long, can_call_there}
 use Rattle.serial_driver.proofs.drive.Drive.can_call.Goals as goal

@@ -1,7 +1,7 @@
 use Rattle.std.proofs.Common.{subst}
 use Rattle.channel_program.specs.Script.{Follows}
-use Rattle.serial_driver.specs.Scripts.{script_of, exchanges_of}
-use Rattle.serial_driver.proofs.ScriptFacts.{plays_follows}
+use Rattle.script_places.specs.Scripts.{script_of, exchanges_of}
+use Rattle.script_places.proofs.ScriptFacts.{plays_follows}
 use Rattle.serial_driver.proofs.drive.Drive.core.Goals as goal
 
 pub returns-clause-follows : goal.returns-clause-follows

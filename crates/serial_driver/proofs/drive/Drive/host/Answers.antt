@@ -1,7 +1,7 @@
 use Rattle.std.proofs.Common.{◌<◌, ℕ, length, None, arith, refl, sym, ◌∙◌, ap, subst}
-use Rattle.serial_driver.specs.declared.place.Place.{Place}
-use Rattle.serial_driver.specs.Places.{StandsAt}
-use Rattle.serial_driver.specs.Scripts.{Left, not_begun, left_after, exchanges_of, calls_of}
+use Rattle.script_places.specs.declared.place.Place.{Place}
+use Rattle.script_places.specs.Places.{StandsAt}
+use Rattle.script_places.specs.Scripts.{Left, not_begun, left_after, exchanges_of, calls_of}
 use Rattle.serial_driver.specs.Drives.{DriveValue, HostTakes, Leaves}
 use Rattle.job_text.specs.Jobs.{ScriptData}
 use Rattle.std.specs.Prelude.{slice_index_or}

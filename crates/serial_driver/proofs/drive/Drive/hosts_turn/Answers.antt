@@ -2,7 +2,7 @@ use Rattle.std.proofs.Common.{◌≡◌, ◌≤◌, ◌<◌, length, None, arith
 use Rattle.core_state.specs.CoreValue.{CoreValue, seen}
 use Rattle.core_state.specs.IsCore.{IsCore}
 use Rattle.host_events.proofs.RuleFacts.{core_seen}
-use Rattle.serial_driver.specs.Scripts.{calls_of}
+use Rattle.script_places.specs.Scripts.{calls_of}
 use Rattle.serial_driver.specs.Drives.{hosts_of}
 use Rattle.serial_driver.proofs.EventRuns.{leaves_none}
 use Rattle.serial_driver.proofs.RoundFacts.{someone, hosts_begin, hosts_over, none_yet, run_falls, host_leaves, host_done, host_on, host_halts, host_goes_on}

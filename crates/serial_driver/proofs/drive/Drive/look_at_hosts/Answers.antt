@@ -1,8 +1,8 @@
 use Rattle.std.proofs.Common.{◌≡◌, None, subst}
 use Rattle.core_state.specs.CoreValue.{seen}
 use Rattle.core_progress.specs.Progress.{OwnersCall}
-use Rattle.serial_driver.specs.Scripts.{script_of, exchanges_of, calls_of}
-use Rattle.serial_driver.proofs.ScriptFacts.{plays_to_end}
+use Rattle.script_places.specs.Scripts.{script_of, exchanges_of, calls_of}
+use Rattle.script_places.proofs.ScriptFacts.{plays_to_end}
 use Rattle.channel_program.specs.Script.{FollowsToEnd}
 use Rattle.serial_driver.specs.Drives.{DriveValue, AreScripts}
 use Rattle.serial_driver.proofs.OwnerFacts.{owners_call}

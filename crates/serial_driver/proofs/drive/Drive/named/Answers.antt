@@ -3,7 +3,7 @@ use Rattle.std.specs.Prelude.{slice_index_or, ℕ}
 use Rattle.channel_commands.specs.Data.{CallData}
 use Rattle.core_state.specs.CoreValue.{seen}
 use Rattle.job_text.specs.Jobs.{ScriptData}
-use Rattle.serial_driver.specs.Scripts.{script_of, calls_of}
+use Rattle.script_places.specs.Scripts.{script_of, calls_of}
 use Rattle.serial_driver.specs.Drives.{DriveValue, HostTakes}
 use Rattle.serial_driver.specs.declared.answer.DriveAnswer.TheVariants.{Done}
 use Rattle.serial_driver.proofs.EventRuns.{no_call}

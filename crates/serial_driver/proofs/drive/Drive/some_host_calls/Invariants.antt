@@ -1,7 +1,7 @@
 use Rattle.std.proofs.Common.{◌≡◌, drop}
 use Rattle.core_state.specs.Chains.{has_call}
 use Rattle.core_state.specs.CoreValue.{seen}
-use Rattle.serial_driver.specs.Scripts.{calls_of}
+use Rattle.script_places.specs.Scripts.{calls_of}
 use Rattle.serial_driver.specs.Drives.{hosts_of}
 use Rattle.serial_driver.proofs.drive.Drive.some_host_calls.Given as goal
 

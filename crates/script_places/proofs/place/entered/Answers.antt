@@ -1,8 +1,8 @@
 use Rattle.std.proofs.lemmas.List.{length-map}
 use Rattle.std.proofs.Common.{map, arith}
 use Rattle.job_text.specs.Views.{item_of}
-use Rattle.serial_driver.proofs.PlaceFacts.{found, stands_begun, stands_mount, stands_demount}
-use Rattle.serial_driver.proofs.place.entered.Goals as goal
+use Rattle.script_places.proofs.PlaceFacts.{found, stands_begun, stands_mount, stands_demount}
+use Rattle.script_places.proofs.place.entered.Goals as goal
 
 pub returns-in-Some-Run : goal.returns-in-Some-Run
 returns-in-Some-Run c =

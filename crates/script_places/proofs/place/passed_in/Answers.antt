@@ -1,7 +1,7 @@
 use Rattle.std.proofs.Common.{map}
 use Rattle.job_text.specs.Views.{item_of}
-use Rattle.serial_driver.proofs.PlaceFacts.{passed_end, goes_where, ends_by_check, ends_by_limit}
-use Rattle.serial_driver.proofs.place.passed_in.Goals as goal
+use Rattle.script_places.proofs.PlaceFacts.{passed_end, goes_where, ends_by_check, ends_by_limit}
+use Rattle.script_places.proofs.place.passed_in.Goals as goal
 use Rattle.channel_commands.specs.Views.{reply_of}
 
 pub returns-in-Command : goal.returns-in-Command

@@ -1,4 +1,4 @@
-//! Where a host stands in its script.
+// A place in a script.
 ghost use Rattle.std.specs.Prelude.{◌≡◌, ◌≢◌, ◌≤◌, ◌<◌, List, None, IfOk, OnErr, length, map, drop, is_some, IsTrue};
 ghost use Rattle.std.specs.Option.{option_map};
 ghost use Rattle.channel_commands.specs.Views.{call_of, reply_of};
@@ -6,8 +6,8 @@ ghost use Rattle.channel_program.specs.Script.{ItemData, Standing, at_start, nex
 ghost use Rattle.channel_program.specs.Views.{Says};
 ghost use Rattle.channel_program.specs.declared.cursor.NextCall.TheVariants.{Ended};
 ghost use Rattle.job_text.specs.Views.{item_of};
-ghost use Rattle.serial_driver.specs.Places.{StandsAt, KnowsNext, HoldsNext, IsPlace, IsWithin, IsAt, IsPassed};
-ghost use Rattle.serial_driver.specs.Scripts.{Left, not_begun, next_of, left_by};
+ghost use Rattle.script_places.specs.Places.{StandsAt, KnowsNext, HoldsNext, IsPlace, IsWithin, IsAt, IsPassed};
+ghost use Rattle.script_places.specs.Scripts.{Left, not_begun, next_of, left_by};
 
 use channel_commands::{BreakCause, Call, Reply};
 use channel_program::{Cursor, NextCall, Program, command_call, next};

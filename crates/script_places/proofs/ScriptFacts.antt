@@ -5,7 +5,7 @@ use Rattle.std.proofs.lemmas.Bool.{false≢true}
 use Rattle.channel_commands.specs.Data.{CallData, ReplyData, CcwData, mount, demount}
 use Rattle.channel_program.specs.Script.{ItemData, mounting, demounting, program, Exchange, Standing, at_start, next_call, call_for, reached, moved, Runs, Gives, Follows, FollowsToEnd}
 use Rattle.ckd_plain.specs.History.{EntryData}
-use Rattle.serial_driver.specs.Scripts.{Left, not_begun, next_of, program_left, left_by, left_after, Plays, exchanges_of}
+use Rattle.script_places.specs.Scripts.{Left, not_begun, next_of, program_left, left_by, left_after, Plays, exchanges_of}
 
 -- ---- one exchange more
 

@@ -7,8 +7,8 @@ use Rattle.channel_program.specs.Views.{standing_of, HoldsCommand, Says}
 use Rattle.channel_program.specs.declared.cursor.Cursor.{Cursor}
 use Rattle.channel_program.specs.declared.cursor.NextCall.{NextCall}
 use Rattle.channel_program.specs.declared.cursor.NextCall.TheVariants.{Ended, Command}
-use Rattle.serial_driver.specs.declared.place.Place.{Place}
-use Rattle.serial_driver.specs.Scripts.{Left, next_of, program_left}
+use Rattle.script_places.specs.declared.place.Place.{Place}
+use Rattle.script_places.specs.Scripts.{Left, next_of, program_left}
 
 -- a command that comes next stands in the program
 abbrev pub HoldsNext : List CcwData → NextCall → Type 0

@@ -12,10 +12,10 @@ use Rattle.channel_program.specs.Views.{standing_of, Says, Moves}
 use Rattle.channel_program.specs.declared.cursor.Cursor.{Cursor}
 use Rattle.channel_program.specs.declared.cursor.NextCall.{NextCall}
 use Rattle.channel_program.specs.declared.cursor.NextCall.TheVariants.{Command, Ended, ProgramCheck, ChainLimit}
-use Rattle.serial_driver.specs.declared.place.Place.{Place}
-use Rattle.serial_driver.specs.Places.{GoesOnFrom, HoldsNext, KnowsNext, KnowsItem, StandsAt, IsWithin, IsAt, IsPassed}
-use Rattle.serial_driver.specs.Scripts.{Left, not_begun, next_of, program_left, left_by}
-use Rattle.serial_driver.proofs.ScriptFacts.{live_calls}
+use Rattle.script_places.specs.declared.place.Place.{Place}
+use Rattle.script_places.specs.Places.{GoesOnFrom, HoldsNext, KnowsNext, KnowsItem, StandsAt, IsWithin, IsAt, IsPassed}
+use Rattle.script_places.specs.Scripts.{Left, not_begun, next_of, program_left, left_by}
+use Rattle.script_places.proofs.ScriptFacts.{live_calls}
 
 -- ---- lists from a place on
 

@@ -1,7 +1,7 @@
 use Rattle.std.proofs.Common.{map, sym, ◌∙◌, ap}
 use Rattle.job_text.specs.Views.{item_of}
-use Rattle.serial_driver.proofs.PlaceFacts.{found, next_program, next_is, holds_next, says_call, on_err}
-use Rattle.serial_driver.proofs.place.next_call.Goals as goal
+use Rattle.script_places.proofs.PlaceFacts.{found, next_program, next_is, holds_next, says_call, on_err}
+use Rattle.script_places.proofs.place.next_call.Goals as goal
 use Rattle.std.specs.Prelude.{is_some}
 
 pub program_call-requires-clause-some : goal.program_call-requires-clause-some

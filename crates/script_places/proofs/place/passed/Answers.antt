@@ -1,7 +1,7 @@
 use Rattle.std.proofs.Common.{map}
 use Rattle.job_text.specs.Views.{item_of}
-use Rattle.serial_driver.proofs.PlaceFacts.{found, passed_program, passed_mount, passed_demount}
-use Rattle.serial_driver.proofs.place.passed.Goals as goal
+use Rattle.script_places.proofs.PlaceFacts.{found, passed_program, passed_mount, passed_demount}
+use Rattle.script_places.proofs.place.passed.Goals as goal
 
 pub returns-in-Some-Run : goal.returns-in-Some-Run
 returns-in-Some-Run c = λ left stands.

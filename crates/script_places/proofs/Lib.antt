@@ -1,0 +1,2 @@
+pub mod ScriptFacts
+pub mod PlaceFacts
