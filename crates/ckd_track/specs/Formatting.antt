@@ -1,5 +1,7 @@
 -- What formatting a record makes of a track.
-use Rattle.std.specs.Prelude.{◌≡◌, ◌≤◌, ◌<◌, nat_lt, ℕ, ◌+◌, ◌-◌, Bool, false, not, ◌&&◌, ◌||◌, List, [], ◌∷◌, ◌++◌, length, take, slice_index, None}
+use Rattle.std.specs.Prelude.{◌≡◌, ◌≤◌, ◌<◌, nat_lt, ℕ, ◌+◌, ◌-◌, Bool, false, not, ◌&&◌, ◌||◌}
+use Rattle.std.specs.Prelude.{List, [], ◌∷◌, ◌++◌, length, take, slice_index, None}
+use Rattle.mss_base.specs.declared.block.TheConstants.{BLOCK_BYTES}
 use Rattle.mss_base.specs.declared.place.BlockPlace.{BlockPlace}
 use Rattle.mss_base.specs.Content.{SiteLog, Item, Got, AreWithin}
 use Rattle.ckd_track.specs.Data.{RecordData, cost, cost_of}
@@ -17,6 +19,19 @@ pub record MayFormat (number : ℕ) (bytes block : List ℕ) : Type 0 where
   pub there : number ≤ length (reading block).records + 1
   pub whole : IsRecord bytes
   pub fits : cost (take (number - 1) (reading block).records) + cost_of (record_at 0 bytes) ≤ TRACK_COST
+
+-- bytes go behind n records: some, to the place where the next one begins, and within the block
+pub record GoBehind (n place : ℕ) (bytes block : List ℕ) : Type 0 where
+  pub few : n ≤ 96
+  pub begins : place ≡ place_after n 256 block
+  pub some : 1 ≤ length bytes
+  pub inside : place + length bytes ≤ BLOCK_BYTES
+
+-- a record of these bytes has room behind the first n, which are there
+pub record FitsBehind (n : ℕ) (bytes block : List ℕ) : Type 0 where
+  pub there : n ≤ length (reading block).records
+  pub whole : IsRecord bytes
+  pub fits : cost (take n (reading block).records) + cost_of (record_at 0 bytes) ≤ TRACK_COST
 
 -- the first n records, and this one as the last
 abbrev pub formatted : ℕ → RecordData → List RecordData → List RecordData

@@ -63,7 +63,8 @@ reached true false false number r rest = before r rest
 unfoldable pub reading_from : ℕ → ℕ → ℕ → ℕ → List ℕ → Reading
 reading_from zero number place spent block = reading_of []
 reading_from (suc most) number place spent block =
-    reached (is_open number block) (nat_lt (length block) (place + record_length place block)) (nat_lt TRACK_COST (spent + cost_at place block)) number (record_at place block)
+    reached (is_open number block) (nat_lt (length block) (place + record_length place block))
+    (nat_lt TRACK_COST (spent + cost_at place block)) number (record_at place block)
     (reading_from most (number + 1) (place + record_length place block) (spent + cost_at place block) block)
 
 -- the reading of a block

@@ -1,5 +1,6 @@
 -- What updating a record makes of a track.
-use Rattle.std.specs.Prelude.{◌≡◌, ◌≤◌, ℕ, ◌+◌, ◌-◌, Bool, true, false, List, length, take, drop, slice_set, slice_index_or}
+use Rattle.std.specs.Prelude.{◌≡◌, ◌≤◌, ℕ, ◌+◌, ◌-◌, Bool, true, false, List, length, take, drop}
+use Rattle.std.specs.Prelude.{slice_set, slice_index_or}
 use Rattle.ckd_track.specs.Data.{RecordData, blank_record}
 use Rattle.ckd_track.specs.Track.{Reading, reading, key_length, BeginsAt}
 

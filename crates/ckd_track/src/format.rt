@@ -1,11 +1,12 @@
 // Formatting a record: at most four writes and three syncs, such that a stop at any moment leaves a track.
-ghost use Rattle.std.specs.Prelude.{◌≡◌, ◌⊎◌, ◌≤◌, ◌<◌, ℕ, ◌+◌, ◌-◌, true, false, length, take, slice_index, OnOk};
+ghost use Rattle.std.specs.Prelude.{◌≡◌, ◌⊎◌, ◌≤◌, ◌<◌, ℕ, ◌+◌, ◌-◌, true, false};
+ghost use Rattle.std.specs.Prelude.{length, slice_index, OnOk};
 ghost use Rattle.mss_base.specs.Blocks.{WritesBlock, block_of};
 ghost use Rattle.mss_base.specs.Content.{Settles};
 ghost use Rattle.mss_base.specs.Sites.{WritesAtMost};
-ghost use Rattle.ckd_track.specs.Data.{IsTrack, cost, cost_of};
+ghost use Rattle.ckd_track.specs.Data.{IsTrack};
 ghost use Rattle.ckd_track.specs.Track.{reading, reading_of, record_at, is_open, place_after};
-ghost use Rattle.ckd_track.specs.Formatting.{formatted, IsRecord, IsFormatting, MayFormat};
+ghost use Rattle.ckd_track.specs.Formatting.{formatted, FitsBehind, GoBehind, IsFormatting, MayFormat};
 ghost use Rattle.ckd_track.specs.Formatting.{EndsAfter, EndsBefore, StandsShut, WritesBehind};
 
 use crate::layout::{FIRST_PLACE, GATES, GATES_END, TRACK_COST, record_length};
@@ -107,10 +108,7 @@ fn write_behind<S: Site>(
     requires whole { length block.now ≡ BLOCK_BYTES }
     requires closed { S.tells →
         EndsBefore before block.now (block_of (S.told site.old) at.now) }
-    requires few { before ≤ 96 }
-    requires place { place ≡ place_after before 256 block.now }
-    requires some { 1 ≤ length bytes.now }
-    requires inside { place + length bytes.now ≤ BLOCK_BYTES }
+    requires behind { GoBehind before place bytes.now block.now }
     requires room { 2 ≤ S.spare site.old }
     ensures behind { S.tells → WritesBehind before block.now at.now
         (S.told site.old) (S.told site.new) }
@@ -135,10 +133,7 @@ fn put_behind<S: Site>(
     requires whole { length block.now ≡ BLOCK_BYTES }
     requires closed { S.tells →
         EndsBefore before block.now (block_of (S.told site.old) at.now) }
-    requires few { before ≤ 96 }
-    requires place { place ≡ place_after before 256 block.now }
-    requires some { 1 ≤ length bytes.now }
-    requires inside { place + length bytes.now ≤ BLOCK_BYTES }
+    requires behind { GoBehind before place bytes.now block.now }
     requires room { BEHIND_ITEMS ≤ S.spare site.old }
     ensures moments { S.tells → WritesBlock at.now (EndsAfter before block.now)
         (S.told site.old) (S.told site.new) }
@@ -163,10 +158,7 @@ fn open_gate<S: Site>(
         StandsShut before bytes.now block.now (block_of (S.told site.old) at.now) }
     requires whole { length block.now ≡ BLOCK_BYTES }
     requires few { before ≤ 96 }
-    requires there { before ≤ length (reading block.now).records }
-    requires record { IsRecord bytes.now }
-    requires fits { cost (take before (reading block.now).records) + cost_of (record_at 0 bytes.now)
-        ≤ TRACK_COST }
+    requires fits { FitsBehind before bytes.now block.now }
     requires room { FIRM_ITEMS ≤ S.spare site.old }
     ensures moments { S.tells → WritesBlock at.now
         (λ b. EndsAfter before block.now b ⊎ (reading b
@@ -212,12 +204,13 @@ pub fn format_record<S: Site>(
     requires room { FORMAT_ITEMS ≤ S.spare site.old }
 
     ensures moments { S.tells → WritesBlock at.now
-        (λ b. IsFormatting (number - 1) (record_at 0 count_key_data.now) (reading block.now) (reading b))
-        (S.told site.old) (S.told site.new) }
+        (λ b. IsFormatting (number - 1) (record_at 0 count_key_data.now)
+        (reading block.now) (reading b)) (S.told site.old) (S.told site.new) }
     ensures done { S.tells → OnOk result (reading (block_of (S.told site.new) at.now)
-        ≡ reading_of (formatted (number - 1) (record_at 0 count_key_data.now) (reading block.now).records)) }
-    ensures track { OnOk result
-        (IsTrack (formatted (number - 1) (record_at 0 count_key_data.now) (reading block.now).records)) }
+        ≡ reading_of (formatted (number - 1) (record_at 0 count_key_data.now)
+        (reading block.now).records)) }
+    ensures track { OnOk result (IsTrack (formatted (number - 1)
+        (record_at 0 count_key_data.now) (reading block.now).records)) }
     ensures firm { S.tells → OnOk result (Settles (S.told site.old) (S.told site.new)) }
     ensures site_ { WritesAtMost S.Site FORMAT_ITEMS site.old site.new result }
 {

@@ -1,11 +1,11 @@
 -- What the words after the program's name ask for.
-use Rattle.std.specs.Prelude.{ℕ, ◌+◌, ◌-◌, ◌*◌, ◌≤◌, ⊤, Bool, ◌&&◌, ◌==◌, nat_le, List, [], ◌∷◌}
-use Rattle.std.specs.Prelude.{drop, fold, get_or, length, Option, Some, None, IfSome, codes}
+use Rattle.std.specs.Prelude.{ℕ, ◌≤◌, ⊤, Bool, ◌&&◌, ◌==◌, nat_le, List, [], ◌∷◌}
+use Rattle.std.specs.Prelude.{drop, get_or, length, Option, Some, None, IfSome, codes}
 use Rattle.std.specs.Prelude.{Result, Ok, Err, if◌then◌else◌}
 use Rattle.std.specs.List.{find, list_all}
 use Rattle.std.specs.Option.{option_map, option_and_then}
 use Rattle.std.specs.Str.{bytes_eq}
-use Rattle.clap.specs.Lexer.{is_digit}
+use Rattle.mss_base.specs.Decimal.{is_digit, number_of}
 use Rattle.command_words.specs.declared.command.Command.{Command}
 use Rattle.command_words.specs.declared.command.Command.TheVariants.{Serial, Policy, Threads}
 use Rattle.command_words.specs.declared.command.Command.TheVariants.{Show, Audit, Compare}
@@ -17,10 +17,6 @@ use Rattle.victim_rules.specs.declared.rule.Rule.{Rule}
 -- one to twenty digits
 abbrev pub is_number : Text → Bool
 is_number text = nat_le 1 (length text) && (nat_le (length text) 20 && list_all is_digit text)
-
--- the number that digits write
-abbrev pub number_of : Text → ℕ
-number_of text = fold (λ n b. 10 * n + (b - 48)) 0 text
 
 -- the number of a text, where it is spelled so and lies within the range
 abbrev pub number_in : ℕ → ℕ → Text → Option ℕ

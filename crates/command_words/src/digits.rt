@@ -1,41 +1,17 @@
 //! Numbers, as they are spelled in words.
-ghost use Rattle.std.specs.Prelude.{◌≡◌, ◌≤◌, true, IfSome};
-ghost use Rattle.std.specs.List.{list_all};
-ghost use Rattle.clap.specs.Lexer.{is_digit};
-ghost use Rattle.command_words.specs.Words.{is_number, number_in, number_of};
+ghost use Rattle.std.specs.Prelude.{◌≡◌, ◌≤◌, IfSome};
+ghost use Rattle.command_words.specs.Words.{is_number, number_in};
+
+use mss_base::{are_digits, number_of};
 
 /// The most digits of a number.
 const DIGIT_LIMIT: usize = 20;
-
-fn is_digit(byte: u8) -> bool
-    ensures { result ≡ is_digit byte }
-{
-    b'0' <= byte && byte <= b'9'
-}
-
-fn are_digits(text: &[u8]) -> bool
-    ensures { result ≡ list_all is_digit text.now }
-{
-    text.iter().all(|byte| is_digit(*byte))
-}
 
 /// Whether a text is one to twenty digits. Leading zeros count as digits.
 fn is_number(text: &[u8]) -> bool
     ensures { result ≡ is_number text.now }
 {
     1 <= text.len() && text.len() <= DIGIT_LIMIT && are_digits(text)
-}
-
-/// The number that digits write. Twenty of them may be more than 64 bits hold.
-fn number_of(text: &[u8]) -> u128
-    requires { is_number text.now ≡ true }
-    ensures { result ≡ number_of text.now }
-{
-    let mut number = 0u128;
-    for byte in text {
-        number = 10 * number + u128::from(*byte - b'0');
-    }
-    number
 }
 
 /// The number of a text of one to twenty digits, where it lies within a range.

@@ -13,13 +13,15 @@ use Rattle.fault_queue.specs.declared.queue.RequestState.{RequestState}
 use Rattle.fault_queue.specs.declared.queue.RequestState.TheVariants as request
 use Rattle.fault_queue.specs.Requests.{RequestsData, request_of}
 use Rattle.transfers.specs.declared.transfer.Transfer.{Transfer}
+use Rattle.volume_table.specs.Listed.{listed}
+use Rattle.shown_volumes.specs.Sound.{frame_in}
 use Rattle.cartridge_store.specs.Places.{place_of}
 use Rattle.victim_choice.specs.declared.choose.Candidate.{Candidate}
 use Rattle.core_state.specs.declared.task.Task.{Task}
 use Rattle.core_state.specs.declared.rule.WorkRule.{WorkRule}
 use Rattle.core_state.specs.declared.rule.WorkRule.TheVariants.{IsStopped, IsIdle, GivesBack, Picks, PicksVictim, Abandons, Fetches, Copies, Ends, Frees, Assigns}
 use Rattle.core_state.specs.CoreValue.{CoreData}
-use Rattle.core_state.specs.Pins.{frame_in, asked_page, owner_at, is_moving, is_bound, is_held, is_free, free_frame, candidate, candidates, candidate_on, page_of}
+use Rattle.core_state.specs.Pins.{owner_at, is_moving, is_bound, is_held, is_free, free_frame, candidate, candidates, candidate_on, page_of}
 use Rattle.core_state.specs.WorkRules.{task_of, held_in, transfer_of, stopped_rule, return_rule, pick_on, pick_for, first_pick, pick_rule, is_within, abandon_rule, needs_cartridge, is_in_cell, carry_for, carry_rule, copy_rule, end_rule, free_rule, task_rule, work_rule}
 use Rattle.core_state.specs.Chains.{IsAtRest, AllRequests, AllNone, IsSettled}
 use Rattle.core_state.proofs.RuleWalks.{some_is, none_some, nothing, this, either, where_test, if_test, mapped, chained}
@@ -72,7 +74,7 @@ module _ (core : CoreData) where
       (where_test Act (nat_lt 0 (length (candidates core))) (PicksVictim h) λ _. refl)
 
   pick_for_acts : (h : ℕ) (r : Request) (state : RequestState) → Acts (pick_for core h r state)
-  pick_for_acts h r request.Queued = pick_on_acts h (frame_in core.rows (asked_page r))
+  pick_for_acts h r request.Queued = pick_on_acts h (frame_in (listed core.rows) r.volume (page_of r.cylinder))
   pick_for_acts h r request.Moving = nothing Act None refl
   pick_for_acts h r request.Ready = nothing Act None refl
   pick_for_acts h r (request.Failed fault) = nothing Act None refl
@@ -232,9 +234,9 @@ module _ (core : CoreData) (fit : CoreFits core) (idle : AreIdle core) where
 
   -- ---- requests
 
-  queued_rests : (h : ℕ) (r : Request) → pick_on core h (frame_in core.rows (asked_page r)) ≡ None → IsAtRest core r request.Queued
-  queued_rests h r = by_frame (frame_in core.rows (asked_page r)) refl where
-    by_frame : (o : Option ℕ) → frame_in core.rows (asked_page r) ≡ o → pick_on core h o ≡ None → IsAtRest core r request.Queued
+  queued_rests : (h : ℕ) (r : Request) → pick_on core h (frame_in (listed core.rows) r.volume (page_of r.cylinder)) ≡ None → IsAtRest core r request.Queued
+  queued_rests h r = by_frame (frame_in (listed core.rows) r.volume (page_of r.cylinder)) refl where
+    by_frame : (o : Option ℕ) → frame_in (listed core.rows) r.volume (page_of r.cylinder) ≡ o → pick_on core h o ≡ None → IsAtRest core r request.Queued
     by_frame (Some frame) has none = absurd (both_ways (not (is_moving core frame)) (none_where (not (is_moving core frame)) (Picks h frame) none) (ap not (not_moving frame)))
     by_frame None has none =
         let parts = or_none (option_map (Picks h) (free_frame core)) (where_so (nat_lt 0 (length (candidates core))) (PicksVictim h)) none in

@@ -17,11 +17,13 @@ use Rattle.fault_queue.specs.declared.queue.Request.{Request}
 use Rattle.fault_queue.specs.declared.queue.RequestState.{RequestState}
 use Rattle.fault_queue.specs.declared.queue.RequestState.TheVariants as request
 use Rattle.fault_queue.specs.Requests.{RequestsData, request_of}
+use Rattle.volume_table.specs.Listed.{listed}
+use Rattle.shown_volumes.specs.Sound.{frame_in}
 use Rattle.core_state.specs.declared.task.Task.{Task}
 use Rattle.core_state.specs.declared.rule.HostRule.{HostRule}
 use Rattle.core_state.specs.declared.rule.HostRule.TheVariants.{IsStopped, IsFull, IsBusy, IsMoving, IsHeld, Responds, HasFailed, HasNoSpace, Faults, Marks, Runs}
 use Rattle.core_state.specs.CoreValue.{CoreData}
-use Rattle.core_state.specs.Pins.{host_at, volume_under, page_of, asked_page, frame_in, on_page, owner_at, state_in, is_on, asks_for, owns, owner_of, is_ready, is_ready_on, is_bound, is_held, are_all_bound}
+use Rattle.core_state.specs.Pins.{host_at, volume_under, page_of, on_page, owner_at, state_in, is_on, asks_for, owns, owner_of, is_ready, is_ready_on, is_bound, is_held, are_all_bound}
 use Rattle.core_state.specs.HostRules.{data_command, is_for, request_for, is_moving_request, fault_of, volume_of, state_under, frame_under, stopped_rule, full_rule, busy_rule, moving_rule, taken_from, would_bind, held_rule, failed_rule, fault_rule, mark_rule, data_rule, host_rule}
 use Rattle.core_state.specs.Chains.{IsAtRest, AllRequests, AllNone, IsSettled}
 use Rattle.core_state.proofs.RuleWalks.{some_is, none_some, nothing, this, either, where_test, mapped, chained, found, tested}
@@ -195,10 +197,10 @@ module _ (core : CoreData) (settled : IsSettled core) (fit : CoreFits core) (cal
         either_way false volume cylinder = refl
 
   -- a Queued request's host, where each frame is bound, is told that there is no space
-  no_space_left : (h : ℕ) (r : Request) (call : CallData) → calls h ≡ Some call → request_of core.requests h ≡ Some r → frame_in core.rows (asked_page r) ≡ None → are_all_bound core ≡ true → SomeoneGoesOn core calls
+  no_space_left : (h : ℕ) (r : Request) (call : CallData) → calls h ≡ Some call → request_of core.requests h ≡ Some r → frame_in (listed core.rows) r.volume (page_of r.cylinder) ≡ None → are_all_bound core ≡ true → SomeoneGoesOn core calls
   no_space_left h r call is has bare all =
       let host = host_at core.hosts h in
-      let none : frame_under core host ≡ None = where_host_is (λ v c. frame_in core.rows (v, page_of c) ≡ None) h r has bare in (
+      let none : frame_under core host ≡ None = where_host_is (λ v c. frame_in (listed core.rows) v (page_of c) ≡ None) h r has bare in (
         h,
         call,
         is,

@@ -9,6 +9,7 @@ use Rattle.mss_base.specs.Firsts.{◌or◌, where_so}
 use Rattle.mss_base.proofs.FirstFacts.{or_none, map_none, none_where}
 use Rattle.volume_table.specs.Row.{RowValue, frame_of, state_of}
 use Rattle.volume_table.specs.Listed.{listed}
+use Rattle.shown_volumes.specs.Sound.{frame_in}
 use Rattle.volume_table.specs.declared.changes.Change.TheVariants as change
 use Rattle.fault_queue.specs.declared.queue.Request.{Request}
 use Rattle.fault_queue.specs.declared.queue.RequestState.{RequestState}
@@ -27,7 +28,7 @@ use Rattle.core_state.specs.declared.rule.WorkRule.{WorkRule}
 use Rattle.core_state.specs.declared.rule.WorkRule.TheVariants.{IsStopped, IsIdle, GivesBack, Picks, PicksVictim, Abandons, Fetches, Copies, Ends, Frees, Assigns}
 use Rattle.core_state.specs.CoreValue.{CoreData, DevicesSeen}
 use Rattle.core_state.specs.IsCore.{IsCore}
-use Rattle.core_state.specs.Pins.{is_ready, frame_in, asked_page, page_of, state_of_row, state_in, is_moving, free_frame, candidates, changed_in}
+use Rattle.core_state.specs.Pins.{is_ready, page_of, state_of_row, state_in, is_moving, free_frame, candidates, changed_in}
 use Rattle.core_state.specs.WorkRules.{task_of, held_in, transfer, destaging, staging_kind, staging, next_transfer, transfer_of, stopped_rule, return_rule, pick_on, pick_for, first_pick, pick_rule, is_within, abandon_rule, needs_cartridge, is_in_cell, carry_for, carry_rule, copy_rule, end_rule, free_rule, assign_rule, task_rule, work_rule}
 use Rattle.core_state.specs.WorkEvents.{WithTask, TaskDoes, TellsEnd, WorkDoes, WorkEvent}
 use Rattle.core_state.proofs.RuleWalks.{some_is, none_some, nothing, this, where_test, found, either_then, mapped_at, chained_at}
@@ -48,7 +49,7 @@ next_starts : (rows : List (Option RowValue)) (requests : RequestsData) (task : 
 next_starts rows requests task t is = by_victim task.victim is where
   by_request : (o : Option Request) → option_and_then (staging rows task.frame) o ≡ Some t → t.next ≡ 0
   by_request None e = absurd (none_some t e)
-  by_request (Some r) e = mapped (λ _. transfer rows (staging_kind (state_in rows r.volume r.cylinder)) r.volume r.cylinder task.frame) (frame_in rows (asked_page r)) t e (λ a. refl)
+  by_request (Some r) e = mapped (λ _. transfer rows (staging_kind (state_in rows r.volume r.cylinder)) r.volume r.cylinder task.frame) (frame_in (listed rows) r.volume (page_of r.cylinder)) t e (λ a. refl)
 
   by_victim : (v : Option (ℕ × ℕ)) → (elim v [ Some page ↦ destaging rows task.frame page | None ↦ option_and_then (staging rows task.frame) (request_of requests task.host) ]) ≡ Some t → t.next ≡ 0
   by_victim (Some page) e = mapped (λ cylinder. transfer rows Destage page.0 cylinder task.frame) (slice_get (changed_in rows page) 0) t e (λ a. refl)
@@ -78,7 +79,7 @@ some_row : (o : Option RowValue) → IsSome o → (row : RowValue) × (o ≡ Som
 some_row None is = absurd (false≢true is)
 some_row (Some row) is = (row, refl)
 
-row_of_frame : (rows : List (Option RowValue)) (page : ℕ × ℕ) (frame : ℕ) → frame_in rows page ≡ Some frame → (row : RowValue) × (listed rows page.0 ≡ Some row)
+row_of_frame : (rows : List (Option RowValue)) (page : ℕ × ℕ) (frame : ℕ) → frame_in (listed rows) page.0 page.1 ≡ Some frame → (row : RowValue) × (listed rows page.0 ≡ Some row)
 row_of_frame rows page frame is = by_row (listed rows page.0) is where
   by_row : (o : Option RowValue) → option_and_then (λ r. frame_of r page.1) o ≡ Some frame → (row : RowValue) × (o ≡ Some row)
   by_row None e = absurd (none_some frame e)
@@ -154,7 +155,7 @@ module _ (tells : Type 0) (may : List Candidate → ℕ → Type 0) (core core' 
         (goes_run h r has (ap is_ready queued) _ request.Moving refl refl refl (same_fours core.rows core.rows refl))
 
     by_state : (h : ℕ) (r : Request) → request_of core.requests h ≡ Some r → task_of core i ≡ None → (state : RequestState) → r.state ≡ state → Each (pick_for core h r state)
-    by_state h r has free request.Queued is = picks h r has is free (frame_in core.rows (asked_page r))
+    by_state h r has free request.Queued is = picks h r has is free (frame_in (listed core.rows) r.volume (page_of r.cylinder))
     by_state h r has free request.Moving is = nothing Falls None refl
     by_state h r has free request.Ready is = nothing Falls None refl
     by_state h r has free (request.Failed fault) is = nothing Falls None refl
@@ -291,7 +292,7 @@ module _ (tells : Type 0) (may : List Candidate → ℕ → Type 0) (core core' 
           | inr bare ↦ becomes_less _ now.2 refl (λ there. assigned_falls core i task there works q.volume known_.0 known_.1 (within_rows core.rows q.volume known_.0 known_.1) (page_of q.cylinder) bare.0 frame_place)
               (requests_stay core _ Never refl refl refl (all_fours core.rows q.volume known_.0 (change.Assign (page_of q.cylinder) task.frame) known_.1 (λ z old. old)) (λ j u asks ready never. never))
         ] where
-          never_staged : (q : Request) → request_of core.requests task.host ≡ Some q → frame_in core.rows (asked_page q) ≡ Some task.frame → next_transfer core.rows core.requests task ≡ None → ⊥
+          never_staged : (q : Request) → request_of core.requests task.host ≡ Some q → frame_in (listed core.rows) q.volume (page_of q.cylinder) ≡ Some task.frame → next_transfer core.rows core.requests task ≡ None → ⊥
           never_staged q asks had idle = by_victim task.victim none idle where
             by_victim : (v : Option (ℕ × ℕ)) → v ≡ None → ◌≡◌ {A = Option Transfer} (elim v [ Some page ↦ destaging core.rows task.frame page | None ↦ option_and_then (staging core.rows task.frame) (request_of core.requests task.host) ]) None → ⊥
             by_victim (Some page) e idle = none_some page (sym e)

@@ -3,6 +3,7 @@
 use Rattle.std.specs.Prelude.{◌≡◌, ◌⊎◌, ◌≤◌, ◌<◌, ℕ, nat_eq, true, false, Some, None, IsSome}
 use Rattle.std.specs.List.{All, IsDistinct, Contains}
 use Rattle.volume_table.specs.Listed.{listed}
+use Rattle.shown_volumes.specs.Sound.{frame_in}
 use Rattle.fault_queue.specs.declared.queue.Request.{Request}
 use Rattle.fault_queue.specs.declared.queue.RequestState.TheVariants.{Queued, Moving, Ready}
 use Rattle.fault_queue.specs.Requests.{request_of, IsOnce}
@@ -15,7 +16,7 @@ use Rattle.cartridge_store.specs.Places.{place_of, home_of}
 use Rattle.core_state.specs.declared.task.Task.{Task}
 use Rattle.core_state.specs.CoreValue.{CoreValue}
 use Rattle.core_state.specs.IsCore.{IsPlaced}
-use Rattle.core_state.specs.Pins.{host_at, page_of, asked_page, frame_in, owner_at, state_in, owns}
+use Rattle.core_state.specs.Pins.{host_at, page_of, asked_page, owner_at, state_in, owns}
 use Rattle.core_state.specs.Pins.{is_moving, is_volume_bound}
 use Rattle.core_state.specs.WorkRules.{task_of, held_in, cartridge_of}
 
@@ -66,7 +67,7 @@ module _ {S C : Type 0} (core : CoreValue S C) where
     pub kind_ : (t.kind ≡ StageBlank) ⊎ (t.kind ≡ StageCartridge)
     pub volume_ : t.volume ≡ r.volume
     pub cylinder_ : t.cylinder ≡ r.cylinder
-    pub framed : frame_in core.rows (asked_page r) ≡ Some task.frame
+    pub framed : frame_in (listed core.rows) r.volume (page_of r.cylinder) ≡ Some task.frame
 
   pub record TasksFit : Type 0 where
     -- only so many recorders have one
@@ -92,15 +93,16 @@ module _ {S C : Type 0} (core : CoreValue S C) where
         × (is_volume_bound core.hosts page.0 ≡ false)
     pub bare : (i : ℕ) (task : Task) (page : ℕ × ℕ) (r : Request) → HasTask i task
         → task.victim ≡ Some page → HasRequest task.host r
-        → frame_in core.rows (asked_page r) ≡ None
+        → frame_in (listed core.rows) r.volume (page_of r.cylinder) ≡ None
     pub touched_ : (i : ℕ) (task : Task) (page : ℕ × ℕ) (h : ℕ) (r : Request) → HasTask i task
         → task.victim ≡ Some page → HasRequest h r → r.state ≡ Ready → asked_page r ≡ page
         → task.touched ≡ true
     -- one that takes none: its frame is the asked page's, or nobody's while that page has none
     pub given : (i : ℕ) (task : Task) (r : Request) → HasTask i task → task.victim ≡ None
         → HasRequest task.host r
-        → (frame_in core.rows (asked_page r) ≡ Some task.frame)
-        ⊎ ((owner_at core.owners task.frame ≡ None) × (frame_in core.rows (asked_page r) ≡ None))
+        → (frame_in (listed core.rows) r.volume (page_of r.cylinder) ≡ Some task.frame)
+        ⊎ ((owner_at core.owners task.frame ≡ None)
+        × (frame_in (listed core.rows) r.volume (page_of r.cylinder) ≡ None))
     -- its transfer: one that takes a frame destages, and one that takes none stages
     pub transfers : (i : ℕ) (task : Task) (t : Transfer) → HasTask i task → task.transfer ≡ Some t
         → IsUnderWay task t
@@ -114,10 +116,11 @@ module _ {S C : Type 0} (core : CoreValue S C) where
 
   pub record FramesFit : Type 0 where
     -- a page has a frame exactly where the frame has the page
-    pub given : (page : ℕ × ℕ) (frame : ℕ) → frame_in core.rows page ≡ Some frame
+    pub given : (page : ℕ × ℕ) (frame : ℕ)
+        → frame_in (listed core.rows) page.0 page.1 ≡ Some frame
         → (frame < core.config.frames) × (owner_at core.owners frame ≡ Some page)
     pub owned : (page : ℕ × ℕ) (frame : ℕ) → owner_at core.owners frame ≡ Some page
-        → frame_in core.rows page ≡ Some frame
+        → frame_in (listed core.rows) page.0 page.1 ≡ Some frame
     -- each is once in the order of touch, and nothing else
     pub ordered : (frame : ℕ) → frame < core.config.frames → Contains core.recency frame
     pub once : IsDistinct nat_eq core.recency

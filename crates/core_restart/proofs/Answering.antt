@@ -5,12 +5,11 @@ use Rattle.mss_base.specs.Content.{content}
 use Rattle.volume_table.specs.Listed.{listed}
 use Rattle.volume_table.specs.Row.{RowValue}
 use Rattle.table_pair.specs.declared.copy.SlotsUsed.{SlotsUsed}
-use Rattle.shown_volumes.specs.Shown.{rows_of}
 use Rattle.mss_restart.specs.declared.opening.Opened.{Opened}
-use Rattle.mss_restart.specs.Opening.{IsOpened, missing}
+use Rattle.mss_restart.specs.Opening.{IsOpened}
 use Rattle.mss_restart.specs.Creations.{CompletesWhole}
 use Rattle.mss_restart.specs.declared.creations.Creation.{Creation}
-use Rattle.mss_restart.specs.Answers.{CreatesCounted}
+use Rattle.mss_restart.specs.Answers.{CreatesCounted, account_from}
 use Rattle.mss_restart.specs.Usable.{AreUsableFor}
 use Rattle.core_state.specs.CoreValue.{CoreValue, DevicesSeen}
 use Rattle.core_restart.specs.Opening.{HasOpened, OpensAny, OpensTold, opened_in}
@@ -22,7 +21,7 @@ module _ {S C : Type 0} (config : ConfigData) (old new : DevicesSeen) (opened : 
     opens = subst (λ (x : List (Option RowValue) × List SlotsUsed). IsOpened config (content old.told) (content new.told) x.0 x.1) (λ i. (sym has.rows_ i, sym has.used_ i)) is.opens;
     exact = is.exact;
     moments = is.moments;
-    complete = subst (λ (cs : List Creation). CompletesWhole {T = Unit {0}} (missing (rows_of (content old.told)) config.volumes) cs (rows_of (content old.told)) (rows_of (content new.told)) old.told new.told (Ok tt)) (sym has.creations_) is.complete;
+    complete = subst (λ (cs : List Creation). CompletesWhole (account_from config old.told new.told cs) old.told new.told (Ok tt)) (sym has.creations_) is.complete;
     others = is.others;
     paired = is.paired;
     untouched = is.untouched;

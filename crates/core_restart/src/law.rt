@@ -54,9 +54,9 @@ pub fn restart_takes_up_every_stop<S: Site, C: Choose>()
     shown_volumes::law::first_fault_is_of_unsound_content();
 }
 
-/// Whatever a stop within a restart leaves, behind its sync of all units, also within a call that fails, has no fault,
-/// where what it began from had none. Another restart, of which no call fails, begins a session with the very volumes that
-/// the first was to begin with; or memory runs out.
+/// Whatever a stop within a restart leaves, behind its sync of all units, also within a call that fails, has no
+/// fault, where what it began from had none. Another restart, of which no call fails, begins a session with the very
+/// volumes that the first was to begin with; or memory runs out.
 pub fn restart_takes_up_its_own_stops<S: Site, C: Choose>()
     ensures leaves { (config : ConfigData) (old new : DevicesSeen) (answer : Result Opened Refused)
         → OpensFaultless config old new answer
@@ -72,9 +72,9 @@ pub fn restart_takes_up_its_own_stops<S: Site, C: Choose>()
     shown_volumes::law::first_fault_is_of_unsound_content();
 }
 
-/// Where each copy of each row tells the row alone, it changes nothing which copies can't be read: a survey that tells no
-/// failed call answers just what the content is, or that memory ran out. A row that it tells as unread was read in vain
-/// from both copies. Whatever failed, two surveys that answer what a content is answer the same.
+/// Where each copy of each row tells the row alone, it changes nothing which copies can't be read: a survey that
+/// tells no failed call answers just what the content is, or that memory ran out. A row that it tells as unread was
+/// read in vain from both copies. Whatever failed, two surveys that answer what a content is answer the same.
 pub fn one_unreadable_copy_changes_nothing()
     ensures exact { (before now frames : ℕ) (asked : ℕ → Option (List ℕ)) (c : Content)
         (result : Result (List (Option RowValue)) Refused) → ArePaired c

@@ -107,11 +107,12 @@ fn sync_site<S: Site>(site: &mut S) -> Result<(), Refused>
 /// Opens a site and makes the core of a session on it, in which nothing has happened yet. The session begins with the
 /// volumes that the site showed and the further ones of the configuration, blank; its console tells which were created.
 ///
-/// It begins with a sync of all units, so that what an earlier run left is firm before anything counts on it.
-/// A content with a fault is refused by its first fault, and nothing is written. `RowUnread` and `Stopped` come only where
-/// a call of the site failed, and keep its count of faults. After want of memory each repair and creation that was begun
-/// was written to its end. Where it refuses, it hands the site back. A stop at any moment, also within a call that fails,
-/// leaves a sound content sound; it then shows the volumes that it showed before, with a front of the new ones.
+/// It begins with a sync of all units, so that what an earlier run left is firm before anything counts on it. A
+/// content with a fault is refused by its first fault, and nothing is written. `RowUnread` and `Stopped` come only
+/// where a call of the site failed, and keep its count of faults. After want of memory each repair and creation that
+/// was begun was written to its end. Where it refuses, it hands the site back. A stop at any moment, also within a
+/// call that fails, leaves a sound content sound; it then shows the volumes that it showed before, with a front of
+/// the new ones.
 ///
 /// The memory of the core is taken before anything is written, but for that of the rows
 /// that it creates.

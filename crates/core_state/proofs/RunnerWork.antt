@@ -12,12 +12,14 @@ use Rattle.transfers.specs.Copies.{target_unit}
 use Rattle.transfers.specs.declared.transfer.Transfer.{Transfer}
 use Rattle.transfers.specs.declared.transfer.TransferKind.{TransferKind}
 use Rattle.transfers.specs.declared.transfer.TransferKind.TheVariants.{StageBlank, StageCartridge, Destage}
+use Rattle.volume_table.specs.Listed.{listed}
+use Rattle.shown_volumes.specs.Sound.{frame_in}
 use Rattle.cartridge_store.specs.Places.{place_of}
 use Rattle.core_state.specs.declared.task.Task.{Task}
 use Rattle.core_state.specs.declared.rule.WorkRule.{WorkRule}
 use Rattle.core_state.specs.declared.rule.WorkRule.TheVariants as work
 use Rattle.core_state.specs.CoreValue.{CoreData}
-use Rattle.core_state.specs.Pins.{candidates, free_frame, is_moving, frame_in, asked_page, page_of}
+use Rattle.core_state.specs.Pins.{candidates, free_frame, is_moving, page_of}
 use Rattle.core_state.specs.WorkRules.{task_of, held_in, work_rule, transfer_of, stopped_rule, return_rule, pick_on, pick_for, first_pick, pick_rule, abandon_rule, carry_for, carry_rule, copy_rule, end_rule, free_rule, assign_rule, task_rule, is_within, is_in_cell, needs_cartridge}
 use Rattle.core_state.specs.WorkEvents.{WorkDoes, WorkEvent, TaskDoes, WithTask, EndsIt, TellsEnd}
 use Rattle.core_state.specs.Devices.{SyncUnit}
@@ -55,7 +57,7 @@ module _ (core : CoreData) (task : Option Task) where
       (where_test P (nat_lt 0 (length (candidates core))) (work.PicksVictim h) (has_first (candidates core)))
 
   for_fits : (h : ℕ) (r : Request) (state : RequestState) → ForSome (pick_for core h r state) P
-  for_fits h r request.Queued = on_fits h (frame_in core.rows (asked_page r))
+  for_fits h r request.Queued = on_fits h (frame_in (listed core.rows) r.volume (page_of r.cylinder))
   for_fits h r request.Moving = nothing P None refl
   for_fits h r request.Ready = nothing P None refl
   for_fits h r (request.Failed fault) = nothing P None refl

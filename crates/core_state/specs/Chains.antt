@@ -8,12 +8,14 @@ use Rattle.fault_queue.specs.declared.queue.RequestState.{RequestState}
 use Rattle.fault_queue.specs.declared.queue.RequestState.TheVariants as request
 use Rattle.fault_queue.specs.Requests.{RequestsData}
 use Rattle.victim_choice.specs.declared.choose.Candidate.{Candidate}
+use Rattle.volume_table.specs.Listed.{listed}
+use Rattle.shown_volumes.specs.Sound.{frame_in}
 use Rattle.core_state.specs.declared.session.Event.{Event}
 use Rattle.core_state.specs.declared.session.Event.TheVariants.{Host, Work}
 use Rattle.core_state.specs.declared.rule.WorkAnswer.{WorkAnswer}
 use Rattle.core_state.specs.declared.rule.WorkAnswer.TheVariants.{Idle, Stopped, Memory}
 use Rattle.core_state.specs.CoreValue.{CoreData}
-use Rattle.core_state.specs.Pins.{owner_at, frame_in, asked_page, is_bound, is_held}
+use Rattle.core_state.specs.Pins.{owner_at, page_of, is_bound, is_held}
 use Rattle.core_state.specs.HostEvents.{HostTold, halts, at_limit, no_memory, HostEvent}
 use Rattle.core_state.specs.WorkEvents.{WorkEvent}
 
@@ -140,7 +142,7 @@ Ended core' core steps = (steps ≡ []) × (core' ≡ core)
 abbrev pub IsAtRest : CoreData → Request → RequestState → Type 0
 IsAtRest core r request.Moving = ⊥
 IsAtRest core r request.Queued =
-    (frame_in core.rows (asked_page r) ≡ None)
+    (frame_in (listed core.rows) r.volume (page_of r.cylinder) ≡ None)
     × ((frame : ℕ) → frame < core.config.frames
     → IsSome (owner_at core.owners frame)
     × ((is_bound core frame ≡ true) ⊎ (is_held core frame ≡ true)))

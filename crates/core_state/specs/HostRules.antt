@@ -22,9 +22,10 @@ use Rattle.core_state.specs.declared.rule.HostRule.TheVariants.{IsStopped, IsFul
 use Rattle.core_state.specs.declared.rule.HostRule.TheVariants.{IsHeld, Responds, HasFailed}
 use Rattle.core_state.specs.declared.rule.HostRule.TheVariants.{HasNoSpace, Faults, Marks, Runs}
 use Rattle.core_state.specs.CoreValue.{CoreValue}
-use Rattle.core_state.specs.Pins.{host_at, volume_under, page_of, frame_in, state_in, are_all_bound}
+use Rattle.core_state.specs.Pins.{host_at, volume_under, page_of, state_in, are_all_bound}
 use Rattle.core_state.specs.Pins.{owner_of}
 use Rattle.volume_table.specs.Listed.{listed}
+use Rattle.shown_volumes.specs.Sound.{frame_in}
 
 -- ---- the call
 
@@ -64,7 +65,7 @@ abbrev pub state_under : {S C : Type 0} → CoreValue S C → HostState → ℕ
 state_under core host = state_in core.rows (volume_of host) host.cylinder
 
 abbrev pub frame_under : {S C : Type 0} → CoreValue S C → HostState → Option ℕ
-frame_under core host = frame_in core.rows (volume_of host, page_of host.cylinder)
+frame_under core host = frame_in (listed core.rows) (volume_of host) (page_of host.cylinder)
 
 -- ---- the rules, in order
 

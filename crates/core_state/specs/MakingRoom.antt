@@ -1,5 +1,5 @@
 -- Room that an event makes before it changes anything.
-use Rattle.std.specs.Prelude.{◌≡◌, ◌≤◌, ℕ}
+use Rattle.std.specs.Prelude.{◌≡◌, ◌≤◌}
 use Rattle.mss_base.specs.Sound.{StaysSound}
 use Rattle.mss_base.specs.declared.site.Site.{Ghosts}
 

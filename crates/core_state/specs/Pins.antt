@@ -3,9 +3,9 @@ use Rattle.volume_table.specs.Listed.{listed}
 use Rattle.std.specs.Prelude.{ℕ, ◌*◌, ◌/◌, ◌-◌, ◌==◌, nat_lt, Bool, true, false, not, ◌&&◌, ◌||◌}
 use Rattle.std.specs.Prelude.{if◌then◌else◌, List, ◌∷◌, length, filter, filter_map, slice_index_or}
 use Rattle.std.specs.Prelude.{slice_set, Option, Some, None, is_some}
-use Rattle.std.specs.Option.{option_map, option_and_then}
+use Rattle.std.specs.Option.{option_map}
 use Rattle.std.specs.List.{list_any, range_with_len}
-use Rattle.volume_table.specs.Row.{RowValue, frame_of, state_of}
+use Rattle.volume_table.specs.Row.{RowValue, state_of}
 use Rattle.ckd_plain.specs.declared.host.HostState.{HostState}
 use Rattle.ckd_plain.specs.Plain.{fresh_host}
 use Rattle.mss_base.specs.Firsts.{where_so, first_below}
@@ -49,10 +49,6 @@ page_of cylinder = cylinder / 8
 -- the page that a request is on
 abbrev pub asked_page : Request → ℕ × ℕ
 asked_page r = (r.volume, page_of r.cylinder)
-
--- the frame that a page has
-abbrev pub frame_in : List (Option RowValue) → ℕ × ℕ → Option ℕ
-frame_in rows page = option_and_then (λ r. frame_of r page.1) (listed rows page.0)
 
 -- a test of a page, where there is one
 abbrev pub on_page : (ℕ × ℕ → Bool) → Option (ℕ × ℕ) → Bool

@@ -22,9 +22,10 @@ use Rattle.core_state.specs.declared.rule.WorkRule.TheVariants.{PicksVictim, Aba
 use Rattle.core_state.specs.declared.rule.WorkRule.TheVariants.{Copies, Ends, Frees, Assigns}
 use Rattle.core_state.specs.CoreValue.{CoreValue}
 use Rattle.core_state.specs.Beside.{held_at}
-use Rattle.core_state.specs.Pins.{task_at, frame_in, state_in, asked_page, page_of, is_moving}
+use Rattle.core_state.specs.Pins.{task_at, state_in, page_of, is_moving}
 use Rattle.core_state.specs.Pins.{free_frame, changed_in, candidates}
 use Rattle.volume_table.specs.Listed.{listed}
+use Rattle.shown_volumes.specs.Sound.{frame_in}
 
 abbrev pub task_of : {S C : Type 0} → CoreValue S C → ℕ → Option Task
 task_of core recorder = task_at core.tasks recorder
@@ -64,7 +65,7 @@ abbrev pub staging : List (Option RowValue) → ℕ → Request → Option Trans
 staging rows frame r =
     option_map (λ _. transfer rows (staging_kind (state_in rows r.volume r.cylinder)) r.volume
     r.cylinder frame)
-    (frame_in rows (asked_page r))
+    (frame_in (listed rows) r.volume (page_of r.cylinder))
 
 -- what is to be copied next, where no transfer is under way
 abbrev pub next_transfer : List (Option RowValue) → RequestsData → Task → Option Transfer
@@ -99,7 +100,8 @@ pick_on core h None =
     or where_so (nat_lt 0 (length (candidates core))) (PicksVictim h)
 
 abbrev pub pick_for : {S C : Type 0} → CoreValue S C → ℕ → Request → RequestState → Option WorkRule
-pick_for core h r request.Queued = pick_on core h (frame_in core.rows (asked_page r))
+pick_for core h r request.Queued =
+    pick_on core h (frame_in (listed core.rows) r.volume (page_of r.cylinder))
 pick_for core h r _ = None
 
 abbrev pub first_pick : {S C : Type 0} → CoreValue S C → RequestsData → Option WorkRule

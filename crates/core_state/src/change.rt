@@ -9,9 +9,9 @@ ghost use Rattle.table_pair.specs.Slots.{used_after, used_at};
 ghost use Rattle.core_state.specs.Rows.{CountsSlots, HaveListed, TellsChange, WritesRow};
 ghost use Rattle.core_state.specs.Agrees.{freed_by, message_of};
 
-use crate::looks::frame_in;
 use crate::session::Session;
 use mss_base::{Failed, FrameNo, Site, VolumeNo};
+use shown_volumes::frame_in;
 use table_pair::{CHANGE_ITEMS, SlotsUsedList, change_row};
 use volume_table::{Change, Rows};
 
@@ -48,7 +48,8 @@ pub fn write_change<S: Site>(
 
     ensures rows { rows.new ≡ with_changed volume change.now rows.old }
     ensures used { CountsSlots volume used.old.items used.new.items result }
-    ensures session { TellsChange (message_of (S.writes site.new) volume change.now (listed rows.old))
+    ensures session { TellsChange
+        (message_of (S.writes site.new) volume change.now (listed rows.old))
         (S.faults site.new) session.old session.new result }
     ensures copies { S.tells → ForSome (listed rows.old volume)
         (λ r. WritesRow volume (effect change.now r) (used_after (used_at used.old.items volume))

@@ -4,7 +4,6 @@ ghost use Rattle.core_state.specs.Pins.{
   are_frames_bound,
   asks_for,
   binds,
-  frame_in,
   host_at,
   is_frame_bound,
   is_on,
@@ -16,7 +15,7 @@ ghost use Rattle.core_state.specs.Pins.{
 
 use ckd_plain::HostState;
 use fault_queue::{Queue, Request};
-use mss_base::{Cylinder, FrameNo, HostNo, Page, VolumeNo};
+use mss_base::{Cylinder, FrameNo, HostNo, VolumeNo};
 use staging_adapter::Frames;
 use volume_table::Rows;
 
@@ -87,16 +86,6 @@ pub fn owner_of(hosts: &[HostState], requests: &Queue, volume: VolumeNo) -> Opti
         }
     }
     None
-}
-
-/// The frame of a page.
-pub fn frame_in(rows: &Rows, volume: VolumeNo, page: Page) -> Option<FrameNo>
-    ensures { result ≡ frame_in rows.now (volume, page) }
-{
-    match rows.row(volume) {
-        Some(row) => row.frame(page),
-        None => None,
-    }
 }
 
 /// The number of a cylinder's state.

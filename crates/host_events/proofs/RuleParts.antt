@@ -28,7 +28,7 @@ use Rattle.core_state.specs.declared.rule.HostRule.TheVariants.{IsBusy, IsMoving
 use Rattle.core_state.specs.CoreValue.{CoreValue}
 use Rattle.core_state.specs.HostRules.{if_data, data_command, is_for, is_moving_request, busy_rule, moving_rule, volume_of, state_under, frame_under}
 use Rattle.core_state.specs.IsCore.{IsCore}
-use Rattle.core_state.specs.Pins.{page_of, frame_in as page_frame, state_in, state_of_row, are_all_bound, host_at, owner_at, binds, is_volume_bound, is_frame_bound, are_frames_bound, on_page, is_on, owns, owner_of}
+use Rattle.core_state.specs.Pins.{page_of, state_in, state_of_row, are_all_bound, host_at, owner_at, binds, is_volume_bound, is_frame_bound, are_frames_bound, on_page, is_on, owns, owner_of}
 use Rattle.core_state.specs.Running.{IsNotBusy, IsNotAwaited}
 use Rattle.core_state.specs.Tasks.{HasFrame, IsUnbound}
 use Rattle.core_state.proofs.CoreFacts.{one_page}
@@ -195,7 +195,7 @@ module _ {S C : Type 0} (v : CoreValue S C) (host : HostState) (volume : ℕ) (b
   state_at = ap (λ (n : ℕ). state_in v.rows n host.cylinder) at_volume ∙ ap (λ (o : Option RowValue). state_of_row o host.cylinder) there
 
   pub frame_at : frame_under v host ≡ frame_of r (host.cylinder / 8)
-  frame_at = ap (λ (n : ℕ). page_frame v.rows (n, page_of host.cylinder)) at_volume ∙ ap (option_and_then (λ (k : RowValue). frame_of k (host.cylinder / 8))) there
+  frame_at = ap (λ (n : ℕ). frame_in (listed v.rows) n (page_of host.cylinder)) at_volume ∙ ap (option_and_then (λ (k : RowValue). frame_of k (host.cylinder / 8))) there
 
 -- a volume that a host has bound, is bound
 bound_in : (hosts : List HostState) (volume i : ℕ) → (slice_index_or hosts i fresh_host).mounted ≡ Some (volume, true) → is_volume_bound hosts volume ≡ true

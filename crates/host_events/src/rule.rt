@@ -31,10 +31,11 @@ use crate::requests::request_of;
 use channel_commands::{Call, Command};
 use ckd_plain::steps::{is_data, opened};
 use ckd_plain::{HostState, admitted};
-use core_state::looks::{are_all_bound, frame_in, host_at, is_on, owner_of, state_in};
+use core_state::looks::{are_all_bound, host_at, is_on, owner_of, state_in};
 use core_state::{Core, ENTRY_LIMIT, HostRule, Task};
 use fault_queue::{Request, RequestState};
 use mss_base::{FrameNo, HostNo, Site, VolumeNo};
+use shown_volumes::frame_in;
 use victim_choice::Choose;
 use volume_table::CylinderState;
 

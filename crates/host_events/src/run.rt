@@ -1,17 +1,13 @@
 // The event of a search, read or write on a staged cylinder.
-ghost use Rattle.std.specs.Prelude.{◌≡◌, ◌≤◌, ◌<◌, ◌/◌, Bool, length, true, false, Some, IsSome, IfErr};
+ghost use Rattle.std.specs.Prelude.{◌≡◌, ◌≤◌, ◌<◌, Bool, length, false, Some, IsSome, IfErr};
 ghost use Rattle.mss_base.specs.Content.{content};
 ghost use Rattle.mss_base.specs.Places.{frame_block};
 ghost use Rattle.mss_base.specs.Sites.{MayWrite};
 ghost use Rattle.mss_base.specs.declared.block.TheConstants.{BLOCK_BYTES};
 ghost use Rattle.mss_base.specs.declared.place.UnitNo.{UnitNo};
 ghost use Rattle.volume_table.specs.Listed.{listed};
-ghost use Rattle.volume_table.specs.Row.{frame_of, state_of};
-ghost use Rattle.channel_commands.specs.Data.{is_command};
 ghost use Rattle.channel_commands.specs.Views.{call_of, reply_of};
-ghost use Rattle.ckd_plain.specs.Checks.{Passes};
-ghost use Rattle.ckd_plain.specs.Effects.{is_data};
-ghost use Rattle.ckd_plain.specs.Plain.{IsDone, opened};
+ghost use Rattle.ckd_plain.specs.Plain.{IsDone};
 ghost use Rattle.track_engine.specs.Faults.{IsNoFailure, IsNoFailedWrite};
 ghost use Rattle.track_engine.specs.Tracks.{AreTracks};
 ghost use Rattle.core_state.specs.CoreValue.{seen_site};
@@ -21,7 +17,7 @@ ghost use Rattle.core_state.specs.Tasks.{tasks_after};
 ghost use Rattle.core_state.specs.declared.rule.HostRule.TheVariants.{Runs};
 ghost use Rattle.host_events.specs.Answers.{HostStep, told_of};
 ghost use Rattle.host_events.specs.Parts.{GoesOn, IsUnfailed, IsUntold};
-ghost use Rattle.host_events.specs.Runs.{argument_of, run_by, bare_write, Comes};
+ghost use Rattle.host_events.specs.Runs.{run_by, bare_write, Comes, IsStagedIn, MayRun};
 
 use crate::answer::HostAnswer;
 use crate::copies::copy_of_reply;
@@ -66,8 +62,7 @@ fn row_of(rows: &Rows, volume: VolumeNo) -> &VolumeRow
 
 /// The blocks of a host's cylinder, which is staged in this frame.
 fn place_in(row: &VolumeRow, frame: FrameNo, host: &HostState) -> CylinderPlace
-    requires frame { frame_of row.now (host.now.cylinder / 8) ≡ Some frame }
-    requires staged { 2 ≤ state_of row.now host.now.cylinder }
+    requires staged { IsStagedIn row.now frame host.now }
     ensures unit { result.unit ≡ (frame_block frame host.now.cylinder 0).unit }
     ensures block { result.first_block ≡ (frame_block frame host.now.cylinder 0).block }
     ensures in_range { result.first_block < 7600 }
@@ -112,11 +107,8 @@ fn run_in<S: Site>(
     host: &mut HostState,
 ) -> Result<(Reply, Reply), EngineFault>
     requires buffer { length buffer.old ≡ BLOCK_BYTES }
-    requires frame { frame_of row.now (host.old.cylinder / 8) ≡ Some frame }
-    requires staged { 2 ≤ state_of row.now host.old.cylinder }
-    requires asks { is_command (call_of call.now) ≡ true }
-    requires passes { Passes (opened host.old) command.now (argument_of (call_of call.now)) }
-    requires data { is_data command.now ≡ true }
+    requires staged { IsStagedIn row.now frame host.old }
+    requires may { MayRun (call_of call.now) command.now host.old }
     requires tracks { S.tells → AreTracks (content (S.told site.old))
         (frame_block frame host.old.cylinder 0).unit
         (frame_block frame host.old.cylinder 0).block }

@@ -7,7 +7,8 @@ use Rattle.std.proofs.lemmas.Bool.Decides.{nat_tests}
 use Rattle.hex.specs.Hex.{hex_digit_value}
 use Rattle.job_text.specs.declared.kind.Keyword.{Keyword}
 use Rattle.job_text.specs.declared.kind.Keyword.TheVariants.{Mss, Volume, Host, Done, Mount, Demount, Program, Ccw, Tic, End}
-use Rattle.job_text.specs.Words.{number_of, bytes_of, byte_of}
+use Rattle.mss_base.specs.Decimal.{number_of}
+use Rattle.job_text.specs.Words.{bytes_of, byte_of}
 use Rattle.job_text.specs.Lines.{LineData, mss, volume, host, done, mount, demount, program, ccw, tic, end, Slot, number, serial, byte, hex, fixed, checked, line_of}
 use Rattle.job_text.specs.Canonical.{keyword_of, IsLine}
 

@@ -7,7 +7,8 @@ use Rattle.std.specs.List.{list_all, AllByRecursion, join_with_byte, slice_split
 use Rattle.job_text.specs.declared.kind.Keyword.{Keyword}
 use Rattle.job_text.specs.declared.kind.Place.{Place}
 use Rattle.job_text.specs.declared.kind.Place.TheVariants as place
-use Rattle.job_text.specs.Words.{is_digit, is_printable, is_skipped, words_of, is_serial}
+use Rattle.mss_base.specs.Decimal.{is_digit}
+use Rattle.job_text.specs.Words.{is_printable, is_skipped, words_of, is_serial}
 use Rattle.mss_base.specs.Serial.{is_serial_byte}
 use Rattle.job_text.specs.Lines.{LineData, mss, volume, host, done, mount, demount, program, ccw, tic, end, spelling, keyword_at, line_of}
 use Rattle.job_text.specs.Grammar.{SoFar, judged, spoken, spoken_by, ◌>>=◌, is_after, line_after}

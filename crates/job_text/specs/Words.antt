@@ -1,6 +1,8 @@
 -- The lines of a text, the words of a line, and how words are spelled.
-use Rattle.std.specs.Prelude.{ℕ, ◌+◌, ◌-◌, ◌*◌, ◌%◌, ◌==◌, nat_le, Bool, ◌&&◌, ◌||◌, not, List, [], ◌∷◌, length, slice_index, Option, Some, None, unwrap_or, if◌then◌else◌}
-use Rattle.std.specs.List.{slice_split, list_all, fold}
+use Rattle.std.specs.Prelude.{ℕ, ◌+◌, ◌*◌, ◌%◌, ◌==◌, nat_le, Bool, ◌&&◌, ◌||◌, not, List, [], ◌∷◌}
+use Rattle.std.specs.Prelude.{length, slice_index, Option, Some, None, unwrap_or, if◌then◌else◌}
+use Rattle.std.specs.List.{slice_split, list_all}
+use Rattle.mss_base.specs.Decimal.{is_digit, number_of}
 use Rattle.mss_base.specs.Serial.{is_serial_byte}
 use Rattle.hex.specs.Hex.{is_hex_digit, hex_digit_value}
 
@@ -25,15 +27,9 @@ is_skipped line = length line == 0 || slice_index line 0 == 0x23
 abbrev pub is_printable : ℕ → Bool
 is_printable b = nat_le 0x20 b && nat_le b 0x7E
 
-abbrev pub is_digit : ℕ → Bool
-is_digit b = nat_le 48 b && nat_le b 57
-
 -- `0`, or one to five digits without a leading zero
 abbrev pub is_number : List ℕ → Bool
 is_number word = nat_le 1 (length word) && nat_le (length word) 5 && list_all is_digit word && (length word == 1 || not (slice_index word 0 == 48))
-
-abbrev pub number_of : List ℕ → ℕ
-number_of word = fold (λ n b. 10 * n + (b - 48)) 0 word
 
 -- six characters of `A` to `Z` and `0` to `9`
 abbrev pub is_serial : List ℕ → Bool

@@ -1,7 +1,8 @@
 //! Laws of the grammar.
 ghost use Rattle.std.specs.Prelude.{◌≡◌, ◌<◌, ℕ, List, Ok, Some, decimal, true, [], ◌∷◌, ◌++◌, length, ◌≤◌};
 ghost use Rattle.std.specs.List.{flat_map};
-ghost use Rattle.job_text.specs.Words.{is_number, number_of, number_word};
+ghost use Rattle.mss_base.specs.Decimal.{number_of};
+ghost use Rattle.job_text.specs.Words.{is_number, number_word};
 ghost use Rattle.job_text.specs.Lines.{LineData, line_of};
 ghost use Rattle.job_text.specs.Grammar.{SoFar, TEXT_LIMIT, nothing, judged, line_after, is_after, job, job_of};
 ghost use Rattle.job_text.specs.Jobs.{JobData, IsJob, AreRunnableScripts};

@@ -1,7 +1,8 @@
 //! The forms of a line.
 ghost use Rattle.std.specs.Prelude.{◌≡◌, ◌≤◌, ℕ, nat_le, ◌&&◌, [], ◌∷◌, length, map};
 ghost use Rattle.std.specs.Str.{bytes_eq};
-ghost use Rattle.job_text.specs.Words.{is_number, number_of, is_serial, is_hex_byte, byte_of};
+ghost use Rattle.mss_base.specs.Decimal.{number_of};
+ghost use Rattle.job_text.specs.Words.{is_number, is_serial, is_hex_byte, byte_of};
 ghost use Rattle.job_text.specs.declared.kind.Keyword.TheVariants.{Mss, Volume, Host, Mount, Ccw, Tic};
 ghost use Rattle.job_text.specs.Lines.{line_of};
 ghost use Rattle.job_text.specs.Outcomes.{Gives, Tests};

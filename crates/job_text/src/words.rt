@@ -4,9 +4,9 @@ ghost use Rattle.std.specs.Prelude.{replicate, IfOk, IfSome, OnOk, MatchOption};
 ghost use Rattle.std.specs.List.{list_all, slice_split};
 ghost use Rattle.std.specs.Str.{bytes_eq};
 ghost use Rattle.hex.specs.Hex.{hex_digit_value};
-ghost use Rattle.job_text.specs.Words.{words_of, is_skipped, is_printable, is_digit, is_number, number_of, number_word, is_hex, bytes_of, is_hex_byte, byte_of, byte_word, is_serial};
+ghost use Rattle.job_text.specs.Words.{words_of, is_skipped, is_printable, is_number, number_word, is_hex, bytes_of, is_hex_byte, byte_of, byte_word, is_serial};
 
-use mss_base::{Bytes, NoMemory, Serial};
+use mss_base::{Bytes, NoMemory, Serial, are_digits, number_of};
 use std::alloc::{AllocError, Global};
 
 /// Cuts a line into its words, in place of what the list holds.
@@ -48,33 +48,10 @@ pub fn is_word(word: &[u8], text: &str) -> bool
     text.as_bytes() == word
 }
 
-fn is_digit(b: u8) -> bool
-    ensures { result ≡ is_digit b }
-{
-    b'0' <= b && b <= b'9'
-}
-
-fn are_digits(word: &[u8]) -> bool
-    ensures { result ≡ list_all is_digit word.now }
-{
-    word.iter().all(|b| is_digit(*b))
-}
-
 fn is_number(word: &[u8]) -> bool
     ensures { result ≡ is_number word.now }
 {
     1 <= word.len() && word.len() <= 5 && are_digits(word) && (word.len() == 1 || word[0] != b'0')
-}
-
-fn number_of(word: &[u8]) -> u32
-    requires { is_number word.now ≡ true }
-    ensures { result ≡ number_of word.now }
-{
-    let mut number = 0u32;
-    for b in word {
-        number = 10 * number + u32::from(*b - b'0');
-    }
-    number
 }
 
 /// The number that a word says.
@@ -82,7 +59,7 @@ pub fn number(word: &[u8]) -> Option<u32>
     ensures { result ≡ number_word word.now }
 {
     if is_number(word) {
-        Some(number_of(word))
+        Some(number_of(word) as u32)
     } else {
         None
     }

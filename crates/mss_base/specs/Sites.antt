@@ -1,6 +1,5 @@
 -- What a call leaves of a site, whatever the site is.
 use Rattle.std.specs.Prelude.{◌≡◌, ◌≤◌, ◌+◌, ℕ, Bool, length, Result, IsOk, OnErr}
-use Rattle.mss_base.specs.Content.{SiteLog}
 use Rattle.mss_base.specs.Counts.{HasCause, Rises}
 use Rattle.mss_base.specs.Sound.{StaysSound}
 use Rattle.mss_base.specs.declared.place.UnitNo.{UnitNo}

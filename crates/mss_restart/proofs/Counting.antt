@@ -98,7 +98,7 @@ module _ (all : List VolumeData) (start rows : RowsOf) (made : List Creation) (v
     })
 
 -- none are to come
-pub all_come : (all : List VolumeData) (start rows : RowsOf) (written writes : ℕ) (made : List Creation) → AreComing all start written writes rows made [] → CreatesRows all made start rows written writes
+pub all_come : (all : List VolumeData) (start rows : RowsOf) (written writes : ℕ) (made : List Creation) → AreComing all start written writes rows made [] → CreatesRows (record { volumes = all; before = start; after = rows; made = made }) written writes
 all_come all start rows written writes made is =
     let whole : is.done ≡ missing start all = sym (append-nil is.done) ∙ is.order in
     record { rows = subst (λ (vs : List VolumeData). Creates vs start rows) whole is.created; counted = subst (λ (vs : List VolumeData). AreCounted written writes vs made) whole is.counted }
@@ -110,7 +110,7 @@ all_logged all start rows begun now made is =
 
 -- want of memory leaves the creations that were made
 pub memory_creates : (all : List VolumeData) (start rows last : RowsOf) (begun mid now : SiteLog) (made told : List Creation) (rest : List VolumeData) (e : Refused) → AreLogged all start begun mid rows made rest → (e ≡ Memory → now ≡ mid)
-    → CreatesWhole {T = Unit {0}} (missing start all) told start last begun now (Err e)
+    → CreatesWhole (record { volumes = all; before = start; after = last; made = told }) begun now (Err e)
 memory_creates all start rows last begun mid now made told rest Memory is same =
     subst (IsFrontCreated (missing start all) start begun) (sym (same refl)) (record { done = is.done; later = missing rows rest; order = is.order; made = made; last = rows; each = is.each })
 memory_creates all start rows last begun mid now made told rest _ is same = tt

@@ -13,9 +13,9 @@ use Rattle.mss_base.proofs.FirstFacts.{or_none}
 use Rattle.volume_table.specs.Listed.{listed}
 use Rattle.mss_restart.specs.Walks.{rest_fault}
 use Rattle.mss_restart.specs.Survey.{AreFaultless}
-use Rattle.mss_restart.specs.Opening.{RowsAre, missing}
-use Rattle.mss_restart.specs.Creations.{IsStop, AreRepaired, IsFrontCreated, AreCounted, CreatesRows, RepairsWhole, CreatesWhole, CompletesWhole}
-use Rattle.mss_restart.specs.Answers.{RefusesAs, KeepsOpening, RefusalLeaves}
+use Rattle.mss_restart.specs.Opening.{RowsAre}
+use Rattle.mss_restart.specs.Creations.{IsStop, AreRepaired, IsFrontCreated, Account, new_in, AreCounted, CreatesRows, RepairsWhole, CreatesWhole, CompletesWhole}
+use Rattle.mss_restart.specs.Answers.{RefusesAs, KeepsOpening, RefusalLeaves, account_from}
 use Rattle.mss_restart.specs.declared.creations.Creation.{Creation}
 use Rattle.mss_restart.proofs.ReadRows.{right_readings}
 use Rattle.mss_restart.proofs.Surveyed.{row_walk, is_rest, none_apart}
@@ -25,38 +25,41 @@ none_created : (volumes : List VolumeData) (rows : RowsOf) (s : SiteLog) → IsF
 none_created volumes rows s = record { done = []; later = volumes; order = refl; made = []; last = rows; each = (refl, refl) }
 
 -- want of memory within the repairs
-pub repairs_complete : (volumes : List VolumeData) (made : List Creation) (rows last : RowsOf) (old new : SiteLog) (e : Refused) → RepairsWhole {T = Unit {0}} old new (Err e) → CompletesWhole {T = Unit {0}} volumes made rows last old new (Err e)
-repairs_complete volumes made rows last old new Memory is = (is.0, (new, is.1, none_created volumes rows new))
-repairs_complete volumes made rows last old new _ is = tt
+pub repairs_complete : (a : Account) (old new : SiteLog) (e : Refused) → RepairsWhole {T = Unit {0}} old new (Err e) → CompletesWhole a old new (Err e)
+repairs_complete a old new Memory is = (is.0, (new, is.1, none_created (new_in a) a.before new))
+repairs_complete a old new _ is = tt
 
 -- creations behind all repairs
-pub creates_complete : (volumes : List VolumeData) (made : List Creation) (rows last : RowsOf) (old mid new : SiteLog) (result : Result (Unit {0}) Refused) → AreRepaired 32 old mid → CreatesWhole volumes made rows last mid new result → CompletesWhole volumes made rows last old new result
-creates_complete volumes made rows last old mid new (Ok value) repaired is = (mid, repaired, is)
-creates_complete volumes made rows last old mid new (Err Memory) repaired is = (32, (mid, repaired, is))
-creates_complete volumes made rows last old mid new (Err _) repaired is = tt
+pub creates_complete : (a : Account) (old mid new : SiteLog) (result : Result (Unit {0}) Refused) → AreRepaired 32 old mid → CreatesWhole a mid new result → CompletesWhole a old new result
+creates_complete a old mid new (Ok value) repaired is = (mid, repaired, is)
+creates_complete a old mid new (Err Memory) repaired is = (32, (mid, repaired, is))
+creates_complete a old mid new (Err _) repaired is = tt
 
 -- nothing was written
-pub none_complete : (volumes : List VolumeData) (made : List Creation) (rows last : RowsOf) (old new : SiteLog) (e : Refused) → new ≡ old → CompletesWhole {T = Unit {0}} volumes made rows last old new (Err e)
-none_complete volumes made rows last old new Memory same = subst (λ (x : SiteLog). CompletesWhole {T = Unit {0}} volumes made rows last old x (Err Memory)) (sym same) (0, (old, none_repaired old, none_created volumes rows old))
-none_complete volumes made rows last old new _ same = tt
+pub none_complete : (a : Account) (old new : SiteLog) (e : Refused) → new ≡ old → CompletesWhole a old new (Err e)
+none_complete a old new Memory same = subst (λ (x : SiteLog). CompletesWhole a old x (Err Memory)) (sym same) (0, (old, none_repaired old, none_created (new_in a) a.before old))
+none_complete a old new _ same = tt
 
 -- of a refusal neither the creations nor the last rows are told
-other_names : (volumes : List VolumeData) (made told : List Creation) (rows last other : RowsOf) (old new : SiteLog) (e : Refused) → CompletesWhole {T = Unit {0}} volumes made rows last old new (Err e) → CompletesWhole {T = Unit {0}} volumes told rows other old new (Err e)
-other_names volumes made told rows last other old new Memory is = is
-other_names volumes made told rows last other old new _ is = tt
+other_names : (a : Account) (told : List Creation) (other : RowsOf) (old new : SiteLog) (e : Refused) → CompletesWhole a old new (Err e) → CompletesWhole (record a { after = other; made = told }) old new (Err e)
+other_names a told other old new Memory is = is
+other_names a told other old new _ is = tt
 
-pub refusal_complete : (volumes : List VolumeData) (made : List Creation) (rows last : RowsOf) (old mid new : SiteLog) (e : Refused) → mid ≡ old → rows ≡ rows_of (content old) → CompletesWhole {T = Unit {0}} (missing rows volumes) made rows last mid new (Err e)
-    → CompletesWhole {T = Unit {0}} (missing (rows_of (content old)) volumes) [] (rows_of (content old)) (rows_of (content new)) old new (Err e)
-refusal_complete volumes made rows last old mid new e same rows_are is =
-    subst (λ (r : RowsOf). CompletesWhole {T = Unit {0}} (missing r volumes) [] r (rows_of (content new)) old new (Err e)) rows_are
-    (subst (λ (x : SiteLog). CompletesWhole {T = Unit {0}} (missing rows volumes) [] rows (rows_of (content new)) x new (Err e)) same (other_names (missing rows volumes) made [] rows last (rows_of (content new)) mid new e is))
+abbrev pub told_by : ConfigData → RowsOf → RowsOf → List Creation → Account
+told_by config rows last made = record { volumes = config.volumes; before = rows; after = last; made = made }
 
-pub answer_complete : (volumes : List VolumeData) (made : List Creation) (rows last : RowsOf) (old mid new : SiteLog) → mid ≡ old → rows ≡ rows_of (content old) → last ≡ rows_of (content new) → CompletesWhole {T = Unit {0}} (missing rows volumes) made rows last mid new (Ok tt)
-    → CompletesWhole {T = Unit {0}} (missing (rows_of (content old)) volumes) made (rows_of (content old)) (rows_of (content new)) old new (Ok tt)
-answer_complete volumes made rows last old mid new same rows_are last_is is =
-    subst (λ (r : RowsOf). CompletesWhole {T = Unit {0}} (missing r volumes) made r (rows_of (content new)) old new (Ok tt)) rows_are
-    (subst (λ (x : SiteLog). CompletesWhole {T = Unit {0}} (missing rows volumes) made rows (rows_of (content new)) x new (Ok tt)) same
-    (subst (λ (l : RowsOf). CompletesWhole {T = Unit {0}} (missing rows volumes) made rows l mid new (Ok tt)) last_is is))
+pub refusal_complete : (config : ConfigData) (made : List Creation) (rows last : RowsOf) (old mid new : SiteLog) (e : Refused) → mid ≡ old → rows ≡ rows_of (content old) → CompletesWhole (told_by config rows last made) mid new (Err e)
+    → CompletesWhole (account_from config old new []) old new (Err e)
+refusal_complete config made rows last old mid new e same rows_are is =
+    subst (λ (r : RowsOf). CompletesWhole (told_by config r (rows_of (content new)) []) old new (Err e)) rows_are
+    (subst (λ (x : SiteLog). CompletesWhole (told_by config rows (rows_of (content new)) []) x new (Err e)) same (other_names (told_by config rows last made) [] (rows_of (content new)) mid new e is))
+
+pub answer_complete : (config : ConfigData) (made : List Creation) (rows last : RowsOf) (old mid new : SiteLog) → mid ≡ old → rows ≡ rows_of (content old) → last ≡ rows_of (content new) → CompletesWhole (told_by config rows last made) mid new (Ok tt)
+    → CompletesWhole (account_from config old new made) old new (Ok tt)
+answer_complete config made rows last old mid new same rows_are last_is is =
+    subst (λ (r : RowsOf). CompletesWhole (told_by config r (rows_of (content new)) made) old new (Ok tt)) rows_are
+    (subst (λ (x : SiteLog). CompletesWhole (told_by config rows (rows_of (content new)) made) x new (Ok tt)) same
+    (subst (λ (l : RowsOf). CompletesWhole (told_by config rows l made) mid new (Ok tt)) last_is is))
 
 pub counted_since : (begun before now : ℕ) (vs : List VolumeData) (cs : List Creation) → begun ≤ before → AreCounted before now vs cs → AreCounted begun now vs cs
 counted_since begun before now [] [] start is = omega (arith, start, is)
@@ -64,8 +67,8 @@ counted_since begun before now [] (m ∷ ms) start is = absurd is
 counted_since begun before now (v ∷ vs) [] start is = absurd is
 counted_since begun before now (v ∷ vs) (m ∷ ms) start is = (is.0, omega (arith, start, is.1), is.2)
 
-pub creates_since : (volumes : List VolumeData) (made : List Creation) (before after : RowsOf) (begun mid now : ℕ) → begun ≤ mid → CreatesRows volumes made before after mid now → CreatesRows volumes made before after begun now
-creates_since volumes made before after begun mid now start is = record { rows = is.rows; counted = counted_since begun mid now (missing before volumes) made start is.counted }
+pub creates_since : (a : Account) (begun mid now : ℕ) → begun ≤ mid → CreatesRows a mid now → CreatesRows a begun now
+creates_since a begun mid now start is = record { rows = is.rows; counted = counted_since begun mid now (new_in a) a.made start is.counted }
 
 -- what a refusal leaves and keeps
 pub unwritten_refusal : (written writes before now : ℕ) (e : Refused) → writes ≡ written → RefusalLeaves written writes before now e

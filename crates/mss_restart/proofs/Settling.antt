@@ -4,8 +4,8 @@ use Rattle.mss_base.specs.Configs.{ConfigData, VolumeData}
 use Rattle.mss_base.specs.Content.{SiteLog, Settles}
 use Rattle.mss_base.proofs.Settling.{settles_none, settles_then}
 use Rattle.shown_volumes.specs.Shown.{RowsOf}
-use Rattle.mss_restart.specs.Creations.{AreRepaired, AreCreations, CompletesWhole}
-use Rattle.mss_restart.specs.Answers.{OpensWhole}
+use Rattle.mss_restart.specs.Creations.{Account, new_in, AreRepaired, AreCreations, CompletesWhole}
+use Rattle.mss_restart.specs.Answers.{OpensWhole, account_from}
 use Rattle.mss_restart.specs.declared.creations.Creation.{Creation}
 use Rattle.mss_restart.specs.declared.opening.Opened.{Opened}
 
@@ -20,8 +20,8 @@ created_firm [] (m ∷ ms) rows last s t created = absurd created
 created_firm (v ∷ vs) [] rows last s t created = absurd created
 created_firm (v ∷ vs) (m ∷ ms) rows last s t created = settles_then s created.0 t created.1.1.firm (created_firm vs ms created.1.0 last created.0 t created.1.2)
 
-pub completes_firm : (volumes : List VolumeData) (made : List Creation) (rows last : RowsOf) (old new : SiteLog) → CompletesWhole {T = Unit {0}} volumes made rows last old new (Ok tt) → Settles old new
-completes_firm volumes made rows last old new is = settles_then old is.0 new (repaired_firm 32 old is.0 is.1) (created_firm volumes made rows last is.0 new is.2)
+pub completes_firm : (a : Account) (old new : SiteLog) → CompletesWhole a old new (Ok tt) → Settles old new
+completes_firm a old new is = settles_then old is.0 new (repaired_firm 32 old is.0 is.1) (created_firm (new_in a) a.made a.before a.after is.0 new is.2)
 
 pub opens_firm : (config : ConfigData) (old new : SiteLog) (opened : Opened) → OpensWhole config old new (Ok opened) → Settles old new
-opens_firm config old new opened is = completes_firm _ opened.creations.items _ _ old new is
+opens_firm config old new opened is = completes_firm (account_from config old new opened.creations.items) old new is

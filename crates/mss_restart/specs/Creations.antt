@@ -1,5 +1,6 @@
 -- Repairs and creations, each written to its end.
-use Rattle.std.specs.Prelude.{◌≡◌, ◌≢◌, ◌≤◌, ◌<◌, ℕ, zero, suc, List, [], ◌∷◌, ◌++◌, length, Option, Result, Ok, Err, OnOk}
+use Rattle.std.specs.Prelude.{◌≡◌, ◌≢◌, ◌≤◌, ◌<◌, ℕ, zero, suc, List, [], ◌∷◌, ◌++◌, length, Option}
+use Rattle.std.specs.Prelude.{Result, Ok, Err, OnOk}
 use Rattle.std.specs.List.{AllByRecursion}
 use Rattle.mss_base.specs.Sound.{StaysSound}
 use Rattle.mss_base.specs.Configs.{VolumeData}
@@ -39,8 +40,8 @@ abbrev pub StopsAlone : {T : Type 0} → ℕ → ℕ → Result T Refused → Ty
 StopsAlone before now (Ok value) = now ≡ before
 StopsAlone before now (Err e) = IsStop before now e
 
--- what a step of the opening leaves of a site, whatever the site tells. It stops only for a failed call, which it tells,
--- or for want of memory; where no call fails it tells no failure.
+-- what a step of the opening leaves of a site, whatever the site tells. It stops only for a failed call, which it
+-- tells, or for want of memory; where no call fails it tells no failure.
 pub record StepsOn {S T : Type 0} (g : Ghosts S) (old new : S) (result : Result T Refused) : Type 0 where
   pub devices : WritesOn g old new
   pub stops : StopsAlone (g.faults old) (g.faults new) result
@@ -98,7 +99,8 @@ pub record IsCreation (rows after : RowsOf) (v : VolumeData) (made : Creation) (
 abbrev pub AreCreations : List VolumeData → List Creation → RowsOf → RowsOf → SiteLog → SiteLog → Type 0
 AreCreations [] [] rows last old new = (last ≡ rows) × (new ≡ old)
 AreCreations (v ∷ vs) (made ∷ more) rows last old new =
-    (mid : SiteLog) × ((after : RowsOf) × IsCreation rows after v made old mid × AreCreations vs more after last mid new)
+    (mid : SiteLog)
+    × ((after : RowsOf) × IsCreation rows after v made old mid × AreCreations vs more after last mid new)
 AreCreations _ _ rows last old new = ⊥
 
 -- a front of these volumes was created
@@ -113,13 +115,25 @@ pub record IsFrontCreated (new : List VolumeData) (rows : RowsOf) (old now : Sit
 -- each of these volumes has its creation, and their counts of writes don't fall, from the count before to the count now
 abbrev pub AreCounted : ℕ → ℕ → List VolumeData → List Creation → Type 0
 AreCounted before now [] [] = before ≤ now
-AreCounted before now (v ∷ vs) (made ∷ more) = (made.volume ≡ v.0) × (before ≤ made.writes) × AreCounted made.writes now vs more
+AreCounted before now (v ∷ vs) (made ∷ more) =
+    (made.volume ≡ v.0) × (before ≤ made.writes) × AreCounted made.writes now vs more
 AreCounted before now _ _ = ⊥
 
--- the volumes of a list that had no row have one now, in order, and each its creation, whatever the site tells
-pub record CreatesRows (volumes : List VolumeData) (made : List Creation) (before after : RowsOf) (written writes : ℕ) : Type 0 where
-  pub rows : Creates (missing before volumes) before after
-  pub counted : AreCounted written writes (missing before volumes) made
+-- an account of creations: a list of volumes, the rows before and after, and the creations that are told
+pub record Account : Type 0 where
+  pub volumes : List VolumeData
+  pub before : RowsOf
+  pub after : RowsOf
+  pub made : List Creation
+
+-- its volumes that had no row
+abbrev pub new_in : Account → List VolumeData
+new_in a = missing a.before a.volumes
+
+-- the volumes of an account that had no row have one now, in order, and each its creation, whatever the site tells
+pub record CreatesRows (a : Account) (written writes : ℕ) : Type 0 where
+  pub rows : Creates (new_in a) a.before a.after
+  pub counted : AreCounted written writes (new_in a) a.made
 
 -- what repairs leave: all of them, or after want of memory some, each to its end
 abbrev pub RepairsWhole : {T : Type 0} → SiteLog → SiteLog → Result T Refused → Type 0
@@ -127,31 +141,47 @@ RepairsWhole old new (Ok value) = AreRepaired 32 old new
 RepairsWhole old new (Err Memory) = (count : ℕ) × AreRepaired count old new
 RepairsWhole old new (Err e) = Unit {0}
 
+-- what a run leaves of a site, by its account and by how it ended
+abbrev pub Leaves : Type 1
+Leaves = Account → SiteLog → SiteLog → Result (Unit {0}) Refused → Type 0
+
 -- what creations leave: all of them, or after want of memory a front, each to its end
-abbrev pub CreatesWhole : {T : Type 0} → List VolumeData → List Creation → RowsOf → RowsOf → SiteLog → SiteLog → Result T Refused → Type 0
-CreatesWhole volumes made rows last old new (Ok value) = AreCreations volumes made rows last old new
-CreatesWhole volumes made rows last old new (Err Memory) = IsFrontCreated volumes rows old new
-CreatesWhole volumes made rows last old new (Err e) = Unit {0}
+abbrev pub CreatesWhole : Leaves
+CreatesWhole a old new (Ok value) = AreCreations (new_in a) a.made a.before a.after old new
+CreatesWhole a old new (Err Memory) = IsFrontCreated (new_in a) a.before old new
+CreatesWhole a old new (Err e) = Unit {0}
 
--- creations of the volumes of a list that had no row, over a site that tells: what a sound content shows at each moment,
--- and that no other row is more than repaired; what is made where none failed, with so many slots in use, and that each was
--- written to its end
-pub record CreatesVolumes {T : Type 0} (volumes : List VolumeData) (before : List (Option RowValue)) (left : Opened) (old new : SiteLog) (result : Result T Refused) : Type 0 where
-  pub moments : (frames : ℕ) → IsSound frames (content old) → Writes (ShowsFront frames (missing (listed before) volumes) (shown (content old))) old new
-  pub others : RepairsOthers (missing (listed before) volumes) old new
-  pub created : OnOk result (AreCreated volumes (content old) (content new) before left.rows left.used.items)
-  pub complete : CreatesWhole (missing (listed before) volumes) left.creations.items (listed before) (listed left.rows) old new result
+-- what repairs and then creations leave: all of them, or after want of memory some repairs and a front of the creations
+abbrev pub CompletesWhole : Leaves
+CompletesWhole a old new (Ok value) =
+    (mid : SiteLog) × AreRepaired 32 old mid × AreCreations (new_in a) a.made a.before a.after mid new
+CompletesWhole a old new (Err Memory) =
+    (count : ℕ) × ((mid : SiteLog) × AreRepaired count old mid × IsFrontCreated (new_in a) a.before mid new)
+CompletesWhole a old new (Err e) = Unit {0}
 
--- what repairs and then creations leave
-abbrev pub CompletesWhole : {T : Type 0} → List VolumeData → List Creation → RowsOf → RowsOf → SiteLog → SiteLog → Result T Refused → Type 0
-CompletesWhole volumes made rows last old new (Ok value) = (mid : SiteLog) × AreRepaired 32 old mid × AreCreations volumes made rows last mid new
-CompletesWhole volumes made rows last old new (Err Memory) = (count : ℕ) × ((mid : SiteLog) × AreRepaired count old mid × IsFrontCreated volumes rows mid new)
-CompletesWhole volumes made rows last old new (Err e) = Unit {0}
+-- a list of volumes, the rows before, and the rows, slots in use and creations that were left
+pub record Created : Type 0 where
+  pub volumes : List VolumeData
+  pub before : List (Option RowValue)
+  pub left : Opened
 
--- repairs and then creations of the volumes of a list that had no row, over a site that tells: as `CreatesVolumes`, with the
--- repairs that come first
-pub record CompletesVolumes {T : Type 0} (volumes : List VolumeData) (before : List (Option RowValue)) (left : Opened) (old new : SiteLog) (result : Result T Refused) : Type 0 where
-  pub moments : (frames : ℕ) → IsSound frames (content old) → Writes (ShowsFront frames (missing (listed before) volumes) (shown (content old))) old new
-  pub others : RepairsOthers (missing (listed before) volumes) old new
-  pub created : OnOk result (AreCreated volumes (content old) (content new) before left.rows left.used.items)
-  pub complete : CompletesWhole (missing (listed before) volumes) left.creations.items (listed before) (listed left.rows) old new result
+-- its account
+abbrev pub account_of : Created → Account
+account_of c = record {
+  volumes = c.volumes;
+  before = listed c.before;
+  after = listed c.left.rows;
+  made = c.left.creations.items;
+}
+
+-- the volumes that had no row were created, over a site that tells: what a sound content shows at each moment, and
+-- that no other row is more than repaired; what is made where none failed, with so many slots in use; and, as
+-- `IsWhole` says, that each was written to its end
+pub record CreatesVolumes (IsWhole : Leaves) (c : Created) (old new : SiteLog) (result : Result (Unit {0}) Refused)
+    : Type 0 where
+  pub moments : (frames : ℕ) → IsSound frames (content old)
+      → Writes (ShowsFront frames (new_in (account_of c)) (shown (content old))) old new
+  pub others : RepairsOthers (new_in (account_of c)) old new
+  pub created : OnOk result
+      (AreCreated c.volumes (content old) (content new) c.before c.left.rows c.left.used.items)
+  pub complete : IsWhole (account_of c) old new result

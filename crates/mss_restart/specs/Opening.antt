@@ -1,5 +1,6 @@
 -- What opening the rows of a site makes of it: the volumes that have no row are created, blank, in order.
-use Rattle.std.specs.Prelude.{◌≡◌, ◌<◌, ℕ, false, if◌then◌else◌, List, [], ◌∷◌, ◌++◌, length, Option, Some, None, is_some, Result, Ok, Err}
+use Rattle.std.specs.Prelude.{◌≡◌, ◌<◌, ℕ, false, if◌then◌else◌, List, [], ◌∷◌, ◌++◌, length}
+use Rattle.std.specs.Prelude.{Option, Some, None, is_some, Result, Ok, Err}
 use Rattle.mss_base.specs.Content.{Content}
 use Rattle.mss_base.specs.Configs.{ConfigData, VolumeData}
 use Rattle.mss_restart.specs.Serials.{serial_in}
@@ -24,7 +25,8 @@ RowsAre rows c = (volume : ℕ) → volume < 32 → row_of c volume ≡ known (l
 abbrev pub AreHeld : RowsOf → Content → Type 0
 AreHeld rows c = (volume : ℕ) (row : RowValue) → rows volume ≡ Some row → HoldsRow row volume c
 
--- the rows of a content are known: both copies tell each of them, and are open with it, and so many of their slots are in use
+-- the rows of a content are known: both copies tell each of them, and are open with it, and so many of their slots
+-- are in use
 pub record AreKnown (rows : List (Option RowValue)) (used : List SlotsUsed) (c : Content) : Type 0 where
   pub told : RowsAre rows c
   pub held : AreHeld (listed rows) c
@@ -66,7 +68,8 @@ Creates [] rows last = last ≡ rows
 Creates (v ∷ vs) rows last = (row : RowValue) × (IsNewRow rows v.1 row × Creates vs (with_row v.0 row rows) last)
 
 -- one volume was created: its row stands in both copies, without slots, and in the list, and it is shown blank
-pub record IsCreated (volume : ℕ) (serial : List ℕ) (c d : Content) (before rows : List (Option RowValue)) : Type 0 where
+pub record IsCreated (volume : ℕ) (serial : List ℕ) (c d : Content) (before rows : List (Option RowValue))
+    : Type 0 where
   pub row : RowValue
   pub is_new : IsNewRow (listed before) serial row
   pub now : listed rows ≡ with_row volume row (listed before)
@@ -76,17 +79,20 @@ pub record IsCreated (volume : ℕ) (serial : List ℕ) (c d : Content) (before 
   pub shows : (frames : ℕ) → IsSound frames c → SoundAs frames (with_blank volume serial (shown c)) d
 
 -- the volumes of a list that had no row were created; so many slots of each volume are in use now
-pub record AreCreated (volumes : List VolumeData) (c d : Content) (before rows : List (Option RowValue)) (used : List SlotsUsed) : Type 0 where
+pub record AreCreated (volumes : List VolumeData) (c d : Content) (before rows : List (Option RowValue))
+    (used : List SlotsUsed) : Type 0 where
   pub created : Creates (missing (listed before) volumes) (listed before) (listed rows)
   pub are : RowsAre rows d
   pub held : AreHeld (listed rows) d
   pub slots_ : AreUsed used d
-  pub shows : (frames : ℕ) → IsSound frames c → SoundAs frames (with_blanks (missing (listed before) volumes) (shown c)) d
+  pub shows : (frames : ℕ) → IsSound frames c
+      → SoundAs frames (with_blanks (missing (listed before) volumes) (shown c)) d
 
 -- an opened site: it was without a fault; it shows its volumes with the further ones of the configuration, blank; the
--- rows handed back are its rows, in both copies, with so many slots in use; each configured volume has one, and the rows
--- from before stay
-pub record IsOpened (config : ConfigData) (old new : Content) (rows : List (Option RowValue)) (used : List SlotsUsed) : Type 0 where
+-- rows handed back are its rows, in both copies, with so many slots in use; each configured volume has one, and the
+-- rows from before stay
+pub record IsOpened (config : ConfigData) (old new : Content) (rows : List (Option RowValue))
+    (used : List SlotsUsed) : Type 0 where
   pub faultless : first_fault config.frames (serial_in config.volumes) old ≡ None
   pub shows : SoundAs config.frames (with_blanks (missing (rows_of old) config.volumes) (shown old)) new
   pub rows_are : listed rows ≡ rows_of new

@@ -1,5 +1,6 @@
 -- What a survey answers.
-use Rattle.std.specs.Prelude.{◌≡◌, ◌≢◌, ◌<◌, ◌≤◌, ◌+◌, ℕ, Bool, true, false, List, Option, Some, None, Result, Ok, Err, is_some}
+use Rattle.std.specs.Prelude.{◌≡◌, ◌≢◌, ◌<◌, ◌≤◌, ◌+◌, ℕ, Bool, true, false, List, Option, Some}
+use Rattle.std.specs.Prelude.{None, Result, Ok, Err, is_some}
 use Rattle.mss_base.specs.Content.{Content}
 use Rattle.mss_base.specs.Counts.{IsFaultSince, IsFaultWithin}
 use Rattle.std.specs.Option.{ForSome}
@@ -75,7 +76,8 @@ abbrev pub CountsFaults : {T : Type 0} → ℕ → ℕ → Result T Refused → 
 CountsFaults before now (Ok value) = now ≡ before
 CountsFaults before now (Err e) = CountsCause before now e
 
--- where a read of a table failed that the other copy made good, a fault of the content or want of memory may be answered
+-- where a read of a table failed that the other copy made good, a fault of the content or want of memory may be
+-- answered
 abbrev pub KeepsCause : ℕ → ℕ → Refused → Type 0
 KeepsCause before now (RowUnread volume fault) = IsFaultSince before now fault
 KeepsCause before now (Stopped fault) = IsFaultSince before now fault
@@ -111,8 +113,8 @@ ReadsWholeRows (Err e) = IsNoFailure e
 
 -- ---- the rows as they were read
 
--- a volume's row as it was read, by the table, copy A first: each of its copies was read, or its read failed and the count
--- of faults rose at it
+-- a volume's row as it was read, by the table, copy A first: each of its copies was read, or its read failed and the
+-- count of faults rose at it
 pub record IsReading (before now volume : ℕ) (c : Content) (r : RowReading) : Type 0 where
   pub between : ℕ
   pub a : CopyRead
@@ -129,7 +131,8 @@ pub record Readings (before now : ℕ) (c : Content) : Type 0 where
   pub last : counts 32 ≡ now
   pub each : (volume : ℕ) → IsReading (counts volume) (counts (volume + 1)) volume c (row volume)
 
--- what reading a volume's row answers: the row, whose serial is the one that is asked, or a fault, or that nothing is known
+-- what reading a volume's row answers: the row, whose serial is the one that is asked, or a fault, or that nothing is
+-- known
 abbrev pub TellsRow : ℕ → Option (List ℕ) → RowReading → Result RowRead Refused → Type 0
 TellsRow volume asked r (Ok read) = (r ≡ known read.row (is_some read.unread)) × (read_fault volume asked r ≡ None)
 TellsRow volume asked r (Err (RowUnread v fault)) = (v ≡ volume) × (r ≡ unknown)
@@ -137,7 +140,8 @@ TellsRow volume asked r (Err (Stopped fault)) = ⊥
 TellsRow volume asked r (Err e) = is_of_content e ≡ true → read_fault volume asked r ≡ Some e
 
 -- a volume's row as it was read, and what was answered
-pub record ReadsVolume (before now volume : ℕ) (asked : Option (List ℕ)) (c : Content) (result : Result RowRead Refused) : Type 0 where
+pub record ReadsVolume (before now volume : ℕ) (asked : Option (List ℕ)) (c : Content)
+    (result : Result RowRead Refused) : Type 0 where
   pub read : RowReading
   pub is : IsReading before now volume c read
   pub tells : TellsRow volume asked read result
@@ -168,7 +172,8 @@ abbrev pub IsKnown : Option RowValue → RowReading → Type 0
 IsKnown row r = (missing : Bool) × (r ≡ known row missing)
 
 -- all rows as they were read, without a fault among them
-pub record AreRead (before now : ℕ) (asked : ℕ → Option (List ℕ)) (c : Content) (rows : List (Option RowValue)) (unread : Option ℕ) : Type 0 where
+pub record AreRead (before now : ℕ) (asked : ℕ → Option (List ℕ)) (c : Content)
+    (rows : List (Option RowValue)) (unread : Option ℕ) : Type 0 where
   pub readings : Readings before now c
   pub known : (volume : ℕ) → volume < 32 → IsKnown (listed rows volume) (readings.row volume)
   pub none : first_below 32 (row_fault asked readings.row) ≡ None
@@ -199,7 +204,8 @@ pub record IsFirstUnread (asked : ℕ → Option (List ℕ)) (row : ℕ → RowR
 
 -- each row of which nothing is known stands behind one that is at fault
 abbrev pub AreBehindFaults : (ℕ → Option (List ℕ)) → (ℕ → RowReading) → Type 0
-AreBehindFaults asked row = (volume : ℕ) → volume < 32 → row volume ≡ unknown → first_below volume (row_fault asked row) ≢ None
+AreBehindFaults asked row =
+    (volume : ℕ) → volume < 32 → row volume ≡ unknown → first_below volume (row_fault asked row) ≢ None
 
 -- each row is known, and none is at fault
 pub record AreFaultless (asked : ℕ → Option (List ℕ)) (row : ℕ → RowReading) : Type 0 where
@@ -217,7 +223,8 @@ StopsBehind frames rows (Stopped fault) = StandApart frames rows
 StopsBehind frames rows _ = Unit {0}
 
 -- what a survey answers of rows as they were read: the rows, where there is no fault, or the first fault
-abbrev pub SurveyTells : ℕ → (ℕ → Option (List ℕ)) → (ℕ → RowReading) → Content → Result (List (Option RowValue)) Refused → Type 0
+abbrev pub SurveyTells : ℕ → (ℕ → Option (List ℕ)) → (ℕ → RowReading) → Content
+    → Result (List (Option RowValue)) Refused → Type 0
 SurveyTells frames asked row c (Ok rows) =
     AreFaultless asked row × (listed rows ≡ rows_in row) × (first_fault_of frames asked row c ≡ None)
 SurveyTells frames asked row c (Err (RowUnread volume fault)) = IsFirstUnread asked row volume
@@ -226,7 +233,8 @@ SurveyTells frames asked row c (Err (Stopped fault)) =
 SurveyTells frames asked row c (Err Memory) = Unit {0}
 SurveyTells frames asked row c (Err e) = AreBehindFaults asked row × (first_fault_of frames asked row c ≡ Some e)
 
--- the count of faults since the rows were read: it rose where a stop is answered, and a row that isn't known was read last
+-- the count of faults since the rows were read: it rose where a stop is answered, and a row that isn't known was read
+-- last
 abbrev pub CountsSince : ℕ → ℕ → Result (List (Option RowValue)) Refused → Type 0
 CountsSince mid now (Ok rows) = now ≡ mid
 CountsSince mid now (Err (Stopped fault)) = IsFaultSince mid now fault
@@ -234,7 +242,8 @@ CountsSince mid now (Err Memory) = mid ≤ now
 CountsSince mid now (Err e) = now ≡ mid
 
 -- the survey of a content, whose rows were read by the table, where reads may have failed
-pub record Surveys (before now frames : ℕ) (asked : ℕ → Option (List ℕ)) (c : Content) (result : Result (List (Option RowValue)) Refused) : Type 0 where
+pub record Surveys (before now frames : ℕ) (asked : ℕ → Option (List ℕ)) (c : Content)
+    (result : Result (List (Option RowValue)) Refused) : Type 0 where
   pub mid : ℕ
   pub readings : Readings before mid c
   pub tells : SurveyTells frames asked readings.row c result

@@ -6,7 +6,8 @@ use Rattle.volume_table.specs.Row.{RowValue}
 use Rattle.shown_volumes.specs.Shown.{RowsOf}
 use Rattle.shown_volumes.specs.Sound.{HasCartridgesOnce, HasFramesBelow, HasFramesOnce, HasSerialsAsked}
 
--- no cartridge and no frame is named twice, each frame is one of the first so many, and each serial is the one that is asked
+-- no cartridge and no frame is named twice, each frame is one of the first so many, and each serial is the one that
+-- is asked
 pub record AreUsable (frames : ℕ) (asked : ℕ → Option (List ℕ)) (rows : RowsOf) : Type 0 where
   pub cartridges_once : HasCartridgesOnce rows
   pub frames_below : HasFramesBelow frames rows
@@ -22,4 +23,5 @@ pub record HasRowWith (rows : RowsOf) (volume : ℕ) (serial : List ℕ) : Type 
 -- usable rows, with one for each volume of the configuration
 pub record AreUsableFor (config : ConfigData) (rows : RowsOf) : Type 0 where
   pub usable : AreUsable config.frames (serial_in config.volumes) rows
-  pub each : (volume : ℕ) (serial : List ℕ) → serial_in config.volumes volume ≡ Some serial → HasRowWith rows volume serial
+  pub each : (volume : ℕ) (serial : List ℕ)
+      → serial_in config.volumes volume ≡ Some serial → HasRowWith rows volume serial

@@ -21,4 +21,7 @@ row_tracks_fault c volume r = first_below CYLINDERS (row_cylinder_fault c volume
 
 -- the first fault of the walks behind that over the rows
 abbrev pub rest_fault : ℕ → RowsOf → Content → Option Refused
-rest_fault frames rows c = first_below 32 (halves_fault rows) or first_below 32 (pages_fault frames rows) or first_below 32 (tracks_fault rows c)
+rest_fault frames rows c =
+    first_below 32 (halves_fault rows)
+    or first_below 32 (pages_fault frames rows)
+    or first_below 32 (tracks_fault rows c)

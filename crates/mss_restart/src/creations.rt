@@ -14,6 +14,7 @@ ghost use Rattle.mss_restart.specs.Opening.{AreKnown, HasNewRow, IsCreated, Rows
 ghost use Rattle.mss_restart.specs.Creations.{
   CreatesRows,
   CreatesVolumes,
+  CreatesWhole,
   IsCreation,
   RepairsOthers,
   StepsOn,
@@ -88,8 +89,8 @@ fn put_none(used: &mut SlotsUsedList, volume: VolumeNo)
 }
 
 /// Creates each volume of a list that has no row, in order, and says what it created. The copies of a new row have no
-/// slots in use. A sound content stays sound at each moment, and shows its volumes with a front of the new ones. After want
-/// of memory no creation stands half done.
+/// slots in use. A sound content stays sound at each moment, and shows its volumes with a front of the new ones.
+/// After want of memory no creation stands half done.
 pub fn create_volumes<S: Site>(
     alloc: Global,
     site: &mut S,
@@ -103,12 +104,21 @@ pub fn create_volumes<S: Site>(
     requires rising { IsStrictlySortedBy nat_cmp (map (λ v. v.0) volumes.now) }
     requires known { S.tells → AreKnown rows.old used.old.items (content (S.told site.old)) }
     requires places { length used.old.items ≡ 32 }
-    ensures told { S.tells → CreatesVolumes volumes.now rows.old
-        (record { rows = rows.new; used = used.new; creations = creations.new })
+    ensures told { S.tells → CreatesVolumes CreatesWhole
+        (record {
+          volumes = volumes.now;
+          before = rows.old;
+          left = record { rows = rows.new; used = used.new; creations = creations.new };
+        })
         (S.told site.old) (S.told site.new) result }
     ensures places { length used.new.items ≡ 32 }
-    ensures rows { OnOk result (CreatesRows volumes.now creations.new.items
-        (listed rows.old) (listed rows.new) (S.writes site.old) (S.writes site.new)) }
+    ensures rows { OnOk result (CreatesRows
+        (record {
+          volumes = volumes.now;
+          before = listed rows.old;
+          after = listed rows.new;
+          made = creations.new.items;
+        }) (S.writes site.old) (S.writes site.new)) }
     ensures site_ { StepsOn S.Site site.old site.new result }
 {
     for entry in volumes {

@@ -9,8 +9,9 @@
 //! tells it alone, one unit of the table that can't be read changes nothing (`specs/OneCopy.antt`); lemmas on it,
 //! which the layers above cite, are `proofs/OneCopy.antt` and `proofs/OneTable.antt`.
 //!
-//! `serial_asked`, `serial_fault`, `half_fault`, `page_fault` and `check_track_of` look at one item each, for a list of all
-//! that is wrong; a proof above may cite `ListedFacts` (what a blank cylinder and a volume without a row lack).
+//! `serial_asked`, `serial_fault`, `half_fault`, `page_fault` and `check_track_of` look at one item each, for a list
+//! of all that is wrong; a proof above may cite `ListedFacts` (what a blank cylinder and a volume without a row
+//! lack).
 #![tactic(auto)]
 
 mod cartridges;

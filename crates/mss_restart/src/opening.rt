@@ -1,18 +1,16 @@
 // The rows of a site opened: surveyed, repaired, and those of the further volumes created.
-ghost use Rattle.std.specs.Prelude.{◌≡◌, ◌≤◌, ◌<◌, ℕ, [], Ok, None, OnOk, IfOk, IfErr, length};
-ghost use Rattle.mss_base.specs.Content.{content, Writes};
+ghost use Rattle.std.specs.Prelude.{◌≡◌, ◌≤◌, ◌<◌, [], Ok, None, OnOk, IfOk, IfErr, length};
+ghost use Rattle.mss_base.specs.Content.{content};
 ghost use Rattle.mss_base.specs.Sites.{OnlyReads};
 ghost use Rattle.mss_restart.specs.Serials.{serial_in};
-ghost use Rattle.shown_volumes.specs.Shown.{shown, rows_of};
-ghost use Rattle.shown_volumes.specs.Sound.{IsSound};
 ghost use Rattle.shown_volumes.specs.Faults.{first_fault};
 ghost use Rattle.volume_table.specs.Listed.{listed};
 ghost use Rattle.mss_restart.specs.Usable.{AreUsable};
-ghost use Rattle.mss_restart.specs.Opening.{RowsAre, ShowsFront, answer_of, missing, site_of};
+ghost use Rattle.mss_restart.specs.Opening.{RowsAre, answer_of, site_of};
 ghost use Rattle.mss_restart.specs.Creations.{
-  CompletesVolumes,
+  CompletesWhole,
   CreatesRows,
-  RepairsOthers,
+  CreatesVolumes,
   StepsOn,
   WritesOn,
 };
@@ -20,11 +18,11 @@ ghost use Rattle.mss_restart.specs.Answers.{
   AnswersOpening,
   IsUsable,
   KeepsOpening,
+  LeavesRows,
   MakesCounted,
   Opens,
   OpensExactly,
   OpensSite,
-  OpensWhole,
   RefusalLeaves,
   RefusesAs,
   WritesIfFaultless,
@@ -87,12 +85,21 @@ fn complete_rows<S: Site>(
     requires room { length config.now.volumes ≤ creations.old.spare }
     requires places { length used.old.items ≡ 32 }
     requires told { S.tells → RowsAre rows.old (content (S.told site.old)) }
-    ensures told { S.tells → CompletesVolumes config.now.volumes rows.old
-        (record { rows = rows.new; used = used.new; creations = creations.new })
+    ensures told { S.tells → CreatesVolumes CompletesWhole
+        (record {
+          volumes = config.now.volumes;
+          before = rows.old;
+          left = record { rows = rows.new; used = used.new; creations = creations.new };
+        })
         (S.told site.old) (S.told site.new) result }
     ensures places { length used.new.items ≡ 32 }
-    ensures rows { OnOk result (CreatesRows config.now.volumes creations.new.items
-        (listed rows.old) (listed rows.new) (S.writes site.old) (S.writes site.new)) }
+    ensures rows { OnOk result (CreatesRows
+        (record {
+          volumes = config.now.volumes;
+          before = listed rows.old;
+          after = listed rows.new;
+          made = creations.new.items;
+        }) (S.writes site.old) (S.writes site.new)) }
     ensures site_ { StepsOn S.Site site.old site.new result }
 {
     rows.look();
@@ -108,13 +115,7 @@ fn open_lent<S: Site>(alloc: Global, site: &mut S, config: &Config) -> Result<Op
     ensures exact { S.tells → S.faults site.new ≡ S.faults site.old
         → S.faults site.old < 18446744073709551615
         → OpensExactly config.now (content (S.told site.old)) result }
-    ensures moments { S.tells → (frames : ℕ) → IsSound frames (content (S.told site.old)) → Writes
-        (ShowsFront frames (missing (rows_of (content (S.told site.old))) config.now.volumes)
-        (shown (content (S.told site.old)))) (S.told site.old) (S.told site.new) }
-    ensures complete { S.tells → OpensWhole config.now (S.told site.old) (S.told site.new) result }
-    ensures others { S.tells → RepairsOthers
-        (missing (rows_of (content (S.told site.old))) config.now.volumes)
-        (S.told site.old) (S.told site.new) }
+    ensures leaves { S.tells → LeavesRows config.now (S.told site.old) (S.told site.new) result }
     ensures untouched { S.tells → WritesIfFaultless config.now (S.told site.old) (S.told site.new) }
     ensures usable { IfOk result (IsUsable config.now) }
     ensures counted { MakesCounted config.now (S.writes site.old) (S.writes site.new) result }
@@ -143,14 +144,14 @@ fn open_lent<S: Site>(alloc: Global, site: &mut S, config: &Config) -> Result<Op
 /// Opens the rows of a site: surveys it, makes the two copies of each row equal, and creates the volumes of the
 /// configuration that have no row, in order, blank, each on the two lowest cartridges that no row names.
 ///
-/// It answers over every content and every failing device, and takes the room for its writes itself. A stop at any moment,
-/// also within a call that fails, leaves a sound content sound; it then shows the volumes that it showed before, with a
-/// front of the new ones. A content with a fault is refused by its first fault, and nothing is written. `RowUnread` and
-/// `Stopped` come only where a call of the site failed, and keep its count of faults behind that; `Stopped` also where one
-/// copy alone told a row, since a read of the other failed: then it keeps the count of the first such row, and nothing is
-/// written. After want of memory each repair and creation that was begun was written to its end. At each moment the made
-/// marks of all other volumes stay, and so do their copies where they need no repair; and where each copy told its row
-/// alone, it does so afterwards, unless a call failed.
+/// It answers over every content and every failing device, and takes the room for its writes itself. A stop at any
+/// moment, also within a call that fails, leaves a sound content sound; it then shows the volumes that it showed
+/// before, with a front of the new ones. A content with a fault is refused by its first fault, and nothing is
+/// written. `RowUnread` and `Stopped` come only where a call of the site failed, and keep its count of faults behind
+/// that; `Stopped` also where one copy alone told a row, since a read of the other failed: then it keeps the count of
+/// the first such row, and nothing is written. After want of memory each repair and creation that was begun was
+/// written to its end. At each moment the made marks of all other volumes stay, and so do their copies where they
+/// need no repair; and where each copy told its row alone, it does so afterwards, unless a call failed.
 pub fn open_rows<S: Site>(
     alloc: Global,
     site: S,

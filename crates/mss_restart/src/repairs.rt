@@ -35,9 +35,9 @@ fn refused_repair(fault: RepairFault) -> Refused
     }
 }
 
-/// Makes the two copies of each row equal, and open with it, and counts their slots in use. The rows stay, and a sound
-/// content shows the same at each moment; so do the made marks, and copies that need no repair. After want of memory each
-/// repair that was begun was written to its end.
+/// Makes the two copies of each row equal, and open with it, and counts their slots in use. The rows stay, and a
+/// sound content shows the same at each moment; so do the made marks, and copies that need no repair. After want of
+/// memory each repair that was begun was written to its end.
 pub fn repair_rows<S: Site>(
     alloc: Global,
     site: &mut S,

@@ -29,8 +29,8 @@ use std::alloc::Global;
 use table_pair::{RowRead, RowTrouble, read_row};
 use volume_table::{Rows, VolumeRow};
 
-/// The rows as they were read. Where one copy alone told a row, since a read of the other failed, `unread` is the site's
-/// count of faults after the first such read.
+/// The rows as they were read. Where one copy alone told a row, since a read of the other failed, `unread` is the
+/// site's count of faults after the first such read.
 #[derive(Drop)]
 pub struct RowsRead {
     pub rows: Rows,

@@ -50,7 +50,8 @@ fn check_shown<S: Site>(
     into: &mut Block,
 ) -> Result<(), Refused>
     ensures finds { S.tells → Finds result
-        (where_so (is_torn (content (S.told site.old)) (Some place.now)) (TornTrack volume cylinder head)) }
+        (where_so (is_torn (content (S.told site.old)) (Some place.now))
+        (TornTrack volume cylinder head)) }
     ensures block { S.tells →
         OnOk result (into.new ≡ block_at (content (S.told site.old)) place.now) }
     ensures counts { CountsFaults (S.faults site.old) (S.faults site.new) result }

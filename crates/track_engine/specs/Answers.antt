@@ -23,9 +23,11 @@ use Rattle.track_engine.specs.Writing.{WritesTrack, IsOfNothing, most_writes}
 
 -- the plain machine's answer to a command that passed its checks, on the tracks of a cylinder's blocks
 abbrev pub ran : Content → UnitNo → ℕ → HostState → Command → List ℕ → Bool → Answer
-ran c unit first host command argument chained = performed (tracks_at c unit first) (opened host) command argument chained
+ran c unit first host command argument chained =
+    performed (tracks_at c unit first) (opened host) command argument chained
 
--- what is asked: a command with its bytes, and whether a further one is chained behind it, by a host on the blocks of its cylinder
+-- what is asked: a command with its bytes, and whether a further one is chained behind it, by a host on the blocks of
+-- its cylinder
 pub record Asked : Type 0 where
   pub command : Command
   pub argument : List ℕ
@@ -34,7 +36,8 @@ pub record Asked : Type 0 where
   pub place : CylinderPlace
 
 abbrev pub asked : Command → List ℕ → Bool → HostState → CylinderPlace → Asked
-asked command argument chained host place = record { command = command; argument = argument; chained = chained; host = host; place = place }
+asked command argument chained host place =
+    record { command = command; argument = argument; chained = chained; host = host; place = place }
 
 abbrev pub ran_for : Asked → SiteLog → Answer
 ran_for a s = ran (content s) a.place.unit a.place.first_block a.host a.command a.argument a.chained
@@ -43,9 +46,9 @@ ran_for a s = ran (content s) a.place.unit a.place.first_block a.host a.command 
 abbrev pub AsksNothing : Asked → SiteLog → Type 0
 AsksNothing a s = IsOfNothing a.command (prior_number (opened a.host).prior) (tracks_on s a.place a.host.head)
 
--- What a command on a cylinder's blocks does, by the log of its site: the reply and the host that is left are the plain machine's;
--- whatever the outcome, only the block of the host's head was written, in steps that a stop may leave, and in the end it is the new track.
--- When the reply comes, all that was written is firm.
+-- What a command on a cylinder's blocks does, by the log of its site: the reply and the host that is left are the
+-- plain machine's; whatever the outcome, only the block of the host's head was written, in steps that a stop may
+-- leave, and in the end it is the new track. When the reply comes, all that was written is firm.
 pub record Runs (a : Asked) (old new : SiteLog) (result : Result Reply EngineFault) (left : HostState) : Type 0 where
   pub answer : IfOk result (Responds (ran_for a old) left)
   pub writes : WritesTrack a.command (opened a.host) a.place.unit a.place.first_block old new (ran_for a old).written
@@ -61,10 +64,11 @@ pub record LeavesHost (chained : Bool) (old new : HostState) (result : Result Re
   pub mounted_ : new.mounted ≡ old.mounted
   pub stays : OnErr result (new ≡ old)
 
--- What a command leaves of its devices, whatever the site tells. An update makes `UPDATE_ITEMS` items of the log at most, a write of count,
--- key and data `FORMAT_ITEMS`; a command that is no write, or ends with unit check, reads at most.
--- The count of faults rises where a call failed, and the fault says which; where no call may fail, none did.
-pub record LeavesDevices {S : Type 0} (g : Ghosts S) (c : Command) (unit : UnitNo) (old new : S) (result : Result Reply EngineFault) : Type 0 where
+-- What a command leaves of its devices, whatever the site tells. An update makes `UPDATE_ITEMS` items of the log at
+-- most, a write of count, key and data `FORMAT_ITEMS`; a command that is no write, or ends with unit check, reads at
+-- most. The count of faults rises where a call failed, and the fault says which; where no call may fail, none did.
+pub record LeavesDevices {S : Type 0} (g : Ghosts S) (c : Command) (unit : UnitNo) (old new : S)
+    (result : Result Reply EngineFault) : Type 0 where
   pub devices : MayWrite g FORMAT_ITEMS old new
   pub few : g.tells → length (g.told new).log ≤ length (g.told old).log + most_writes c
   pub looks : is_write c ≡ false → OnlyReads g old new

@@ -39,7 +39,8 @@ abbrev pub IsFailedRead : ℕ → EngineFault → Type 0
 IsFailedRead now (ReadFailed fault) = fault ≡ now
 IsFailedRead now _ = ⊥
 
--- what keeps a search or a read from being done: a failed read, whose fault is the count now; a refusal or want of memory leave the count
+-- what keeps a search or a read from being done: a failed read, whose fault is the count now; a refusal or want of
+-- memory leave the count
 abbrev pub IsReadFault : ℕ → ℕ → NotDone → Type 0
 IsReadFault before now (Fault (ReadFailed fault)) = IsFaultSince before now fault
 IsReadFault before now (Fault (WriteFailed fault)) = ⊥
@@ -51,9 +52,10 @@ pub record HasReadCause {X : Type 0} (before now : ℕ) (result : Result X NotDo
   pub same : OnOk result (now ≡ before)
   pub failed : IfErr result (IsReadFault before now)
 
--- What a search or a read leaves of its devices, whatever the site tells: it reads at most. The count of faults rises where a read failed,
--- which the fault tells; where none on this unit may fail, none keeps it from being done.
-pub record ReadsDevices {S X : Type 0} (g : Ghosts S) (unit : UnitNo) (old new : S) (result : Result X NotDone) : Type 0 where
+-- What a search or a read leaves of its devices, whatever the site tells: it reads at most. The count of faults rises
+-- where a read failed, which the fault tells; where none on this unit may fail, none keeps it from being done.
+pub record ReadsDevices {S X : Type 0} (g : Ghosts S) (unit : UnitNo) (old new : S) (result : Result X NotDone)
+    : Type 0 where
   pub reads : OnlyReads g old new
   pub cause : HasReadCause (g.faults old) (g.faults new) result
   pub works : (but : UnitNo → Bool) → g.never_fails_but old but → but unit ≡ false → IfErr result HasNotFailed
@@ -87,10 +89,11 @@ abbrev pub IsUndone : {S : Type 0} → Ghosts S → Bool → S → S → NotDone
 IsUndone g by_write old new (Refused refusal) = Untroubled g old new
 IsUndone g by_write old new (Fault fault) = FailsBy g by_write old new fault
 
--- What a command leaves of its devices, done or not, whatever the site tells: it makes so many items of the log at most, and one that is no write
--- reads at most. The count of faults rises where a call failed, and the fault says which; where none on this unit may fail, none did, and
--- where only reads may, no write failed.
-pub record UsesDevices {S : Type 0} (g : Ghosts S) (most : ℕ) (by_write : Bool) (unit : UnitNo) (old new : S) (result : Result DoneCommand NotDone) : Type 0 where
+-- What a command leaves of its devices, done or not, whatever the site tells: it makes so many items of the log at
+-- most, and one that is no write reads at most. The count of faults rises where a call failed, and the fault says
+-- which; where none on this unit may fail, none did, and where only reads may, no write failed.
+pub record UsesDevices {S : Type 0} (g : Ghosts S) (most : ℕ) (by_write : Bool) (unit : UnitNo) (old new : S)
+    (result : Result DoneCommand NotDone) : Type 0 where
   pub devices : MayWrite g most old new
   pub few : g.tells → length (g.told new).log ≤ length (g.told old).log + most
   pub looks : by_write ≡ false → OnlyReads g old new

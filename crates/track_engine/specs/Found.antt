@@ -12,7 +12,11 @@ use Rattle.track_engine.specs.declared.place.NotDone.TheVariants.{Refused, Fault
 
 -- the record at a place, in the block that has it
 abbrev pub found_at : List ℕ → RecordPlace → Found
-found_at block at = record { number = at.number; item = slice_index_or (records_of at.host (reading block).records) at.number blank_record; host = at.host }
+found_at block at = record {
+  number = at.number;
+  item = slice_index_or (records_of at.host (reading block).records) at.number blank_record;
+  host = at.host;
+}
 
 -- there is such a record on the block's track, and it begins there in the block, unless it is R0
 pub record StandsIn (block : List ℕ) (at : RecordPlace) : Type 0 where

@@ -1,5 +1,6 @@
 -- What a command does on the blocks of a cylinder, and what a stop within it may leave.
-use Rattle.std.specs.Prelude.{◌≡◌, ◌⊎◌, ℕ, ◌+◌, ◌-◌, Bool, true, false, List, [], ◌∷◌, ◌++◌, take, Option, Some, None, Result, Ok, Err, OnOk, IfErr}
+use Rattle.std.specs.Prelude.{◌≡◌, ◌⊎◌, ℕ, ◌+◌, ◌-◌, Bool, true, false, List, [], ◌∷◌, ◌++◌, take}
+use Rattle.std.specs.Prelude.{Option, Some, None, Result, Ok, Err, OnOk, IfErr}
 use Rattle.mss_base.specs.Content.{SiteLog, content, Settles, Writes, ChangesBlock}
 use Rattle.mss_base.specs.declared.place.BlockPlace.{BlockPlace}
 use Rattle.mss_base.specs.declared.place.UnitNo.{UnitNo}
@@ -36,7 +37,8 @@ written_of (Err refusal) = None
 abbrev pub effect_as : Option (List RecordData) → DoneCommand → Effect
 effect_as written d = record { status = d.status; bytes = d.bytes.items; host = d.host; written = written }
 
--- a write that isn't done yet: other bytes of the same lengths in record k, or the track ended before the record behind k
+-- a write that isn't done yet: other bytes of the same lengths in record k, or the track ended before the record
+-- behind k
 abbrev pub IsBetween : Command → ℕ → List RecordData → List RecordData → Type 0
 IsBetween (command.Write write.Data) k old now = IsOverwrittenAt false k old now
 IsBetween (command.Write write.KeyData) k old now = IsOverwrittenAt true k old now
@@ -46,7 +48,8 @@ IsBetween _ k old now = ⊥
 -- a block within a write: it is a track, the old one, the new one or one between
 pub record IsStep (c : Command) (k : ℕ) (old new : List RecordData) (block : List ℕ) : Type 0 where
   pub good : (reading block).bad ≡ None
-  pub step : ((reading block).records ≡ old) ⊎ (((reading block).records ≡ new) ⊎ IsBetween c k old (reading block).records)
+  pub step : ((reading block).records ≡ old)
+      ⊎ (((reading block).records ≡ new) ⊎ IsBetween c k old (reading block).records)
 
 -- where a command writes: the block, the track that it has, and the record that the command before left
 pub record Target : Type 0 where
@@ -87,9 +90,10 @@ abbrev pub HoldsWritten : Option (List RecordData) → Reading → Type 0
 HoldsWritten None block = Unit {0}
 HoldsWritten (Some track) block = block ≡ reading_of track
 
--- What a function did on a site that tells is what the definition gives: its outcome, and its writes, whatever kept it from the others. Once it is
--- done, all that it wrote is firm.
-pub record CarriesOut (given : Outcome) (c : Command) (to : Target) (old new : SiteLog) (result : Result DoneCommand NotDone) : Type 0 where
+-- What a function did on a site that tells is what the definition gives: its outcome, and its writes, whatever kept
+-- it from the others. Once it is done, all that it wrote is firm.
+pub record CarriesOut (given : Outcome) (c : Command) (to : Target) (old new : SiteLog)
+    (result : Result DoneCommand NotDone) : Type 0 where
   pub outcome : GivesBut (effect_as (written_of given)) result given
   pub moments : WritesBlock c to old new (written_of given)
   pub exact : OnOk result (HoldsWritten (written_of given) (reading (content new to.block.unit to.block.block)))

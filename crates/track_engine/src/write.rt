@@ -1,19 +1,21 @@
 // Writes.
-ghost use Rattle.std.specs.Prelude.{◌≡◌, ◌≤◌, ◌<◌, ◌+◌, ◌-◌, Ok, None, [], length, take, IfOk, OnOk, IfErr, IfSome, Bool, true};
+ghost use Rattle.std.specs.Prelude.{◌≡◌, ◌≤◌, ◌<◌, ◌+◌, ◌-◌, Ok, None, [], length, take};
+ghost use Rattle.std.specs.Prelude.{IfOk, OnOk, IfErr, IfSome, Bool, true};
 ghost use Rattle.mss_base.specs.Content.{content};
 ghost use Rattle.mss_base.specs.Sites.{OnlyReads};
 ghost use Rattle.mss_base.specs.declared.place.UnitNo.{UnitNo};
 ghost use Rattle.ckd_track.specs.Data.{cost, cost_of, HasCount};
 ghost use Rattle.ckd_track.specs.Track.{reading, record_at};
 ghost use Rattle.ckd_track.specs.Formatting.{IsRecord};
-ghost use Rattle.ckd_track.specs.Updating.{updated_length, record_behind};
+ghost use Rattle.ckd_track.specs.Updating.{updated_length, record_behind, MayUpdate};
 ghost use Rattle.ckd_plain.specs.Data.{padded};
 ghost use Rattle.ckd_plain.specs.Effects.{new_record, prior_number, write_};
 ghost use Rattle.ckd_plain.specs.Views.{item_of};
 ghost use Rattle.track_engine.specs.Tracks.{tracks_on, AreTracksOn, IsBlockOn, IsTrackAt};
 ghost use Rattle.track_engine.specs.Faults.{HasNotFailed, ReadsDevices, UsesDevices};
-ghost use Rattle.track_engine.specs.Found.{StandsIn, IsPlaceOf, GivesBut, KeepsVolume};
-ghost use Rattle.track_engine.specs.Writing.{CarriesOut, Spells, formatted_behind, target_in, target_of, update_kind, updated_at};
+ghost use Rattle.track_engine.specs.Found.{IsPlaceOf, GivesBut, KeepsVolume};
+ghost use Rattle.track_engine.specs.Writing.{CarriesOut, Spells, formatted_behind, target_in};
+ghost use Rattle.track_engine.specs.Writing.{target_of, update_kind, updated_at};
 
 use crate::find::{RecordPlace, copy_block, found_in, same_record};
 use crate::place::{CylinderPlace, EngineFault, NotDone};
@@ -182,10 +184,7 @@ fn update_at<S: Site>(
 ) -> Result<DoneCommand, NotDone>
     requires whole { length block.now ≡ BLOCK_BYTES }
     requires track { S.tells → IsTrackAt (content (S.told site.old)) to.now block.now }
-    requires first { 1 ≤ at.now.number }
-    requires there { StandsIn block.now at.now }
-    requires long { length bytes.now ≡ updated_length key_too
-        (record_behind (at.now.number - 1) (reading block.now).records) }
+    requires may { MayUpdate at.now.number at.now.begins_at key_too bytes.now block.now }
     requires room { UPDATE_ITEMS ≤ S.spare site.old }
     ensures done { S.tells → CarriesOut (Ok
         (updated_at key_too (reading block.now).records bytes.now at.now))

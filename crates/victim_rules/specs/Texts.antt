@@ -1,10 +1,11 @@
 -- The text of rules: `lru` for none, or one to eight rules with commas between them.
-use Rattle.std.specs.Prelude.{◌+◌, ◌-◌, ◌*◌, ◌==◌, ◌&&◌, ℕ, Bool, not, nat_le, nat_lt, List, []}
-use Rattle.std.specs.Prelude.{◌∷◌, ◌++◌, codes, drop, fold, length, slice_index, take, Option, Some}
+use Rattle.std.specs.Prelude.{◌+◌, ◌==◌, ◌&&◌, ℕ, Bool, not, nat_le, nat_lt, List, []}
+use Rattle.std.specs.Prelude.{◌∷◌, ◌++◌, codes, drop, length, slice_index, take, Option, Some}
 use Rattle.std.specs.Prelude.{None, Result, Ok, Err, ok_or, if◌then◌else◌}
 use Rattle.std.specs.List.{list_all, slice_split}
 use Rattle.std.specs.Option.{option_map}
 use Rattle.std.specs.Str.{bytes_eq}
+use Rattle.mss_base.specs.Decimal.{is_digit, number_of}
 use Rattle.victim_rules.specs.declared.reading.RulesFault.{RulesFault}
 use Rattle.victim_rules.specs.declared.reading.RulesFault.TheVariants.{Bad}
 use Rattle.victim_rules.specs.declared.rule.Rule.{Rule}
@@ -12,9 +13,6 @@ use Rattle.victim_rules.specs.declared.rule.Rule.TheVariants.{Clean, Quota, Avoi
 
 abbrev pub Text : Type 0
 Text = List ℕ
-
-abbrev pub is_digit : ℕ → Bool
-is_digit byte = nat_le 48 byte && nat_le byte 57
 
 -- more than one digit, of which the first is 0
 abbrev pub begins_with_zero : Text → Bool
@@ -24,10 +22,6 @@ begins_with_zero text = nat_lt 1 (length text) && slice_index text 0 == 48
 abbrev pub is_number : Text → Bool
 is_number text = nat_le 1 (length text)
     && (nat_le (length text) 4 && (list_all is_digit text && not (begins_with_zero text)))
-
--- the number that digits write
-abbrev pub number_of : Text → ℕ
-number_of text = fold (λ n b. 10 * n + (b - 48)) 0 text
 
 -- the number of a text, where it is spelled so and isn't above the most
 abbrev pub number_up_to : ℕ → Text → Option ℕ

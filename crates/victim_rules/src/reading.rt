@@ -1,13 +1,12 @@
 //! Rules, read from a text.
-ghost use Rattle.std.specs.Prelude.{◌≡◌, ◌≤◌, true, IfSome};
-ghost use Rattle.std.specs.List.{list_all};
+ghost use Rattle.std.specs.Prelude.{◌≡◌, ◌≤◌, IfSome};
 ghost use Rattle.std.specs.Option.{option_map};
-ghost use Rattle.victim_rules.specs.Texts.{behind, begins_with_zero, is_digit, is_number};
-ghost use Rattle.victim_rules.specs.Texts.{number_of, number_up_to, one_more, rule_of, rules_of};
+ghost use Rattle.victim_rules.specs.Texts.{behind, begins_with_zero, is_number};
+ghost use Rattle.victim_rules.specs.Texts.{number_up_to, one_more, rule_of, rules_of};
 
 use crate::rule::Rule;
 use crate::ruled::{RULE_LIMIT, Ruled};
-use mss_base::volume_at;
+use mss_base::{are_digits, number_of, volume_at};
 
 /// The most digits of a number.
 const DIGIT_LIMIT: usize = 4;
@@ -25,18 +24,6 @@ pub enum RulesFault {
     Bad { rule: u8 },
 }
 
-fn is_digit(byte: u8) -> bool
-    ensures { result ≡ is_digit byte }
-{
-    b'0' <= byte && byte <= b'9'
-}
-
-fn are_digits(text: &[u8]) -> bool
-    ensures { result ≡ list_all is_digit text.now }
-{
-    text.iter().all(|byte| is_digit(*byte))
-}
-
 /// Whether it is more than one digit, of which the first is 0.
 fn begins_with_zero(text: &[u8]) -> bool
     ensures { result ≡ begins_with_zero text.now }
@@ -51,18 +38,6 @@ fn is_number(text: &[u8]) -> bool
     1 <= text.len() && text.len() <= DIGIT_LIMIT && are_digits(text) && !begins_with_zero(text)
 }
 
-/// The number that digits write.
-fn number_of(text: &[u8]) -> u16
-    requires { is_number text.now ≡ true }
-    ensures { result ≡ number_of text.now }
-{
-    let mut number = 0u16;
-    for byte in text {
-        number = 10 * number + u16::from(*byte - b'0');
-    }
-    number
-}
-
 /// The number of a text, where it is spelled so and isn't above the most.
 fn number_up_to(most: u16, text: &[u8]) -> Option<u16>
     ensures value { result ≡ number_up_to most text.now }
@@ -71,7 +46,7 @@ fn number_up_to(most: u16, text: &[u8]) -> Option<u16>
     if !is_number(text) {
         return None;
     }
-    let number = number_of(text);
+    let number = number_of(text) as u16;
     if number <= most { Some(number) } else { None }
 }
 

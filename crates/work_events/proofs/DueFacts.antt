@@ -7,7 +7,7 @@ use Rattle.std.proofs.lemmas.Bool.{and_parts, eqb-true, ltb-true}
 use Rattle.std.proofs.lemmas.List.FromFn.{length-range_with_len, get_or-range_with_len}
 use Rattle.volume_table.specs.Listed.{listed}
 use Rattle.volume_table.specs.Row.{RowValue, frame_of, state_of, cartridge_with}
-use Rattle.shown_volumes.specs.Sound.{frame_in as framed_in}
+use Rattle.shown_volumes.specs.Sound.{frame_in}
 use Rattle.fault_queue.specs.declared.queue.Request.{Request}
 use Rattle.fault_queue.specs.Requests.{request_of}
 use Rattle.transfers.specs.Dues.{due_state}
@@ -18,7 +18,7 @@ use Rattle.cartridge_store.specs.declared.store.TheConstants.{CARTRIDGES}
 use Rattle.core_state.specs.declared.task.Task.{Task}
 use Rattle.core_state.specs.CoreValue.{CoreValue}
 use Rattle.core_state.specs.IsCore.{IsCore}
-use Rattle.core_state.specs.Pins.{task_at, frame_in, state_in, state_of_row, asked_page, is_changed, changed_in}
+use Rattle.core_state.specs.Pins.{task_at, state_in, state_of_row, page_of, is_changed, changed_in}
 use Rattle.core_state.specs.Tasks.{IsTask, IsTransfer, IsChosen, HasFrame}
 use Rattle.core_state.specs.WorkRules.{cartridge_of, transfer, destaging, staging_kind, staging, next_transfer, transfer_of}
 use Rattle.core_state.proofs.RuleWalks.{some_is, none_some, mapped, chained, either, mapped_at}
@@ -110,7 +110,7 @@ module _ {S C : Type 0} (v : CoreValue S C) (core : IsCore v) (n : ℕ) (task : 
         there = row.1;
         due = record {
           cylinder_in = facts.1;
-          frame_ = sym (ap (λ (o : Option RowValue). option_and_then (λ k. frame_of k (y / 8)) o) row.1) ∙ ap (framed_in (listed v.rows) page.0) facts.0 ∙ has.0;
+          frame_ = sym (ap (λ (o : Option RowValue). option_and_then (λ k. frame_of k (y / 8)) o) row.1) ∙ ap (frame_in (listed v.rows) page.0) facts.0 ∙ has.0;
           cartridge_ = cartridge_is page.0 y row.0 row.1;
           state = row.2;
         };
@@ -120,14 +120,14 @@ module _ {S C : Type 0} (v : CoreValue S C) (core : IsCore v) (n : ℕ) (task : 
       }
 
   -- the staging of the cylinder that is asked for, once its page has a frame
-  begins_stage : task.victim ≡ None → own.request.cylinder < 404 → (f : ℕ) → frame_in v.rows (asked_page own.request) ≡ Some f
+  begins_stage : task.victim ≡ None → own.request.cylinder < 404 → (f : ℕ) → frame_in (listed v.rows) own.request.volume (page_of own.request.cylinder) ≡ Some f
       → IsDueOwn (transfer v.rows (staging_kind (state_in v.rows own.request.volume own.request.cylinder)) own.request.volume own.request.cylinder task.frame)
   begins_stage none low f found =
       let q = own.request in
       let row = row_of_frame (listed v.rows own.request.volume) (own.request.cylinder / 8) f found in
       let state : state_in v.rows own.request.volume own.request.cylinder ≡ state_of row.0 own.request.cylinder = ap (λ (o : Option RowValue). state_of_row o own.request.cylinder) row.1 in
       let waits : state_of row.0 own.request.cylinder < 2 = own.waits row.0 row.1 in
-      let has : framed_in (listed v.rows) own.request.volume (own.request.cylinder / 8) ≡ Some task.frame = elim (has_frame None none) [
+      let has : frame_in (listed v.rows) own.request.volume (own.request.cylinder / 8) ≡ Some task.frame = elim (has_frame None none) [
         | inl there ↦ there
         | inr loose ↦ absurd (none_some f (sym loose.0 ∙ found))
       ] in
@@ -152,7 +152,7 @@ module _ {S C : Type 0} (v : CoreValue S C) (core : IsCore v) (n : ℕ) (task : 
       by (Some page) is = mapped_at IsDueOwn (λ y. transfer v.rows Destage page.0 y task.frame) (slice_get (changed_in v.rows page) 0) (λ y found. begins_destage page is y found)
       by None is =
           subst (λ (o : Option Request). ForSome (option_and_then (staging v.rows task.frame) o) IsDueOwn) (sym own.asked)
-          (mapped_at IsDueOwn (λ (_ : ℕ). transfer v.rows (staging_kind (state_in v.rows own.request.volume own.request.cylinder)) own.request.volume own.request.cylinder task.frame) (frame_in v.rows (asked_page own.request)) (λ f found. begins_stage is low f found))
+          (mapped_at IsDueOwn (λ (_ : ℕ). transfer v.rows (staging_kind (state_in v.rows own.request.volume own.request.cylinder)) own.request.volume own.request.cylinder task.frame) (frame_in (listed v.rows) own.request.volume (page_of own.request.cylinder)) (λ f found. begins_stage is low f found))
 
   -- the transfer is due, be it the task's or one that begins
   pub is_due : own.request.cylinder < 404 → (u : Transfer) → transfer_of v task ≡ Some u → IsTransfer (listed v.rows) task.frame task.victim own.request u
@@ -169,7 +169,7 @@ module _ {S C : Type 0} (v : CoreValue S C) (core : IsCore v) (n : ℕ) (task : 
       by (Some page) is = mapped_at IsDueOf (λ y. transfer v.rows Destage page.0 y task.frame) (slice_get (changed_in v.rows page) 0) (λ y found _. begins_destage page is y found)
       by None is =
           chained IsDueOf (staging v.rows task.frame) (request_of v.requests task.host)
-          (λ q. mapped IsDueOf (λ (_ : ℕ). transfer v.rows (staging_kind (state_in v.rows q.volume q.cylinder)) q.volume q.cylinder task.frame) (frame_in v.rows (asked_page q))
+          (λ q. mapped IsDueOf (λ (_ : ℕ). transfer v.rows (staging_kind (state_in v.rows q.volume q.cylinder)) q.volume q.cylinder task.frame) (frame_in (listed v.rows) q.volume (page_of q.cylinder))
           (λ f staged. absurd (no_destage (staging_kind (state_in v.rows q.volume q.cylinder)) (kinds (state_in v.rows q.volume q.cylinder)) staged)))
 
   -- ---- what is known of one that begins without a look at the request
@@ -184,7 +184,7 @@ module _ {S C : Type 0} (v : CoreValue S C) (core : IsCore v) (n : ℕ) (task : 
       by (Some page) = mapped IsNew (λ y. transfer v.rows Destage page.0 y task.frame) (slice_get (changed_in v.rows page) 0) (λ y. (refl, refl))
       by None =
           chained IsNew (staging v.rows task.frame) (request_of v.requests task.host)
-          (λ q. mapped IsNew (λ (_ : ℕ). transfer v.rows (staging_kind (state_in v.rows q.volume q.cylinder)) q.volume q.cylinder task.frame) (frame_in v.rows (asked_page q)) (λ f. (refl, refl)))
+          (λ q. mapped IsNew (λ (_ : ℕ). transfer v.rows (staging_kind (state_in v.rows q.volume q.cylinder)) q.volume q.cylinder task.frame) (frame_in (listed v.rows) q.volume (page_of q.cylinder)) (λ f. (refl, refl)))
 
   -- it is the task's, or no track is copied
   pub is_begun : (u : Transfer) → transfer_of v task ≡ Some u → (task.transfer ≡ Some u) ⊎ (u.next ≡ 0)

@@ -13,7 +13,7 @@ use Rattle.std.proofs.lemmas.Option.{slice_get_within, get_or_from_slice_get}
 use Rattle.mss_base.specs.Firsts.{first_below, where_so, ◌or◌}
 use Rattle.mss_base.proofs.FirstFacts.{none_is}
 use Rattle.volume_table.specs.Listed.{listed}
-use Rattle.shown_volumes.specs.Sound.{frame_in as framed_in}
+use Rattle.shown_volumes.specs.Sound.{frame_in}
 use Rattle.ckd_plain.specs.declared.host.HostState.{HostState}
 use Rattle.ckd_plain.specs.Plain.{fresh_host}
 use Rattle.fault_queue.specs.declared.queue.Request.{Request}
@@ -136,7 +136,7 @@ never_held requests page none h r asked ready same =
 module _ {S C : Type 0} (v : CoreValue S C) (core : IsCore v) where
   -- the frame of a candidate is there, its page has it, no host has its volume bound, no Ready request is on the page
   module _ (frame : ℕ) (c : Candidate) (is : IsCandidate v frame c) (below : frame < v.config.frames) where
-    pub candidate_has : framed_in (listed v.rows) c.volume c.page ≡ Some frame
+    pub candidate_has : frame_in (listed v.rows) c.volume c.page ≡ Some frame
     candidate_has = (core.owned frame c.volume c.page below).0 is.owned
 
     pub candidate_unbound : IsUnbound v.hosts c.volume

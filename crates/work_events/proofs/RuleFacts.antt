@@ -8,6 +8,7 @@ use Rattle.std.proofs.lemmas.List.{get_or_past}
 use Rattle.mss_base.specs.Firsts.{◌or◌, where_so}
 use Rattle.mss_base.proofs.FirstFacts.{or_none, none_where, none_is, map_none}
 use Rattle.volume_table.specs.Listed.{listed}
+use Rattle.shown_volumes.specs.Sound.{frame_in}
 use Rattle.volume_table.specs.Row.{RowValue, IsRow, frame_of, state_of}
 use Rattle.volume_table.proofs.RowLemmas.{row-with_frame}
 use Rattle.mss_base.specs.Content.{SiteLog}
@@ -31,7 +32,7 @@ use Rattle.core_state.specs.declared.rule.WorkAnswer.{WorkAnswer}
 use Rattle.core_state.specs.Beside.{held_at}
 use Rattle.core_state.specs.CoreValue.{CoreValue, CoreData, seen}
 use Rattle.core_state.specs.IsCore.{IsCore}
-use Rattle.core_state.specs.Pins.{task_at, frame_in, state_in, state_of_row, asked_page, changed_in, is_changed, is_moving, free_frame, candidates, page_of}
+use Rattle.core_state.specs.Pins.{task_at, state_in, state_of_row, changed_in, is_changed, is_moving, free_frame, candidates, page_of}
 use Rattle.core_state.specs.Tasks.{IsTask, IsChosen, HasFrame, IsUnbound}
 use Rattle.core_state.specs.WorkEvents.{WorkDoes, WorkEvent}
 use Rattle.core_state.specs.WorkRules.{task_of, held_in, transfer_of, staging, next_transfer, return_rule, pick_on, pick_for, first_pick, pick_rule, is_within, abandon_rule, needs_cartridge, is_in_cell, carry_for, carry_rule, copy_rule, end_rule, free_rule, assign_rule, task_rule, work_rule}
@@ -273,7 +274,7 @@ module _ {S C : Type 0} (v : CoreValue S C) (recorder : ℕ) (fits : recorder < 
               let same : q ≡ mine.request = some_is q mine.request (sym asked_ ∙ mine.asked) in
               let free : task.victim ≡ None = map_none _ task.victim no_victim in
               let row = listed_row (listed v.rows mine.request.volume) (core.fit.mounted_ task.host mine.request.volume (core.on_mounted task.host mine.request mine.asked).0) in
-              let no_frame : frame_in v.rows (asked_page mine.request) ≡ None = map_none _ (frame_in v.rows (asked_page mine.request)) (sym (ap (option_and_then (staging v.rows task.frame)) mine.asked) ∙ next_is None free) in
+              let no_frame : frame_in (listed v.rows) mine.request.volume (page_of mine.request.cylinder) ≡ None = map_none _ (frame_in (listed v.rows) mine.request.volume (page_of mine.request.cylinder)) (sym (ap (option_and_then (staging v.rows task.frame)) mine.asked) ∙ next_is None free) in
               let none_ : frame_of row.0 (mine.request.cylinder / 8) ≡ None = sym (ap (λ (o : Option RowValue). option_and_then (λ k. frame_of k (mine.request.cylinder / 8)) o) row.1) ∙ no_frame in (
                 ap (λ (x : Request). x.volume) same,
                 ap (λ (x : Request). x.cylinder / 8) same,
@@ -336,7 +337,7 @@ module _ {S C : Type 0} (v : CoreValue S C) (recorder : ℕ) (fits : recorder < 
       }
 
       -- the page has no frame, nor is one free
-      takes_victim : frame_in v.rows (asked_page q) ≡ None → nat_lt 0 (length (candidates v)) ≡ true → MayTakeVictim v recorder h
+      takes_victim : frame_in (listed v.rows) q.volume (page_of q.cylinder) ≡ None → nat_lt 0 (length (candidates v)) ≡ true → MayTakeVictim v recorder h
       takes_victim none some = record {
         going = going;
         request = q;
@@ -358,7 +359,7 @@ module _ {S C : Type 0} (v : CoreValue S C) (recorder : ℕ) (fits : recorder < 
             };
       }
 
-      picks_on : (o : Option ℕ) → frame_in v.rows (asked_page q) ≡ o → ForSome (pick_on v h o) Says
+      picks_on : (o : Option ℕ) → frame_in (listed v.rows) q.volume (page_of q.cylinder) ≡ o → ForSome (pick_on v h o) Says
       picks_on (Some frame) has =
           where_test Says (not (is_moving v frame)) (Picks h frame) (λ rests. takes frame (is_not (is_moving v frame) rests) (core.framed q.volume (q.cylinder / 8) frame has) (inl has))
         where
@@ -371,7 +372,7 @@ module _ {S C : Type 0} (v : CoreValue S C) (recorder : ℕ) (fits : recorder < 
           (where_test Says (nat_lt 0 (length (candidates v))) (PicksVictim h) (takes_victim none))
 
     picks_for : (h : ℕ) (q : Request) → request_of v.requests h ≡ Some q → (state : RequestState) → q.state ≡ state → ForSome (pick_for v h q state) Says
-    picks_for h q asked_ request.Queued is = picks_on h q asked_ is (frame_in v.rows (asked_page q)) refl
+    picks_for h q asked_ request.Queued is = picks_on h q asked_ is (frame_in (listed v.rows) q.volume (page_of q.cylinder)) refl
     picks_for h q asked_ request.Moving is = nothing Says None refl
     picks_for h q asked_ request.Ready is = nothing Says None refl
     picks_for h q asked_ (request.Failed fault) is = nothing Says None refl

@@ -1,5 +1,6 @@
 // The event that ends a transfer, all of whose tracks are copied.
-ghost use Rattle.std.specs.Prelude.{◌≡◌, ◌≢◌, ◌≤◌, ◌<◌, Bool, false, IsOk, IsSome, None, OnErr, OnOk, length, slice_set};
+ghost use Rattle.std.specs.Prelude.{◌≡◌, ◌≢◌, ◌≤◌, ◌<◌, Bool, false, IsOk, IsSome, None, OnErr};
+ghost use Rattle.std.specs.Prelude.{OnOk, length, slice_set};
 ghost use Rattle.mss_base.specs.Sites.{MayWrite};
 ghost use Rattle.mss_base.specs.declared.place.UnitNo.{UnitNo};
 ghost use Rattle.transfers.specs.declared.transfer.TransferKind.TheVariants.{Destage};

@@ -3,7 +3,9 @@ ghost use Rattle.std.specs.Prelude.{◌≡◌, ◌<◌, length, None, Some, IfSo
 ghost use Rattle.std.specs.Option.{option_and_then, unwrap_or};
 ghost use Rattle.core_state.specs.declared.rule.WorkRule.TheVariants.{IsIdle};
 ghost use Rattle.mss_base.specs.Firsts.{◌or◌};
-ghost use Rattle.core_state.specs.Pins.{asked_page, frame_in};
+ghost use Rattle.volume_table.specs.Listed.{listed};
+ghost use Rattle.shown_volumes.specs.Sound.{frame_in};
+ghost use Rattle.core_state.specs.Pins.{page_of};
 ghost use Rattle.core_state.specs.WorkRules.{
   abandon_rule,
   assign_rule,
@@ -27,10 +29,10 @@ ghost use Rattle.core_state.specs.WorkRules.{
 use crate::choices::{free_frame, has_candidate, requests_of};
 use crate::transfer::transfer_of;
 use cartridge_store::Place;
-use core_state::looks::frame_in;
 use core_state::{Core, Task, WorkRule};
 use fault_queue::{Request, RequestState};
 use mss_base::{CartridgeNo, FrameNo, HostNo, RecorderNo, Site};
+use shown_volumes::frame_in;
 use transfers::{Transfer, TransferKind};
 use victim_choice::Choose;
 
@@ -197,7 +199,8 @@ fn return_rule<S: Site, C: Choose>(core: &Core<S, C>, recorder: RecorderNo) -> O
 /// The frame of the page that a request is on.
 fn asked_frame<S: Site, C: Choose>(core: &Core<S, C>, request: &Request) -> Option<FrameNo>
     requires going { core.now.stopped ≡ None }
-    ensures value { result ≡ frame_in core.now.rows (asked_page request.now) }
+    ensures value { result ≡ frame_in (listed core.now.rows) request.now.volume
+        (page_of request.now.cylinder) }
     ensures there { IfSome result (λ f. f < length core.now.owners) }
 {
     frame_in(&core.rows, request.volume, request.cylinder.page())

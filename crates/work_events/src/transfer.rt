@@ -11,10 +11,11 @@ ghost use Rattle.core_state.specs.WorkRules.{
   transfer_of,
 };
 
-use core_state::looks::{frame_in, state_in};
+use core_state::looks::state_in;
 use core_state::{Core, Task};
 use fault_queue::{Queue, Request};
 use mss_base::{CartridgeNo, Cylinder, FrameNo, Page, Site, VolumeNo};
+use shown_volumes::frame_in;
 use transfers::{Transfer, TransferKind};
 use victim_choice::Choose;
 use volume_table::{CylinderState, Rows};

@@ -6,11 +6,11 @@ use Rattle.ckd_track.proofs.format.put_behind.Goals as goal
 
 pub returns-in_err-write_behind-clause-moments : goal.returns-in_err-write_behind-clause-moments
 returns-in_err-write_behind-clause-moments g c = λ tells.
-    behind_moments c.args.before c.args.block.now c.args.at.now c.requires.few _ _ (c.requires.closed tells).ends (c.write_behind.ensures.behind tells)
+    behind_moments c.args.before c.args.block.now c.args.at.now c.requires.behind.few _ _ (c.requires.closed tells).ends (c.write_behind.ensures.behind tells)
 
 pub returns-clause-moments : goal.returns-clause-moments
 returns-clause-moments g c = λ tells.
-    synced_moments c.args.before c.args.block.now c.args.at.now c.requires.few _ _ _ (c.requires.closed tells).ends
+    synced_moments c.args.before c.args.block.now c.args.at.now c.requires.behind.few _ _ _ (c.requires.closed tells).ends
     (c.write_behind.ensures.behind tells) (either_way c.sync.result (c.sync.ensures.ok tells) (c.sync.ensures.err tells))
 
 pub returns-clause-stands : goal.returns-clause-stands

@@ -25,23 +25,20 @@ invariant_of-core g c =
     prepared_kept g.row.S.Denot S c.args.core.now c.core.view_is (vec_len c.core.inside.buffer) c.core.invariant c.prepare.new.site c.prepare.ensures.site
     c.core.inside.requests refl (session_data c.prepare.new.session) c.prepare.ensures.session
 
-pub run_in-requires-clause-asks : goal.run_in-requires-clause-asks
-run_in-requires-clause-asks g c =
+pub run_in-requires-clause-may : goal.run_in-requires-clause-may
+run_in-requires-clause-may g c =
     let S = g.S.Site in
-    is_asked g.row.S.Denot S c.args.core.now c.core.view_is (vec_len c.core.inside.buffer) c.core.invariant c.args.host (call_of c.args.call.now) c.args.command.now
-    c.args.volume c.args.frame c.requires.rule c.standing-old.result (c.standing-old.ensures.state ∙ ap (λ l. host_at l c.args.host) c.as_slice.ensures) c.standing-old.ensures.cylinder c.standing-old.ensures.head
-
-pub run_in-requires-clause-passes : goal.run_in-requires-clause-passes
-run_in-requires-clause-passes g c =
-    let S = g.S.Site in
-    passes_ g.row.S.Denot S c.args.core.now c.core.view_is (vec_len c.core.inside.buffer) c.core.invariant c.args.host (call_of c.args.call.now) c.args.command.now
-    c.args.volume c.args.frame c.requires.rule c.standing-old.result (c.standing-old.ensures.state ∙ ap (λ l. host_at l c.args.host) c.as_slice.ensures) c.standing-old.ensures.cylinder c.standing-old.ensures.head
-
-pub run_in-requires-clause-data : goal.run_in-requires-clause-data
-run_in-requires-clause-data g c =
-    let S = g.S.Site in
-    is_data_ g.row.S.Denot S c.args.core.now c.core.view_is (vec_len c.core.inside.buffer) c.core.invariant c.args.host (call_of c.args.call.now) c.args.command.now
-    c.args.volume c.args.frame c.requires.rule c.standing-old.result (c.standing-old.ensures.state ∙ ap (λ l. host_at l c.args.host) c.as_slice.ensures) c.standing-old.ensures.cylinder c.standing-old.ensures.head
+    record {
+      asks =
+          is_asked g.row.S.Denot S c.args.core.now c.core.view_is (vec_len c.core.inside.buffer) c.core.invariant c.args.host (call_of c.args.call.now) c.args.command.now
+          c.args.volume c.args.frame c.requires.rule c.standing-old.result (c.standing-old.ensures.state ∙ ap (λ l. host_at l c.args.host) c.as_slice.ensures) c.standing-old.ensures.cylinder c.standing-old.ensures.head;
+      passes =
+          passes_ g.row.S.Denot S c.args.core.now c.core.view_is (vec_len c.core.inside.buffer) c.core.invariant c.args.host (call_of c.args.call.now) c.args.command.now
+          c.args.volume c.args.frame c.requires.rule c.standing-old.result (c.standing-old.ensures.state ∙ ap (λ l. host_at l c.args.host) c.as_slice.ensures) c.standing-old.ensures.cylinder c.standing-old.ensures.head;
+      data_ =
+          is_data_ g.row.S.Denot S c.args.core.now c.core.view_is (vec_len c.core.inside.buffer) c.core.invariant c.args.host (call_of c.args.call.now) c.args.command.now
+          c.args.volume c.args.frame c.requires.rule c.standing-old.result (c.standing-old.ensures.state ∙ ap (λ l. host_at l c.args.host) c.as_slice.ensures) c.standing-old.ensures.cylinder c.standing-old.ensures.head;
+    }
 
 pub run_in-requires-clause-tracks : goal.run_in-requires-clause-tracks
 run_in-requires-clause-tracks g c =
@@ -145,16 +142,17 @@ row_of-row-requires g c =
           c.args.volume c.args.frame c.requires.rule c.standing-old.result (c.standing-old.ensures.state ∙ ap (λ l. host_at l c.args.host) c.as_slice.ensures) c.standing-old.ensures.cylinder c.standing-old.ensures.head;
     }
 
-pub run_in-requires-clause-frame : goal.run_in-requires-clause-frame
-run_in-requires-clause-frame g c =
-    let S = g.S.Site in
-    in_frame g.row.S.Denot S c.args.core.now c.core.view_is (vec_len c.core.inside.buffer) c.core.invariant c.args.host (call_of c.args.call.now) c.args.command.now
-    c.args.volume c.args.frame c.requires.rule c.standing-old.result (c.standing-old.ensures.state ∙ ap (λ l. host_at l c.args.host) c.as_slice.ensures) c.standing-old.ensures.cylinder c.standing-old.ensures.head
-    c.row_of-row.result.now (let e : listed c.core.inside.rows c.args.volume ≡ Some c.row_of-row.result.now = search rules in e)
-
 pub run_in-requires-clause-staged : goal.run_in-requires-clause-staged
 run_in-requires-clause-staged g c =
     let S = g.S.Site in
-    is_staged g.row.S.Denot S c.args.core.now c.core.view_is (vec_len c.core.inside.buffer) c.core.invariant c.args.host (call_of c.args.call.now) c.args.command.now
-    c.args.volume c.args.frame c.requires.rule c.standing-old.result (c.standing-old.ensures.state ∙ ap (λ l. host_at l c.args.host) c.as_slice.ensures) c.standing-old.ensures.cylinder c.standing-old.ensures.head
-    c.row_of-row.result.now (let e : listed c.core.inside.rows c.args.volume ≡ Some c.row_of-row.result.now = search rules in e)
+    let row : listed c.core.inside.rows c.args.volume ≡ Some c.row_of-row.result.now = search rules in
+    record {
+      frame_ =
+          in_frame g.row.S.Denot S c.args.core.now c.core.view_is (vec_len c.core.inside.buffer) c.core.invariant c.args.host (call_of c.args.call.now) c.args.command.now
+          c.args.volume c.args.frame c.requires.rule c.standing-old.result (c.standing-old.ensures.state ∙ ap (λ l. host_at l c.args.host) c.as_slice.ensures) c.standing-old.ensures.cylinder c.standing-old.ensures.head
+          c.row_of-row.result.now row;
+      staged =
+          is_staged g.row.S.Denot S c.args.core.now c.core.view_is (vec_len c.core.inside.buffer) c.core.invariant c.args.host (call_of c.args.call.now) c.args.command.now
+          c.args.volume c.args.frame c.requires.rule c.standing-old.result (c.standing-old.ensures.state ∙ ap (λ l. host_at l c.args.host) c.as_slice.ensures) c.standing-old.ensures.cylinder c.standing-old.ensures.head
+          c.row_of-row.result.now row;
+    }

@@ -20,11 +20,11 @@ not_command Demount is none = cc
 not_command (Break cause) is none = cc
 
 pub unreachable-requires : goal.unreachable-requires
-unreachable-requires g c = not_command c.args.call.now c.requires.asks c.in_default.not-Command
+unreachable-requires g c = not_command c.args.call.now c.requires.may.asks c.in_default.not-Command
 
 pub run_command-requires-clause-passes : goal.run_command-requires-clause-passes
 run_command-requires-clause-passes g c =
-    subst (Passes (opened c.args.host.now) c.args.command.now) (ap (λ (k : Call). argument_of (call_of k)) c.in-Command.is ∙ sym c.as_slice-bytes.ensures) c.requires.passes
+    subst (Passes (opened c.args.host.now) c.args.command.now) (ap (λ (k : Call). argument_of (call_of k)) c.in-Command.is ∙ sym c.as_slice-bytes.ensures) c.requires.may.passes
 
 pub returns-clause-comes : goal.returns-clause-comes
 returns-clause-comes g c =

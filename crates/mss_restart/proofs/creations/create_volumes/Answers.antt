@@ -9,8 +9,7 @@ use Rattle.mss_restart.proofs.Counting.{AreComing, AreLogged, none_coming, none_
 use Rattle.mss_restart.proofs.Repaired.{nothing_written, written_on, step_fails}
 use Rattle.std.proofs.lemmas.Result.{err_from_is_err_and}
 use Rattle.shown_volumes.specs.declared.refused.Refused.{Refused}
-use Rattle.mss_restart.specs.Creations.{CreatesVolumes, StepsOn}
-use Rattle.mss_restart.specs.declared.opening.Opened.{Opened}
+use Rattle.mss_restart.specs.Creations.{Created, CreatesVolumes, CreatesWhole, StepsOn}
 use Rattle.mss_restart.proofs.creations.create_volumes.Goals as goal
 use Rattle.mss_restart.proofs.creations.create_volumes.Goals.{then-missing+in_ok-create_volume, else-missing}
 
@@ -37,14 +36,14 @@ returns-in_err-create_volume-clause-told g c = λ tells.
     let rows = c.loop-entry.rows in
     let used = c.loop-entry.used.items in
     let made = c.loop-entry.creations.items in
-    let left : Opened = record { rows = c.create_volume.new.rows; used = c.loop-entry.used; creations = c.loop-entry.creations } in
+    let created : Created = record { volumes = all; before = c.args.rows.now; left = record { rows = c.create_volume.new.rows; used = c.loop-entry.used; creations = c.loop-entry.creations } } in
     let behind : List VolumeData = drop (c.loop-entry.entry-index + 1) all in
     let v : VolumeData = c.entry-item.result in
     let known = c.loop-entry.invariant in
     let rest = rest_is all c.loop-entry.entry-index v (omega (arith, c.loop-entry-test.true)) c.entry-item.is in
     let creating = subst (λ (x : List VolumeData). IsCreating all start begun mid rows used x) rest (known.creating tells) in
     let fresh = ap (λ (o : Option RowValue). is_some o) (sym c.row.ensures) ∙ c.is_none-missing.ensures ∙ ap not c.if-missing.true in
-    subst (λ (r : Result (Unit {0}) Refused). CreatesVolumes all c.args.rows.now left begun now r) (sym (p.1 ∙ ap Err p.2)) (record {
+    subst (λ (r : Result (Unit {0}) Refused). CreatesVolumes CreatesWhole created begun now r) (sym (p.1 ∙ ap Err p.2)) (record {
       moments = moments_on all start begun mid rows used v behind creating fresh now (c.create_volume.ensures.moments tells);
       others = others_on all start begun mid rows used v behind creating fresh now (c.create_volume.ensures.others tells);
       created = tt;

@@ -7,8 +7,7 @@ use Rattle.std.specs.Prelude.{OnOk}
 use Rattle.shown_volumes.specs.Shown.{shown}
 use Rattle.volume_table.specs.Listed.{listed}
 use Rattle.mss_restart.specs.Opening.{AreCreated, missing}
-use Rattle.mss_restart.specs.Creations.{CompletesVolumes, CreatesRows, CreatesVolumes}
-use Rattle.mss_restart.specs.declared.opening.Opened.{Opened}
+use Rattle.mss_restart.specs.Creations.{Account, CompletesWhole, Created, CreatesRows, CreatesVolumes, CreatesWhole, account_of}
 use Rattle.mss_restart.proofs.Repaired.{step_on}
 use Rattle.mss_restart.proofs.OtherRows.{others_then, none_of}
 use Rattle.mss_restart.proofs.Finishing.{repairs_complete, creates_complete, creates_since}
@@ -34,15 +33,14 @@ returns-in_err-repair_rows-clause-told g c = λ tells.
     let rows = listed c.args.rows.now in
     let volumes = c.args.config.now.volumes in
     let new_ones = missing rows volumes in
-    let made = c.args.creations.now.items in
-    let left : Opened = record { rows = c.args.rows.now; used = c.repair_rows.new.used; creations = c.args.creations.now } in
+    let created : Created = record { volumes = volumes; before = c.args.rows.now; left = record { rows = c.args.rows.now; used = c.repair_rows.new.used; creations = c.args.creations.now } } in
     let old = g.S.Site.told c.args.site.now in
     let new = g.S.Site.told c.repair_rows.new.site in
-    subst (λ (r : Result (Unit {0}) Refused). CompletesVolumes volumes c.args.rows.now left old new r) (sym (p.1 ∙ ap Err p.2)) (record {
+    subst (λ (r : Result (Unit {0}) Refused). CreatesVolumes CompletesWhole created old new r) (sym (p.1 ∙ ap Err p.2)) (record {
       moments = λ frames sound. no_front frames new_ones (shown (content old)) old new (c.repair_rows.ensures.moments tells frames sound);
       others = none_of new_ones old new (c.repair_rows.ensures.others tells);
       created = tt;
-      complete = repairs_complete new_ones made rows rows old new c.in_err-repair_rows.field-0.0 (c.in_err-repair_rows.ensures.complete tells);
+      complete = repairs_complete (account_of created) old new c.in_err-repair_rows.field-0.0 (c.in_err-repair_rows.ensures.complete tells);
     })
 
 pub returns-clause-told : goal.returns-clause-told
@@ -53,13 +51,12 @@ returns-clause-told g c = λ tells.
     let rows = c.args.rows.now in
     let after = c.create_volumes.new.rows in
     let used = c.create_volumes.new.used.items in
-    let made = c.create_volumes.new.creations.items in
     let volumes = c.args.config.now.volumes in
     let new_ones = missing (listed rows) volumes in
-    let left : Opened = record { rows = after; used = c.create_volumes.new.used; creations = c.create_volumes.new.creations } in
+    let created : Created = record { volumes = volumes; before = rows; left = record { rows = after; used = c.create_volumes.new.used; creations = c.create_volumes.new.creations } } in
     let r = c.create_volumes.result in
     let same : c.as_slice-volumes.result.now ≡ volumes = c.as_slice-volumes.ensures ∙ ap (λ (x : ConfigData). x.volumes) c.config.view_is in
-    let creates = subst (λ (x : List VolumeData). CreatesVolumes x rows left mid now r) same (c.create_volumes.ensures.told tells) in
+    let creates = subst (λ (x : List VolumeData). CreatesVolumes CreatesWhole (record created { volumes = x }) mid now r) same (c.create_volumes.ensures.told tells) in
     let whole = c.in_ok-repair_rows.ensures.complete tells in
     let firm = repaired_firm 32 s mid whole in
     let shows = c.repair_rows.ensures.moments tells in
@@ -71,7 +68,7 @@ returns-clause-told g c = λ tells.
       created =
           on_ok_too (AreCreated volumes (content mid) (content now) rows after used) (AreCreated volumes (content s) (content now) rows after used)
           (created_since rows s mid places told shows volumes (content now) after used) r creates.created;
-      complete = creates_complete new_ones made (listed rows) (listed after) s mid now r whole creates.complete;
+      complete = creates_complete (account_of created) s mid now r whole creates.complete;
     }
 
 pub returns-clause-rows : goal.returns-clause-rows
@@ -80,13 +77,10 @@ returns-clause-rows g c =
     let begun = g.S.Site.writes c.args.site.now in
     let mid = g.S.Site.writes c.repair_rows.new.site in
     let now = g.S.Site.writes c.create_volumes.new.site in
-    let made = c.create_volumes.new.creations.items in
-    let volumes = c.args.config.now.volumes in
-    let rows = listed c.args.rows.now in
-    let after = listed c.create_volumes.new.rows in
-    on_ok_too (CreatesRows volumes made rows after mid now) (CreatesRows volumes made rows after begun now)
-    (creates_since volumes made rows after begun mid now c.repair_rows.ensures.site_.devices.written) c.create_volumes.result
-    (subst (λ (x : List VolumeData). OnOk c.create_volumes.result (CreatesRows x made rows after mid now)) same c.create_volumes.ensures.rows)
+    let a : Account = record { volumes = c.args.config.now.volumes; before = listed c.args.rows.now; after = listed c.create_volumes.new.rows; made = c.create_volumes.new.creations.items } in
+    on_ok_too (CreatesRows a mid now) (CreatesRows a begun now)
+    (creates_since a begun mid now c.repair_rows.ensures.site_.devices.written) c.create_volumes.result
+    (subst (λ (x : List VolumeData). OnOk c.create_volumes.result (CreatesRows (record a { volumes = x }) mid now)) same c.create_volumes.ensures.rows)
 
 pub returns-clause-site_ : goal.returns-clause-site_
 returns-clause-site_ g c =

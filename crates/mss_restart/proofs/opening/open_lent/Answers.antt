@@ -5,7 +5,7 @@ use Rattle.shown_volumes.specs.Shown.{rows_of}
 use Rattle.mss_restart.specs.declared.opening.Opened.{Opened}
 use Rattle.volume_table.specs.Listed.{listed}
 use Rattle.mss_restart.specs.Opening.{missing}
-use Rattle.mss_restart.specs.Answers.{Opens, OpensWhole}
+use Rattle.mss_restart.specs.Answers.{Opens, OpensWhole, account_from}
 use Rattle.mss_restart.proofs.KnownRows.{rows_listed}
 use Rattle.mss_restart.proofs.Repaired.{stop_since}
 use Rattle.mss_restart.proofs.UsableFacts.{usable_for}
@@ -18,16 +18,6 @@ use Rattle.mss_restart.proofs.Completed.{moments_at, others_at, opened}
 use Rattle.mss_restart.proofs.OtherRows.{nothing_else}
 use Rattle.mss_restart.proofs.opening.open_lent.Goals as goal
 
-pub returns-in_err-complete_rows-clause-moments : goal.returns-in_err-complete_rows-clause-moments
-returns-in_err-complete_rows-clause-moments g c = λ tells.
-    moments_at (g.S.Site.told c.args.site.now) (g.S.Site.told c.known_rows.new.site) (g.S.Site.told c.complete_rows.new.site) c.in_ok-rows.rows c.args.config.now.volumes (c.known_rows.ensures.devices.log tells)
-    c.look.ensures.places (c.in_ok-rows.ensures.known tells) (c.complete_rows.ensures.told tells).moments
-
-pub returns-clause-moments : goal.returns-clause-moments
-returns-clause-moments g c = λ tells.
-    moments_at (g.S.Site.told c.args.site.now) (g.S.Site.told c.known_rows.new.site) (g.S.Site.told c.complete_rows.new.site) c.in_ok-rows.rows c.args.config.now.volumes (c.known_rows.ensures.devices.log tells)
-    c.look.ensures.places (c.in_ok-rows.ensures.known tells) (c.complete_rows.ensures.told tells).moments
-
 pub returns-clause-opens : goal.returns-clause-opens
 returns-clause-opens g c = λ tells.
     let now = content (g.S.Site.told c.complete_rows.new.site) in
@@ -39,27 +29,37 @@ returns-clause-opens g c = λ tells.
     (c.in_ok-rows.ensures.known tells) (c.in_ok-rows.ensures.faultless tells) c.look-2.ensures.places
     (subst (λ (x : SiteLog). AreCreated volumes (content x) now before after used) (c.known_rows.ensures.devices.log tells) (c.in_ok-complete_rows.ensures.told tells).created)
 
-pub returns-in_err-reserve-clause-complete : goal.returns-in_err-reserve-clause-complete
-returns-in_err-reserve-clause-complete g c = λ tells.
+pub returns-in_err-reserve-clause-leaves : goal.returns-in_err-reserve-clause-leaves
+returns-in_err-reserve-clause-leaves g c = λ tells.
     let p = err_from_is_err_and c.from_residual.result c.from_residual.ensures.1 in
     let s = g.S.Site.told c.args.site.now in
-    subst (λ (r : Result Opened Refused). OpensWhole c.args.config.now s s r) (sym p.1)
-    (none_complete (missing (rows_of (content s)) c.args.config.now.volumes) [] (rows_of (content s)) (rows_of (content s)) s s p.0 refl)
+    record {
+      moments = λ frames sound. none_shown frames (missing (rows_of (content s)) c.args.config.now.volumes) _ _ refl sound;
+      others = nothing_else (missing (rows_of (content s)) c.args.config.now.volumes) s s refl;
+      complete = subst (λ (r : Result Opened Refused). OpensWhole c.args.config.now s s r) (sym p.1) (none_complete (account_from c.args.config.now s s []) s s p.0 refl);
+    }
 
-pub returns-in_err-used-clause-complete : goal.returns-in_err-used-clause-complete
-returns-in_err-used-clause-complete g c = λ tells.
+pub returns-in_err-used-clause-leaves : goal.returns-in_err-used-clause-leaves
+returns-in_err-used-clause-leaves g c = λ tells.
     let p = err_from_is_err_and c.from_residual-in_err-used.result c.from_residual-in_err-used.ensures.1 in
     let s = g.S.Site.told c.args.site.now in
-    subst (λ (r : Result Opened Refused). OpensWhole c.args.config.now s s r) (sym p.1)
-    (none_complete (missing (rows_of (content s)) c.args.config.now.volumes) [] (rows_of (content s)) (rows_of (content s)) s s p.0 refl)
+    record {
+      moments = λ frames sound. none_shown frames (missing (rows_of (content s)) c.args.config.now.volumes) _ _ refl sound;
+      others = nothing_else (missing (rows_of (content s)) c.args.config.now.volumes) s s refl;
+      complete = subst (λ (r : Result Opened Refused). OpensWhole c.args.config.now s s r) (sym p.1) (none_complete (account_from c.args.config.now s s []) s s p.0 refl);
+    }
 
-pub returns-in_err-rows-clause-complete : goal.returns-in_err-rows-clause-complete
-returns-in_err-rows-clause-complete g c = λ tells.
+pub returns-in_err-rows-clause-leaves : goal.returns-in_err-rows-clause-leaves
+returns-in_err-rows-clause-leaves g c = λ tells.
     let p = err_from_is_err_and c.from_residual-in_err-rows.result c.from_residual-in_err-rows.ensures.1 in
     let s = g.S.Site.told c.args.site.now in
     let new = g.S.Site.told c.known_rows.new.site in
-    subst (λ (r : Result Opened Refused). OpensWhole c.args.config.now s new r) (sym p.1)
-    (none_complete (missing (rows_of (content s)) c.args.config.now.volumes) [] (rows_of (content s)) (rows_of (content new)) s new p.0 (c.known_rows.ensures.devices.log tells))
+    let same = c.known_rows.ensures.devices.log tells in
+    record {
+      moments = λ frames sound. none_shown frames (missing (rows_of (content s)) c.args.config.now.volumes) _ _ same sound;
+      others = nothing_else (missing (rows_of (content s)) c.args.config.now.volumes) s new same;
+      complete = subst (λ (r : Result Opened Refused). OpensWhole c.args.config.now s new r) (sym p.1) (none_complete (account_from c.args.config.now s new []) s new p.0 same);
+    }
 
 pub returns-in_err-complete_rows-clause-opens : goal.returns-in_err-complete_rows-clause-opens
 returns-in_err-complete_rows-clause-opens g c = λ tells.
@@ -72,27 +72,45 @@ returns-in_err-complete_rows-clause-opens g c = λ tells.
     (stop_refuses before after c.args.config.now s now c.in_ok-rows.rows c.in_err-complete_rows.field-0.0 (c.in_ok-rows.ensures.known tells) (c.in_ok-rows.ensures.faultless tells)
     (stop_since before (g.S.Site.faults c.known_rows.new.site) after c.in_err-complete_rows.field-0.0 c.in_ok-rows.ensures.kept c.in_err-complete_rows.ensures.site_.stops))
 
-pub returns-in_err-complete_rows-clause-complete : goal.returns-in_err-complete_rows-clause-complete
-returns-in_err-complete_rows-clause-complete g c = λ tells.
+pub returns-in_err-complete_rows-clause-leaves : goal.returns-in_err-complete_rows-clause-leaves
+returns-in_err-complete_rows-clause-leaves g c = λ tells.
     let p = err_from_is_err_and c.from_residual-in_err-complete_rows.result c.from_residual-in_err-complete_rows.ensures.1 in
     let s = g.S.Site.told c.args.site.now in
     let mid = g.S.Site.told c.known_rows.new.site in
     let now = g.S.Site.told c.complete_rows.new.site in
     let rows = c.in_ok-rows.rows in
-    subst (λ (r : Result Opened Refused). OpensWhole c.args.config.now s now r) (sym (p.1 ∙ ap Err p.2))
-    (refusal_complete c.args.config.now.volumes c.complete_rows.new.creations.items (listed rows) (listed c.complete_rows.new.rows) s mid now c.in_err-complete_rows.field-0.0 (c.known_rows.ensures.devices.log tells)
-    (rows_listed rows (content s) c.look.ensures.places (c.in_ok-rows.ensures.known tells)) (c.in_err-complete_rows.ensures.told tells).complete)
+    let volumes = c.args.config.now.volumes in
+    let same = c.known_rows.ensures.devices.log tells in
+    let places = c.look.ensures.places in
+    let known = c.in_ok-rows.ensures.known tells in
+    record {
+      moments = moments_at s mid now rows volumes same places known (c.complete_rows.ensures.told tells).moments;
+      others = others_at s mid now rows volumes same places known (c.complete_rows.ensures.told tells).others;
+      complete =
+          subst (λ (r : Result Opened Refused). OpensWhole c.args.config.now s now r) (sym (p.1 ∙ ap Err p.2))
+          (refusal_complete c.args.config.now c.complete_rows.new.creations.items (listed rows) (listed c.complete_rows.new.rows) s mid now c.in_err-complete_rows.field-0.0 same
+          (rows_listed rows (content s) places known) (c.in_err-complete_rows.ensures.told tells).complete);
+    }
 
-pub returns-clause-complete : goal.returns-clause-complete
-returns-clause-complete g c = λ tells.
+pub returns-clause-leaves : goal.returns-clause-leaves
+returns-clause-leaves g c = λ tells.
     let s = g.S.Site.told c.args.site.now in
     let mid = g.S.Site.told c.known_rows.new.site in
     let now = g.S.Site.told c.complete_rows.new.site in
     let rows = c.in_ok-rows.rows in
     let after = c.complete_rows.new.rows in
-    answer_complete c.args.config.now.volumes c.complete_rows.new.creations.items (listed rows) (listed after) s mid now (c.known_rows.ensures.devices.log tells)
-    (rows_listed rows (content s) c.look.ensures.places (c.in_ok-rows.ensures.known tells)) (rows_listed after (content now) c.look-2.ensures.places (c.in_ok-complete_rows.ensures.told tells).created.are)
-    (c.in_ok-complete_rows.ensures.told tells).complete
+    let volumes = c.args.config.now.volumes in
+    let same = c.known_rows.ensures.devices.log tells in
+    let places = c.look.ensures.places in
+    let known = c.in_ok-rows.ensures.known tells in
+    record {
+      moments = moments_at s mid now rows volumes same places known (c.complete_rows.ensures.told tells).moments;
+      others = others_at s mid now rows volumes same places known (c.complete_rows.ensures.told tells).others;
+      complete =
+          answer_complete c.args.config.now c.complete_rows.new.creations.items (listed rows) (listed after) s mid now same
+          (rows_listed rows (content s) places known) (rows_listed after (content now) c.look-2.ensures.places (c.in_ok-complete_rows.ensures.told tells).created.are)
+          (c.in_ok-complete_rows.ensures.told tells).complete;
+    }
 
 pub returns-in_err-complete_rows-clause-untouched : goal.returns-in_err-complete_rows-clause-untouched
 returns-in_err-complete_rows-clause-untouched g c = λ tells. inr (c.in_ok-rows.ensures.faultless tells)
@@ -105,40 +123,3 @@ returns-clause-usable g c = record {
   rows_ = usable_for c.args.config.now c.in_ok-rows.rows c.complete_rows.new.rows (subst IsConfig c.config.view_is c.config.invariant) c.look.ensures.places c.in_ok-rows.ensures.usable c.in_ok-complete_rows.ensures.rows.rows;
   used_ = c.complete_rows.ensures.places;
 }
-
-pub returns-in_err-reserve-clause-others : goal.returns-in_err-reserve-clause-others
-returns-in_err-reserve-clause-others g c = λ tells.
-    let s = g.S.Site.told c.args.site.now in
-    nothing_else (missing (rows_of (content s)) c.args.config.now.volumes) s s refl
-
-pub returns-in_err-used-clause-others : goal.returns-in_err-used-clause-others
-returns-in_err-used-clause-others g c = λ tells.
-    let s = g.S.Site.told c.args.site.now in
-    nothing_else (missing (rows_of (content s)) c.args.config.now.volumes) s s refl
-
-pub returns-in_err-rows-clause-others : goal.returns-in_err-rows-clause-others
-returns-in_err-rows-clause-others g c = λ tells.
-    let s = g.S.Site.told c.args.site.now in
-    nothing_else (missing (rows_of (content s)) c.args.config.now.volumes) s (g.S.Site.told c.known_rows.new.site) (c.known_rows.ensures.devices.log tells)
-
-pub returns-in_err-complete_rows-clause-others : goal.returns-in_err-complete_rows-clause-others
-returns-in_err-complete_rows-clause-others g c = λ tells.
-    others_at (g.S.Site.told c.args.site.now) (g.S.Site.told c.known_rows.new.site) (g.S.Site.told c.complete_rows.new.site) c.in_ok-rows.rows c.args.config.now.volumes (c.known_rows.ensures.devices.log tells)
-    c.look.ensures.places (c.in_ok-rows.ensures.known tells) (c.complete_rows.ensures.told tells).others
-
-pub returns-clause-others : goal.returns-clause-others
-returns-clause-others g c = λ tells.
-    others_at (g.S.Site.told c.args.site.now) (g.S.Site.told c.known_rows.new.site) (g.S.Site.told c.complete_rows.new.site) c.in_ok-rows.rows c.args.config.now.volumes (c.known_rows.ensures.devices.log tells)
-    c.look.ensures.places (c.in_ok-rows.ensures.known tells) (c.complete_rows.ensures.told tells).others
-
-pub returns-in_err-reserve-clause-moments : goal.returns-in_err-reserve-clause-moments
-returns-in_err-reserve-clause-moments g c = λ tells frames sound.
-    none_shown frames (missing (rows_of (content (g.S.Site.told c.args.site.now))) c.args.config.now.volumes) _ _ refl sound
-
-pub returns-in_err-used-clause-moments : goal.returns-in_err-used-clause-moments
-returns-in_err-used-clause-moments g c = λ tells frames sound.
-    none_shown frames (missing (rows_of (content (g.S.Site.told c.args.site.now))) c.args.config.now.volumes) _ _ refl sound
-
-pub returns-in_err-rows-clause-moments : goal.returns-in_err-rows-clause-moments
-returns-in_err-rows-clause-moments g c = λ tells frames sound.
-    none_shown frames (missing (rows_of (content (g.S.Site.told c.args.site.now))) c.args.config.now.volumes) _ _ (c.known_rows.ensures.devices.log tells) sound

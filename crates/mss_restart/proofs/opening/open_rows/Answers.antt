@@ -5,14 +5,15 @@ use Rattle.mss_restart.proofs.opening.open_rows.Goals as goal
 pub returns-in-Ok-clause-told : goal.returns-in-Ok-clause-told
 returns-in-Ok-clause-told g c = λ tells.
     let are = c.in-Ok.ensures in
+    let left = are.leaves tells in
     record {
       opens = are.opens tells;
       exact = are.exact tells;
-      moments = c.open_lent.ensures.moments tells;
-      complete = are.complete tells;
-      others = c.open_lent.ensures.others tells;
+      moments = left.moments;
+      complete = left.complete;
+      others = left.others;
       paired =
-          stay_paired (g.S.Site.faults c.args.site) (g.S.Site.faults c.open_lent.new.site) c.args.config.now (g.S.Site.told c.args.site) (g.S.Site.told c.open_lent.new.site) (Ok c.in-Ok.opened) (are.opens tells) (are.complete tells);
+          stay_paired (g.S.Site.faults c.args.site) (g.S.Site.faults c.open_lent.new.site) c.args.config.now (g.S.Site.told c.args.site) (g.S.Site.told c.open_lent.new.site) (Ok c.in-Ok.opened) (are.opens tells) left.complete;
       untouched = c.open_lent.ensures.untouched tells;
     }
 
@@ -22,14 +23,15 @@ returns-in-Ok-clause-any g c = let are = c.in-Ok.ensures in record { usable = ar
 pub returns-in-Err-clause-told : goal.returns-in-Err-clause-told
 returns-in-Err-clause-told g c = λ tells.
     let are = c.in-Err.ensures in
+    let left = are.leaves tells in
     record {
       opens = are.opens tells;
       exact = are.exact tells;
-      moments = c.open_lent.ensures.moments tells;
-      complete = are.complete tells;
-      others = c.open_lent.ensures.others tells;
+      moments = left.moments;
+      complete = left.complete;
+      others = left.others;
       paired =
-          stay_paired (g.S.Site.faults c.args.site) (g.S.Site.faults c.open_lent.new.site) c.args.config.now (g.S.Site.told c.args.site) (g.S.Site.told c.open_lent.new.site) (Err c.in-Err.fault) (are.opens tells) (are.complete tells);
+          stay_paired (g.S.Site.faults c.args.site) (g.S.Site.faults c.open_lent.new.site) c.args.config.now (g.S.Site.told c.args.site) (g.S.Site.told c.open_lent.new.site) (Err c.in-Err.fault) (are.opens tells) left.complete;
       untouched = c.open_lent.ensures.untouched tells;
     }
 

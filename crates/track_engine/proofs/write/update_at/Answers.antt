@@ -7,10 +7,10 @@ use Rattle.track_engine.proofs.write.update_at.Goals as goal
 
 pub returns-in-Ok-clause-done : goal.returns-in-Ok-clause-done
 returns-in-Ok-clause-done g c = λ tells.
-    update_carried_out c.args.to.now _ _ c.args.at.now c.args.key_too c.args.bytes.now c.args.block.now (c.requires.track tells).good c.requires.first c.requires.there.there (c.in-Ok.ensures.moments tells) c.written.result c.status-status.result
-    (c.status-status.ensures.value ∙ ap status_of (ap (λ (f : Found). f.item) c.found_in.ensures.found ∙ item_behind (reading c.args.block.now).records c.args.at.now.host c.args.at.now.number c.requires.first))
+    update_carried_out c.args.to.now _ _ c.args.at.now c.args.key_too c.args.bytes.now c.args.block.now (c.requires.track tells).good c.requires.may.first c.requires.may.there (c.in-Ok.ensures.moments tells) c.written.result c.status-status.result
+    (c.status-status.ensures.value ∙ ap status_of (ap (λ (f : Found). f.item) c.found_in.ensures.found ∙ item_behind (reading c.args.block.now).records c.args.at.now.host c.args.at.now.number c.requires.may.first))
     c.written.ensures (c.in-Ok.ensures.done tells) (c.in-Ok.ensures.firm tells)
 
 pub returns-in-Err-clause-done : goal.returns-in-Err-clause-done
 returns-in-Err-clause-done g c = λ tells.
-    update_failed c.args.to.now _ _ c.args.at.now c.args.key_too c.args.bytes.now c.args.block.now (c.requires.track tells).good c.requires.first c.requires.there.there (c.in-Err.ensures.moments tells) c.faults.result
+    update_failed c.args.to.now _ _ c.args.at.now c.args.key_too c.args.bytes.now c.args.block.now (c.requires.track tells).good c.requires.may.first c.requires.may.there (c.in-Err.ensures.moments tells) c.faults.result

@@ -1,4 +1,4 @@
-use Rattle.std.proofs.Common.{◌≡◌, [], refl, sym, subst, ◌∙◌}
+use Rattle.std.proofs.Common.{◌≡◌, ◌≤◌, [], refl, sym, subst, ◌∙◌, arith}
 use Rattle.mss_base.specs.Sites.{OnlyReads}
 use Rattle.std.proofs.lemmas.Result.{err_from_is_err_and}
 use Rattle.track_engine.proofs.Steps.{refused_write, carried_over, track_there, unbegun}
@@ -61,12 +61,30 @@ returns-in_err-bytes-in-None-clause-done g c = λ tells.
     let head = c.block_of-to.ensures.in_range in
     rw (p.1, p.2) (unbegun _ _ _ _ _ _ (c.requires.tracks tells _ head) (track_there (g.S.Site.told c.args.site.now) c.args.place.now _ head) (c.copy_block.ensures.reads.log tells))
 
-pub update_at-requires-clause-long : goal.update_at-requires-clause-long
-update_at-requires-clause-long g c =
-    update_long c.args.key_too c.copy_block.new.buffer c.args.host.now c.args.left c.args.argument.now c.number.result c.number.ensures _ refl
-    c.in_ok-at.at c.in_ok-at.ensures.itself c.requires.first c.in_ok-at.ensures.found c.found_in.result c.in-Some.bytes.now c.updated_length-length.result c.found_in.ensures.found c.updated_length-length.ensures c.in-Some.ensures
+pub update_at-requires-clause-may : goal.update_at-requires-clause-may
+update_at-requires-clause-may g c =
+    let itself = c.in_ok-at.ensures.itself in
+    let number = number_at_hand c.args.key_too c.copy_block.new.buffer c.args.host.now c.args.left c.args.argument.now c.number.result c.number.ensures _ refl c.in_ok-at.at itself c.requires.first c.in_ok-at.ensures.found in
+    let first : 1 ≤ c.in_ok-at.at.number = omega (arith, number, c.requires.first) in
+    record {
+      first = first;
+      there = itself.stands.there;
+      found = itself.stands.begins first;
+      long =
+          update_long c.args.key_too c.copy_block.new.buffer c.args.host.now c.args.left c.args.argument.now c.number.result c.number.ensures _ refl
+          c.in_ok-at.at c.in_ok-at.ensures.itself c.requires.first c.in_ok-at.ensures.found c.found_in.result c.in-Some.bytes.now c.updated_length-length.result c.found_in.ensures.found c.updated_length-length.ensures c.in-Some.ensures;
+    }
 
-pub update_at-requires-in-None-clause-long : goal.update_at-requires-in-None-clause-long
-update_at-requires-in-None-clause-long g c =
-    update_long c.args.key_too c.copy_block.new.buffer c.args.host.now c.args.left c.args.argument.now c.number.result c.number.ensures _ refl
-    c.in_ok-at.at c.in_ok-at.ensures.itself c.requires.first c.in_ok-at.ensures.found c.found_in.result c.as_slice.result.now c.updated_length-length.result c.found_in.ensures.found c.updated_length-length.ensures (c.as_slice.ensures ∙ c.in_ok-bytes-in-None.ensures)
+pub update_at-requires-in-None-clause-may : goal.update_at-requires-in-None-clause-may
+update_at-requires-in-None-clause-may g c =
+    let itself = c.in_ok-at.ensures.itself in
+    let number = number_at_hand c.args.key_too c.copy_block.new.buffer c.args.host.now c.args.left c.args.argument.now c.number.result c.number.ensures _ refl c.in_ok-at.at itself c.requires.first c.in_ok-at.ensures.found in
+    let first : 1 ≤ c.in_ok-at.at.number = omega (arith, number, c.requires.first) in
+    record {
+      first = first;
+      there = itself.stands.there;
+      found = itself.stands.begins first;
+      long =
+          update_long c.args.key_too c.copy_block.new.buffer c.args.host.now c.args.left c.args.argument.now c.number.result c.number.ensures _ refl
+          c.in_ok-at.at c.in_ok-at.ensures.itself c.requires.first c.in_ok-at.ensures.found c.found_in.result c.as_slice.result.now c.updated_length-length.result c.found_in.ensures.found c.updated_length-length.ensures (c.as_slice.ensures ∙ c.in_ok-bytes-in-None.ensures);
+    }

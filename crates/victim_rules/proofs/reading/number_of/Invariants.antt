@@ -1,6 +1,0 @@
-use Rattle.std.proofs.Common.{◌≡◌, ◌<◌, ◌^◌, take}
-use Rattle.victim_rules.specs.Texts.{number_of}
-use Rattle.victim_rules.proofs.reading.number_of.Given as goal
-
-abbrev pub invariant-loop-byte : goal.invariant-loop-byte
-invariant-loop-byte l = (l.number ≡ number_of (take l.byte-index l.text)) × (l.number < 10 ^ l.byte-index)
