@@ -7,7 +7,7 @@ use crate::places::RAIL_END;
 use std::marker::Model;
 
 /// One of the two accessors.
-#[derive(Clone, Copy, Debug, PartialEq, Eq)]
+#[derive(Clone, Copy, PartialEq, Eq)]
 pub enum Accessor {
     Left,
     Right,
@@ -21,7 +21,7 @@ pub struct Rail {
 }
 
 /// How a cartridge is carried from one place to another.
-#[derive(Clone, Copy, Debug, PartialEq, Eq)]
+#[derive(Clone, Copy)]
 pub struct MovePlan {
     /// The accessor that carries it.
     pub serving: Accessor,

@@ -11,7 +11,7 @@ use std::marker::Model;
 pub const CARTRIDGES: u16 = 2048;
 
 /// Where a cartridge is.
-#[derive(Clone, Copy, Debug, PartialEq, Eq)]
+#[derive(Clone, Copy, PartialEq, Eq)]
 pub enum Place {
     Cell(u16),
     Hand(Accessor),
@@ -19,7 +19,7 @@ pub enum Place {
 }
 
 /// Why a cartridge isn't moved.
-#[derive(Clone, Copy, Debug, PartialEq, Eq)]
+#[derive(Clone, Copy, PartialEq, Eq)]
 pub enum MoveFault {
     /// Another cartridge is where it was to go.
     CellTaken { by: CartridgeNo },

@@ -2,7 +2,7 @@
 use mss_base::{Bytes, VolumeNo};
 
 /// Why a channel program broke off.
-#[derive(Clone, Copy, Debug, PartialEq, Eq)]
+#[derive(Clone, Copy)]
 pub enum BreakCause {
     /// Its next word leads to no command.
     Program,

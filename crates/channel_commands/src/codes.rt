@@ -5,7 +5,7 @@ ghost use Rattle.channel_commands.specs.Codes.{command_of, least};
 use crate::command::{Command, ReadWhat, SearchField, SearchTest, SeekKind, WriteKind};
 
 /// The code is none of the table's.
-#[derive(Clone, Copy, Debug, PartialEq, Eq)]
+#[derive(Clone, Copy)]
 pub struct UnknownCode;
 
 fn search(field: SearchField, test: SearchTest, multi: bool) -> Command

@@ -10,14 +10,14 @@ use crate::program::Program;
 use channel_commands::{Ccw, Reply};
 
 /// The place of a program: the word of its last command, and how many commands it ran.
-#[derive(Clone, Copy, Debug, PartialEq, Eq)]
+#[derive(Clone, Copy)]
 pub struct Cursor {
     pub word: u16,
     pub executed: u32,
 }
 
 /// What comes next in a program.
-#[derive(Clone, Copy, Debug, PartialEq, Eq)]
+#[derive(Clone, Copy)]
 pub enum NextCall {
     /// The command at this word, with chaining to a further one or without.
     Command { word: u8, chained: bool },

@@ -15,7 +15,7 @@ use std::marker::Model;
 
 /// A record in its block: its ID (CC HH R), its key of at most 255 bytes and its data of at most
 /// 65,535 bytes.
-#[derive(Debug, Drop)]
+#[derive(Drop)]
 pub struct StoredRecord<'a> {
     pub id: [u8; 5],
     pub key: &'a [u8],

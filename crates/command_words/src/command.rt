@@ -3,7 +3,7 @@ use std::alloc::AllocError;
 use victim_rules::Ruled;
 
 /// What the words of the command ask for.
-#[derive(Clone, Copy, Debug)]
+#[derive(Clone, Copy)]
 pub enum Command {
     /// A run in one thread.
     Serial {
@@ -36,7 +36,7 @@ pub enum Command {
 }
 
 /// Why words ask for nothing.
-#[derive(Clone, Copy, Debug, PartialEq, Eq)]
+#[derive(Clone, Copy)]
 pub enum CommandFault {
     /// They are no command with its options.
     Refused,

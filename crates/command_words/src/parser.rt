@@ -1,9 +1,18 @@
 //! The words, parsed by clap.
-ghost use Rattle.std.specs.Prelude.{◌≡◌, ◌≢◌, [], false, map, string_bytes, IfOk};
-ghost use Rattle.clap.specs.Simple.{app_of, shape_of};
+ghost use Rattle.std.specs.Prelude.{◌≡◌, ◌≢◌, [], codes, false, map, string_bytes, IfOk};
+ghost use Rattle.clap.specs.Simple.{app_of, shape_of, with_subcommand};
 ghost use Rattle.clap.specs.declared.builder.command.Command.TheViews.{out-Command as fields_of};
 ghost use Rattle.command_words.specs.Outcomes.{Parses};
-ghost use Rattle.command_words.specs.Parser.{app, audit, bare_app, command_shape, serial, with_option};
+ghost use Rattle.command_words.specs.Parser.{
+  app,
+  audit,
+  bare_app,
+  command_shape,
+  serial,
+  show,
+  threads,
+  with_option,
+};
 
 use crate::command::CommandFault;
 use clap::error::ErrorKind;
@@ -24,14 +33,23 @@ fn with_option<'a>(
     command.arg(Arg::new(alloc, name).long(name))
 }
 
+/// `serial`, with the options by which its turns are drawn.
+fn turns_parser<'a>(alloc: Global) -> Result<Command<'a>, AllocError>
+    ensures shape { IfOk result (λ parser. shape_of parser
+        ≡ with_option (codes "turns") (with_option (codes "order")
+        (command_shape (codes "serial", [])))) }
+    ensures local { IfOk result (λ parser. (fields_of parser).has_globals ≡ false) }
+{
+    let parser = with_option(alloc, plain_parser(alloc, "serial"), "order")?;
+    with_option(alloc, parser, "turns")
+}
+
 /// `serial`, with its options.
 fn serial_parser<'a>(alloc: Global) -> Result<Command<'a>, AllocError>
     ensures shape { IfOk result (λ parser. shape_of parser ≡ command_shape serial) }
     ensures local { IfOk result (λ parser. (fields_of parser).has_globals ≡ false) }
 {
-    let parser = plain_parser(alloc, "serial");
-    let parser = with_option(alloc, parser, "order")?;
-    let parser = with_option(alloc, parser, "turns")?;
+    let parser = turns_parser(alloc)?;
     with_option(alloc, parser, "load")
 }
 
@@ -63,16 +81,50 @@ fn bare_parser<'a>(alloc: Global) -> Command<'a>
         .subcommand_required(true)
 }
 
+/// The program with one command more.
+fn with_command<'a>(program: Command<'a>, command: Command<'a>) -> Result<Command<'a>, AllocError>
+    requires { (fields_of command).has_globals ≡ false }
+    ensures { IfOk result (λ parser. app_of parser
+        ≡ with_subcommand (app_of program.entry) (shape_of command.entry)) }
+{
+    program.subcommand(command)
+}
+
+/// The program with its first command, `serial`.
+fn with_serial<'a>(alloc: Global) -> Result<Command<'a>, AllocError>
+    ensures { IfOk result (λ parser. app_of parser
+        ≡ with_subcommand bare_app (command_shape serial)) }
+{
+    let serial = serial_parser(alloc)?;
+    with_command(bare_parser(alloc), serial)
+}
+
+/// The program with the commands that have no options, `threads` and `show`.
+fn with_plain<'a>(alloc: Global, program: Command<'a>) -> Result<Command<'a>, AllocError>
+    ensures { IfOk result (λ parser. app_of parser
+        ≡ with_subcommand (with_subcommand (app_of program.entry) (command_shape threads))
+        (command_shape show)) }
+{
+    let program = with_command(program, plain_parser(alloc, "threads"))?;
+    with_command(program, plain_parser(alloc, "show"))
+}
+
+/// The program with `audit`.
+fn with_audit<'a>(alloc: Global, program: Command<'a>) -> Result<Command<'a>, AllocError>
+    ensures { IfOk result (λ parser. app_of parser
+        ≡ with_subcommand (app_of program.entry) (command_shape audit)) }
+{
+    let audit = audit_parser(alloc)?;
+    with_command(program, audit)
+}
+
 /// The program with its commands.
 fn parser<'a>(alloc: Global) -> Result<Command<'a>, AllocError>
     ensures { IfOk result (λ parser. app_of parser ≡ app) }
 {
-    let serial = serial_parser(alloc)?;
-    let program = bare_parser(alloc).subcommand(serial)?;
-    let program = program.subcommand(plain_parser(alloc, "threads"))?;
-    let program = program.subcommand(plain_parser(alloc, "show"))?;
-    let audit = audit_parser(alloc)?;
-    program.subcommand(audit)
+    let program = with_serial(alloc)?;
+    let program = with_plain(alloc, program)?;
+    with_audit(alloc, program)
 }
 
 /// The fault of a parse that failed.

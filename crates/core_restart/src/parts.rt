@@ -131,6 +131,16 @@ fn host_parts(
     Ok((hosts, requests, console))
 }
 
+/// Room for a block, and the configuration.
+fn own_parts(alloc: Global, config: &Config) -> Result<(Vec<u8>, Config), NoMemory>
+    ensures buffer { IfOk result (λ parts. vec_len parts.0 ≡ BLOCK_BYTES) }
+    ensures config { IfOk result (λ parts. parts.1 ≡ config.now) }
+{
+    let buffer = block(alloc)?;
+    let config = copy_of(alloc, config)?;
+    Ok((buffer, config))
+}
+
 impl Parts {
     ghost use Rattle.core_restart.specs.Parts.{AreParts};
 
@@ -138,11 +148,15 @@ impl Parts {
     pub fn new(alloc: Global, config: &Config) -> Result<Parts, NoMemory>
         ensures { IfOk result (AreParts config.now) }
     {
-        let (frames, recency) = frame_parts(alloc, config.frames)?;
-        let (tasks, recorders, store) = device_parts(alloc, config.recorders)?;
-        let (hosts, requests, console) = host_parts(alloc, config.volumes.as_slice())?;
-        let buffer = block(alloc)?;
-        let config = copy_of(alloc, config)?;
+        // Each group stays together until all are there: so an exit lets few things go.
+        let frames = frame_parts(alloc, config.frames)?;
+        let devices = device_parts(alloc, config.recorders)?;
+        let hosts = host_parts(alloc, config.volumes.as_slice())?;
+        let own = own_parts(alloc, config)?;
+        let (frames, recency) = frames;
+        let (tasks, recorders, store) = devices;
+        let (hosts, requests, console) = hosts;
+        let (buffer, config) = own;
         Ok(Parts {
             config,
             buffer,

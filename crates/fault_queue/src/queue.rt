@@ -8,7 +8,7 @@ use std::alloc::Global;
 use std::marker::Model;
 
 /// How far a request is.
-#[derive(Clone, Copy, Debug, PartialEq, Eq)]
+#[derive(Clone, Copy, PartialEq, Eq)]
 pub enum RequestState {
     /// It waits for a recorder.
     Queued,
@@ -21,7 +21,7 @@ pub enum RequestState {
 }
 
 /// What a host waits for.
-#[derive(Clone, Copy, Debug, PartialEq, Eq)]
+#[derive(Clone, Copy, PartialEq, Eq)]
 pub struct Request {
     pub volume: VolumeNo,
     pub cylinder: Cylinder,

@@ -243,6 +243,10 @@ end_kept s n base opened inside some =
     let is : IsProgram s.words = record { some = omega arith; few = inside.few; each = inside.each } in
     (base_more s place.Host (s.items ++ running s.words ∷ []) [] s.total base base.small, n, open_more s n (running s.words) opened is inside.room refl, refl)
 
+-- what is found isn't nothing
+never : (k : Keyword) → ◌≡◌ {A = Option Keyword} None (Some k) → ⊥
+never k e = cc
+
 -- a line that may stand where it stands, and is good
 kept_on : (p : Place) (line : LineData) (s : SoFar) → s.place ≡ p → IsKeptAt p s → IsLine line → IsAllowed p (keyword_of line)
     → is_twice s line ≡ false → is_absent s line ≡ false → is_beyond s line ≡ false → IsKeptAt (after s line).place (after s line)
@@ -274,7 +278,7 @@ kept_on place.Program (tic to) s here kept is allowed a b d =
     subst (λ (q : Place). IsKeptAt q (after s (tic to))) (sym here)
     (word_kept s kept.1 (transfer to) s.total here kept.0 kept.2 kept.3 is (ltb-false WORD_LIMIT (length s.words + 1) d) (omega arith) kept.0.small)
 kept_on place.Program end s here kept is allowed a b d = end_kept s kept.1 kept.0 kept.2 kept.3 d
-kept_on p line s here kept is allowed a b d = absurd (cc)
+kept_on p line s here kept is allowed a b d = absurd (never (keyword_of line) allowed)
 
 judged_kept : (s t : SoFar) (line : LineData) → IsKeptAt s.place s → IsLine line → IsAllowed s.place (keyword_of line) → judged s line ≡ Ok t → IsKeptAt t.place t
 judged_kept s t line kept is allowed judges =

@@ -18,4 +18,5 @@ pub mod LinesBack
 pub mod Runnable
 pub mod Copies
 pub mod Digits
+pub mod ByteWords
 pub mod Commands

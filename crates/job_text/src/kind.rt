@@ -1,6 +1,6 @@
 //! The kinds of bad lines, the words that lines begin with, and where they stand.
 /// Why a line is bad, in the order in which the kinds are told.
-#[derive(Clone, Copy, Debug, PartialEq, Eq)]
+#[derive(Clone, Copy)]
 pub enum JobKind {
     /// The text has more than 4,194,304 bytes; told with line 0.
     TooBig,
@@ -26,7 +26,7 @@ pub enum JobKind {
 }
 
 /// The first word of a line.
-#[derive(Clone, Copy, Debug, PartialEq, Eq)]
+#[derive(Clone, Copy)]
 pub enum Keyword {
     Mss,
     Volume,
@@ -41,7 +41,7 @@ pub enum Keyword {
 }
 
 /// Where a line stands.
-#[derive(Clone, Copy, Debug, PartialEq, Eq)]
+#[derive(Clone, Copy, PartialEq, Eq)]
 pub enum Place {
     Head,
     Volumes,

@@ -20,7 +20,7 @@ use mss_base::{Config, NoMemory, Serial, VolumeList, VolumeNo};
 use std::alloc::Global;
 
 /// Why a text has no job.
-#[derive(Clone, Copy, Debug, PartialEq, Eq)]
+#[derive(Clone, Copy)]
 pub enum JobFault {
     /// The first bad line, counted from 1, and the first kind that applies to it.
     Bad { line: u32, kind: JobKind },

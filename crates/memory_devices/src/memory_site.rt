@@ -14,7 +14,7 @@ use mss_base::{BLOCK_BYTES, Block, BlockPlace, Failed, NoMemory, Site, UnitNo};
 use std::alloc::Global;
 
 /// A failure to come.
-#[derive(Clone, Copy, Debug, PartialEq, Eq)]
+#[derive(Clone, Copy)]
 pub enum SiteFault {
     /// The n-th read, write or sync from now on, counted from 1.
     Call(u64),
@@ -23,7 +23,7 @@ pub enum SiteFault {
 }
 
 /// Why there is no image of a stop.
-#[derive(Clone, Copy, Debug, PartialEq, Eq)]
+#[derive(Clone, Copy, PartialEq, Eq)]
 pub enum ImageFault {
     /// So many writes and syncs were not made.
     NoSuchMoment,

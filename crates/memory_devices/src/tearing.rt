@@ -16,7 +16,7 @@ pub enum Tear {
 }
 
 /// What becomes of loose writes where items are done again.
-#[derive(Clone, Copy, Debug, PartialEq, Eq)]
+#[derive(Clone, Copy)]
 pub enum Loose {
     /// They are done as the firm ones are.
     Kept,

@@ -14,7 +14,7 @@ use std::alloc::Global;
 use std::marker::Model;
 
 /// What was done to the devices.
-#[derive(Debug, Drop)]
+#[derive(Drop)]
 pub enum LoggedItem {
     /// A write of so many bytes, done or failed.
     Wrote {
@@ -31,7 +31,7 @@ pub enum LoggedItem {
 }
 
 /// How a sync went, or what it was of.
-#[derive(Clone, Copy, Debug, PartialEq, Eq)]
+#[derive(Clone, Copy)]
 pub enum SyncKind {
     OfUnit,
     OfAll,

@@ -10,7 +10,7 @@ use volume_table::RowFault;
 /// Something that is wrong with a site.
 ///
 /// Contracts see the numbers, so this enum is among the definitions as it stands.
-#[derive(Clone, Copy, Debug, PartialEq, Eq)]
+#[derive(Clone, Copy)]
 pub enum Finding {
     /// A restart refuses the site for this, if it finds nothing before it.
     Refusal(Refused),
@@ -39,7 +39,7 @@ pub enum Finding {
 pub type Findings = Listed<Finding>;
 
 /// Why a site wasn't audited to its end.
-#[derive(Clone, Copy, Debug, PartialEq, Eq)]
+#[derive(Clone, Copy)]
 pub enum AuditFault {
     /// A read failed. `fault` is the site's count of faults after it.
     Read { fault: u64 },

@@ -28,7 +28,7 @@ use table_pair::{CHANGE_ITEMS, SlotsUsed, SlotsUsedList, create_row};
 use volume_table::{Rows, VolumeRow};
 
 /// A volume that was created, and how many writes the site counted behind the last one of its creation.
-#[derive(Clone, Copy, Debug, PartialEq, Eq)]
+#[derive(Clone, Copy)]
 pub struct Creation {
     pub volume: VolumeNo,
     pub writes: u64,

@@ -7,14 +7,14 @@ use std::alloc::Global;
 use victim_choice::Choose;
 
 /// Who acts.
-#[derive(Clone, Copy, Debug, PartialEq, Eq)]
+#[derive(Clone, Copy)]
 pub enum Actor {
     Host(HostNo),
     Recorder(RecorderNo),
 }
 
 /// Where an actor is when it passes a gate.
-#[derive(Clone, Copy, Debug, PartialEq, Eq)]
+#[derive(Clone, Copy)]
 pub enum Point {
     /// Before it is counted in.
     Enter,
@@ -32,7 +32,7 @@ pub trait Gate {
 }
 
 /// A gate that holds nobody.
-#[derive(Clone, Copy, Debug)]
+#[derive(Clone, Copy)]
 pub struct OpenGate;
 
 impl Gate for OpenGate {

@@ -29,7 +29,7 @@ impl Model for HostEnd {
 pub type HostEnds = Listed<HostEnd>;
 
 /// What ended a run.
-#[derive(Clone, Copy, Debug, PartialEq, Eq)]
+#[derive(Clone, Copy)]
 pub enum RunAnswer {
     /// Every host came to the end of its script.
     Done,

@@ -20,7 +20,7 @@ use std::alloc::Global;
 const READ_LIMIT: usize = 4_194_305;
 
 /// What the words give to a run.
-#[derive(Clone, Copy, Debug, PartialEq, Eq)]
+#[derive(Clone, Copy)]
 pub struct Settings {
     /// The number from which turns and load are drawn.
     pub order: u64,

@@ -4,7 +4,7 @@ ghost use Rattle.mss_top.specs.Status.{code_of};
 
 /// How a run ended. The earlier of these stands where several come, but `OutputFault` takes the
 /// place of any.
-#[derive(Clone, Copy, Debug, PartialEq, Eq)]
+#[derive(Clone, Copy, PartialEq, Eq)]
 pub enum Status {
     /// All that was asked was done, and told.
     Done,

@@ -6,7 +6,7 @@ use ckd_plain::Refusal;
 use mss_base::NoMemory;
 
 /// Why a command gave no effect: it ended with unit check, or memory was refused.
-#[derive(Clone, Copy, Debug, PartialEq, Eq)]
+#[derive(Clone, Copy)]
 pub enum Trouble {
     Refused(Refusal),
     Memory,

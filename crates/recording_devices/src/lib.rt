@@ -15,7 +15,7 @@ pub struct Recorder {
 }
 
 /// A cartridge is in the recorder already.
-#[derive(Clone, Copy, Debug, PartialEq, Eq)]
+#[derive(Clone, Copy)]
 pub struct RecorderBusy {
     pub holds: CartridgeNo,
 }

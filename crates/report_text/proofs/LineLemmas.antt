@@ -2,11 +2,12 @@
 use Rattle.std.proofs.Common.{◌≡◌, ℕ, suc, ◌+◌, ◌<◌, ◌≤◌, List, [], ◌∷◌, ◌++◌, length, length-append, drop, get_or, drop-cons, add-one, arith, subst, sym, ap, ◌∙◌, append_assoc, Result, Ok, Err}
 use Rattle.std.specs.Prelude.{IsErrAnd}
 use Rattle.std.specs.List.{flat_map}
+use Rattle.std.proofs.Math.ListN.{drop_of_length-le}
 use Rattle.std.proofs.lemmas.List.{append-nil}
 use Rattle.std.proofs.lemmas.List.Concat.{flat_map-append}
 use Rattle.ckd_track.specs.Data.{RecordData}
 use Rattle.mss_base.specs.Puts.{PutsFront, Puts}
-use Rattle.mss_base.proofs.Putting.{Part, part_goes_on, part_stops}
+use Rattle.mss_base.proofs.Putting.{Part, part_ends, part_goes_on, part_stops}
 use Rattle.report_text.specs.Texts.{numbered, track_text}
 
 -- a call that failed has put a front
@@ -39,6 +40,21 @@ pub pieces_stop : {X : Type 0} (text : X → List ℕ) (old now new : List ℕ) 
 pieces_stop text old now new i pieces other lt part front =
     part_stops old now new (text (get_or pieces i other)) (flat_map text (drop (suc i) pieces)) (flat_map text pieces)
     (subst (λ l. Part old now (flat_map text l) (flat_map text pieces)) (drop-cons pieces i other lt) part) front
+
+-- this one was put
+pub pieces_go_on : {X : Type 0} (text : X → List ℕ) (old now new : List ℕ) (i : ℕ) (pieces : List X) (other : X)
+    → i < length pieces → Part old now (flat_map text (drop i pieces)) (flat_map text pieces)
+    → new ≡ now ++ text (get_or pieces i other) → Part old new (flat_map text (drop (i + 1) pieces)) (flat_map text pieces)
+pieces_go_on text old now new i pieces other lt part put =
+    subst (λ (j : ℕ). Part old new (flat_map text (drop j pieces)) (flat_map text pieces)) (sym (add-one i))
+    (part_goes_on old now new (text (get_or pieces i other)) (flat_map text (drop (suc i) pieces)) (flat_map text pieces)
+    (subst (λ l. Part old now (flat_map text l) (flat_map text pieces)) (drop-cons pieces i other lt) part) put)
+
+-- none is left
+pub pieces_end : {X : Type 0} (text : X → List ℕ) (old now : List ℕ) (i : ℕ) (pieces : List X)
+    → length pieces ≤ i → Part old now (flat_map text (drop i pieces)) (flat_map text pieces) → now ≡ old ++ flat_map text pieces
+pieces_end text old now i pieces all part =
+    part_ends old now (flat_map text pieces) (subst (λ l. Part old now (flat_map text l) (flat_map text pieces)) (drop_of_length-le pieces {i = i} all) part)
 
 -- a track without a record has no text
 pub no_track_text : (old : List ℕ) (cylinder head : ℕ) (rs : List RecordData) → rs ≡ [] → old ≡ old ++ track_text cylinder head rs

@@ -11,7 +11,7 @@ use mss_base::{Failed, Sink};
 use shown_volumes::Refused;
 
 /// An output of one line in place of a report.
-#[derive(Clone, Copy, Debug)]
+#[derive(Clone, Copy)]
 pub enum OneLine {
     WordsRefused,
     InputFault,

@@ -26,7 +26,7 @@ use mss_base::{Bytes, Cylinder, Failed, FrameNo, Head, NoMemory, Serial, Sink, V
 use volume_table::Change;
 
 /// Why a part of a report wasn't put whole. A front of it was.
-#[derive(Clone, Copy, Debug, PartialEq, Eq)]
+#[derive(Clone, Copy, PartialEq, Eq)]
 pub enum ReportFault {
     /// The sink failed.
     Output,

@@ -1,7 +1,7 @@
 // How events ended.
 
 /// How events of a serial run ended.
-#[derive(Clone, Copy, Debug, PartialEq, Eq)]
+#[derive(Clone, Copy)]
 pub enum DriveAnswer {
     /// Each was done.
     Done,

@@ -16,7 +16,7 @@ use mss_base::{RecorderNo, Site};
 use victim_choice::Choose;
 
 /// How a turn of the recorders ended, and whether each was idle.
-#[derive(Clone, Copy, Debug, PartialEq, Eq)]
+#[derive(Clone, Copy)]
 pub struct Turn {
     pub answer: DriveAnswer,
     pub idle: bool,

@@ -5,7 +5,7 @@ use mss_base::{Failed, NoMemory};
 use report_text::ReportFault as PartFault;
 
 /// Why a report wasn't put whole. What was put is a front of it, but after a failed read.
-#[derive(Clone, Copy, Debug, PartialEq, Eq)]
+#[derive(Clone, Copy)]
 pub enum ReportFault {
     /// A read of a volume's track failed; the site's count of faults behind it. The report ended before that track,
     /// with a line that tells this count.
@@ -53,7 +53,7 @@ impl From<NoMemory> for ReportFault {
 }
 
 /// Why volumes weren't put whole.
-#[derive(Clone, Copy, Debug, PartialEq, Eq)]
+#[derive(Clone, Copy)]
 pub enum VolumesFault {
     /// A read failed; the site's count of faults behind it. Nothing was put for it.
     Read { fault: u64 },

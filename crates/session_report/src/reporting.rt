@@ -28,7 +28,7 @@ use std::alloc::Global;
 use volume_table::Rows;
 
 /// The last line of a report whose volumes are told.
-#[derive(Clone, Copy, Debug, PartialEq, Eq)]
+#[derive(Clone, Copy)]
 pub enum Last {
     /// The session came to its end.
     End,

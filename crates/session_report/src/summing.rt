@@ -24,7 +24,7 @@ use report_text::{put_numbered, put_stopped};
 use volume_table::Change;
 
 /// A kind of change that a summary counts.
-#[derive(Clone, Copy, Debug, PartialEq, Eq)]
+#[derive(Clone, Copy)]
 pub enum Kind {
     /// A page got a frame.
     Assign,

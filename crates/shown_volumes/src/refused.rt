@@ -7,7 +7,7 @@ use table_pair::TableCopy;
 use volume_table::RowFault;
 
 /// The half of a volume that lies on its first cartridge, or on its second.
-#[derive(Clone, Copy, Debug, PartialEq, Eq)]
+#[derive(Clone, Copy)]
 pub struct Half {
     pub volume: VolumeNo,
     pub second: bool,
@@ -16,7 +16,7 @@ pub struct Half {
 /// Why a site is refused: the first fault of its content, a failed device, or want of memory.
 ///
 /// Contracts see the numbers and the six bytes of a serial, so this enum is among the definitions as it stands.
-#[derive(Clone, Copy, Debug, PartialEq, Eq)]
+#[derive(Clone, Copy)]
 pub enum Refused {
     /// The copy that counts is open and spells no row.
     RowDamaged {

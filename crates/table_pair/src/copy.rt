@@ -7,7 +7,7 @@ use std::alloc::AllocError;
 use volume_table::{RowFault, VolumeRow};
 
 /// A copy of the table.
-#[derive(Clone, Copy, Debug, PartialEq, Eq)]
+#[derive(Clone, Copy)]
 pub enum TableCopy {
     A,
     B,
@@ -28,7 +28,7 @@ pub fn place_of(copy: TableCopy, volume: VolumeNo) -> BlockPlace
 }
 
 /// How many slots of each copy of a row are in use, 0 to 1,984.
-#[derive(Clone, Copy, Debug, PartialEq, Eq)]
+#[derive(Clone, Copy)]
 pub struct SlotsUsed {
     pub a: u16,
     pub b: u16,
@@ -67,7 +67,7 @@ pub struct RowRead {
 }
 
 /// Why it isn't known whether there is a row.
-#[derive(Clone, Copy, Debug, PartialEq, Eq)]
+#[derive(Clone, Copy)]
 pub enum RowTrouble {
     /// The copy that counts spells no row.
     Damaged { copy: TableCopy, fault: RowFault },
@@ -97,7 +97,7 @@ impl From<AllocError> for RowTrouble {
 }
 
 /// Why two copies weren't made equal.
-#[derive(Clone, Copy, Debug, PartialEq, Eq)]
+#[derive(Clone, Copy)]
 pub enum RepairFault {
     /// A read or a write failed. `fault` is the site's count of faults after it.
     Failed { fault: u64 },

@@ -35,7 +35,7 @@ const CLOSED: u8 = 0x00;
 pub const MADE_MARK: u8 = 0x4D;
 
 /// What is known of a copy's gates.
-#[derive(Clone, Copy, Debug, PartialEq, Eq)]
+#[derive(Clone, Copy)]
 pub struct Gates {
     /// Whether the copy is open.
     pub is_open: bool,

@@ -8,7 +8,7 @@ use ckd_plain::Refusal;
 use mss_base::{BlockPlace, Head, NoMemory, UnitNo};
 
 /// The blocks of a cylinder: that of head 0, and those of the other heads behind it, which all have numbers.
-#[derive(Clone, Copy, Debug, PartialEq, Eq)]
+#[derive(Clone, Copy)]
 pub struct CylinderPlace {
     pub unit: UnitNo,
     pub first_block: u32,
@@ -16,7 +16,7 @@ pub struct CylinderPlace {
 }
 
 /// Why a command gave no reply: a device failed, and how many faults there were then, or memory was refused.
-#[derive(Clone, Copy, Debug, PartialEq, Eq)]
+#[derive(Clone, Copy, PartialEq, Eq)]
 pub enum EngineFault {
     ReadFailed { fault: u64 },
     WriteFailed { fault: u64 },
@@ -24,7 +24,7 @@ pub enum EngineFault {
 }
 
 /// Why a command isn't done: it ended with unit check, or it gives no reply.
-#[derive(Clone, Copy, Debug, PartialEq, Eq)]
+#[derive(Clone, Copy)]
 pub enum NotDone {
     Refused(Refusal),
     Fault(EngineFault),

@@ -5,7 +5,7 @@ ghost use Rattle.victim_choice.specs.declared.choose.Candidate.{Candidate};
 use mss_base::{FrameNo, Page, VolumeNo};
 
 /// A frame that may be taken from its page.
-#[derive(Clone, Copy, Debug, PartialEq, Eq)]
+#[derive(Clone, Copy, PartialEq, Eq)]
 pub struct Candidate {
     pub frame: FrameNo,
     pub volume: VolumeNo,
@@ -31,7 +31,7 @@ pub trait Choose {
 }
 
 /// The least recently touched.
-#[derive(Clone, Copy, Debug, Drop)]
+#[derive(Clone, Copy, Drop)]
 pub struct Lru;
 
 impl Choose for Lru {

@@ -18,7 +18,7 @@ const QUOTA_LIMIT: u16 = 1632;
 const VOLUME_LIMIT: u16 = 31;
 
 /// Why a text has no rules.
-#[derive(Clone, Copy, Debug)]
+#[derive(Clone, Copy)]
 pub enum RulesFault {
     /// Its first bad rule has this number, from 1; a ninth is bad.
     Bad { rule: u8 },

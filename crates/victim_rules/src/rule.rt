@@ -2,7 +2,7 @@
 use mss_base::VolumeNo;
 
 /// What a rule keeps of the candidates of a list.
-#[derive(Clone, Copy, Debug)]
+#[derive(Clone, Copy)]
 pub enum Rule {
     /// Those of which no cylinder has to be destaged.
     Clean,

@@ -11,7 +11,7 @@ use victim_choice::{Candidate, Choose};
 pub const RULE_LIMIT: usize = 8;
 
 /// A chooser by up to eight rules. In a clause it is the list of them.
-#[derive(Clone, Copy, Debug)]
+#[derive(Clone, Copy)]
 pub struct Ruled {
     rules: [Rule; RULE_LIMIT],
     count: usize,

@@ -4,7 +4,7 @@ ghost use Rattle.std.specs.Prelude.{◌≡◌};
 use mss_base::NoMemory;
 
 /// A field of a row.
-#[derive(Clone, Copy, Debug, PartialEq, Eq)]
+#[derive(Clone, Copy)]
 pub enum RowField {
     Version,
     /// A character of the serial, from 0.
@@ -23,14 +23,14 @@ pub enum RowField {
 
 /// A field that no row has so, and what it holds: its byte, for a cartridge its two bytes as a number, for a slot the byte
 /// of its kind.
-#[derive(Clone, Copy, Debug, PartialEq, Eq)]
+#[derive(Clone, Copy)]
 pub struct RowFault {
     pub field: RowField,
     pub value: u16,
 }
 
 /// Why no row was decoded.
-#[derive(Clone, Copy, Debug, PartialEq, Eq)]
+#[derive(Clone, Copy)]
 pub enum DecodeFault {
     Bad(RowFault),
     Memory,

@@ -3,7 +3,7 @@ ghost use Rattle.std.specs.Prelude.{◌≡◌, ◌≤◌, ◌↔◌, IsSome, IfS
 ghost use Rattle.volume_table.specs.States.{state_number};
 
 /// Where the truth about a cylinder lies. The numbers are those that stand in a row's block.
-#[derive(Clone, Copy, Debug, PartialEq, Eq)]
+#[derive(Clone, Copy, PartialEq, Eq)]
 pub enum CylinderState {
     /// Never written, not staged.
     Blank = 0,

@@ -17,9 +17,12 @@ pub mod FailedWhole
 pub mod CopyWhole
 pub mod ChangedRows
 pub mod RowSteps
+pub mod FailedSteps
+pub mod CopySteps
 pub mod EndSteps
 pub mod DestageWhole
 pub mod StageWhole
+pub mod EndWhole
 pub mod FreeWhole
 pub mod AssignWhole
 pub mod CarryWhole

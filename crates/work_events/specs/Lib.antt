@@ -1,4 +1,5 @@
 pub mod Served
 pub mod Steps
+pub mod Leaving
 pub mod Chosen
 pub mod WorkLaws

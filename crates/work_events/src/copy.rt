@@ -9,9 +9,8 @@ ghost use Rattle.core_state.specs.WorkRules.{work_rule};
 ghost use Rattle.core_state.specs.declared.rule.WorkRule.TheVariants.{Copies};
 ghost use Rattle.work_events.specs.Steps.{WorkStep};
 
-use crate::parts::{did, end_task, put_task, served};
+use crate::parts::{Failing, did, end_failed, put_task, served};
 use core_state::{Core, Task, WorkAnswer, WorkKind, make_room};
-use fault_queue::RequestState;
 use mss_base::{RecorderNo, Site};
 use transfers::{Transfer, copy_track};
 use victim_choice::Choose;
@@ -50,16 +49,19 @@ pub fn copy<S: Site, C: Choose>(
         }
         Err(_) => {
             let fault = core.site.faults();
-            let failed = RequestState::Failed { fault };
-            end_task(
+            let failing = Failing {
+                recorder,
+                task,
+                fault,
+                what: WorkKind::Copy,
+            };
+            end_failed(
                 &mut core.frames,
                 &mut core.requests,
                 &mut core.tasks,
-                recorder,
-                &task,
-                failed,
-            );
-            did(&mut core.session, recorder, WorkKind::Copy)
+                &mut core.session,
+                &failing,
+            )
         }
     }
 }

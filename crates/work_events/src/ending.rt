@@ -1,26 +1,20 @@
 // The event that ends a transfer, all of whose tracks are copied.
-ghost use Rattle.std.specs.Prelude.{◌≡◌, ◌≢◌, ◌≤◌, ◌<◌, Bool, false, IsOk, IsSome, None, OnErr};
-ghost use Rattle.std.specs.Prelude.{OnOk, length, slice_set};
+ghost use Rattle.std.specs.Prelude.{◌≡◌, ◌≤◌, ◌<◌, Bool, IsOk, IsSome, OnErr, OnOk, length};
 ghost use Rattle.mss_base.specs.Sites.{MayWrite};
 ghost use Rattle.mss_base.specs.declared.place.UnitNo.{UnitNo};
-ghost use Rattle.transfers.specs.declared.transfer.TransferKind.TheVariants.{Destage};
 ghost use Rattle.transfers.specs.Copies.{target_unit};
+ghost use Rattle.transfers.specs.Dues.{change_of};
 ghost use Rattle.core_state.specs.CoreValue.{seen_site};
 ghost use Rattle.core_state.specs.Devices.{FailSync, SyncUnit};
-ghost use Rattle.core_state.specs.SessionData.{with_last_event};
-ghost use Rattle.core_state.specs.Sessions.{session_data};
 ghost use Rattle.core_state.specs.WorkRules.{work_rule};
-ghost use Rattle.core_state.specs.declared.rule.WorkAnswer.TheVariants.{Did};
-ghost use Rattle.core_state.specs.declared.rule.WorkKind.TheVariants.{End};
 ghost use Rattle.core_state.specs.declared.rule.WorkRule.TheVariants.{Ends};
-ghost use Rattle.core_state.specs.declared.session.Event.TheVariants.{Work};
-ghost use Rattle.fault_queue.specs.Requests.{request_of, with_state};
-ghost use Rattle.fault_queue.specs.declared.queue.RequestState.TheVariants as state;
-ghost use Rattle.staging_adapter.specs.Frames.{IsFrame, with_moving};
+ghost use Rattle.fault_queue.specs.Requests.{request_of};
+ghost use Rattle.staging_adapter.specs.Frames.{IsFrame};
+ghost use Rattle.work_events.specs.Leaving.{left_by};
 ghost use Rattle.work_events.specs.Steps.{FailsNone, WorkStep};
 
-use crate::parts::{did, end_task, put_task, served, stop};
-use core_state::{Core, Session, Task, WorkAnswer, WorkKind, make_room, write_change};
+use crate::parts::{Failing, did, end_failed, end_task, put_task, served, stop};
+use core_state::{Core, Task, WorkAnswer, WorkKind, make_room, write_change};
 use fault_queue::{Queue, RequestState};
 use mss_base::{Failed, RecorderNo, Site};
 use staging_adapter::Frames;
@@ -45,150 +39,47 @@ fn sync_copies<S: Site>(site: &mut S, transfer: &Transfer) -> Result<(), Failed>
     site.sync(transfer.unit())
 }
 
-/// The end of a task whose copies a sync that failed left loose: its request has failed, with the count
-/// of faults.
-fn end_unsynced(
+/// How the row of its volume tells that a transfer is at its end: the victim's cylinder is destaged, or the
+/// asked one is staged.
+fn change_of(transfer: &Transfer) -> Change
+    ensures { result ≡ change_of transfer.now }
+{
+    let cylinder = transfer.cylinder;
+    match transfer.kind {
+        TransferKind::StageBlank | TransferKind::StageCartridge => Change::Staged { cylinder },
+        TransferKind::Destage => Change::Destaged { cylinder },
+    }
+}
+
+/// Leaves a task whose transfer is in its row. Behind a victim's cylinder it goes on without its transfer;
+/// behind the asked one it ends, and its request is ready.
+fn leave_task(
     frames: &mut Frames,
     requests: &mut Queue,
     tasks: &mut Vec<Option<Task>>,
-    session: &mut Session,
     recorder: RecorderNo,
     task: &Task,
-    fault: u64,
-) -> WorkAnswer
+    kind: TransferKind,
+)
     requires frame { IsFrame frames.old task.now.frame }
     requires asked { IsSome (request_of requests.old task.now.host) }
     requires fits { recorder < length tasks.old.items }
-    requires room { 1 ≤ session.old.events.spare }
-    ensures frames { frames.new ≡ with_moving task.now.frame false frames.old }
-    ensures requests { requests.new ≡ with_state task.now.host (state.Failed fault) requests.old }
-    ensures tasks { tasks.new.items ≡ slice_set tasks.old.items recorder None }
-    ensures told { session_data session.new ≡
-        with_last_event (Work recorder) (session_data session.old) }
-    ensures answer { result ≡ Did End }
+    ensures { left_by kind recorder task.now
+        (record { frames = frames.old; requests = requests.old; tasks = tasks.old.items })
+        ≡ record { frames = frames.new; requests = requests.new; tasks = tasks.new.items } }
 {
-    let failed = RequestState::Failed { fault };
-    end_task(frames, requests, tasks, recorder, task, failed);
-    did(session, recorder, WorkKind::End)
-}
-
-/// Notes in the row that the victim's cylinder is destaged, once its copies are firm. The task goes on
-/// without its transfer.
-fn end_destage<S: Site, C: Choose>(
-    core: &mut Core<S, C>,
-    recorder: RecorderNo,
-    transfer: Transfer,
-) -> WorkAnswer
-    requires rule { work_rule core.old recorder ≡ Ends transfer }
-    requires fits { recorder < core.old.config.recorders }
-    requires kind { transfer.kind ≡ Destage }
-    ensures event { WorkStep S.Site C.Choose core.old recorder (Ends transfer) result core.new }
-    ensures chooser { core.new.chooser ≡ core.old.chooser }
-    ensures devices { MayWrite S.Site END_ITEMS core.old.site core.new.site }
-    ensures works { (but : UnitNo → Bool) → S.never_fails_but core.old.site but
-        → core.new.stopped ≡ core.old.stopped }
-    ensures none_fails { (but : UnitNo → Bool) → S.never_fails_but core.old.site but
-        → FailsNone core.old.requests core.new.requests }
-{
-    let (task, _request) = served(core, recorder);
-    if make_room(&mut core.session, &mut core.site, END_ITEMS).is_err() {
-        return WorkAnswer::Memory;
-    }
-    if sync_copies(&mut core.site, &transfer).is_err() {
-        let fault = core.site.faults();
-        return end_unsynced(
-            &mut core.frames,
-            &mut core.requests,
-            &mut core.tasks,
-            &mut core.session,
-            recorder,
-            &task,
-            fault,
-        );
-    }
-    let volume = transfer.volume;
-    let change = Change::Destaged {
-        cylinder: transfer.cylinder,
-    };
-    match write_change(
-        &mut core.site,
-        &mut core.rows,
-        &mut core.used,
-        &mut core.session,
-        volume,
-        &change,
-    ) {
-        Ok(()) => {
+    match kind {
+        TransferKind::StageBlank | TransferKind::StageCartridge => {
+            let ready = RequestState::Ready;
+            end_task(frames, requests, tasks, recorder, task, ready)
+        }
+        TransferKind::Destage => {
             let goes_on = Task {
                 transfer: None,
-                ..task
+                ..*task
             };
-            put_task(&mut core.tasks, recorder, Some(goes_on));
-            did(&mut core.session, recorder, WorkKind::End)
+            put_task(tasks, recorder, Some(goes_on))
         }
-        Err(_) => stop(&mut core.session, recorder, core.site.faults()),
-    }
-}
-
-/// Notes in the row that the asked cylinder is staged, once its copies are firm. The task ends, and its
-/// request is ready.
-fn end_stage<S: Site, C: Choose>(
-    core: &mut Core<S, C>,
-    recorder: RecorderNo,
-    transfer: Transfer,
-) -> WorkAnswer
-    requires rule { work_rule core.old recorder ≡ Ends transfer }
-    requires fits { recorder < core.old.config.recorders }
-    requires kind { transfer.kind ≢ Destage }
-    ensures event { WorkStep S.Site C.Choose core.old recorder (Ends transfer) result core.new }
-    ensures chooser { core.new.chooser ≡ core.old.chooser }
-    ensures devices { MayWrite S.Site END_ITEMS core.old.site core.new.site }
-    ensures works { (but : UnitNo → Bool) → S.never_fails_but core.old.site but
-        → core.new.stopped ≡ core.old.stopped }
-    ensures none_fails { (but : UnitNo → Bool) → S.never_fails_but core.old.site but
-        → FailsNone core.old.requests core.new.requests }
-{
-    let (task, _request) = served(core, recorder);
-    if make_room(&mut core.session, &mut core.site, END_ITEMS).is_err() {
-        return WorkAnswer::Memory;
-    }
-    if sync_copies(&mut core.site, &transfer).is_err() {
-        let fault = core.site.faults();
-        return end_unsynced(
-            &mut core.frames,
-            &mut core.requests,
-            &mut core.tasks,
-            &mut core.session,
-            recorder,
-            &task,
-            fault,
-        );
-    }
-    let volume = transfer.volume;
-    let change = Change::Staged {
-        cylinder: transfer.cylinder,
-    };
-    match write_change(
-        &mut core.site,
-        &mut core.rows,
-        &mut core.used,
-        &mut core.session,
-        volume,
-        &change,
-    ) {
-        Ok(()) => {
-            let ready = RequestState::Ready;
-            end_task(
-                &mut core.frames,
-                &mut core.requests,
-                &mut core.tasks,
-                recorder,
-                &task,
-                ready,
-            );
-            did(&mut core.session, recorder, WorkKind::End)
-        }
-        Err(_) => stop(&mut core.session, recorder, core.site.faults()),
     }
 }
 
@@ -211,9 +102,47 @@ pub fn end<S: Site, C: Choose>(
     ensures none_fails { (but : UnitNo → Bool) → S.never_fails_but core.old.site but
         → FailsNone core.old.requests core.new.requests }
 {
-    if transfer.kind == TransferKind::Destage {
-        end_destage(core, recorder, transfer)
-    } else {
-        end_stage(core, recorder, transfer)
+    let (task, _request) = served(core, recorder);
+    if make_room(&mut core.session, &mut core.site, END_ITEMS).is_err() {
+        return WorkAnswer::Memory;
+    }
+    if sync_copies(&mut core.site, &transfer).is_err() {
+        let fault = core.site.faults();
+        let failing = Failing {
+            recorder,
+            task,
+            fault,
+            what: WorkKind::End,
+        };
+        return end_failed(
+            &mut core.frames,
+            &mut core.requests,
+            &mut core.tasks,
+            &mut core.session,
+            &failing,
+        );
+    }
+    let volume = transfer.volume;
+    let change = change_of(&transfer);
+    match write_change(
+        &mut core.site,
+        &mut core.rows,
+        &mut core.used,
+        &mut core.session,
+        volume,
+        &change,
+    ) {
+        Ok(()) => {
+            leave_task(
+                &mut core.frames,
+                &mut core.requests,
+                &mut core.tasks,
+                recorder,
+                &task,
+                transfer.kind,
+            );
+            did(&mut core.session, recorder, WorkKind::End)
+        }
+        Err(_) => stop(&mut core.session, recorder, core.site.faults()),
     }
 }

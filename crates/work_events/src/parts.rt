@@ -7,6 +7,7 @@ ghost use Rattle.core_state.specs.declared.rule.WorkAnswer.TheVariants.{Did, Sto
 ghost use Rattle.core_state.specs.declared.session.Event.TheVariants.{Work};
 ghost use Rattle.core_state.specs.Sessions.{session_data};
 ghost use Rattle.fault_queue.specs.Requests.{request_of, with_state};
+ghost use Rattle.fault_queue.specs.declared.queue.RequestState.TheVariants as state;
 ghost use Rattle.staging_adapter.specs.Frames.{IsFrame, with_moving};
 ghost use Rattle.work_events.specs.Served.{IsServing};
 
@@ -84,4 +85,47 @@ pub fn stop(session: &mut Session, recorder: RecorderNo, fault: u64) -> WorkAnsw
 {
     session.note(Event::Work(recorder));
     WorkAnswer::Stopped { fault }
+}
+
+/// A task of which a call failed, the count of faults behind that call, and what the event tells that it did.
+#[derive(Clone, Copy)]
+pub struct Failing {
+    pub recorder: RecorderNo,
+    pub task: Task,
+    pub fault: u64,
+    pub what: WorkKind,
+}
+
+/// Ends a task of which a call failed: its request has failed, with the count of faults.
+pub fn end_failed(
+    frames: &mut Frames,
+    requests: &mut Queue,
+    tasks: &mut Vec<Option<Task>>,
+    session: &mut Session,
+    failing: &Failing,
+) -> WorkAnswer
+    requires frame { IsFrame frames.old failing.now.task.frame }
+    requires asked { IsSome (request_of requests.old failing.now.task.host) }
+    requires fits { failing.now.recorder < length tasks.old.items }
+    requires room { 1 ≤ session.old.events.spare }
+    ensures frames { frames.new ≡ with_moving failing.now.task.frame false frames.old }
+    ensures requests { requests.new
+        ≡ with_state failing.now.task.host (state.Failed failing.now.fault) requests.old }
+    ensures tasks { tasks.new.items ≡ slice_set tasks.old.items failing.now.recorder None }
+    ensures told { session_data session.new ≡
+        with_last_event (Work failing.now.recorder) (session_data session.old) }
+    ensures answer { result ≡ Did failing.now.what }
+{
+    let failed = RequestState::Failed {
+        fault: failing.fault,
+    };
+    end_task(
+        frames,
+        requests,
+        tasks,
+        failing.recorder,
+        &failing.task,
+        failed,
+    );
+    did(session, failing.recorder, failing.what)
 }

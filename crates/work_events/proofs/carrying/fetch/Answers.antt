@@ -1,5 +1,7 @@
 use Rattle.std.proofs.Common.{◌≡◌, ◌<◌, [], ◌∷◌, ◌++◌, length, Some, sym, ◌∙◌, ap, subst}
 use Rattle.std.specs.Prelude.{slice_set, vec_len}
+use Rattle.accessors.specs.Moves.{moved_from_to}
+use Rattle.accessors.specs.Rails.{cell_place, recorder_place}
 use Rattle.cartridge_store.specs.declared.store.Place.TheVariants.{Cell, Recorder}
 use Rattle.cartridge_store.specs.Places.{place_of, with_place}
 use Rattle.core_state.specs.declared.session.Event.TheVariants.{Work}
@@ -7,6 +9,7 @@ use Rattle.core_state.specs.CoreValue.{CoreValue}
 use Rattle.core_state.specs.SessionData.{data_of, of_parts, with_last_event}
 use Rattle.core_state.specs.Sessions.{session_data}
 use Rattle.core_state.specs.TheCore.{IsKept}
+use Rattle.work_events.proofs.DoesFacts.{fetches_does}
 use Rattle.work_events.proofs.KeptFacts.{kept_at}
 use Rattle.work_events.proofs.RuleFacts.{rule_fetches}
 use Rattle.work_events.proofs.CarryWhole.{recorder_is_free, kept_fetched}
@@ -44,3 +47,16 @@ invariant_of-core-2 g c =
     λ i. record (of_parts (is i) (is i).site (is i).rows (is i).owners (is i).moving (is i).requests (is i).tasks (is i).hosts (told i)) { recorders = recorders i; store = store i; rail = c.carry.new.rail } in
     subst (λ (z : CoreValue g.row.S.Denot g.row.C.Denot). IsKept g.S.Site.tells (g.S.Site.told z.site) (g.S.Site.writes z.site) (g.S.Site.faults z.site) (vec_len c.core.inside.buffer) z) (sym path)
     (kept_fetched g.S.Site.tells (g.S.Site.told now.site) (g.S.Site.writes now.site) (g.S.Site.faults now.site) (vec_len c.core.inside.buffer) now kept c.args.recorder c.args.cartridge known c.requires.fits c.carry.new.rail says)
+
+pub returns-clause-event : goal.returns-clause-event
+returns-clause-event g c =
+    let now = c.args.core.now in
+    let is = c.core.view_is in
+    let number : c.from.result ≡ c.args.recorder = c.from.ensures ∙ c.get-3.ensures.value in
+    let told : session_data c.did.new.session ≡ with_last_event (Work c.args.recorder) (data_of now) = c.did.ensures.told ∙ ap (with_last_event (Work c.args.recorder)) (c.reserve.ensures.same.told ∙ ap (λ (z : CoreValue g.row.S.Denot g.row.C.Denot). data_of z) is) in
+    let recorders : c.set.new.self.items ≡ slice_set now.recorders c.args.recorder (Some c.args.cartridge) = c.set.ensures.items ∙ (λ i. slice_set (is i).recorders (number i) (c.loaded.ensures i)) in
+    let store : c.put.new.store ≡ with_place c.args.cartridge (Recorder c.args.recorder) now.store = c.put.ensures.there ∙ (λ i. with_place c.args.cartridge (Recorder c.args.recorder) (is i).store) in
+    let rail : c.carry.new.rail ≡ moved_from_to (cell_place c.args.cartridge) (recorder_place c.args.recorder) now.rail = c.carry.ensures ∙ (λ i. moved_from_to ((c.cell_place.ensures.place ∙ ap cell_place c.get-2.ensures.value) i) (c.recorder_place.ensures.place i) (is i).rail) in
+    let path : ◌≡◌ {A = CoreValue g.row.S.Denot g.row.C.Denot} _ (record now { site = c.core.inside.site; recorders = slice_set now.recorders c.args.recorder (Some c.args.cartridge); store = with_place c.args.cartridge (Recorder c.args.recorder) now.store; rail = moved_from_to (cell_place c.args.cartridge) (recorder_place c.args.recorder) now.rail; events = now.events ++ Work c.args.recorder ∷ [] }) =
+    λ i. record (of_parts (is i) c.core.inside.site (is i).rows (is i).owners (is i).moving (is i).requests (is i).tasks (is i).hosts (told i)) { recorders = recorders i; store = store i; rail = rail i } in
+    fetches_does g.S.Site (g.C.Choose.may now.chooser) now _ c.args.recorder c.args.cartridge c.did.result c.did.ensures.answer (ap (λ (z : CoreValue g.row.S.Denot g.row.C.Denot). z.site) is) path

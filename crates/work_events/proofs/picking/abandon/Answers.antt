@@ -7,6 +7,7 @@ use Rattle.core_state.specs.CoreValue.{CoreValue}
 use Rattle.core_state.specs.SessionData.{data_of, of_parts, with_last_event}
 use Rattle.core_state.specs.Sessions.{session_data}
 use Rattle.core_state.specs.TheCore.{IsKept}
+use Rattle.work_events.proofs.DoesFacts.{abandons_does}
 use Rattle.work_events.proofs.KeptFacts.{kept_at}
 use Rattle.work_events.proofs.RuleFacts.{rule_abandons}
 use Rattle.work_events.proofs.PickWhole.{kept_abandoned}
@@ -45,3 +46,16 @@ invariant_of-core-2 g c =
     λ i. of_parts (is i) (is i).site (is i).rows (owners i) (moving i) (requests i) (tasks i) (is i).hosts (told i) in
     subst (λ (z : CoreValue g.row.S.Denot g.row.C.Denot). IsKept g.S.Site.tells (g.S.Site.told z.site) (g.S.Site.writes z.site) (g.S.Site.faults z.site) (vec_len c.core.inside.buffer) z) (sym path)
     (kept_abandoned g.row.S.Denot g.S.Site.tells (g.S.Site.told now.site) (g.S.Site.writes now.site) (g.S.Site.faults now.site) (vec_len c.core.inside.buffer) now kept says.going c.args.recorder c.served-task.result.0 c.served-task.result.1 c.served-task.ensures.serves)
+
+pub returns-clause-event : goal.returns-clause-event
+returns-clause-event g c =
+    let now = c.args.core.now in
+    let is = c.core.view_is in
+    let told : session_data c.did.new.session ≡ with_last_event (Work c.args.recorder) (data_of now) = c.did.ensures.told ∙ ap (with_last_event (Work c.args.recorder)) (c.reserve.ensures.same.told ∙ ap (λ (z : CoreValue g.row.S.Denot g.row.C.Denot). data_of z) is) in
+    let tasks : c.end_task.new.tasks.items ≡ slice_set now.tasks c.args.recorder None = c.end_task.ensures.tasks ∙ (λ i. slice_set (is i).tasks c.args.recorder None) in
+    let moving : c.end_task.new.frames.moving ≡ slice_set now.moving c.served-task.result.0.frame false = ap (λ f. f.moving) c.end_task.ensures.frames ∙ (λ i. slice_set (is i).moving c.served-task.result.0.frame false) in
+    let owners : c.end_task.new.frames.owners ≡ now.owners = ap (λ f. f.owners) c.end_task.ensures.frames ∙ ap (λ (z : CoreValue g.row.S.Denot g.row.C.Denot). z.owners) is in
+    let requests : c.end_task.new.requests ≡ with_state c.served-task.result.0.host Queued now.requests = c.end_task.ensures.requests ∙ (λ i. with_state c.served-task.result.0.host Queued (is i).requests) in
+    let path : ◌≡◌ {A = CoreValue g.row.S.Denot g.row.C.Denot} _ (record now { site = c.core.inside.site; moving = slice_set now.moving c.served-task.result.0.frame false; requests = with_state c.served-task.result.0.host Queued now.requests; tasks = slice_set now.tasks c.args.recorder None; events = now.events ++ Work c.args.recorder ∷ [] }) =
+    λ i. of_parts (is i) c.core.inside.site (is i).rows (owners i) (moving i) (requests i) (tasks i) (is i).hosts (told i) in
+    abandons_does g.S.Site (g.C.Choose.may now.chooser) now _ c.args.recorder c.served-task.result.0 c.did.result c.did.ensures.answer c.served-task.ensures.serves.at (ap (λ (z : CoreValue g.row.S.Denot g.row.C.Denot). z.site) is) path

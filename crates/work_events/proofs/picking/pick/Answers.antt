@@ -7,6 +7,7 @@ use Rattle.core_state.specs.CoreValue.{CoreValue}
 use Rattle.core_state.specs.SessionData.{data_of, of_parts, with_last_event}
 use Rattle.core_state.specs.Sessions.{session_data}
 use Rattle.core_state.specs.TheCore.{IsKept}
+use Rattle.work_events.proofs.DoesFacts.{picks_does}
 use Rattle.work_events.proofs.KeptFacts.{kept_at}
 use Rattle.work_events.proofs.RuleFacts.{rule_picks, task_for}
 use Rattle.work_events.proofs.PickWhole.{kept_picked}
@@ -45,3 +46,16 @@ invariant_of-core-2 g c =
     λ i. of_parts (is i) (is i).site (is i).rows (owners i) (moving i) (requests i) (tasks i) (is i).hosts (told i) in
     subst (λ (z : CoreValue g.row.S.Denot g.row.C.Denot). IsKept g.S.Site.tells (g.S.Site.told z.site) (g.S.Site.writes z.site) (g.S.Site.faults z.site) (vec_len c.core.inside.buffer) z) (sym path)
     (kept_picked g.row.S.Denot g.S.Site.tells (g.S.Site.told now.site) (g.S.Site.writes now.site) (g.S.Site.faults now.site) (vec_len c.core.inside.buffer) now kept says.going c.args.recorder (task_for c.args.host c.args.frame None) says.request says.may)
+
+pub returns-clause-event : goal.returns-clause-event
+returns-clause-event g c =
+    let now = c.args.core.now in
+    let is = c.core.view_is in
+    let told : session_data c.did.new.session ≡ with_last_event (Work c.args.recorder) (data_of now) = c.did.ensures.told ∙ ap (with_last_event (Work c.args.recorder)) (c.reserve.ensures.same.told ∙ ap (λ (z : CoreValue g.row.S.Denot g.row.C.Denot). data_of z) is) in
+    let tasks : c.begin_task.new.tasks.items ≡ slice_set now.tasks c.args.recorder (Some (task_for c.args.host c.args.frame None)) = c.begin_task.ensures.tasks ∙ (λ i. slice_set (is i).tasks c.args.recorder (Some (task_for c.args.host c.args.frame None))) in
+    let moving : c.begin_task.new.frames.moving ≡ slice_set now.moving c.args.frame true = ap (λ f. f.moving) c.begin_task.ensures.frames ∙ (λ i. slice_set (is i).moving c.args.frame true) in
+    let owners : c.begin_task.new.frames.owners ≡ now.owners = ap (λ f. f.owners) c.begin_task.ensures.frames ∙ ap (λ (z : CoreValue g.row.S.Denot g.row.C.Denot). z.owners) is in
+    let requests : c.begin_task.new.requests ≡ with_state c.args.host Moving now.requests = c.begin_task.ensures.requests ∙ (λ i. with_state c.args.host Moving (is i).requests) in
+    let path : ◌≡◌ {A = CoreValue g.row.S.Denot g.row.C.Denot} _ (record now { site = c.core.inside.site; moving = slice_set now.moving c.args.frame true; requests = with_state c.args.host Moving now.requests; tasks = slice_set now.tasks c.args.recorder (Some (task_for c.args.host c.args.frame None)); events = now.events ++ Work c.args.recorder ∷ [] }) =
+    λ i. of_parts (is i) c.core.inside.site (is i).rows (owners i) (moving i) (requests i) (tasks i) (is i).hosts (told i) in
+    picks_does g.S.Site (g.C.Choose.may now.chooser) now _ c.args.recorder c.args.host c.args.frame c.did.result c.did.ensures.answer (ap (λ (z : CoreValue g.row.S.Denot g.row.C.Denot). z.site) is) path

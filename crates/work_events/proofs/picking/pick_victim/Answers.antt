@@ -1,4 +1,4 @@
-use Rattle.std.proofs.Common.{◌≡◌, List, [], ◌∷◌, ◌++◌, length, true, Some, sym, ◌∙◌, ap, subst, arith}
+use Rattle.std.proofs.Common.{◌≡◌, ℕ, List, [], ◌∷◌, ◌++◌, length, true, Some, sym, ◌∙◌, ap, subst, arith}
 use Rattle.std.specs.Prelude.{slice_get, slice_set, vec_len, is_some}
 use Rattle.fault_queue.specs.declared.queue.RequestState.TheVariants.{Moving}
 use Rattle.fault_queue.specs.Requests.{request_of, with_state}
@@ -9,6 +9,7 @@ use Rattle.core_state.specs.Pins.{candidates}
 use Rattle.core_state.specs.SessionData.{data_of, of_parts, with_last_event}
 use Rattle.core_state.specs.Sessions.{session_data}
 use Rattle.core_state.specs.TheCore.{IsKept}
+use Rattle.work_events.proofs.DoesFacts.{picks_victim_does}
 use Rattle.work_events.proofs.KeptFacts.{kept_at}
 use Rattle.work_events.proofs.RuleFacts.{rule_picks_victim, task_for}
 use Rattle.work_events.proofs.PickWhole.{kept_picked}
@@ -75,3 +76,19 @@ invariant_of-core-2 g c =
     λ i. of_parts (is i) (is i).site (is i).rows (owners i) (moving i) (requests i) (tasks i) (is i).hosts (told i) in
     subst (λ (z : CoreValue g.row.S.Denot g.row.C.Denot). IsKept g.S.Site.tells (g.S.Site.told z.site) (g.S.Site.writes z.site) (g.S.Site.faults z.site) (vec_len c.core.inside.buffer) z) (sym path)
     (kept_picked g.row.S.Denot g.S.Site.tells (g.S.Site.told now.site) (g.S.Site.writes now.site) (g.S.Site.faults now.site) (vec_len c.core.inside.buffer) now kept says.going c.args.recorder (task_for c.args.host c.chosen-choice.result.frame (Some (c.chosen-choice.result.volume, c.chosen-choice.result.page))) says.request may)
+
+pub returns-clause-event : goal.returns-clause-event
+returns-clause-event g c =
+    let now = c.args.core.now in
+    let is = c.core.view_is in
+    let list : c.as_slice.result.now ≡ candidates now = c.as_slice.ensures ∙ c.in-Ok.ensures in
+    let answer = c.chosen-choice.ensures in
+    let told : session_data c.did.new.session ≡ with_last_event (Work c.args.recorder) (data_of now) = c.did.ensures.told ∙ ap (with_last_event (Work c.args.recorder)) (c.reserve.ensures.same.told ∙ ap (λ (z : CoreValue g.row.S.Denot g.row.C.Denot). data_of z) is) in
+    let tasks : c.begin_task.new.tasks.items ≡ slice_set now.tasks c.args.recorder (Some (task_for c.args.host c.chosen-choice.result.frame (Some (c.chosen-choice.result.volume, c.chosen-choice.result.page)))) = c.begin_task.ensures.tasks ∙ (λ i. slice_set (is i).tasks c.args.recorder (Some (task_for c.args.host c.chosen-choice.result.frame (Some (c.chosen-choice.result.volume, c.chosen-choice.result.page))))) in
+    let moving : c.begin_task.new.frames.moving ≡ slice_set now.moving c.chosen-choice.result.frame true = ap (λ f. f.moving) c.begin_task.ensures.frames ∙ (λ i. slice_set (is i).moving c.chosen-choice.result.frame true) in
+    let owners : c.begin_task.new.frames.owners ≡ now.owners = ap (λ f. f.owners) c.begin_task.ensures.frames ∙ ap (λ (z : CoreValue g.row.S.Denot g.row.C.Denot). z.owners) is in
+    let requests : c.begin_task.new.requests ≡ with_state c.args.host Moving now.requests = c.begin_task.ensures.requests ∙ (λ i. with_state c.args.host Moving (is i).requests) in
+    let path : ◌≡◌ {A = CoreValue g.row.S.Denot g.row.C.Denot} _ (record now { site = c.core.inside.site; moving = slice_set now.moving c.chosen-choice.result.frame true; requests = with_state c.args.host Moving now.requests; tasks = slice_set now.tasks c.args.recorder (Some (task_for c.args.host c.chosen-choice.result.frame (Some (c.chosen-choice.result.volume, c.chosen-choice.result.page)))); events = now.events ++ Work c.args.recorder ∷ [] }) =
+    λ i. of_parts (is i) c.core.inside.site (is i).rows (owners i) (moving i) (requests i) (tasks i) (is i).hosts (told i) in
+    let may_ : g.C.Choose.may now.chooser (candidates now) answer.0 = subst (λ (x : (List Candidate → ℕ → Type 0) × List Candidate). x.0 x.1 answer.0) (λ i. (g.C.Choose.may (is i).chooser, list i)) answer.1 in
+    picks_victim_does g.S.Site (g.C.Choose.may now.chooser) now _ c.args.recorder c.args.host answer.0 c.chosen-choice.result c.did.result may_ (ap (λ (l : List Candidate). slice_get l answer.0) (sym list) ∙ answer.2) c.did.ensures.answer (ap (λ (z : CoreValue g.row.S.Denot g.row.C.Denot). z.site) is) path
