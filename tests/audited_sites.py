@@ -14,14 +14,14 @@ OPEN = 0xC1
 
 # The table: places of a row, and what it may name.
 VOLUMES, PAGES, CYLINDERS_OF_PAGE = 32, 51, 8
-VERSION_AT, SERIAL_AT, CARTRIDGES_AT, FRAMES_AT, SPARE_AT, STATES_AT, SPARES_AT = 1, 2, (8, 10), 12, 63, 64, 468
+VERSION_AT, SERIAL_AT, CARTRIDGES_AT, FRAMES_AT, MARK_AT, STATES_AT, SPARES_AT = 1, 2, (8, 10), 12, 63, 64, 468
 MADE_AT, SLOTS_AT, SLOT, SLOTS = 511, 512, 8, 1_984
-VERSION, CARTRIDGES, FRAMES, NO_FRAME = 1, 2_048, 200, 0xFF
+OLD_VERSION, VERSION, CARTRIDGES, FRAMES, NO_FRAME = 1, 2, 2_048, 200, 0xFF
 IN_SERIALS = frozenset(b"ABCDEFGHIJKLMNOPQRSTUVWXYZ0123456789")
 
 # The states of a cylinder, and the kinds of a slot.
 BLANK, TAPED, STAGED_BLANK, STAGED, FRAMED = range(5)
-ASSIGN, FREE, STAGE, CHANGE, DESTAGE = range(1, 6)
+ASSIGN, FREE, STAGE, CHANGE, DESTAGE, PROTECT = range(1, 7)
 STATE_AFTER = {
     (STAGE, BLANK): STAGED_BLANK,
     (STAGE, TAPED): STAGED,
@@ -56,6 +56,7 @@ class Row:
 
     def __init__(self, block):
         self.whole = bytearray(block[:MADE_AT])
+        self.whole[VERSION_AT] = VERSION
 
     def frame(self, page):
         """The frame of a page; none where it has none."""
@@ -92,6 +93,8 @@ class Row:
             return number < PAGES and frame < FRAMES and self.assign(number, frame)
         if kind == FREE:
             return number < PAGES and self.free(number)
+        if kind == PROTECT:
+            return number in (0, 1) and self.protect(number)
         return number < CYLINDERS and self.step(kind, number)
 
     def assign(self, page, frame):
@@ -109,6 +112,12 @@ class Row:
         for cylinder, state in zip(cylinders, states, strict=True):
             self.whole[STATES_AT + cylinder] = STATE_WITHOUT_FRAME.get(state, state)
         self.whole[FRAMES_AT + page] = NO_FRAME
+        return True
+
+    def protect(self, mark):
+        if self.whole[MARK_AT] == mark:
+            return False
+        self.whole[MARK_AT] = mark
         return True
 
     def step(self, kind, cylinder):
@@ -131,7 +140,8 @@ class Copy:
 
 def fields_of(block):
     """The fields of a row's body in order of places: the name, the value, and whether a row may have it."""
-    yield "version", block[VERSION_AT], block[VERSION_AT] == VERSION
+    version, mark = block[VERSION_AT], block[MARK_AT]
+    yield "version", version, version in (OLD_VERSION, VERSION)
     for number, byte in enumerate(block[SERIAL_AT : SERIAL_AT + 6]):
         yield f"serial {number}", byte, byte in IN_SERIALS
     for name, at in zip(("first", "second"), CARTRIDGES_AT, strict=True):
@@ -140,7 +150,7 @@ def fields_of(block):
     frames = block[FRAMES_AT : FRAMES_AT + PAGES]
     for page, frame in enumerate(frames):
         yield f"page {page}", frame, frame < FRAMES or frame == NO_FRAME
-    yield "spare 0", block[SPARE_AT], block[SPARE_AT] == 0
+    yield ("spare 0", mark, mark == 0) if version == OLD_VERSION else ("mark", mark, mark in (0, 1))
     for cylinder, state in enumerate(block[STATES_AT : STATES_AT + CYLINDERS]):
         has_frame = frames[cylinder // CYLINDERS_OF_PAGE] != NO_FRAME
         yield f"state {cylinder}", state, state <= (FRAMED if has_frame else TAPED)

@@ -9,8 +9,8 @@ from pathlib import Path
 
 import audited_sites
 from audited_sites import (
-    ASSIGN, BLOCK, CARTRIDGES_AT, CYLINDERS, CYLINDERS_OF_PAGE, FRAMES_AT, FREE, GATES_AT, HEADS, MADE_AT, PAGES,
-    RECORDS_AT, SERIAL_AT, SLOT, SLOTS, SLOTS_AT, SPARE_AT, SPARES_AT, STATES_AT,
+    ASSIGN, BLOCK, CARTRIDGES_AT, CYLINDERS, CYLINDERS_OF_PAGE, FRAMES_AT, FREE, GATES_AT, HEADS, MADE_AT, MARK_AT, PAGES,
+    PROTECT, RECORDS_AT, SERIAL_AT, SLOT, SLOTS, SLOTS_AT, SPARES_AT, STATES_AT, VERSION_AT,
 )  # fmt: skip
 from fixtures import CASES, EXAMPLES, PROGRAM, new_folder, run
 from formats.jobs import read_job
@@ -142,8 +142,16 @@ class Spoiling:
         return [f"put {self.draw.choice(TABLE)} {self.volume()} 0 {self.draw.choice(('00', 'C1', 'FF'))}"]
 
     def body(self):
-        place = self.draw.choice((1, SPARE_AT, SPARES_AT, MADE_AT - 1, MADE_AT, self.draw.randint(1, MADE_AT)))
+        place = self.draw.choice((1, MARK_AT, SPARES_AT, MADE_AT - 1, MADE_AT, self.draw.randint(1, MADE_AT)))
         return self.in_copies(self.volume(), place, self.byte())
+
+    def version(self):
+        """A version, and what stands in the place of the mark."""
+        volume, version, mark = self.volume(), self.draw.choice((0, 1, 1, 1, 2, 2, 3)), self.draw.choice((0, 0, 1, 2))
+        return [
+            *self.in_copies(volume, VERSION_AT, f"{version:02X}"),
+            *self.in_copies(volume, MARK_AT, f"{mark:02X}"),
+        ]
 
     def frame(self):
         volume, row = self.row()
@@ -181,9 +189,9 @@ class Spoiling:
         return self.in_copies(volume, place, "".join(self.new_slot(row) for _ in range(self.draw.randint(1, 3))))
 
     def new_slot(self, row):
-        kind, frame = self.draw.randint(1, 5), 0
+        kind, frame = self.draw.randint(1, PROTECT), 0
         of_page, of_cylinder = (self.page(row), self.page(row), 49, 50, 51), (*3 * self.staged(row), 403, 404)
-        number = self.draw.choice(of_page if kind <= FREE else of_cylinder)
+        number = self.draw.choice(of_page if kind <= FREE else (0, 1, 1, 2) if kind == PROTECT else of_cylinder)
         if kind == ASSIGN:
             frame = self.draw.choice((0, 1, 5, 199, 200))
         return f"C1{kind:02X}{number:04X}{frame:02X}000000"
@@ -256,7 +264,7 @@ class Spoiling:
 
 KINDS = [
     *(Spoiling.gate, Spoiling.body, Spoiling.serial, Spoiling.cartridge, Spoiling.frame, Spoiling.frame),
-    *(Spoiling.state, Spoiling.slot, Spoiling.new_slots, Spoiling.new_slots, Spoiling.last_cylinder),
+    *(Spoiling.version, Spoiling.state, Spoiling.slot, Spoiling.new_slots, Spoiling.new_slots, Spoiling.last_cylinder),
     *(Spoiling.last_slots, Spoiling.moved_row),
     *(Spoiling.record_gate, Spoiling.record_gates, Spoiling.count, Spoiling.count, Spoiling.bytes_of_track),
     *(Spoiling.end, Spoiling.removed),

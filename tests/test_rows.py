@@ -33,10 +33,21 @@ SPOILED_BYTES = [
     (12, 12, "state 0 value 3"),
     (13, 61, None),
     (62, 62, "state 403 value 2"),
-    (63, 63, "spare 0 value 255"),
+    (63, 63, "mark value 255"),
     *((place, place, f"state {place - 64} value 255") for place in range(64, 468)),
     *((place, place, f"spare {place - 467} value 255") for place in range(468, 511)),
     (511, 511, None),
+]
+
+# A version and a byte in the place of the mark, and what is found of that row.
+VERSIONS = [
+    (0, 0, "version value 0"),
+    (1, 0, None),
+    (1, 1, "spare 0 value 1"),
+    (2, 0, None),
+    (2, 1, None),
+    (2, 2, "mark value 2"),
+    (3, 0, "version value 3"),
 ]
 
 # What copy A of a row is, and what copy B, and what is told: the copy that counts, none, or why the site is refused.
@@ -77,9 +88,14 @@ ASSIGN_0, FREE_0, STAGE_0, CHANGE_0, DESTAGE_0 = (
     "C101000007000000", "C102000000000000", "C103000000000000", "C104000000000000", "C105000000000000",
 )  # fmt: skip
 ASSIGN_1, AGAIN = "C101000107000000", "C101000008000000"
+PROTECT, UNPROTECT = "C106000100000000", "C106000000000000"
 BAD_SLOTS = [
     (["C100000000000000"], 0, 0),
-    (["C106000000000000"], 0, 6),
+    ([UNPROTECT], 0, 6),
+    ([PROTECT, PROTECT], 1, 6),
+    (["C106000200000000"], 0, 6),
+    (["C106010000000000"], 0, 6),
+    (["C106000101000000"], 0, 6),
     (["C107000000000000"], 0, 7),
     (["C101003307000000"], 0, 1),
     (["C101010007000000"], 0, 1),
@@ -108,13 +124,16 @@ CHANGES = {
     "stage": STAGE_0,
     "change": CHANGE_0,
     "destage": DESTAGE_0,
+    "protect": PROTECT,
+    "unprotect": UNPROTECT,
 }
 ALLOWED = [
-    ([], ["assign", "other"]),
-    ([ASSIGN_0], ["free", "stage"]),
-    ([ASSIGN_0, STAGE_0], ["free", "change"]),
-    ([ASSIGN_0, STAGE_0, CHANGE_0], ["destage"]),
-    ([ASSIGN_0, STAGE_0, CHANGE_0, DESTAGE_0], ["free", "change"]),
+    ([], ["assign", "other", "protect"]),
+    ([ASSIGN_0], ["free", "stage", "protect"]),
+    ([ASSIGN_0, STAGE_0], ["free", "change", "protect"]),
+    ([ASSIGN_0, STAGE_0, CHANGE_0], ["destage", "protect"]),
+    ([ASSIGN_0, STAGE_0, CHANGE_0, DESTAGE_0], ["free", "change", "protect"]),
+    ([PROTECT], ["assign", "other", "unprotect"]),
 ]
 
 # Slots, and then the frame of page 0 and the state of cylinder 0.
@@ -195,11 +214,12 @@ FRONTS = [
 FRAMES = [(0, None), (7, None), (8, "frame 8 gone"), (199, "frame 199 gone"), (200, "volume 0 copy A row page 50 value 200")]
 
 
-def row_by_hand(first_page, last_page):
+def row_by_hand(first_page, last_page, version=2, mark=0):
     """Volume VOL001 on the cartridges 258 and 2,047, open and made. Pages 0 and 50 have these frames. Cylinder 0 is staged,
     cylinder 1 changed, cylinder 2 on its cartridge, cylinder 403 staged blank."""
     row = bytearray(512)
-    row[:12] = b"\xc1\x01VOL001\x01\x02\x07\xff"
+    row[:12] = b"\xc1\x00VOL001\x01\x02\x07\xff"
+    row[1], row[63] = version, mark
     row[12:63] = 51 * b"\xff"
     row[12], row[62] = first_page, last_page
     row[64:67] = bytes([3, 4, 1])
@@ -272,6 +292,11 @@ class Rows(RowTest):
         for place in range(first, last + 1):
             (self.site / "table_a").write_bytes(row[:place] + b"\xff" + row[place + 1 :])
             self.assert_shown(finding, **listed)
+
+    def test_versions_and_marks(self):
+        for version, mark, fault in VERSIONS:
+            self.put_row(row_by_hand(6, 5, version, mark), [ASSIGN_1])
+            self.assert_shown(fault and f"volume 0 copy A row {fault}")
 
     def test_a_row_by_hand(self):
         row = row_by_hand(7, 199)

@@ -67,8 +67,8 @@ def read_case(path):
 
 
 def spelled_row(serial, first, second):
-    """The 512 bytes of a volume's row, blank and in no frame."""
-    body = b"\x01" + serial.encode() + first.to_bytes(2, "big") + second.to_bytes(2, "big") + 51 * b"\xff"
+    """The 512 bytes of a volume's row, blank and in no frame, in version 2."""
+    body = b"\x02" + serial.encode() + first.to_bytes(2, "big") + second.to_bytes(2, "big") + 51 * b"\xff"
     return b"\xc1" + body + (1 + 404 + 43) * b"\0" + b"\x4d"
 
 

@@ -24,7 +24,7 @@ use Rattle.core_progress.specs.WorkLeft.{is_marked, run_left, settle_left}
 
 -- a volume whose first page has this frame, or none, and whose first cylinder has this state
 abbrev row : Option ℕ → ℕ → RowValue
-row frame state = record { serial = 0x56 ∷ []; first = 0; second = 1; pages = frame ∷ replicate 50 None; states = state ∷ replicate 403 0 }
+row frame state = record { serial = 0x56 ∷ []; read_only = false; first = 0; second = 1; pages = frame ∷ replicate 50 None; states = state ∷ replicate 403 0 }
 
 -- the hosts 1 and 2 have the volumes 0 and 1 mounted, and asked for their first cylinders
 abbrev core : RequestState → CoreData

@@ -1,5 +1,5 @@
 -- The messages of creations: they are allowed one after the other, and lead from the rows before to the rows now.
-use Rattle.std.proofs.Common.{◌≡◌, inl, inr, ℕ, ◌<◌, ◌≤◌, ◌==◌, Bool, true, false, ◌||◌, cond, List, [], ◌∷◌, ◌++◌, length, Option, Some, None, refl, sym, ◌∙◌, ap, subst, arith}
+use Rattle.std.proofs.Common.{◌≡◌, inl, inr, ℕ, ◌<◌, ◌≤◌, ◌==◌, Bool, true, false, cond, List, [], ◌∷◌, ◌++◌, length, Option, Some, None, refl, sym, ◌∙◌, ap, subst, arith}
 use Rattle.std.specs.Prelude.{is_some, IsSome}
 use Rattle.std.specs.Option.{option_map}
 use Rattle.std.specs.List.{AllByRecursion}
@@ -18,7 +18,7 @@ use Rattle.mss_restart.proofs.Creating.{AreRising, rising_first}
 use Rattle.mss_restart.proofs.FreshFacts.{named_from}
 use Rattle.mss_restart.proofs.UsableFacts.{AreFew}
 use Rattle.core_state.specs.declared.session.Message.{Message}
-use Rattle.core_state.specs.Agrees.{changed, with_change, rows_after, freed_by, IsAllowedIn, AllAllowed, creates, has_created, handed_rows}
+use Rattle.core_state.specs.Agrees.{changed, with_change, rows_after, freed_by, IsAllowedIn, AllAllowed, handed_rows, undone}
 use Rattle.core_state.specs.IsCore.{AllDone}
 use Rattle.core_restart.specs.Console.{creations_of, TellsCreation, TellCreations, HaveRows}
 
@@ -176,38 +176,33 @@ all_allowed (v ∷ vs) start last (m ∷ ms) from now created apart counted tell
 
 -- ---- the rows before
 
-module _ (u : ℕ) (last : RowsOf) where
-  creates_is : (m : Message) → TellsCreation last m → creates u m ≡ (m.volume == u)
-  creates_is m tells = ap (λ (c : Change). creates u (record m { change = c })) tells.change
+module _ (u : ℕ) where
+  -- what one volume had, where these got their rows
+  abbrev without : List VolumeData → Option RowValue → Option RowValue
+  without [] r = r
+  without (v ∷ vs) r = cond (u == v.0) None (without vs r)
 
-  created_one : (P : ℕ → Type 0) (vs : List VolumeData) (console : List Message) (from now : ℕ) → AreCounted from now vs (creations_of console) → TellCreations last console → AllByRecursion (λ v. P v.0) vs
-      → has_created u console ≡ true → P u
-  created_one P [] [] from now counted tells all has = absurd (false≢true has)
-  created_one P [] (m ∷ ms) from now counted tells all has = absurd counted
-  created_one P (v ∷ vs) [] from now counted tells all has = absurd counted
-  created_one P (v ∷ vs) (m ∷ ms) from now counted tells all has = elim (cases_Bool (m.volume == u)) [
-    | inl same ↦ subst P (sym counted.0 ∙ eqb-true m.volume u same) all.0
-    | inr other ↦ created_one P vs ms m.mark now counted.2 tells.1 all.1 (ap (λ (b : Bool). b || has_created u ms) (sym (creates_is m tells.0 ∙ other)) ∙ has)
+  without_none : (vs : List VolumeData) (start : RowsOf) → HaveNone start vs → without vs (start u) ≡ start u
+  without_none [] start none = refl
+  without_none (v ∷ vs) start none = elim (cases_Bool (u == v.0)) [
+    | inl same ↦ cond-true _ _ _ same ∙ sym (ap start (eqb-true u v.0 same) ∙ none.0)
+    | inr other ↦ cond-false _ _ _ other ∙ without_none vs start none.1
   ]
 
-  created_none : (vs : List VolumeData) (console : List Message) (from now : ℕ) → AreCounted from now vs (creations_of console) → TellCreations last console → has_created u console ≡ false
-      → AllByRecursion (λ v. (u == v.0) ≡ false) vs
-  created_none [] [] from now counted tells has = tt
-  created_none [] (m ∷ ms) from now counted tells has = absurd counted
-  created_none (v ∷ vs) [] from now counted tells has = absurd counted
-  created_none (v ∷ vs) (m ∷ ms) from now counted tells has = elim (cases_Bool (m.volume == u)) [
-    | inl same ↦ absurd (false≢true (sym has ∙ ap (λ (b : Bool). b || has_created u ms) (creates_is m tells.0 ∙ same)))
-    | inr other ↦ (
-      ne_eqb u v.0 (λ (e : u ≡ v.0). false≢true (sym other ∙ eq-eqb m.volume u (counted.0 ∙ sym e))),
-      created_none vs ms m.mark now counted.2 tells.1 (ap (λ (b : Bool). b || has_created u ms) (sym (creates_is m tells.0 ∙ other)) ∙ has),
-    )
-  ]
+  handed_without : (vs : List VolumeData) (start last : RowsOf) (console : List Message) (from now : ℕ) → Creates vs start last → AreCounted from now vs (creations_of console) → TellCreations last console
+      → handed_rows last console u ≡ without vs (start u)
+  handed_without [] start last [] from now created counted tells = ap (λ (r : RowsOf). r u) created
+  handed_without [] start last (m ∷ ms) from now created counted tells = absurd counted
+  handed_without (v ∷ vs) start last [] from now created counted tells = absurd counted
+  handed_without (v ∷ vs) start last (m ∷ ms) from now created counted tells =
+      (λ i. cond (u == counted.0 i) (undone (tells.0.change i) (handed_rows last ms u)) (handed_rows last ms u))
+      ∙ elim (cases_Bool (u == v.0)) [
+        | inl same ↦ cond-true _ _ _ same ∙ sym (cond-true _ _ _ same)
+        | inr other ↦
+            cond-false _ _ _ other ∙ handed_without vs (with_row v.0 created.0 start) last ms m.mark now created.1.1 counted.2 tells.1
+            ∙ ap (without vs) (cond-false _ _ _ other) ∙ sym (cond-false _ _ _ other)
+      ]
 
 pub handed_are : (vs : List VolumeData) (start last : RowsOf) (console : List Message) (from now : ℕ) → Creates vs start last → AreCounted from now vs (creations_of console) → TellCreations last console → HaveNone start vs → handed_rows last console ≡ start
-handed_are vs start last console from now created counted tells none = λ i u. at u i
-  where
-    at : (u : ℕ) → handed_rows last console u ≡ start u
-    at u = elim (cases_Bool (has_created u console)) [
-      | inl has ↦ cond-true _ _ _ has ∙ sym (created_one u last (λ n. start n ≡ None) vs console from now counted tells none has)
-      | inr not ↦ cond-false _ _ _ not ∙ creates_other vs start last created u (created_none u last vs console from now counted tells not)
-    ]
+handed_are vs start last console from now created counted tells none =
+    λ i u. (handed_without u vs start last console from now created counted tells ∙ without_none u vs start none) i

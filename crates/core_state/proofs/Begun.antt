@@ -1,5 +1,5 @@
 -- The core with which a session begins is whole.
-use Rattle.std.proofs.Common.{◌≡◌, inl, inr, ℕ, zero, suc, ◌≤◌, Bool, true, false, List, [], length, take, Option, Some, None, refl, sym, ◌∙◌, ap, subst, arith}
+use Rattle.std.proofs.Common.{◌≡◌, inl, inr, ℕ, zero, suc, ◌≤◌, Bool, true, false, List, [], ◌∷◌, length, take, Option, Some, None, refl, sym, ◌∙◌, ap, subst, arith}
 use Rattle.std.specs.Prelude.{replicate, slice_index_or}
 use Rattle.std.proofs.lemmas.Bool.{cases_lt, and_parts, false≢true}
 use Rattle.std.proofs.lemmas.List.{take_all, get_or-replicate, get_or_past, length-replicate}
@@ -21,7 +21,7 @@ use Rattle.core_state.specs.CoreValue.{CoreValue}
 use Rattle.core_state.specs.Pins.{host_at, task_at, is_on, owns}
 use Rattle.volume_table.specs.Listed.{listed}
 use Rattle.fault_queue.specs.Requests.{request_of, IsOnce}
-use Rattle.core_state.specs.Agrees.{AllAllowed, rows_after, handed_rows}
+use Rattle.core_state.specs.Agrees.{AllAllowed, AreEarly, rows_after, handed_rows}
 use Rattle.core_state.specs.IsCore.{IsCore, AllDone}
 use Rattle.core_state.specs.TheCore.{IsWhole}
 use Rattle.mss_base.specs.Configs.{ConfigData}
@@ -69,6 +69,11 @@ begun site chooser config store rows used owners console first faults = record {
   first_faults = faults;
   stopped = None;
 }
+
+-- what was done by then is early
+early_done : (n first : ℕ) (console : List Message) → n ≤ first → AllDone n console → AreEarly first console
+early_done n first [] le done = tt
+early_done n first (m ∷ ms) le done = (λ _. (let d = done.0 in omega (arith, d)), early_done n first ms le done.1)
 
 module _ (S C : Type 0) (tells : Type 0) (s : SiteLog) (x : S) (chooser : C) (config : ConfigData) (store : List Place) (homes : (c : ℕ) → place_of store c ≡ home_of c) (rows : List (Option RowValue)) (used : List SlotsUsed) (owners : List (Option (ℕ × ℕ))) (first faults : ℕ) (console : List Message)
     (owned : AreOwned config.frames rows owners) (at_end : tells → first ≡ length s.log) (sound : tells → IsSound config.frames (content s)) (rows_are : tells → rows_of (content s) ≡ listed rows)
@@ -153,6 +158,7 @@ module _ (S C : Type 0) (tells : Type 0) (s : SiteLog) (x : S) (chooser : C) (co
       exact = λ k from to at. (here tl k from to no_tear).same ∙ opens tl;
     };
     agrees = record {
+      early = early_done (length s.log) first console (let e = at_end tl in omega (arith, e)) (messages tl);
       allowed = subst (λ (r : RowsOf). AllAllowed r console) (sym (handed tl)) (allowed tl);
       entries = tt;
     };

@@ -1,7 +1,7 @@
 -- A core keeps what it is told when a row changes.
-use Rattle.std.proofs.Common.{◌≡◌, ℕ, ◌≤◌, ◌<◌, Bool, false, cond, ◌||◌, List, [], ◌∷◌, ◌++◌, length, take, Option, Some, None, refl, sym, ◌∙◌, ap, subst, arith, length-append}
+use Rattle.std.proofs.Common.{◌≡◌, ℕ, ◌≤◌, ◌<◌, Bool, false, cond, ◌==◌, List, [], ◌∷◌, ◌++◌, length, take, Option, Some, None, refl, sym, ◌∙◌, ap, subst, arith, length-append}
 use Rattle.std.specs.Prelude.{nat_le}
-use Rattle.std.proofs.lemmas.Bool.{cond-false}
+use Rattle.std.proofs.lemmas.Bool.{cond_both, cond-false, false≢true}
 use Rattle.std.proofs.lemmas.Bool.Decides.{nat_tests}
 use Rattle.mss_base.specs.Content.{Content, SiteLog, content, Writes, after as written_after}
 use Rattle.ckd_track.specs.Data.{Volumes}
@@ -13,9 +13,11 @@ use Rattle.table_pair.specs.Pair.{HoldsRow}
 use Rattle.table_pair.specs.Slots.{AreUsed}
 use Rattle.shown_volumes.specs.Shown.{RowsOf, rows_of, shown, SameTables}
 use Rattle.shown_volumes.specs.Changing.{IsQuiet, StillShows}
+use Rattle.volume_table.specs.declared.changes.Change.{Change}
+use Rattle.volume_table.specs.declared.changes.Change.TheVariants.{Create, Assign, Free, Staged, Changed, Destaged, Protect}
 use Rattle.core_state.specs.declared.session.Message.{Message}
 use Rattle.core_state.specs.StopRule.{opening, StopsWell}
-use Rattle.core_state.specs.Agrees.{AllAllowed, AllAgree, EntryAgrees, IsAllowedIn, freed_by, rows_at, rows_after, with_change, till, handed_rows, has_created, creates}
+use Rattle.core_state.specs.Agrees.{AllAllowed, AllAgree, AreEarly, EntryAgrees, IsAllowedIn, freed_by, is_early, rows_at, rows_after, with_change, till, handed_rows, undone}
 use Rattle.core_state.specs.CoreValue.{CoreValue}
 use Rattle.core_state.specs.declared.task.Task.{Task}
 use Rattle.volume_table.specs.Listed.{listed}
@@ -53,14 +55,29 @@ done-push : (n : ℕ) (ms : List Message) (m : Message) → m.mark ≤ n → All
 done-push n [] m le all = (le, tt)
 done-push n (x ∷ ms) m le all = (all.0, done-push n ms m le all.1)
 
-pub created-push : (volume : ℕ) (ms : List Message) (m : Message) → creates volume m ≡ false → has_created volume (ms ++ m ∷ []) ≡ has_created volume ms
-created-push volume [] m none = ap (λ (b : Bool). b || false) none
-created-push volume (x ∷ ms) m none = ap (λ (b : Bool). creates volume x || b) (created-push volume ms m none)
+-- a later change leaves what was handed in
+stays_undone : (c : Change) (r : Option RowValue) → is_early c ≡ false → undone c r ≡ r
+stays_undone (Create serial first second) r late = absurd cc
+stays_undone (Assign page frame) r late = refl
+stays_undone (Free page) r late = refl
+stays_undone (Staged cylinder) r late = refl
+stays_undone (Changed cylinder) r late = refl
+stays_undone (Destaged cylinder) r late = refl
+stays_undone (Protect on) r late = absurd cc
+
+pub handed-push : (rows : RowsOf) (ms : List Message) (m : Message) → is_early m.change ≡ false → handed_rows rows (ms ++ m ∷ []) ≡ handed_rows rows ms
+handed-push rows [] m late = λ i volume. (cond_both (volume == m.volume) (undone m.change (rows volume)) (rows volume) (λ (o : Option RowValue). o ≡ rows volume)
+    (λ _. stays_undone m.change (rows volume) late) (λ _. refl)) i
+handed-push rows (x ∷ ms) m late = λ i volume. cond (volume == x.volume) (undone x.change (handed-push rows ms m late i volume)) (handed-push rows ms m late i volume)
+
+early-push : (first : ℕ) (ms : List Message) (m : Message) → is_early m.change ≡ false → AreEarly first ms → AreEarly first (ms ++ m ∷ [])
+early-push first [] m late all = (λ early. absurd (false≢true (sym late ∙ early)), tt)
+early-push first (x ∷ ms) m late all = (all.0, early-push first ms m late all.1)
 
 module _ (S : Type 0) {C : Type 0} (s t : SiteLog) (v : CoreValue S C) (x : S) (rows : List (Option RowValue)) (m : Message)
     (told : IsTold s v) (open_ : v.stopped ≡ None) (long : length v.marks ≡ length v.history)
     (writes : Writes (StillShows v.config.frames (shown (content s)) s) s t) (quiet : IsQuiet t)
-    (mark : m.mark ≡ length t.log) (grows : length s.log < length t.log) (no_create : (volume : ℕ) → creates volume m ≡ false)
+    (mark : m.mark ≡ length t.log) (grows : length s.log < length t.log) (late_change : is_early m.change ≡ false)
     (allowed : IsAllowedIn (listed v.rows) m.volume m.change (listed v.rows m.volume) × (m.freed ≡ freed_by (listed v.rows) m.volume m.change))
     (changes : with_change (listed v.rows) m ≡ listed rows) (rows_are : rows_of (content t) ≡ listed rows)
     (copies : (volume : ℕ) (r : RowValue) → listed rows volume ≡ Some r → HoldsRow r volume (content t)) (used : List SlotsUsed) (slots : AreUsed used (content t))
@@ -78,7 +95,9 @@ module _ (S : Type 0) {C : Type 0} (s t : SiteLog) (v : CoreValue S C) (x : S) (
   console = v.console ++ m ∷ []
 
   handed : handed_rows (rows_of (written_after t.start (take v.first_write t.log))) (v.console ++ m ∷ []) ≡ handed_to s v
-  handed = (λ i volume. cond (created-push volume v.console m (no_create volume) i) None (rows_of (start_same v.first_write s t writes.items writes.grown told.began i) volume))
+  handed =
+      handed-push (rows_of (written_after t.start (take v.first_write t.log))) v.console m late_change
+      ∙ ap (λ (c : Content). handed_rows (rows_of c) v.console) (start_same v.first_write s t writes.items writes.grown told.began)
 
   told_rows : rows_after (handed_to s v) (v.console ++ m ∷ []) ≡ listed rows
   told_rows = rows_after-push (handed_to s v) v.console m ∙ ap (λ (q : RowsOf). with_change q m) going.told ∙ changes
@@ -92,6 +111,7 @@ module _ (S : Type 0) {C : Type 0} (s t : SiteLog) (v : CoreValue S C) (x : S) (
     stops = subst (λ (y : State). StopsWell v.config.frames v.first_write y v.history v.marks t) (sym began)
         (stops_again v.config.frames v.first_write (opening_of s v) v.history v.marks s told.stops long told.entries going.no_stop told.began going.shows t writes_);
     agrees = record {
+      early = early-push v.first_write v.console m late_change told.agrees.early;
       allowed = subst (λ (q : RowsOf). AllAllowed q (v.console ++ m ∷ [])) (sym handed)
           (allowed-push (handed_to s v) v.console m told.agrees.allowed
           (subst (λ (q : RowsOf). IsAllowedIn q m.volume m.change (q m.volume) × (m.freed ≡ freed_by q m.volume m.change)) (sym going.told) allowed));
@@ -141,6 +161,7 @@ module _ (S : Type 0) {C : Type 0} (s t : SiteLog) (v : CoreValue S C) (x : S) (
     stops = subst (λ (y : State). StopsWell v.config.frames v.first_write y v.history v.marks t) (sym began_)
         (stops_again v.config.frames v.first_write (opening_of s v) v.history v.marks s told.stops long told.entries going_.no_stop told.began going_.shows t writes_now);
     agrees = record {
+      early = told.agrees.early;
       allowed = subst (λ (rows : RowsOf). AllAllowed rows v.console) (sym handed_) told.agrees.allowed;
       entries = subst (λ (y : State). AllAgree v.config.frames (rows_at (handed_rows (rows_of (written_after t.start (take v.first_write t.log))) v.console) v.console) y v.history v.marks) (sym began_)
           (subst (λ (q : RowsOf). AllAgree v.config.frames (rows_at q v.console) (opening_of s v) v.history v.marks) (sym handed_) told.agrees.entries);

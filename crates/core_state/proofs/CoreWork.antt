@@ -189,6 +189,7 @@ module _ (S : Type 0) {C : Type 0} (s t : SiteLog) (v : CoreValue S C) (x : S) (
         (stops_again v.config.frames v.first_write (opening_of s v) v.history v.marks s told.stops long told.entries going.no_stop told.began going.shows t
         (subst (λ (V : Volumes). Writes (StillShows v.config.frames V s) s t) going.shows writes));
     agrees = record {
+      early = told.agrees.early;
       allowed = subst (λ (rows : RowsOf). AllAllowed rows v.console) (sym handed) told.agrees.allowed;
       entries = subst (λ (y : State). AllAgree v.config.frames (rows_at (handed_rows (rows_of (written_after t.start (take v.first_write t.log))) v.console) v.console) y v.history v.marks) (sym began)
           (subst (λ (q : RowsOf). AllAgree v.config.frames (rows_at q v.console) (opening_of s v) v.history v.marks) (sym handed) told.agrees.entries);

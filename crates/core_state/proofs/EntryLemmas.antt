@@ -125,6 +125,7 @@ module _ (S : Type 0) {C : Type 0} (s t : SiteLog) (v : CoreValue S C) (x : S) (
     stops = subst (λ (y : State). StopsWell v.config.frames v.first_write y (v.history ++ e ∷ []) (v.marks ++ m ∷ []) t) (sym began)
         (stops_with_entry v.config.frames v.first_write (opening_of s v) v.history v.marks s told.stops long told.entries going.no_stop told.began going.shows e t enters.writes m at_end (λ is. (enters.leaves is).shows) (λ is. (enters.leaves is).quiet));
     agrees = record {
+      early = told.agrees.early;
       allowed = subst (λ (rows : RowsOf). AllAllowed rows v.console) (sym handed) told.agrees.allowed;
       entries = subst (λ (y : State). AllAgree v.config.frames (rows_at (handed_to t v) v.console) y (v.history ++ e ∷ []) (v.marks ++ m ∷ [])) (sym began)
           (subst (λ (rows : RowsOf). AllAgree v.config.frames (rows_at rows v.console) (opening_of s v) (v.history ++ e ∷ []) (v.marks ++ m ∷ [])) (sym handed)

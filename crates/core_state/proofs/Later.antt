@@ -8,7 +8,7 @@ use Rattle.core_state.specs.CoreValue.{CoreData}
 -- a moment is as late as itself
 pub later_none : (tells : Type 0) (core : CoreData) → IsLater tells core core
 later_none tells core = record {
-  beginning = record { config = refl; first_write = refl; first_faults = refl; created = λ volume. refl };
+  beginning = record { config = refl; first_write = refl; first_faults = refl; handed = λ rows. refl };
   grown = λ t. ([], (λ i. record { start = core.site.told.start; log = sym (append-nil core.site.told.log) i }));
 }
 
@@ -25,7 +25,7 @@ later_then tells old mid new first then_ = record {
     config = then_.beginning.config ∙ first.beginning.config;
     first_write = then_.beginning.first_write ∙ first.beginning.first_write;
     first_faults = then_.beginning.first_faults ∙ first.beginning.first_faults;
-    created = λ volume. then_.beginning.created volume ∙ first.beginning.created volume;
+    handed = λ rows. then_.beginning.handed rows ∙ first.beginning.handed rows;
   };
   grown = λ t. continues_then old.site.told mid.site.told new.site.told (first.grown t) (then_.grown t);
 }

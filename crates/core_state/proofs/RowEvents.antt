@@ -27,7 +27,7 @@ use Rattle.volume_table.specs.Listed.{listed}
 use Rattle.core_state.specs.IsCore.{IsCore, IsTold, IsGoing}
 use Rattle.core_state.specs.Served.{AreServed}
 use Rattle.core_state.specs.Entered.{with_used, worked}
-use Rattle.core_state.specs.Agrees.{with_change, changed, creates, IsAllowedIn, message_of}
+use Rattle.core_state.specs.Agrees.{with_change, changed, is_early, IsAllowedIn, message_of}
 use Rattle.core_state.proofs.ChangeLemmas.{told_change}
 use Rattle.fault_queue.specs.Requests.{RequestsData}
 
@@ -53,7 +53,7 @@ turned volume w other = elim (eqb_tells volume w) [
 module _ (S : Type 0) {C : Type 0} (s t : SiteLog) (v : CoreValue S C) (x : S) (core : IsCore v) (told : IsTold s v) (open_ : v.stopped ≡ None)
     (volume mark : ℕ) (change : Change) (r : RowValue) (there : listed v.rows volume ≡ Some r) (low : volume < 32)
     (simple : (o : Option RowValue) → changed change o ≡ option_map (effect change) o)
-    (no_create : (w : ℕ) → creates w (message_of mark volume change (listed v.rows)) ≡ false)
+    (late_change : is_early change ≡ false)
     (allowed : IsAllowedIn (listed v.rows) volume change (Some r))
     (may : MayWriteRow v.config.frames volume (effect change r) s)
     (writes : Writes (ChangesRow volume (OldOrNew volume (effect change r) (content s)) (content s)) s t)
@@ -130,7 +130,7 @@ module _ (S : Type 0) {C : Type 0} (s t : SiteLog) (v : CoreValue S C) (x : S) (
       (v.console ++ (message_of mark volume change (listed v.rows)) ∷ []) owners moving requests tasks)
   told_by_change =
       told_change S s t v x (slice_set v.rows volume (Some new)) m told open_ core.marked
-      still (quiet_settled s t after.firm (ended_with (StillShows v.config.frames (shown (content s)) s) s t still).1) at_end grows no_create
+      still (quiet_settled s t after.firm (ended_with (StillShows v.config.frames (shown (content s)) s) s t still).1) at_end grows late_change
       (subst (λ (o : Option RowValue). IsAllowedIn (listed v.rows) volume change o) (sym there) allowed, refl)
       (fun_ext changes_at) (fun_ext rows_at_) copies_ (with_used_after volume v.used) slots_at owners moving requests tasks served
 

@@ -33,7 +33,7 @@ core frame state bind chained host = record {
   site = no_devices;
   chooser = tt;
   config = record { frames = 1; recorders = 1; volumes = [] };
-  rows = Some (record { serial = 0x56 ∷ []; first = 0; second = 1; pages = frame ∷ replicate 50 None; states = state ∷ replicate 403 0 }) ∷ replicate 31 None;
+  rows = Some (record { serial = 0x56 ∷ []; read_only = false; first = 0; second = 1; pages = frame ∷ replicate 50 None; states = state ∷ replicate 403 0 }) ∷ replicate 31 None;
   used = replicate 32 no_slots;
   owners = Some (0, 3) ∷ [];
   moving = false ∷ [];
@@ -86,7 +86,7 @@ two_frames = record (core None 0 false false fresh_host) {
   owners = Some (0, 3) ∷ Some (0, 0) ∷ [];
   moving = replicate 2 false;
   recency = 1 ∷ 0 ∷ [];
-  rows = Some (record { serial = 0x56 ∷ []; first = 0; second = 1; pages = Some 1 ∷ None ∷ None ∷ Some 0 ∷ replicate 47 None; states = 3 ∷ 4 ∷ replicate 402 0 }) ∷ replicate 31 None;
+  rows = Some (record { serial = 0x56 ∷ []; read_only = false; first = 0; second = 1; pages = Some 1 ∷ None ∷ None ∷ Some 0 ∷ replicate 47 None; states = 3 ∷ 4 ∷ replicate 402 0 }) ∷ replicate 31 None;
   hosts = replicate 8 fresh_host;
 }
 

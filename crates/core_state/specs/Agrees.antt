@@ -1,14 +1,14 @@
 -- The console's messages agree with the history.
-use Rattle.std.specs.Prelude.{◌≡◌, ◌≢◌, ◌≤◌, ◌<◌, ℕ, ◌/◌, ◌==◌, nat_le, Bool, true, false, ◌||◌}
+use Rattle.std.specs.Prelude.{◌≡◌, ◌≢◌, ◌≤◌, ◌<◌, ℕ, ◌/◌, ◌==◌, nat_le, Bool, true, false, not}
 use Rattle.std.specs.Prelude.{if◌then◌else◌, List, [], ◌∷◌, Option, Some, None, option_map}
 use Rattle.ckd_plain.specs.declared.host.HostState.{HostState}
 use Rattle.channel_commands.specs.Data.{ReplyData, done, no_space, stopped}
 use Rattle.ckd_plain.specs.Data.{State}
 use Rattle.ckd_plain.specs.History.{EntryData, next, IsDataCommand, IsWriteCommand}
 use Rattle.volume_table.specs.Row.{RowValue, frame_of, state_of, blank_row}
-use Rattle.volume_table.specs.Changes.{IsAllowed, effect}
+use Rattle.volume_table.specs.Changes.{IsAllowed, effect, with_mark}
 use Rattle.volume_table.specs.declared.changes.Change.{Change}
-use Rattle.volume_table.specs.declared.changes.Change.TheVariants.{Create, Assign, Free}
+use Rattle.volume_table.specs.declared.changes.Change.TheVariants.{Create, Assign, Free, Protect}
 use Rattle.shown_volumes.specs.Shown.{RowsOf}
 use Rattle.shown_volumes.specs.Sound.{cartridge_of, frame_in}
 use Rattle.core_state.specs.declared.session.Message.{Message}
@@ -94,20 +94,33 @@ AllAgree frames rows s (e ∷ es) (m ∷ ms) =
     EntryAgrees frames (rows m) s e e.reply × AllAgree frames rows (next s e) es ms
 AllAgree frames rows s _ _ = Unit {0}
 
-pub record Agrees (frames : ℕ) (handed : RowsOf) (s : State) (history : List EntryData)
+-- whether a change is one that is made while a session is opened, and never later
+abbrev pub is_early : Change → Bool
+is_early (Create serial first second) = true
+is_early (Protect on) = true
+is_early _ = false
+
+-- so they are done by the session's first write
+abbrev pub AreEarly : ℕ → List Message → Type 0
+AreEarly first [] = Unit {0}
+AreEarly first (m ∷ ms) = (is_early m.change ≡ true → m.mark ≤ first) × AreEarly first ms
+
+pub record Agrees (frames first : ℕ) (handed : RowsOf) (s : State) (history : List EntryData)
     (marks : List ℕ) (console : List Message) : Type 0 where
+  pub early : AreEarly first console
   pub allowed : AllAllowed handed console
   pub entries : AllAgree frames (rows_at handed console) s history marks
 
--- whether messages create a volume
-abbrev pub creates : ℕ → Message → Bool
-creates volume m = elim m.change [ Create serial first second ↦ m.volume == volume | _ ↦ false ]
+-- a row before such a change: none where it is created, or with the other mark
+abbrev pub undone : Change → Option RowValue → Option RowValue
+undone (Create serial first second) r = None
+undone (Protect on) r = option_map (with_mark (not on)) r
+undone _ r = r
 
-abbrev pub has_created : ℕ → List Message → Bool
-has_created volume [] = false
-has_created volume (m ∷ ms) = creates volume m || has_created volume ms
-
--- the rows that restart was handed: those at the session's start, but for the volumes that it
--- created
+-- the rows that restart was handed: those at the session's start, before the changes that it made
+-- and tells
 abbrev pub handed_rows : RowsOf → List Message → RowsOf
-handed_rows rows console volume = if has_created volume console then None else rows volume
+handed_rows rows [] volume = rows volume
+handed_rows rows (m ∷ ms) volume =
+    if volume == m.volume then undone m.change (handed_rows rows ms volume)
+    else handed_rows rows ms volume

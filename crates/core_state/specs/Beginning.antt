@@ -1,16 +1,17 @@
 -- What every later moment of a session keeps: its beginning, and the writes before.
 use Rattle.std.specs.Prelude.{◌≡◌, ℕ, List}
 use Rattle.mss_base.specs.Content.{SiteLog, Item, Got}
-use Rattle.core_state.specs.Agrees.{has_created}
+use Rattle.shown_volumes.specs.Shown.{RowsOf}
+use Rattle.core_state.specs.Agrees.{handed_rows}
 use Rattle.core_state.specs.CoreValue.{CoreData}
 
--- the configuration, the counts of writes and of faults when it began, and which volumes were
--- created then: no event creates one
+-- the configuration, the counts of writes and of faults when it began, and which changes of rows
+-- were made before: no event creates a volume, or changes a mark
 pub record KeepsBeginning (core left : CoreData) : Type 0 where
   pub config : left.config ≡ core.config
   pub first_write : left.first_write ≡ core.first_write
   pub first_faults : left.first_faults ≡ core.first_faults
-  pub created : (volume : ℕ) → has_created volume left.console ≡ has_created volume core.console
+  pub handed : (rows : RowsOf) → handed_rows rows left.console ≡ handed_rows rows core.console
 
 -- some writes were added to the log
 abbrev pub Continues : SiteLog → SiteLog → Type 0

@@ -41,9 +41,9 @@ pub data HostTold : Type 0 where
 
 -- ---- what a host is told without its tracks
 
--- whether the volume that a call asks for is read-only, where it is there; no row has a mark yet
+-- whether the volume that a call asks for is read-only, where it is there
 abbrev pub mark_in : List (Option RowValue) → CallData → Option Bool
-mark_in rows (mount volume bind) = option_map (λ row. false) (listed rows volume)
+mark_in rows (mount volume bind) = option_map (λ row. row.read_only) (listed rows volume)
 mark_in rows _ = None
 
 -- the reply, and the host then

@@ -90,6 +90,6 @@ pub record IsTold {S C : Type 0} (site : SiteLog) (v : CoreValue S C) : Type 0 w
   pub messages : AllDone (length site.log) v.console
   pub legal : IsLegal (opening_of site v) v.history
   pub stops : StopsWell v.config.frames v.first_write (opening_of site v) v.history v.marks site
-  pub agrees : Agrees v.config.frames (handed_to site v)
+  pub agrees : Agrees v.config.frames v.first_write (handed_to site v)
       (opening_of site v) v.history v.marks v.console
   pub going : v.stopped ≡ None → IsGoing site v

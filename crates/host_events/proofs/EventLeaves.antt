@@ -28,7 +28,8 @@ use Rattle.fault_queue.proofs.RequestFacts.{request_other, once_put, with_state_
 use Rattle.core_state.specs.declared.session.Event.TheVariants.{Host}
 use Rattle.core_state.specs.declared.rule.HostRule.{HostRule}
 use Rattle.core_state.specs.declared.rule.HostRule.TheVariants.{Marks, Runs}
-use Rattle.core_state.specs.Agrees.{has_created}
+use Rattle.shown_volumes.specs.Shown.{RowsOf}
+use Rattle.core_state.specs.Agrees.{handed_rows}
 use Rattle.core_state.specs.Beginning.{KeepsBeginning}
 use Rattle.core_state.specs.Chains.{OneOf}
 use Rattle.core_state.specs.CoreValue.{CoreData, DevicesSeen}
@@ -38,7 +39,7 @@ use Rattle.core_state.specs.HostRules.{request_for, host_rule}
 use Rattle.core_state.specs.IsCore.{IsCore}
 use Rattle.core_state.specs.Pins.{host_at, put_host, page_of}
 use Rattle.core_state.specs.Steps.{noted, with_row, after_reply, after_stop, used, entry_of, with_change, touching, ends_request, going_on, with_request}
-use Rattle.core_state.proofs.ChangeLemmas.{created-push}
+use Rattle.core_state.proofs.ChangeLemmas.{handed-push}
 use Rattle.core_state.proofs.RuleWalks.{none_some, some_of}
 use Rattle.host_events.specs.Leaves.{KeepsHistory, EntersAsTold, LeavesOthers, LeavesMachine, LeavesCartridges}
 use Rattle.host_events.proofs.Outcomes.{IsMarked, EachOutcome, outcome}
@@ -188,26 +189,26 @@ module _ (tells : Type 0) (core : CoreData) (h : ℕ) (core' : CoreData) where
     moving = stays (λ c. c.moving) (λ c d. refl) (λ c history marks hosts recency stopped. refl) call told event;
   }
 
-  beginning_by : ((volume : ℕ) → has_created volume core'.console ≡ has_created volume core.console) → (call : CallData) (told : HostTold) → HostEvent tells core h call told core' → KeepsBeginning core core'
-  beginning_by created call told event = record {
+  beginning_by : ((rows : RowsOf) → handed_rows rows core'.console ≡ handed_rows rows core.console) → (call : CallData) (told : HostTold) → HostEvent tells core h call told core' → KeepsBeginning core core'
+  beginning_by handed call told event = record {
     config = stays (λ c. c.config) (λ c d. refl) (λ c history marks hosts recency stopped. refl) call told event;
     first_write = stays (λ c. c.first_write) (λ c d. refl) (λ c history marks hosts recency stopped. refl) call told event;
     first_faults = stays (λ c. c.first_faults) (λ c d. refl) (λ c history marks hosts recency stopped. refl) call told event;
-    created = created;
+    handed = handed;
   }
 
--- ---- the volumes that were created
+-- ---- the rows that were handed in
 
 module _ (tells : Type 0) (core : CoreData) (h : ℕ) (core' : CoreData) where
-  module _ (volume : ℕ) where
-    abbrev has : CoreData → Bool
-    has c = has_created volume c.console
+  module _ (rows : RowsOf) where
+    abbrev has : CoreData → RowsOf
+    has c = handed_rows rows c.console
 
     abbrev Alike : CoreData → Type 0
     Alike c = has c ≡ has core
 
-    created_each : (call : CallData) → EachOutcome tells core h call core' (λ rule told. Alike core')
-    created_each call = record {
+    handed_each : (call : CallData) → EachOutcome tells core h call core' (λ rule told. Alike core')
+    handed_each call = record {
       stops = λ fault same. ap has same.1;
       fills = λ same. ap has same.1;
       lacks = λ rule late same. ap has same.1;
@@ -226,7 +227,7 @@ module _ (tells : Type 0) (core : CoreData) (h : ℕ) (core' : CoreData) where
           (λ _. refl) (λ _. going core h call (λ (c : CoreData). Alike (record (asked_of core h call w cylinder c) { site = core'.site })) refl refl);
       marks = λ w cylinder marks.
           ap has marks.1
-          ∙ going core h call (λ (c : CoreData). Alike (marked_of core h call w cylinder core'.site c)) (created-push volume core.console _ refl) (created-push volume core.console _ refl);
+          ∙ going core h call (λ (c : CoreData). Alike (marked_of core h call w cylinder core'.site c)) (handed-push rows core.console _ refl) (handed-push rows core.console _ refl);
       unmarked = λ w cylinder fault un. ap has un.1;
       unread = λ c w frame un. ap has un.1;
       runs = λ c w frame code argument chained status bytes ran. ap has ran.3;
@@ -235,7 +236,7 @@ module _ (tells : Type 0) (core : CoreData) (h : ℕ) (core' : CoreData) where
 
   pub keeps_beginning : (call : CallData) (told : HostTold) → HostEvent tells core h call told core' → KeepsBeginning core core'
   keeps_beginning call told event =
-      beginning_by tells core h core' (λ volume. outcome tells core h core' (λ k rule t. Alike volume core') call (created_each volume call) (host_rule core h call) told event) call told event
+      beginning_by tells core h core' (λ rows. outcome tells core h core' (λ k rule t. Alike rows core') call (handed_each rows call) (host_rule core h call) told event) call told event
 
 -- ---- other hosts
 

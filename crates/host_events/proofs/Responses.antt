@@ -22,7 +22,7 @@ use Rattle.ckd_plain.proofs.Entries.{plain_entry}
 use Rattle.ckd_plain.proofs.ResponseFacts.{call_responds}
 use Rattle.volume_table.specs.Listed.{listed}
 use Rattle.volume_table.specs.Row.{RowValue}
-use Rattle.shown_volumes.specs.Shown.{RowsOf}
+use Rattle.shown_volumes.specs.Shown.{RowsOf, is_marked}
 use Rattle.fault_queue.specs.Requests.{request_of}
 use Rattle.core_state.specs.declared.task.Task.{Task}
 use Rattle.core_state.specs.Agrees.{EntryAgrees}
@@ -133,7 +133,7 @@ volume_in None = 0
 volume_in (Some m) = m.0
 
 -- a volume that a mark is known of has a row
-marked_there : (o : Option RowValue) (read_only : Bool) → option_map (λ (row : RowValue). false) o ≡ Some read_only → is_some o ≡ true
+marked_there : (o : Option RowValue) (read_only : Bool) → option_map (λ (row : RowValue). row.read_only) o ≡ Some read_only → is_some o ≡ true
 marked_there None read_only is = absurd (none_some read_only is)
 marked_there (Some row) read_only is = refl
 
@@ -191,8 +191,8 @@ agrees_plainly frames rows s e no_space sound answered none = absurd (none answe
 agrees_plainly frames rows s e stopped sound answered none = absurd (false≢true (sym sound))
 agrees_plainly frames rows s e _ sound answered none = tt
 
--- the rows' volumes have no marks
-marks_of : (o : Option RowValue) → option_map (λ (serial : List ℕ). false) (option_map (λ (x : RowValue). x.serial) o) ≡ option_map (λ (x : RowValue). false) o
+-- the mark of a shown volume is its row's
+marks_of : (o : Option RowValue) → option_map (λ (serial : List ℕ). is_marked o) (option_map (λ (x : RowValue). x.serial) o) ≡ option_map (λ (x : RowValue). x.read_only) o
 marks_of None = refl
 marks_of (Some x) = refl
 
@@ -214,7 +214,8 @@ module _ {S C : Type 0} (s : SiteLog) (v : CoreValue S C) (told : IsTold s v) (c
   mark_is : (k : CallData) → mark_for (plain_of s v).volumes k ≡ mark_in v.rows k
   mark_is (mount volume bind) =
       ap (λ (vs : Volumes). mark_for vs (mount volume bind)) (sym going.shows)
-      ∙ ap (λ (rows : RowsOf). option_map (λ (serial : List ℕ). false) (option_map (λ (x : RowValue). x.serial) (rows volume))) going.rows_ ∙ marks_of (listed v.rows volume)
+      ∙ ap (λ (rows : RowsOf). option_map (λ (serial : List ℕ). is_marked (rows volume)) (option_map (λ (x : RowValue). x.serial) (rows volume))) going.rows_
+      ∙ marks_of (listed v.rows volume)
   mark_is _ = refl
 
   answer_is : plain (plain_of s v) h call ≡ with_response (plain_of s v) h (responded (host_at v.hosts h) (mark_in v.rows call) call)

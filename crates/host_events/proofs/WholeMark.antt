@@ -164,10 +164,10 @@ module _ (S : Type 0) {C : Type 0} (tells : Type 0) (s : SiteLog) (v : CoreValue
       (tasks_with_request v.config.frames (listed rows) v.moving v.requests v.hosts v.tasks tasks_now h (Some (ready_for volume cylinder)) core.requests_ quiet not_ready) volume (cylinder / 8))
       fit_marked)
       (λ tl.
-      told_by_change S s t v x core (whole.told tl) open_ volume mark (Changed cylinder) r there low_volume (λ o. refl) (λ w. refl) (staged, tt) (mark_may tl) (writes tl) (changed tl) (at_end tl) (grows tl) v.owners v.moving requests _
+      told_by_change S s t v x core (whole.told tl) open_ volume mark (Changed cylinder) r there low_volume (λ o. refl) refl (staged, tt) (mark_may tl) (writes tl) (changed tl) (at_end tl) (grows tl) v.owners v.moving requests _
       (served_touched (listed rows) (content t) v.tasks volume (cylinder / 8)
       (λ m task is. state_served S v core volume cylinder 4 r there low_volume (content s) (content t)
-      (λ unit block none. blocks_stay S s t v x core (whole.told tl) open_ volume mark (Changed cylinder) r there low_volume (λ o. refl) (λ w. refl) (staged, tt) (mark_may tl) (writes tl) (changed tl) (at_end tl) (grows tl) v.owners v.moving v.requests []
+      (λ unit block none. blocks_stay S s t v x core (whole.told tl) open_ volume mark (Changed cylinder) r there low_volume (λ o. refl) refl (staged, tt) (mark_may tl) (writes tl) (changed tl) (at_end tl) (grows tl) v.owners v.moving v.requests []
       (λ k z zz. absurd (no_task z zz)) unit block none)
       v.moving v.requests task (core.tasks_.each m task is) (not_copied m task is) (((whole.told tl).going open_).served m task is))))
     where

@@ -19,8 +19,7 @@ use std::alloc::Global;
 use victim_choice::Choose;
 use volume_table::Rows;
 
-/// Whether the volume that a call asks for is read-only; None where it isn't there. No row has a
-/// mark yet.
+/// Whether the volume that a call asks for is read-only; None where it isn't there.
 fn mark_of(rows: &Rows, call: &Call) -> Option<bool>
     ensures { result ≡ mark_in rows.now (call_of call.now) }
 {
@@ -28,7 +27,7 @@ fn mark_of(rows: &Rows, call: &Call) -> Option<bool>
         return None;
     };
     match rows.row(*volume) {
-        Some(_) => Some(false),
+        Some(row) => Some(row.read_only),
         None => None,
     }
 }

@@ -138,8 +138,8 @@ impl<F: UnitFiles> Site for FileSite<F> {
         ensures writes { self.new.writes ≡ self.old.writes }
         ensures counted { self.new.faults ≡ count_after (is_err result) self.old.faults }
         ensures cause { HasCause self.old.faults self.new.faults result }
-        ensures works { F.never_fails self.old.files → IsOk result }
-        ensures sound { F.never_fails self.old.files → F.never_fails self.new.files }
+        ensures works { F.never_fails self.old.files
+            → IsOk result × F.never_fails self.new.files }
     {
         let place = BlockPlace { unit, block };
         match self.kept.read(&mut self.files, &place, into) {
@@ -169,8 +169,8 @@ impl<F: UnitFiles> Site for FileSite<F> {
         ensures writes { self.new.writes ≡ self.old.writes }
         ensures counted { self.new.faults ≡ count_after (is_err result) self.old.faults }
         ensures cause { HasCause self.old.faults self.new.faults result }
-        ensures works { F.never_fails self.old.files → IsOk result }
-        ensures sound { F.never_fails self.old.files → F.never_fails self.new.files }
+        ensures works { F.never_fails self.old.files
+            → IsOk result × F.never_fails self.new.files }
     {
         let place = BlockPlace { unit, block };
         match self.kept.bring(&mut self.files, &place) {
@@ -198,8 +198,8 @@ impl<F: UnitFiles> Site for FileSite<F> {
         ensures kept { self.old.writes ≤ self.new.writes }
         ensures counted { self.new.faults ≡ count_after (is_err result) self.old.faults }
         ensures cause { HasCause self.old.faults self.new.faults result }
-        ensures works { F.never_fails self.old.files → IsOk result }
-        ensures sound { F.never_fails self.old.files → F.never_fails self.new.files }
+        ensures works { F.never_fails self.old.files
+            → IsOk result × F.never_fails self.new.files }
     {
         self.writes = self.writes.saturating_add(1);
         let place = BlockPlace { unit, block };
@@ -218,8 +218,8 @@ impl<F: UnitFiles> Site for FileSite<F> {
         ensures kept { self.old.writes ≤ self.new.writes }
         ensures counted { self.new.faults ≡ count_after (is_err result) self.old.faults }
         ensures cause { HasCause self.old.faults self.new.faults result }
-        ensures works { F.never_fails self.old.files → IsOk result }
-        ensures sound { F.never_fails self.old.files → F.never_fails self.new.files }
+        ensures works { F.never_fails self.old.files
+            → IsOk result × F.never_fails self.new.files }
     {
         self.writes = self.writes.saturating_add(1);
         match sync_unit(&mut self.files, &unit) {
@@ -239,8 +239,8 @@ impl<F: UnitFiles> Site for FileSite<F> {
         ensures kept { self.old.writes ≤ self.new.writes }
         ensures counted { self.new.faults ≡ count_after (is_err result) self.old.faults }
         ensures cause { HasCause self.old.faults self.new.faults result }
-        ensures works { F.never_fails self.old.files → IsOk result }
-        ensures sound { F.never_fails self.old.files → F.never_fails self.new.files }
+        ensures works { F.never_fails self.old.files
+            → IsOk result × F.never_fails self.new.files }
     {
         self.writes = self.writes.saturating_add(1);
         match sync_units(&mut self.files) {

@@ -1,6 +1,5 @@
 -- A session at a later moment, in plain volumes.
 use Rattle.std.proofs.Common.{◌≡◌, ◌≤◌, ◌<◌, ◌↔◌, ℕ, suc, List, [], ◌∷◌, length, take, Option, None, Ok, sym, ◌∙◌, ap, subst, arith}
-use Rattle.std.specs.Prelude.{if◌then◌else◌}
 use Rattle.std.proofs.lemmas.List.{take_all, take-append-le}
 use Rattle.mss_base.specs.Configs.{ConfigData, VolumeData}
 use Rattle.mss_base.specs.Content.{Content, SiteLog, Item, Tear, Got, content, image, after as written_after}
@@ -102,7 +101,8 @@ module _ (config : ConfigData) (was : DevicesSeen) (began : CoreData) (b : Began
 
     handed_is : handed_to left.site.told left ≡ rows_of (content was.told)
     handed_is =
-        (λ i volume. if l.beginning.created volume i then None else rows_of (start_is i) volume)
+        (λ i. handed_rows (rows_of (start_is i)) left.console)
+        ∙ l.beginning.handed (rows_of (content began.site.told))
         ∙ ap (λ (r : RowsOf). handed_rows r began.console) (sym rows_now)
         ∙ handed_in
 
@@ -110,7 +110,8 @@ module _ (config : ConfigData) (was : DevicesSeen) (began : CoreData) (b : Began
     plain_at = record {
       legal = subst (λ (s : State). IsLegal s left.history) opening_is told.legal;
       shows = λ none. (told.going none).shows ∙ ap (λ (s : State). (after s left.history).volumes) opening_is;
-      agrees = subst (λ (x : ℕ × RowsOf × State). Agrees x.0 x.1 x.2 left.history left.marks left.console) (λ i. ((config_is i).frames, handed_is i, opening_is i)) told.agrees;
+      agrees = subst (λ (x : ℕ × RowsOf × State). Agrees x.0 left.first_write x.1 x.2 left.history left.marks left.console)
+          (λ i. ((config_is i).frames, handed_is i, opening_is i)) told.agrees;
       rows_ = λ none. (told.going none).rows_ ∙ sym (told.going none).told ∙ ap (λ (r : RowsOf). rows_after r left.console) handed_is;
     }
 

@@ -46,8 +46,8 @@ pub record IsPlainSession (config : ConfigData) (was now : SiteLog) (s : Session
     : Type 0 where
   pub legal : IsLegal (plain_start config (content was)) s.history
   pub shows : s.stopped ≡ None → shown (content now) ≡ plain_volumes config (content was) s.history
-  pub agrees : Agrees config.frames (rows_of (content was)) (plain_start config (content was))
-      s.history s.marks s.console
+  pub agrees : Agrees config.frames s.first_write (rows_of (content was))
+      (plain_start config (content was)) s.history s.marks s.console
   pub rows_ : s.stopped ≡ None
       → rows_of (content now) ≡ rows_after (rows_of (content was)) s.console
 

@@ -22,6 +22,7 @@ row_field_text field.First = codes "first"
 row_field_text field.Second = codes "second"
 row_field_text (field.Page page) = codes "page " ++ decimal page
 row_field_text (field.Spare place) = codes "spare " ++ decimal place
+row_field_text field.Mark = codes "mark"
 row_field_text (field.State cylinder) = codes "state " ++ decimal cylinder
 row_field_text (field.Slot number) = codes "slot " ++ decimal number
 

@@ -1,5 +1,5 @@
 -- The text of a report. Each line ends with a line feed.
-use Rattle.std.specs.Prelude.{ℕ, zero, suc, ◌+◌, ◌/◌, ◌%◌, Bool, List, [], ◌∷◌, ◌++◌, Option}
+use Rattle.std.specs.Prelude.{ℕ, zero, suc, ◌+◌, ◌/◌, ◌%◌, Bool, true, false, List, [], ◌∷◌, ◌++◌, Option}
 use Rattle.std.specs.Prelude.{Some, None, if◌then◌else◌, codes, decimal}
 use Rattle.std.specs.List.{flat_map}
 use Rattle.channel_commands.specs.Data.{CallData, mount, demount, command, break, ReplyData, done}
@@ -11,7 +11,7 @@ use Rattle.ckd_plain.specs.History.{EntryData}
 use Rattle.job_text.specs.Canonical.{hex, hex_byte}
 use Rattle.volume_table.specs.declared.changes.Change.{Change}
 use Rattle.volume_table.specs.declared.changes.Change.TheVariants.{Create, Assign, Free, Staged}
-use Rattle.volume_table.specs.declared.changes.Change.TheVariants.{Changed, Destaged}
+use Rattle.volume_table.specs.declared.changes.Change.TheVariants.{Changed, Destaged, Protect}
 
 -- ---- bytes
 
@@ -91,6 +91,8 @@ change_text (Free page) freed =
 change_text (Staged cylinder) freed = codes "staged cylinder " ++ decimal cylinder
 change_text (Changed cylinder) freed = codes "changed cylinder " ++ decimal cylinder
 change_text (Destaged cylinder) freed = codes "destaged cylinder " ++ decimal cylinder
+change_text (Protect true) freed = codes "protect on"
+change_text (Protect false) freed = codes "protect off"
 
 -- the line of the change at place n of the console, from 1
 unfoldable pub change_line : ℕ → ℕ → Change → Option ℕ → List ℕ

@@ -79,6 +79,8 @@ fn push_change(out: &mut Bytes, change: &Change, freed: Option<FrameNo>) -> Resu
         Change::Staged { cylinder } => push_cylinder(out, "staged cylinder ", *cylinder),
         Change::Changed { cylinder } => push_cylinder(out, "changed cylinder ", *cylinder),
         Change::Destaged { cylinder } => push_cylinder(out, "destaged cylinder ", *cylinder),
+        Change::Protect { on: true } => push_text(out, "protect on"),
+        Change::Protect { on: false } => push_text(out, "protect off"),
     }
 }
 

@@ -70,6 +70,7 @@ fn field_name(field: RowField) -> (&'static str, Option<u16>)
         RowField::Second => ("second", None),
         RowField::Page(page) => ("page ", Some(u16::from(page))),
         RowField::Spare(place) => ("spare ", Some(u16::from(place))),
+        RowField::Mark => ("mark", None),
         RowField::State(cylinder) => ("state ", Some(cylinder)),
         RowField::Slot(number) => ("slot ", Some(number)),
     }

@@ -9,7 +9,7 @@ use Rattle.mss_base.specs.declared.place.BlockPlace.{BlockPlace}
 use Rattle.volume_table.specs.Row.{RowValue, frame_of, state_of, IsRow}
 use Rattle.volume_table.specs.Changes.{IsAllowed, effect, with_frame, with_state, without_frame, unstaged}
 use Rattle.volume_table.specs.declared.changes.Change.{Change}
-use Rattle.volume_table.specs.declared.changes.Change.TheVariants.{Create, Assign, Free, Staged, Changed, Destaged}
+use Rattle.volume_table.specs.declared.changes.Change.TheVariants.{Create, Assign, Free, Staged, Changed, Destaged, Protect}
 use Rattle.volume_table.proofs.RowFacts.{frame-with_frame, frame-without_frame, state-without_frame}
 use Rattle.shown_volumes.specs.Shown.{rows_of, block_at, on_cartridge, in_page}
 use Rattle.shown_volumes.specs.Sound.{frame_in, IsStagedAs, IsSoundTrack, IsSound}
@@ -176,3 +176,4 @@ allowed_may frames v (Free page) r c sound there row allowed ready = free_may fr
 allowed_may frames v (Staged cylinder) r c sound there row allowed ready = staged_may frames v r c sound there row cylinder allowed.0 ready
 allowed_may frames v (Changed cylinder) r c sound there row allowed ready = changed_may frames v r c sound there row cylinder allowed
 allowed_may frames v (Destaged cylinder) r c sound there row allowed ready = destaged_may frames v r c sound there row cylinder allowed ready
+allowed_may frames v (Protect on) r c sound there row allowed ready = absurd ready

@@ -6,7 +6,7 @@ use Rattle.std.proofs.lemmas.List.{get_or-replicate, get_or_past, length-replica
 use Rattle.mss_base.specs.Content.{Content}
 use Rattle.mss_base.specs.declared.place.BlockPlace.{BlockPlace}
 use Rattle.volume_table.specs.Row.{RowValue, frame_of, state_of, blank_row}
-use Rattle.shown_volumes.specs.Shown.{RowsOf, rows_of, on_cartridge, in_page, source, track_at, shown_by, shown}
+use Rattle.shown_volumes.specs.Shown.{RowsOf, rows_of, on_cartridge, in_page, source, track_at, is_marked, shown_by, shown}
 use Rattle.shown_volumes.specs.Sound.{IsTrackAt, cartridge_of, frame_in, HasCartridgesOnce, HasFramesBelow, HasFramesOnce, IsSoundTrack, AreSound, IsSound}
 use Rattle.shown_volumes.specs.Changing.{with_row, IsFresh, with_blank}
 use Rattle.shown_volumes.proofs.PlaceFacts.{source_blank}
@@ -108,8 +108,10 @@ module _ (frames : ℕ) (c : Content) (v first second : ℕ) (serial : List ℕ)
       at_row (rows_of c) v new (λ w o. option_map (λ q. q.serial) o ≡ cond (w == v) (Some serial) ((shown c).serial w))
       (sym (cond-true (v == v) (Some serial) ((shown c).serial v) (eq-eqb v v refl))) (λ w other. sym (cond-false (w == v) (Some serial) ((shown c).serial w) other))
 
-  mark_is : (w : ℕ) → (shown_by rows c).read_only w ≡ (with_blank v serial (shown c)).read_only w
-  mark_is w = elim (w == v) as (λ (b : Bool). false ≡ cond b false false) [ true ↦ refl | false ↦ refl ]
+  mark_is : (w : ℕ) → is_marked (rows w) ≡ (with_blank v serial (shown c)).read_only w
+  mark_is =
+      at_row (rows_of c) v new (λ w o. is_marked o ≡ cond (w == v) false ((shown c).read_only w))
+      (sym (cond-true (v == v) false ((shown c).read_only v) (eq-eqb v v refl))) (λ w other. sym (cond-false (w == v) false ((shown c).read_only w) other))
 
   track_is : (y h w : ℕ) → track_at c (option_and_then (λ q. source q y h) (rows w)) ≡ (with_blank v serial (shown c)).track w y h
   track_is y h =

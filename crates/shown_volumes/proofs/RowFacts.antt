@@ -5,7 +5,7 @@ use Rattle.std.proofs.lemmas.Bool.{cases_Bool, cond-true, cond-false, eqb-true, 
 use Rattle.mss_base.specs.Content.{Content}
 use Rattle.volume_table.specs.Row.{RowValue, frame_of}
 use Rattle.table_pair.specs.Pair.{row_of}
-use Rattle.shown_volumes.specs.Shown.{RowsOf, rows_of, source, track_at, shown_by, shown}
+use Rattle.shown_volumes.specs.Shown.{RowsOf, rows_of, source, track_at, is_marked, shown_by, shown}
 use Rattle.shown_volumes.specs.Sound.{cartridge_of, frame_in, HasCartridgesOnce, HasFramesBelow, HasFramesOnce, IsSoundTrack, IsSound}
 use Rattle.shown_volumes.specs.Changing.{with_row, MayChange}
 use Rattle.shown_volumes.proofs.FaultFacts.{few_rows}
@@ -53,6 +53,9 @@ module _ (frames : ℕ) (c : Content) (v : ℕ) (r : RowValue) (sound : IsSound 
   serial_same : (w : ℕ) → option_map (λ q. q.serial) (rows w) ≡ option_map (λ q. q.serial) (rows_of c w)
   serial_same = at_row (rows_of c) v new (λ w o. option_map (λ q. q.serial) o ≡ option_map (λ q. q.serial) (rows_of c w)) (sym (ap (λ (o : Option RowValue). option_map (λ q. q.serial) o) there)) (λ w other. refl)
 
+  mark_same : (w : ℕ) → is_marked (rows w) ≡ is_marked (rows_of c w)
+  mark_same = at_row (rows_of c) v new (λ w o. is_marked o ≡ is_marked (rows_of c w)) (sym (ap is_marked there)) (λ w other. refl)
+
   module _ (IsNew : ℕ → ℕ → Type 0) (are : AreFrames frames c r new IsNew) where
     abbrev From : ℕ → ℕ → ℕ → Type 0
     From w p f = (frame_in (rows_of c) w p ≡ Some f) ⊎ ((w ≡ v) × IsNew p f)
@@ -85,7 +88,7 @@ module _ (frames : ℕ) (c : Content) (v : ℕ) (r : RowValue) (sound : IsSound 
           (past y h ∙ sym (ap (λ (o : Option RowValue). track_at c (option_and_then (λ q. source q y h) o)) there)) (λ w other. refl)
 
       shown_same : shown_by rows c ≡ shown c
-      shown_same = λ i. record { serial = λ w. serial_same w i; read_only = λ w. false; track = λ w y h. track_same y h w i }
+      shown_same = λ i. record { serial = λ w. serial_same w i; read_only = λ w. mark_same w i; track = λ w y h. track_same y h w i }
 
       tracks : (w y h : ℕ) → y < 404 → h < 19 → ForSome (rows w) (λ q. IsSoundTrack c q y h)
       tracks w y h y_low h_low =

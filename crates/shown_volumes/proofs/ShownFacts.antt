@@ -11,7 +11,7 @@ use Rattle.ckd_track.specs.Track.{reading}
 use Rattle.volume_table.specs.Row.{RowValue, state_of}
 use Rattle.table_pair.specs.Pair.{row_of, row_of_copies, is_table}
 use Rattle.table_pair.specs.Copies.{copy_at}
-use Rattle.shown_volumes.specs.Shown.{RowsOf, told_row, rows_of, block_at, on_cartridge, in_page, source, track_at, shown_by, shown}
+use Rattle.shown_volumes.specs.Shown.{RowsOf, told_row, rows_of, block_at, on_cartridge, in_page, source, track_at, is_marked, shown_by, shown}
 use Rattle.shown_volumes.specs.Sound.{IsSpelled, IsSoundTrack, AreSound, IsSound, SoundAs}
 use Rattle.shown_volumes.specs.Changing.{StandsOn, IsOutside}
 use Rattle.shown_volumes.proofs.PlaceFacts.{source_on_volume, source_cartridge}
@@ -56,7 +56,7 @@ module _ (c d : Content) where
     pub shown_over : shown_by rows d ≡ shown_by rows c
     shown_over = λ i. record {
       serial = λ v. option_map (λ r. r.serial) (rows v);
-      read_only = λ v. false;
+      read_only = λ v. is_marked (rows v);
       track = λ v y h. track_same (option_and_then (λ r. source r y h) (rows v)) (source_same v y h (rows v) refl) i;
     }
 

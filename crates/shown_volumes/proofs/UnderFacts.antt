@@ -9,7 +9,7 @@ use Rattle.mss_base.specs.Places.{frame_block}
 use Rattle.volume_table.specs.Row.{RowValue, frame_of, state_of, IsRow}
 use Rattle.volume_table.specs.Changes.{IsAllowed, effect, with_frame, with_state, without_frame, unstaged}
 use Rattle.volume_table.specs.declared.changes.Change.{Change}
-use Rattle.volume_table.specs.declared.changes.Change.TheVariants.{Create, Assign, Free, Staged, Changed, Destaged}
+use Rattle.volume_table.specs.declared.changes.Change.TheVariants.{Create, Assign, Free, Staged, Changed, Destaged, Protect}
 use Rattle.volume_table.proofs.RowFacts.{frame-without_frame, state-without_frame}
 use Rattle.shown_volumes.specs.Shown.{rows_of, on_cartridge, in_page}
 use Rattle.shown_volumes.specs.Sound.{IsSound}
@@ -153,6 +153,8 @@ allowed_under v (Free page) r s quiet there row allowed firm = free_under v r s 
 allowed_under v (Staged cylinder) r s quiet there row allowed firm = staged_under v r s quiet there row cylinder firm
 allowed_under v (Changed cylinder) r s quiet there row allowed firm = changed_under v r s quiet there row cylinder allowed
 allowed_under v (Destaged cylinder) r s quiet there row allowed firm = destaged_under v r s quiet there row cylinder allowed firm
+allowed_under v (Protect on) r s quiet there row allowed firm = λ place loose cylinder head stands.
+    (quiet place loose).unused v cylinder head r there (record { cylinder_in = stands.cylinder_in; head_in = stands.head_in; there = stands.there })
 
 pub allowed_write : (frames v : ℕ) (change : Change) (r : RowValue) (s : SiteLog) → IsSound frames (content s) → IsQuiet s → rows_of (content s) v ≡ Some r → IsRow r → IsAllowed change r
     → IsReady frames change r (content s) → IsFirmFor change r s → MayWriteRow frames v (effect change r) s

@@ -7,7 +7,7 @@ use Rattle.mss_base.specs.declared.place.BlockPlace.{BlockPlace}
 use Rattle.ckd_track.specs.Data.{Volumes}
 use Rattle.volume_table.specs.Row.{RowValue, state_of}
 use Rattle.volume_table.specs.declared.changes.Change.{Change}
-use Rattle.volume_table.specs.declared.changes.Change.TheVariants.{Create, Assign, Free, Staged, Changed, Destaged}
+use Rattle.volume_table.specs.declared.changes.Change.TheVariants.{Create, Assign, Free, Staged, Changed, Destaged, Protect}
 use Rattle.table_pair.specs.Pair.{is_table}
 use Rattle.shown_volumes.specs.Shown.{RowsOf, rows_of, on_cartridge, in_page, source, shown_by, shown}
 use Rattle.shown_volumes.specs.Sound.{frame_in, IsStagedAs, IsSameAt, AreSound, IsSound, SoundAs}
@@ -35,6 +35,7 @@ pub record MayChange (frames volume : ℕ) (row : RowValue) (c : Content) : Type
   pub still : AreSound frames (with_row volume row (rows_of c)) c
 
 -- the blocks are as an allowed change says, and the frame that it assigns is free. A volume that is there can't be created.
+-- With another mark other volumes are shown
 abbrev pub IsReady : ℕ → Change → RowValue → Content → Type 0
 IsReady frames (Create serial first second) r c = Unit {0}
 IsReady frames (Assign page frame) r c = (frame < frames) × ((volume other : ℕ) → other < 51 → frame_in (rows_of c) volume other ≢ Some frame)
@@ -42,6 +43,7 @@ IsReady frames (Free page) r c = Unit {0}
 IsReady frames (Staged cylinder) r c = (head : ℕ) → head < HEADS → IsStagedAs c (state_of r cylinder + 2) (in_page r cylinder head) (on_cartridge r cylinder head)
 IsReady frames (Changed cylinder) r c = Unit {0}
 IsReady frames (Destaged cylinder) r c = (head : ℕ) → head < HEADS → ForSome (in_page r cylinder head) (IsSameAt c (on_cartridge r cylinder head))
+IsReady frames (Protect on) r c = ⊥
 
 -- a volume without a row, and two cartridges that no row names
 pub record IsFresh (volume first second : ℕ) (c : Content) : Type 0 where
@@ -99,3 +101,4 @@ IsFirmFor (Free page) r s = Unit {0}
 IsFirmFor (Staged cylinder) r s = (head : ℕ) → head < HEADS → ForSome (in_page r cylinder head) (IsFirmAt s)
 IsFirmFor (Changed cylinder) r s = Unit {0}
 IsFirmFor (Destaged cylinder) r s = (head : ℕ) → head < HEADS → IsFirmAt s (on_cartridge r cylinder head)
+IsFirmFor (Protect on) r s = Unit {0}

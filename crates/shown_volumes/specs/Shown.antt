@@ -61,11 +61,16 @@ abbrev pub track_at : Content → Option BlockPlace → List RecordData
 track_at c None = []
 track_at c (Some place) = (reading (block_at c place)).records
 
--- what these rows show over a content; no row makes its volume read-only
+-- whether a row, if there is one, makes its volume read-only
+abbrev pub is_marked : Option RowValue → Bool
+is_marked None = false
+is_marked (Some r) = r.read_only
+
+-- what these rows show over a content
 abbrev pub shown_by : RowsOf → Content → Volumes
 shown_by rows c = record {
   serial = λ volume. option_map (λ r. r.serial) (rows volume);
-  read_only = λ volume. false;
+  read_only = λ volume. is_marked (rows volume);
   track = λ volume cylinder head. track_at c (option_and_then (λ r. source r cylinder head) (rows volume));
 }
 

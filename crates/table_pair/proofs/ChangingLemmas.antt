@@ -16,7 +16,7 @@ use Rattle.table_journal.proofs.SlotFacts.{byte_before}
 use Rattle.table_pair.specs.Copies.{CopyView, copy_at, copy_on, filled, HasGates, IsRewriting, WritesCopy}
 use Rattle.table_pair.specs.Pair.{IsOpenWith}
 use Rattle.table_pair.specs.Slots.{slots_after}
-use Rattle.table_pair.specs.Changing.{IsCopyDue, IsChanging, IsCopyChanged, ChangesCopy}
+use Rattle.table_pair.specs.Changing.{IsCopyDue, IsChanging, IsCopyWith, ChangesCopy}
 use Rattle.table_pair.proofs.CopyLemmas.{slots_of, body_front}
 use Rattle.table_pair.proofs.WriteLemmas.{copy_weaker}
 
@@ -62,7 +62,7 @@ module _ (change : Change) (row : RowValue) (used : ℕ) where
       ];
     }
 
-    after_appending : (now : List ℕ) → IsAppending (slot_of change) old now → slots now ≡ slots old ++ slot_of change ∷ [] → IsCopyChanged row (used + 1) (copy_at now)
+    after_appending : (now : List ℕ) → IsAppending (slot_of change) old now → slots now ≡ slots old ++ slot_of change ∷ [] → IsCopyWith row (used + 1) (copy_at now)
     after_appending now is more = record {
       holds = open_as row (copy_at now) _ (with_slot now is.head more) (one_more (copy_at old) due range);
       slots_ = ap (λ (c : CopyView). length c.slots) (with_slot now is.head more) ∙ length-append (copy_at old).slots (slot_of change ∷ []) ∙ ap (λ (n : ℕ). n + 1) due.slots_;
@@ -77,10 +77,10 @@ module _ (change : Change) (row : RowValue) (used : ℕ) where
       pub append_moments : WritesCopy at (IsChanging row (copy_on s at)) s t
       append_moments = block_weaker at.unit at.block (IsAppending (slot_of change) (block_of s at)) (λ block. IsChanging row (copy_on s at) (copy_at block)) (within_appending (block_of s at) due range) s t as_spelled
 
-      pub append_done : used < 1984 → slots_on t at ≡ slots_on s at ++ slot ∷ [] → IsCopyChanged row (slots_after used) (copy_on t at)
+      pub append_done : used < 1984 → slots_on t at ≡ slots_on s at ++ slot ∷ [] → IsCopyWith row (slots_after used) (copy_on t at)
       append_done few more =
           let end = (ended_with (ChangesBlock at.unit at.block (IsAppending (slot_of change) (block_of s at)) (content s)) s t as_spelled).here in
-          subst (λ (n : ℕ). IsCopyChanged row n (copy_on t at)) (sym (cond-true (nat_lt used 1984) (used + 1) 0 (lt-ltb used 1984 few)))
+          subst (λ (n : ℕ). IsCopyWith row n (copy_on t at)) (sym (cond-true (nat_lt used 1984) (used + 1) 0 (lt-ltb used 1984 few)))
           (after_appending (block_of s at) due range (block_of t at) end (more ∙ ap (λ (bytes : List ℕ). slots_on s at ++ bytes ∷ []) spelled))
 
   -- so many slots are in use, and the copy may have some
@@ -107,9 +107,9 @@ module _ (row : RowValue) (bytes : List ℕ) (spelled : decode bytes ≡ Ok row)
   pub rewrite_moments : (at : BlockPlace) (s t : SiteLog) → WritesCopy at (IsRewriting bytes (copy_on s at)) s t → WritesCopy at (IsChanging row (copy_on s at)) s t
   rewrite_moments at s t w = copy_weaker at (IsRewriting bytes (copy_on s at)) (IsChanging row (copy_on s at)) (within_rewriting (copy_on s at)) s t w
 
-  pub rewrite_done : (used : ℕ) (old now : CopyView) → 1984 ≤ used → now ≡ filled bytes old → IsCopyChanged row (slots_after used) now
+  pub rewrite_done : (used : ℕ) (old now : CopyView) → 1984 ≤ used → now ≡ filled bytes old → IsCopyWith row (slots_after used) now
   rewrite_done used old now full is =
-      subst (λ (n : ℕ). IsCopyChanged row n now) (sym (cond-false (nat_lt used 1984) (used + 1) 0 (le-ltb used 1984 full)))
+      subst (λ (n : ℕ). IsCopyWith row n now) (sym (cond-false (nat_lt used 1984) (used + 1) 0 (le-ltb used 1984 full)))
       (record { holds = open_as row now (filled bytes old) is (open_filled row bytes old spelled); slots_ = ap (λ (c : CopyView). length c.slots) is })
 
 -- at a place that was told

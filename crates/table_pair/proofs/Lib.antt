@@ -8,6 +8,7 @@ pub mod StayLemmas
 pub mod ChangingLemmas
 pub mod ChangeLemmas
 pub mod CreateLemmas
+pub mod MigrateLemmas
 pub mod FollowLemmas
 pub mod RepairLemmas
 pub mod ReadLemmas

@@ -21,14 +21,14 @@ pub record IsChanging (row : RowValue) (old now : CopyView) : Type 0 where
   pub made : now.is_made ≡ old.is_made
   pub stage : (now ≡ old) ⊎ ((now.is_open ≡ false) ⊎ IsOpenWith row now)
 
--- a copy whose row was changed: it is open with the new one, and so many of its slots are in use
-pub record IsCopyChanged (row : RowValue) (used : ℕ) (c : CopyView) : Type 0 where
+-- a copy is open with this row, and so many of its slots are in use
+pub record IsCopyWith (row : RowValue) (used : ℕ) (c : CopyView) : Type 0 where
   pub holds : IsOpenWith row c
   pub slots_ : length c.slots ≡ used
 
 -- what a call that changes the row of a copy does: at Ok it is changed, and no write of it is loose
 pub record ChangesCopy {T E : Type 0} (row : RowValue) (used : ℕ) (at : BlockPlace) (old new : SiteLog) (result : Result T E) : Type 0 where
   pub moments : WritesCopy at (IsChanging row (copy_on old at)) old new
-  pub done : OnOk result (IsCopyChanged row used (copy_on new at))
+  pub done : OnOk result (IsCopyWith row used (copy_on new at))
   pub firm : OnOk result (Settles old new)
   pub grown : OnOk result (length old.log < length new.log)

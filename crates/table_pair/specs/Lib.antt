@@ -6,3 +6,4 @@ pub mod Repairs
 pub mod Slots
 pub mod Changing
 pub mod Creating
+pub mod Migrating

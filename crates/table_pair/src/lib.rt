@@ -2,10 +2,10 @@
 //!
 //! Block v of the table's copy A and block v of its copy B each have a gate, the row's body, a made mark, and slots, which
 //! change the row of the body. A change appends a slot to each copy; where a copy has none free, it is rewritten with the
-//! new row and without slots. How many are in use is told to each call, and told by it (`SlotsUsed`).
+//! new row and without slots. Bodies of version 1 are written anew by `migrate`. How many are in use is told to each call, and told by it (`SlotsUsed`).
 //! `specs/Pair.antt` says which row two copies tell, also where one of them can't be read, and what holds at each
 //! moment of a change; `specs/Slots.antt` says what a change leaves, and how many slots are in use then. The layers above
-//! rely on `read_row`, `change_row`, `create_row` and `repair`, over every site, on `law`, and on the lemmas of
+//! rely on `read_row`, `change_row`, `create_row`, `repair` and `migrate`, over every site, on `law`, and on the lemmas of
 //! `proofs/PairFacts.antt` and `proofs/SiteLemmas.antt`.
 #![tactic(auto)]
 
@@ -13,6 +13,7 @@ mod change;
 mod copy;
 mod create;
 pub mod law;
+mod migrations;
 mod read;
 mod repairs;
 mod write;
@@ -22,5 +23,6 @@ pub use copy::{
     CopyState, RepairFault, RowRead, RowTrouble, SlotsUsed, SlotsUsedList, TableCopy, place_of,
 };
 pub use create::create_row;
+pub use migrations::migrate;
 pub use read::{by_table, copy_state, read_row};
 pub use repairs::repair;

@@ -1,5 +1,5 @@
 -- Looking for the first fault, as a loop does, and what a body without a fault spells.
-use Rattle.std.proofs.Common.{◌≡◌, ℕ, zero, suc, ◌+◌, ◌/◌, ◌≤◌, ◌<◌, inl, inr, Bool, true, false, nat_lt, ◌==◌, List, [], ◌∷◌, length, get_or, drop, map, Option, Some, None, refl, sym, ◌∙◌, ap, subst, arith, add-one, add-zero, zero-add, length-drop}
+use Rattle.std.proofs.Common.{◌≡◌, ℕ, zero, suc, ◌+◌, ◌/◌, ◌≤◌, ◌<◌, inl, inr, Bool, true, false, ◌||◌, nat_lt, ◌==◌, List, [], ◌∷◌, length, get_or, drop, map, Option, Some, None, refl, sym, ◌∙◌, ap, subst, arith, add-one, add-zero, zero-add, length-drop}
 use Rattle.std.specs.Prelude.{IfSome, IsSome, is_some, slice_index}
 use Rattle.std.proofs.Math.Seq.{drop-cons}
 use Rattle.std.proofs.lemmas.List.{nil_from_length, length-take, length-map, get_or-map, get_or_past}
@@ -9,7 +9,7 @@ use Rattle.volume_table.specs.Row.{IsRow, frame_of}
 use Rattle.volume_table.specs.declared.fault.RowField.{RowField}
 use Rattle.volume_table.specs.declared.fault.RowField.TheVariants as field
 use Rattle.volume_table.specs.declared.fault.RowFault.{RowFault}
-use Rattle.volume_table.specs.Grammar.{◌then◌, first_in, first_fault, unless, row_at, page_of, two_at, serial_part, pages_part, states_part, spares_part, serial_fault, cartridge_fault, page_fault, is_state, state_fault, spare_fault, is_page_byte}
+use Rattle.volume_table.specs.Grammar.{◌then◌, first_in, first_fault, unless, row_at, page_of, two_at, serial_part, pages_part, states_part, spares_part, serial_fault, cartridge_fault, page_fault, is_state, state_fault, spare_fault, version_fault, mark_fault, is_old, is_page_byte}
 use Rattle.volume_table.proofs.StateLemmas.{state_passed}
 
 module _ (fault : ℕ → ℕ → Option RowFault) (n i : ℕ) (bytes : List ℕ) (total : Option RowFault) (so_far : total ≡ first_in fault n (drop i bytes)) where
@@ -86,8 +86,10 @@ module _ (body : List ℕ) (long : length body ≡ 510) (good : first_fault body
   abbrev states : List ℕ
   states = states_part body
 
-  parts : EachNone (unless (slice_index body 0 == 1) field.Version (slice_index body 0)) (first_in serial_fault 0 (serial_part body)) (cartridge_fault field.First (two_at 7 body))
-      (cartridge_fault field.Second (two_at 9 body)) (first_in page_fault 0 pages) (spare_fault 0 (slice_index body 62)) (first_in (state_fault pages) 0 states) (first_in spare_fault 1 (spares_part body))
+  parts : EachNone (version_fault (slice_index body 0)) (first_in serial_fault 0 (serial_part body))
+      (cartridge_fault field.First (two_at 7 body)) (cartridge_fault field.Second (two_at 9 body))
+      (first_in page_fault 0 pages) (mark_fault (is_old body) (slice_index body 62))
+      (first_in (state_fault pages) 0 states) (first_in spare_fault 1 (spares_part body))
   unfolding first_fault
   parts = each_none _ _ _ _ _ _ _ _ good
 
@@ -103,11 +105,17 @@ module _ (body : List ℕ) (long : length body ≡ 510) (good : first_fault body
   pub second_good : two_at 9 body < 2048
   second_good = ltb-true _ _ (unless_none _ field.Second _ parts.3)
 
-  pub version_is : slice_index body 0 ≡ 1
-  version_is = eqb-true _ _ (unless_none _ field.Version _ parts.0)
+  -- of a body that isn't of version 1
+  pub version_is : is_old body ≡ false → slice_index body 0 ≡ 2
+  version_is new =
+      let known : (is_old body || (slice_index body 0 == 2)) ≡ true = unless_none _ field.Version _ parts.0 in
+      eqb-true _ _ (sym (ap (λ (t : Bool). t || (slice_index body 0 == 2)) new) ∙ known)
 
-  pub spare_is : slice_index body 62 ≡ 0
-  spare_is = eqb-true _ _ (unless_none _ (field.Spare 0) _ parts.5)
+  pub mark_good : is_old body ≡ false → slice_index body 62 < 2
+  mark_good new =
+      let none : mark_fault false (slice_index body 62) ≡ None =
+      subst (λ (t : Bool). mark_fault t (slice_index body 62) ≡ None) new parts.5 in
+      ltb-true _ _ (unless_none _ field.Mark _ none)
 
   pub page_each : (k : ℕ) → k < length pages → is_page_byte (get_or pages k 0) ≡ true
   page_each k lt = unless_none _ (field.Page (0 + k)) _ (first_none page_fault 0 pages parts.4 k lt)

@@ -1,13 +1,13 @@
 -- A row after an allowed change is a row.
-use Rattle.std.proofs.Common.{◌≡◌, ◌≢◌, ℕ, ◌+◌, ◌*◌, ◌/◌, ◌≤◌, ◌<◌, min, inl, inr, true, false, cond, ◌==◌, List, length, get_or, set, replicate, Option, Some, None, refl, sym, ◌∙◌, ap, subst, arith, zero-add}
+use Rattle.std.proofs.Common.{◌≡◌, ◌≢◌, ℕ, ◌+◌, ◌*◌, ◌/◌, ◌≤◌, ◌<◌, min, inl, inr, Bool, true, false, cond, ◌==◌, List, length, get_or, set, replicate, Option, Some, None, refl, sym, ◌∙◌, ap, subst, arith, zero-add}
 use Rattle.std.specs.Prelude.{IfSome, IsSome}
 use Rattle.std.proofs.lemmas.List.{ext_get_or, length-set, get_or-set_same, get_or-set_other, get_or_past, get_or-replicate, length-replicate, set_past}
 use Rattle.std.proofs.lemmas.Bool.{cases_Bool, cases_lt, eqb-true, eq-eqb, cond_both, cond-true, cond-false, false≢true}
 use Rattle.mss_base.specs.Serial.{IsSerial}
 use Rattle.volume_table.specs.Row.{RowValue, frame_of, state_of, blank_row, IsRow}
-use Rattle.volume_table.specs.Changes.{IsAllowed, IsInRange, effect, unstaged, unstaged_page, with_frame, with_state, without_frame}
+use Rattle.volume_table.specs.Changes.{IsAllowed, IsInRange, effect, unstaged, unstaged_page, with_frame, with_mark, with_state, without_frame}
 use Rattle.volume_table.specs.declared.changes.Change.{Change}
-use Rattle.volume_table.specs.declared.changes.Change.TheVariants.{Create, Assign, Free, Staged, Changed, Destaged}
+use Rattle.volume_table.specs.declared.changes.Change.TheVariants.{Create, Assign, Free, Staged, Changed, Destaged, Protect}
 use Rattle.volume_table.proofs.StateLemmas.{unstaged_small}
 use Rattle.volume_table.proofs.RowFacts.{taken, get_or-map_numbered, length-map_numbered, frame-with_frame, frame-without_frame, state-without_frame, state-with_state}
 
@@ -111,6 +111,19 @@ cylinder_inside cylinder r row some = elim (cases_lt cylinder 404) [
   | inr past ↦ absurd (let none : state_of r cylinder ≡ 0 = get_or_past r.states cylinder 0 (omega (arith, row.states)) in omega arith)
 ]
 
+-- a mark is no matter of the other fields
+row-with_mark : (on : Bool) (r : RowValue) → IsRow r → IsRow (with_mark on r)
+row-with_mark on r row = record {
+  serial = row.serial;
+  first = row.first;
+  second = row.second;
+  pages = row.pages;
+  frames = row.frames;
+  states = row.states;
+  numbers = row.numbers;
+  staged = row.staged;
+}
+
 -- whatever change is allowed
 pub row-changed : (change : Change) (r : RowValue) → IsRow r → IsAllowed change r → IsInRange change → IsRow (effect change r)
 row-changed (Create serial first second) r row allowed range = absurd allowed
@@ -122,6 +135,7 @@ row-changed (Changed cylinder) r row allowed range =
     row-with_state cylinder 4 r row (cylinder_inside cylinder r row (omega arith)) (omega arith) (λ _. row.staged cylinder high)
 row-changed (Destaged cylinder) r row allowed range =
     row-with_state cylinder 3 r row (cylinder_inside cylinder r row (omega arith)) (omega arith) (λ _. row.staged cylinder (omega arith))
+row-changed (Protect on) r row allowed range = row-with_mark on r row
 
 -- a loop over the page's cylinders, whose lists are `old` at first and `now` before this step
 module _ (page n : ℕ) (old now : List ℕ) (state : ℕ) (inside : n < length now) (from : 8 * page ≤ n) (is : state ≡ unstaged (get_or now n 0)) where

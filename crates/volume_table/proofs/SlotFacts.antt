@@ -1,7 +1,7 @@
 -- What slots tell: that a change is read back from its slot, that one slot more is one change more, and that what a body
 -- and its slots tell is a row.
 use Rattle.std.proofs.Common.{◌≡◌, ◌≢◌, ◌↔◌, ℕ, zero, suc, ◌+◌, ◌*◌, ◌/◌, ◌%◌, ◌<◌, ◌==◌, inl, inr, Bool, true, false, ◌&&◌, nat_lt, cond, List, [], ◌∷◌, ◌++◌, length, get_or, Option, Some, None, Result, Ok, Err, refl, sym, ◌∙◌, ap, subst, arith, zero-add}
-use Rattle.std.specs.Prelude.{is_some, is_none}
+use Rattle.std.specs.Prelude.{is_some, is_none, not}
 use Rattle.std.specs.Option.{option_and_then}
 use Rattle.std.proofs.lemmas.List.{get_or_past}
 use Rattle.std.proofs.lemmas.Option.{option_and_then_some}
@@ -11,7 +11,7 @@ use Rattle.volume_table.specs.Changes.{IsAllowed, IsInRange, effect}
 use Rattle.volume_table.specs.Grammar.{decode}
 use Rattle.volume_table.specs.declared.fault.RowFault.{RowFault}
 use Rattle.volume_table.specs.declared.changes.Change.{Change}
-use Rattle.volume_table.specs.declared.changes.Change.TheVariants.{Create, Assign, Free, Staged, Changed, Destaged}
+use Rattle.volume_table.specs.declared.changes.Change.TheVariants.{Create, Assign, Free, Staged, Changed, Destaged, Protect}
 use Rattle.volume_table.specs.Slots.{slot_of, assignment, cylinder_change, frameless_change, change_by, change_of, each_passes, is_other_frame, may_lose_frame, allows, allowed_effect, after_slot, goes_on, changed_by, with_slots, told_by}
 use Rattle.volume_table.proofs.RowLemmas.{row-changed}
 use Rattle.volume_table.proofs.OneSpelling.{decoded_row}
@@ -56,6 +56,18 @@ lost_so page cylinder state ne = elim (cases_Bool (cylinder / 8 == page && state
   | inr neither ↦ cond-false (cylinder / 8 == page && state == 4) false true neither
 ]
 
+mark_is : (mark on : Bool) → cond on (not mark) mark ≡ true → mark ≢ on
+mark_is true true is = absurd cc
+mark_is true false is = λ e. absurd cc
+mark_is false true is = λ e. absurd cc
+mark_is false false is = absurd cc
+
+mark_so : (mark on : Bool) → mark ≢ on → cond on (not mark) mark ≡ true
+mark_so true true ne = absurd (ne refl)
+mark_so true false ne = refl
+mark_so false true ne = refl
+mark_so false false ne = absurd (ne refl)
+
 allowed_is : (c : Change) (r : RowValue) → allows c r ≡ true → IsAllowed c r
 allowed_is (Create serial first second) r is = absurd cc
 allowed_is (Assign page frame) r is =
@@ -82,6 +94,7 @@ allowed_is (Changed cylinder) r is = elim (or_cases (state_of r cylinder == 2) (
   | inr three ↦ inr (eqb-true (state_of r cylinder) 3 three)
 ]
 allowed_is (Destaged cylinder) r is = eqb-true (state_of r cylinder) 4 is
+allowed_is (Protect on) r is = mark_is r.read_only on is
 
 allowed_so : (c : Change) (r : RowValue) → IsAllowed c r → allows c r ≡ true
 allowed_so (Create serial first second) r is = absurd is
@@ -97,6 +110,7 @@ allowed_so (Changed cylinder) r is = elim is [
   | inr three ↦ or_right (state_of r cylinder == 2) (state_of r cylinder == 3) (eq-eqb (state_of r cylinder) 3 three)
 ]
 allowed_so (Destaged cylinder) r is = eq-eqb (state_of r cylinder) 4 is
+allowed_so (Protect on) r is = mark_so r.read_only on is
 
 -- the test is the fact, of any lists
 pub allows_is : (c : Change) (r : RowValue) → (allows c r ≡ true) ↔ IsAllowed c r
@@ -113,6 +127,10 @@ same_test c r false is = elim (cases_Bool (allows c r)) [
 two_again : (n : ℕ) → 256 * (n / 256) + n % 256 ≡ n
 two_again n = omega arith
 
+mark_slot_back : (on : Bool) → change_of (slot_of (Protect on)) ≡ Some (Protect on)
+mark_slot_back true = refl
+mark_slot_back false = refl
+
 -- a change is read back from its slot
 pub slot_back : (c : Change) (r : RowValue) → IsAllowed c r → IsInRange c → change_of (slot_of c) ≡ Some c
 slot_back (Create serial first second) r allowed range = absurd allowed
@@ -126,6 +144,7 @@ slot_back (Changed cylinder) r allowed range =
     ap (λ (n : ℕ). frameless_change 4 n) (two_again cylinder) ∙ cond-true (nat_lt cylinder 404) (Some (Changed cylinder)) None (lt-ltb cylinder 404 range)
 slot_back (Destaged cylinder) r allowed range =
     ap (λ (n : ℕ). frameless_change 5 n) (two_again cylinder) ∙ cond-true (nat_lt cylinder 404) (Some (Destaged cylinder)) None (lt-ltb cylinder 404 range)
+slot_back (Protect on) r allowed range = mark_slot_back on
 
 some_when : {A : Type 0} (b : Bool) (x y : A) → cond b (Some x) None ≡ Some y → (b ≡ true) × (x ≡ y)
 some_when true x y is = (refl, cc)
@@ -152,7 +171,9 @@ frameless_in_range : (kind number : ℕ) (c : Change) → frameless_change kind 
 frameless_in_range kind number c is =
     either (IsInRange c) (kind == 2) _ _ c is
     (λ free. let p = passes_when (nat_lt number 51) (Some (Free number)) c free in only (Free number) c p.1 (ltb-true number 51 p.0))
-    (λ other. let p = passes_when (nat_lt number 404) (cylinder_change kind number) c other in cylinder_in_range kind number c (ltb-true number 404 p.0) p.1)
+    (λ other. either (IsInRange c) (kind == 6) _ _ c other
+    (λ mark. let p = passes_when (nat_lt number 2) (Some (Protect (number == 1))) c mark in only (Protect (number == 1)) c p.1 tt)
+    (λ rest. let p = passes_when (nat_lt number 404) (cylinder_change kind number) c rest in cylinder_in_range kind number c (ltb-true number 404 p.0) p.1))
 
 assignment_in_range : (page frame : ℕ) (c : Change) → assignment page frame ≡ Some c → IsInRange c
 assignment_in_range page frame c is =
@@ -236,3 +257,4 @@ length-slot_of (Free page) = refl
 length-slot_of (Staged cylinder) = refl
 length-slot_of (Changed cylinder) = refl
 length-slot_of (Destaged cylinder) = refl
+length-slot_of (Protect on) = refl

@@ -1,10 +1,10 @@
 -- When a row may change, and what it is then.
-use Rattle.std.specs.Prelude.{◌≡◌, ◌≢◌, ◌⊎◌, ℕ, suc, ◌+◌, ◌<◌, ◌/◌, ◌==◌, if◌then◌else◌, List, [], ◌∷◌, slice_set, Some, None, IsSome}
+use Rattle.std.specs.Prelude.{◌≡◌, ◌≢◌, ◌⊎◌, ℕ, Bool, suc, ◌+◌, ◌<◌, ◌/◌, ◌==◌, if◌then◌else◌, List, [], ◌∷◌, slice_set, Some, None, IsSome}
 use Rattle.volume_table.specs.Row.{RowValue, frame_of, state_of, blank_row}
 use Rattle.mss_base.specs.declared.numbers.TheConstants.{CYLINDERS}
 use Rattle.volume_table.specs.declared.layout.TheConstants.{PAGES}
 use Rattle.volume_table.specs.declared.changes.Change.{Change}
-use Rattle.volume_table.specs.declared.changes.Change.TheVariants.{Create, Assign, Free, Staged, Changed, Destaged}
+use Rattle.volume_table.specs.declared.changes.Change.TheVariants.{Create, Assign, Free, Staged, Changed, Destaged, Protect}
 
 -- within the row: that no other volume has the frame, or a new volume's cartridges, is a matter of all rows
 abbrev pub IsAllowed : Change → RowValue → Type 0
@@ -14,6 +14,7 @@ IsAllowed (Free page) r = IsSome (frame_of r page) × ((cylinder : ℕ) → cyli
 IsAllowed (Staged cylinder) r = (state_of r cylinder < 2) × IsSome (frame_of r (cylinder / 8))
 IsAllowed (Changed cylinder) r = (state_of r cylinder ≡ 2) ⊎ (state_of r cylinder ≡ 3)
 IsAllowed (Destaged cylinder) r = state_of r cylinder ≡ 4
+IsAllowed (Protect on) r = r.read_only ≢ on
 
 -- a page is one of the 51, a frame one of the 200, a cylinder one of the 404
 abbrev pub IsInRange : Change → Type 0
@@ -23,6 +24,10 @@ IsInRange (Free page) = page < PAGES
 IsInRange (Staged cylinder) = cylinder < CYLINDERS
 IsInRange (Changed cylinder) = cylinder < CYLINDERS
 IsInRange (Destaged cylinder) = cylinder < CYLINDERS
+IsInRange (Protect on) = Unit {0}
+
+abbrev pub with_mark : Bool → RowValue → RowValue
+with_mark on r = record r { read_only = on }
 
 abbrev pub with_frame : ℕ → ℕ → RowValue → RowValue
 with_frame page frame r = record r { pages = slice_set r.pages page (Some frame) }
@@ -54,3 +59,4 @@ effect (Free page) r = without_frame page r
 effect (Staged cylinder) r = with_state cylinder (state_of r cylinder + 2) r
 effect (Changed cylinder) r = with_state cylinder 4 r
 effect (Destaged cylinder) r = with_state cylinder 3 r
+effect (Protect on) r = with_mark on r

@@ -1,12 +1,13 @@
 -- How a row is spelled, and the first field that spells none.
 --
 -- A row's block begins with its gate (byte 0), its body (bytes 1 to 510) and its made mark (byte 511). The body has one
--- byte of version, six of the serial, two for each cartridge, one for each page, a zero, one for each cylinder, and 43
--- zeros. Places here count from the first byte of the body.
+-- byte of version, six of the serial, two for each cartridge, one for each page, the mark of a read-only volume, one for
+-- each cylinder, and 43 zeros. Version 1, which is read as well, has a zero in the place of the mark. Places here count
+-- from the first byte of the body.
 use Rattle.std.specs.Prelude.{◌≡◌, ℕ, suc, ◌+◌, ◌*◌, ◌/◌, ◌%◌, ◌==◌, nat_lt, Bool, true, false, ◌&&◌, ◌||◌, if◌then◌else◌, List, [], ◌∷◌, ◌++◌, take, drop, map, replicate, slice_index, Option, Some, None, Result, Ok, Err}
 use Rattle.mss_base.specs.Serial.{is_serial_byte}
 use Rattle.volume_table.specs.Row.{RowValue}
-use Rattle.volume_table.specs.declared.layout.TheConstants.{BODY, BODY_BYTES, VERSION_AT, SERIAL_AT, FIRST_AT, SECOND_AT, PAGES_AT, SPARE_AT, STATES_AT, SPARES_AT, VERSION, PAGES, STATES, SPARES}
+use Rattle.volume_table.specs.declared.layout.TheConstants.{BODY, BODY_BYTES, VERSION_AT, SERIAL_AT, FIRST_AT, SECOND_AT, PAGES_AT, MARK_AT, STATES_AT, SPARES_AT, VERSION, OLD_VERSION, PAGES, STATES, SPARES}
 use Rattle.volume_table.specs.declared.fault.RowField.{RowField}
 use Rattle.volume_table.specs.declared.fault.RowField.TheVariants as field
 use Rattle.volume_table.specs.declared.fault.RowFault.{RowFault}
@@ -29,9 +30,16 @@ page_byte (Some frame) = frame
 abbrev pub page_of : ℕ → Option ℕ
 page_of byte = if nat_lt byte 200 then Some byte else None
 
+-- the mark of a volume that is read-only, or isn't
+abbrev pub mark_byte : Bool → ℕ
+mark_byte true = 1
+mark_byte false = 0
+
 -- how a row is spelled
 unfoldable pub spelling : RowValue → List ℕ
-spelling r = VERSION ∷ r.serial ++ (two r.first ++ (two r.second ++ (map page_byte r.pages ++ (0 ∷ r.states ++ replicate SPARES 0))))
+spelling r =
+    VERSION ∷ r.serial ++ (two r.first ++ (two r.second ++ (map page_byte r.pages
+    ++ (mark_byte r.read_only ∷ r.states ++ replicate SPARES 0))))
 
 -- the parts of a body
 abbrev pub serial_part : List ℕ → List ℕ
@@ -49,10 +57,15 @@ states_part body = take STATES (drop STATES_AT body)
 abbrev pub spares_part : List ℕ → List ℕ
 spares_part body = take SPARES (drop SPARES_AT body)
 
+-- whether a body is of version 1
+abbrev pub is_old : List ℕ → Bool
+is_old body = slice_index body VERSION_AT == OLD_VERSION
+
 -- the row of a body, if it spells one
 abbrev pub row_at : List ℕ → RowValue
 row_at body = record {
   serial = serial_part body;
+  read_only = slice_index body MARK_AT == 1;
   first = two_at FIRST_AT body;
   second = two_at SECOND_AT body;
   pages = map page_of (pages_part body);
@@ -90,6 +103,14 @@ page_fault page b = unless (is_page_byte b) (field.Page page) b
 abbrev pub spare_fault : ℕ → ℕ → Option RowFault
 spare_fault number b = unless (b == 0) (field.Spare number) b
 
+abbrev pub version_fault : ℕ → Option RowFault
+version_fault b = unless (b == OLD_VERSION || (b == VERSION)) field.Version b
+
+-- the byte in front of the states, which is the mark from version 2 on
+abbrev pub mark_fault : Bool → ℕ → Option RowFault
+mark_fault true b = spare_fault 0 b
+mark_fault false b = unless (nat_lt b 2) field.Mark b
+
 -- a state that a cylinder may have, whose page has a frame or has none
 abbrev pub is_state : Bool → ℕ → Bool
 is_state has_frame b = nat_lt b 2 || (nat_lt b 5 && has_frame)
@@ -101,12 +122,12 @@ state_fault pages cylinder b = unless (is_state (nat_lt (slice_index pages (cyli
 -- the first field of a body that no row has so, in order of places
 unfoldable pub first_fault : List ℕ → Option RowFault
 first_fault body =
-    unless (slice_index body VERSION_AT == VERSION) field.Version (slice_index body VERSION_AT)
+    version_fault (slice_index body VERSION_AT)
     then first_in serial_fault 0 (serial_part body)
     then cartridge_fault field.First (two_at FIRST_AT body)
     then cartridge_fault field.Second (two_at SECOND_AT body)
     then first_in page_fault 0 (pages_part body)
-    then spare_fault 0 (slice_index body SPARE_AT)
+    then mark_fault (is_old body) (slice_index body MARK_AT)
     then first_in (state_fault (pages_part body)) 0 (states_part body)
     then first_in spare_fault 1 (spares_part body)
 

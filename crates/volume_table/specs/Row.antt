@@ -1,12 +1,13 @@
 -- What a row says of a volume.
-use Rattle.std.specs.Prelude.{◌≡◌, ℕ, ◌<◌, ◌≤◌, ◌/◌, List, length, replicate, slice_index, slice_index_or, Option, None, IfSome, IsSome, nat_lt, if◌then◌else◌}
+use Rattle.std.specs.Prelude.{◌≡◌, ℕ, Bool, false, ◌<◌, ◌≤◌, ◌/◌, List, length, replicate, slice_index, slice_index_or, Option, None, IfSome, IsSome, nat_lt, if◌then◌else◌}
 use Rattle.mss_base.specs.Serial.{IsSerial}
 use Rattle.mss_base.specs.declared.numbers.TheConstants.{CYLINDERS}
 use Rattle.volume_table.specs.declared.layout.TheConstants.{PAGES}
 
--- the serial, the two cartridges, the frame of each page, the state of each cylinder
+-- the serial, whether it is read-only, the two cartridges, the frame of each page, the state of each cylinder
 pub record RowValue : Type 0 where
   pub serial : List ℕ
+  pub read_only : Bool
   pub first : ℕ
   pub second : ℕ
   pub pages : List (Option ℕ)
@@ -36,4 +37,11 @@ pub record IsRow (r : RowValue) : Type 0 where
 
 -- the row of a new volume
 abbrev pub blank_row : List ℕ → ℕ → ℕ → RowValue
-blank_row serial first second = record { serial = serial; first = first; second = second; pages = replicate PAGES None; states = replicate CYLINDERS 0 }
+blank_row serial first second = record {
+  serial = serial;
+  read_only = false;
+  first = first;
+  second = second;
+  pages = replicate PAGES None;
+  states = replicate CYLINDERS 0;
+}

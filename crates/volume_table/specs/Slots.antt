@@ -1,21 +1,21 @@
 -- A change as the seven bytes of a slot, and the row of a body and the slots behind it.
 --
 -- A slot has eight bytes: a gate, a kind (1 a page gets a frame, 2 it gives it back, 3 a cylinder is staged, 4 changed, 5
--- destaged), two bytes for the page or the cylinder, one for the frame, and three zeros. A new volume's row is a body
--- without slots, so that no slot creates one.
-use Rattle.std.specs.Prelude.{ℕ, zero, suc, ◌*◌, ◌/◌, ◌==◌, nat_lt, Bool, true, false, ◌&&◌, ◌||◌, if◌then◌else◌, List, [], ◌∷◌, ◌++◌, take, drop, slice_index, Option, Some, None, is_some, is_none, Result, Ok, Err}
+-- destaged, 6 a volume becomes read-only or is no longer), two bytes for the page, the cylinder or the mark, one for the
+-- frame, and three zeros. A new volume's row is a body without slots, so that no slot creates one.
+use Rattle.std.specs.Prelude.{ℕ, zero, suc, ◌*◌, ◌/◌, ◌==◌, nat_lt, Bool, true, false, not, ◌&&◌, ◌||◌, if◌then◌else◌, List, [], ◌∷◌, ◌++◌, take, drop, slice_index, Option, Some, None, is_some, is_none, Result, Ok, Err}
 use Rattle.std.specs.Option.{option_and_then}
 use Rattle.mss_base.specs.declared.numbers.TheConstants.{CYLINDERS}
 use Rattle.volume_table.specs.Row.{RowValue, frame_of, state_of}
 use Rattle.volume_table.specs.Changes.{effect}
-use Rattle.volume_table.specs.Grammar.{two, two_at, decode}
+use Rattle.volume_table.specs.Grammar.{two, two_at, mark_byte, decode}
 use Rattle.volume_table.specs.declared.layout.TheConstants.{PAGES, SLOT_BYTES, CHANGE_BYTES}
 use Rattle.volume_table.specs.declared.fault.RowField.TheVariants as field
 use Rattle.volume_table.specs.declared.fault.RowFault.{RowFault}
 use Rattle.volume_table.specs.declared.changes.Change.{Change}
-use Rattle.volume_table.specs.declared.changes.Change.TheVariants.{Create, Assign, Free, Staged, Changed, Destaged}
+use Rattle.volume_table.specs.declared.changes.Change.TheVariants.{Create, Assign, Free, Staged, Changed, Destaged, Protect}
 
--- the bytes of a kind, of the number of a page or a cylinder, and of a frame
+-- the bytes of a kind, of the number of a page or a cylinder or of a mark, and of a frame
 abbrev pub spelled_slot : ℕ → ℕ → ℕ → List ℕ
 spelled_slot kind number frame = kind ∷ two number ++ frame ∷ 0 ∷ 0 ∷ 0 ∷ []
 
@@ -27,6 +27,7 @@ slot_of (Free page) = spelled_slot 2 page 0
 slot_of (Staged cylinder) = spelled_slot 3 cylinder 0
 slot_of (Changed cylinder) = spelled_slot 4 cylinder 0
 slot_of (Destaged cylinder) = spelled_slot 5 cylinder 0
+slot_of (Protect on) = spelled_slot 6 (mark_byte on) 0
 
 -- a number that is one of so many
 abbrev pub number_below : ℕ → ℕ → Option ℕ
@@ -42,11 +43,16 @@ cylinder_change kind cylinder =
     if kind == 3 then Some (Staged cylinder)
     else (if kind == 4 then Some (Changed cylinder) else (if kind == 5 then Some (Destaged cylinder) else None))
 
+-- a mark that is set or taken off
+abbrev pub mark_change : ℕ → Option Change
+mark_change number = if nat_lt number 2 then Some (Protect (number == 1)) else None
+
 -- the change of a kind without a frame
 abbrev pub frameless_change : ℕ → ℕ → Option Change
 frameless_change kind number =
     if kind == 2 then (if nat_lt number PAGES then Some (Free number) else None)
-    else (if nat_lt number CYLINDERS then cylinder_change kind number else None)
+    else (if kind == 6 then mark_change number
+    else (if nat_lt number CYLINDERS then cylinder_change kind number else None))
 
 -- the change of a kind, a number and a frame, if there is one
 abbrev pub change_by : ℕ → ℕ → ℕ → Option Change
@@ -81,6 +87,7 @@ allows (Free page) r = is_some (frame_of r page) && each_passes (may_lose_frame 
 allows (Staged cylinder) r = nat_lt (state_of r cylinder) 2 && is_some (frame_of r (cylinder / 8))
 allows (Changed cylinder) r = (state_of r cylinder == 2) || (state_of r cylinder == 3)
 allows (Destaged cylinder) r = state_of r cylinder == 4
+allows (Protect on) r = if on then not r.read_only else r.read_only
 
 -- the row after a change, if it is allowed
 abbrev pub allowed_effect : RowValue → Change → Option RowValue

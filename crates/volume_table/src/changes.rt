@@ -41,6 +41,10 @@ pub enum Change {
     Destaged {
         cylinder: Cylinder,
     },
+    /// A volume becomes read-only, or is no longer.
+    Protect {
+        on: bool,
+    },
 }
 
 fn is_without_page(row: &VolumeRow, frame: FrameNo) -> bool
@@ -88,6 +92,7 @@ fn may_change(row: &VolumeRow, change: &Change) -> bool
             CylinderState::StagedBlank | CylinderState::Staged
         ),
         Change::Destaged { cylinder } => row.state(*cylinder) == CylinderState::Changed,
+        Change::Protect { on } => row.read_only != *on,
     }
 }
 
@@ -170,5 +175,6 @@ pub fn apply(row: &mut VolumeRow, change: &Change)
         }
         Change::Changed { cylinder } => put_state(row, *cylinder, CylinderState::Changed),
         Change::Destaged { cylinder } => put_state(row, *cylinder, CylinderState::Staged),
+        Change::Protect { on } => row.read_only = *on,
     }
 }

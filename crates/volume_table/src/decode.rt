@@ -1,12 +1,12 @@
 // Reading a row.
 ghost use Rattle.std.specs.Prelude.{◌≡◌, ◌≤◌, ◌<◌, ℕ, ◌*◌, ◌+◌, ◌||◌, ◌==◌, nat_lt, None, length, map, IfOk, slice_index};
 ghost use Rattle.volume_table.specs.Grammar.{◌then◌, pages_part, states_part, spares_part};
-ghost use Rattle.volume_table.specs.Grammar.{body, decode, row_at, first_fault, first_in, unless, two_at, cartridge_fault, serial_fault, is_page_byte, page_fault, is_state, state_fault, spare_fault, Finds, Gives};
+ghost use Rattle.volume_table.specs.Grammar.{body, decode, row_at, first_fault, first_in, unless, two_at, cartridge_fault, serial_fault, is_page_byte, page_fault, is_state, state_fault, spare_fault, mark_fault, is_old, Finds, Gives};
 
 use crate::fault::{DecodeFault, RowFault, RowField};
 use crate::layout::{
-    BODY, BODY_BYTES, BODY_END, FIRST_AT, PAGES, PAGES_AT, ROW_BYTES, SECOND_AT, SERIAL_AT,
-    SPARE_AT, SPARES, SPARES_AT, STATES, STATES_AT, VERSION, VERSION_AT,
+    BODY, BODY_BYTES, BODY_END, FIRST_AT, MARK_AT, OLD_VERSION, PAGES, PAGES_AT, ROW_BYTES,
+    SECOND_AT, SERIAL_AT, SPARES, SPARES_AT, STATES, STATES_AT, VERSION, VERSION_AT,
 };
 use crate::lists::{pages_of, states_of};
 use crate::row::VolumeRow;
@@ -93,18 +93,27 @@ fn two_at(body: &[u8], place: usize) -> u16
     u16::from_be_bytes([body[place], body[place + 1]])
 }
 
+fn check_mark(is_old: bool, mark: u8) -> Result<(), RowFault>
+    ensures { Finds result (mark_fault is_old mark) }
+{
+    if is_old {
+        check(mark == 0, RowField::Spare(0), mark as u16)
+    } else {
+        check(mark < 2, RowField::Mark, mark as u16)
+    }
+}
+
 /// Looks for the first field from the pages on that no row has so.
 fn check_places(body: &[u8]) -> Result<(), RowFault>
     requires { length body.now ≡ BODY_BYTES }
     ensures { Finds result (first_in page_fault 0 (pages_part body.now)
-        then spare_fault 0 (slice_index body.now SPARE_AT)
+        then mark_fault (is_old body.now) (slice_index body.now MARK_AT)
         then first_in (state_fault (pages_part body.now)) 0 (states_part body.now)
         then first_in spare_fault 1 (spares_part body.now)) }
 {
-    let spare = body[SPARE_AT];
-    check_pages(&body[PAGES_AT..SPARE_AT])?;
-    check(spare == 0, RowField::Spare(0), spare as u16)?;
-    check_states(&body[PAGES_AT..SPARE_AT], &body[STATES_AT..SPARES_AT])?;
+    check_pages(&body[PAGES_AT..MARK_AT])?;
+    check_mark(body[VERSION_AT] == OLD_VERSION, body[MARK_AT])?;
+    check_states(&body[PAGES_AT..MARK_AT], &body[STATES_AT..SPARES_AT])?;
     check_spares(&body[SPARES_AT..BODY_BYTES])
 }
 
@@ -117,7 +126,8 @@ fn check_body(body: &[u8]) -> Result<(), RowFault>
     let version = body[VERSION_AT];
     let first = two_at(body, FIRST_AT);
     let second = two_at(body, SECOND_AT);
-    check(version == VERSION, RowField::Version, version as u16)?;
+    let is_known = version == OLD_VERSION || version == VERSION;
+    check(is_known, RowField::Version, version as u16)?;
     check_serial(&body[SERIAL_AT..FIRST_AT])?;
     check(first < 2048, RowField::First, first)?;
     check(second < 2048, RowField::Second, second)?;
@@ -130,13 +140,14 @@ fn row_of(alloc: Global, body: &[u8]) -> Result<VolumeRow, NoMemory>
     requires good { first_fault body.now ≡ None }
     ensures { IfOk result (λ row. row ≡ row_at body.now) }
 {
-    let pages = pages_of(alloc, &body[PAGES_AT..SPARE_AT])?;
+    let pages = pages_of(alloc, &body[PAGES_AT..MARK_AT])?;
     let states = states_of(alloc, &body[STATES_AT..SPARES_AT])?;
     let serial = Serial::of([body[1], body[2], body[3], body[4], body[5], body[6]]).unwrap();
     let first = CartridgeNo::of(two_at(body, FIRST_AT)).unwrap();
     let second = CartridgeNo::of(two_at(body, SECOND_AT)).unwrap();
     Ok(VolumeRow {
         serial,
+        read_only: body[MARK_AT] == 1,
         first,
         second,
         pages,
@@ -144,7 +155,15 @@ fn row_of(alloc: Global, body: &[u8]) -> Result<VolumeRow, NoMemory>
     })
 }
 
-/// Whether 512 bytes spell a row; else the first field, in order of places, that no row has so.
+/// Whether the body in the first 512 bytes is of version 1, which has no mark.
+pub fn is_old(bytes: &[u8]) -> bool
+    requires { ROW_BYTES ≤ length bytes.now }
+    ensures { result ≡ is_old (body bytes.now) }
+{
+    bytes[BODY + VERSION_AT] == OLD_VERSION
+}
+
+/// Whether 512 bytes spell a row, in version 1 or 2; else the first field, in order of places, that no row has so.
 ///
 /// The bytes 0 and 511 are not looked at. It takes no memory.
 pub fn check_row(bytes: &[u8]) -> Result<(), RowFault>
@@ -154,7 +173,7 @@ pub fn check_row(bytes: &[u8]) -> Result<(), RowFault>
     check_body(&bytes[BODY..BODY_END])
 }
 
-/// The row that 512 bytes spell, or the first field, in order of places, that no row has so.
+/// The row that 512 bytes spell, in version 1 or 2, or the first field, in order of places, that no row has so.
 ///
 /// The bytes 0 and 511 are not looked at. What was refused is known before memory is taken.
 pub fn decode_row(alloc: Global, bytes: &[u8]) -> Result<VolumeRow, DecodeFault>

@@ -2,10 +2,10 @@
 ghost use Rattle.std.specs.Prelude.{◌≡◌, ◌≤◌, ◌+◌, length, map, Ok};
 ghost use Rattle.mss_base.specs.Content.{splice};
 ghost use Rattle.volume_table.specs.States.{state_number};
-ghost use Rattle.volume_table.specs.Grammar.{spelling, page_byte, body, decode};
+ghost use Rattle.volume_table.specs.Grammar.{spelling, page_byte, mark_byte, body, decode};
 
 use crate::layout::{
-    BODY, FIRST_AT, PAGES_AT, ROW_BYTES, SECOND_AT, SERIAL_AT, SPARE_AT, SPARES, SPARES_AT,
+    BODY, FIRST_AT, MARK_AT, PAGES_AT, ROW_BYTES, SECOND_AT, SERIAL_AT, SPARES, SPARES_AT,
     STATES_AT, VERSION, VERSION_AT,
 };
 use crate::row::VolumeRow;
@@ -47,6 +47,13 @@ fn put_states(into: &mut [u8], at: usize, states: &[CylinderState])
     }
 }
 
+/// The mark of a volume that is read-only, or isn't.
+pub fn mark_byte(read_only: bool) -> u8
+    ensures { result ≡ mark_byte read_only }
+{
+    if read_only { 1 } else { 0 }
+}
+
 fn put_row(row: &VolumeRow, into: &mut [u8])
     requires { length into.old ≡ ROW_BYTES }
     ensures { into.new ≡ splice 1 (spelling row.now) into.old }
@@ -56,12 +63,12 @@ fn put_row(row: &VolumeRow, into: &mut [u8])
     put(into, BODY + FIRST_AT, &row.first.get().to_be_bytes());
     put(into, BODY + SECOND_AT, &row.second.get().to_be_bytes());
     put_pages(into, BODY + PAGES_AT, row.pages.as_slice());
-    put(into, BODY + SPARE_AT, &[0]);
+    put(into, BODY + MARK_AT, &[mark_byte(row.read_only)]);
     put_states(into, BODY + STATES_AT, row.states.as_slice());
     put(into, BODY + SPARES_AT, &[0; SPARES]);
 }
 
-/// Spells a row into 512 bytes, so that it is read back. The bytes 0 and 511 stay.
+/// Spells a row into 512 bytes, in version 2, so that it is read back. The bytes 0 and 511 stay.
 pub fn encode_row(row: &VolumeRow, into: &mut [u8])
     requires { length into.old ≡ ROW_BYTES }
     ensures bytes { into.new ≡ splice 1 (spelling row.now) into.old }

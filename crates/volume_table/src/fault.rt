@@ -13,8 +13,11 @@ pub enum RowField {
     Second,
     /// The frame of a page.
     Page(u8),
-    /// A byte that is to be zero: 0 is the one in front of the states, 1 to 43 are those behind them.
+    /// A byte that is to be zero: 0 is the one in front of the states, where version 2 has the mark, 1 to 43 are those
+    /// behind them.
     Spare(u8),
+    /// Whether the volume is read-only, 0 or 1.
+    Mark,
     /// The state of a cylinder.
     State(u16),
     /// A slot, from 0: it spells no change, or one that isn't allowed after the slots before it.

@@ -1,9 +1,9 @@
 //! Laws of rows and of their spelling. A function calls a law to have it in its proof.
-ghost use Rattle.std.specs.Prelude.{◌≡◌, ◌<◌, ℕ, List, [], ◌∷◌, ◌++◌, length, slice_index, Some, Ok};
+ghost use Rattle.std.specs.Prelude.{◌≡◌, ◌<◌, ℕ, false, List, [], ◌∷◌, ◌++◌, length, slice_index, Some, Ok};
 ghost use Rattle.volume_table.specs.Row.{RowValue, IsRow};
 ghost use Rattle.volume_table.specs.Changes.{IsAllowed, IsInRange, effect};
 ghost use Rattle.volume_table.specs.declared.changes.Change.{Change};
-ghost use Rattle.volume_table.specs.Grammar.{spelling, decode};
+ghost use Rattle.volume_table.specs.Grammar.{spelling, decode, is_old};
 ghost use Rattle.volume_table.specs.Slots.{change_of, slot_of, told_by};
 
 use crate::layout::BODY_BYTES;
@@ -19,10 +19,11 @@ pub fn read_is_row()
         → IsRow row }
 {}
 
-/// A row has one spelling: two bodies with the same row are equal.
+/// A row has one spelling in version 2: two such bodies with the same row are equal.
 pub fn one_spelling()
     ensures { (body : List ℕ) (row : RowValue) → length body ≡ BODY_BYTES
-        → ((i : ℕ) → slice_index body i < 256) → decode body ≡ Ok row → body ≡ spelling row }
+        → ((i : ℕ) → slice_index body i < 256) → is_old body ≡ false
+        → decode body ≡ Ok row → body ≡ spelling row }
 {}
 
 /// What an allowed change makes of a row is a row.

@@ -28,8 +28,8 @@ pub const SECOND_AT: usize = 9;
 /// The place of the frames, one byte for each page.
 pub const PAGES_AT: usize = 11;
 
-/// The place of the spare byte behind the frames.
-pub const SPARE_AT: usize = 62;
+/// The place of the mark behind the frames. Version 1 has a spare byte there.
+pub const MARK_AT: usize = 62;
 
 /// The place of the states, one byte for each cylinder.
 pub const STATES_AT: usize = 63;
@@ -37,8 +37,11 @@ pub const STATES_AT: usize = 63;
 /// The place of the spare bytes at the end.
 pub const SPARES_AT: usize = 467;
 
-/// The version of this layout.
-pub const VERSION: u8 = 1;
+/// The version of this layout, which is written.
+pub const VERSION: u8 = 2;
+
+/// The version before it, which is read as well. It has no mark.
+pub const OLD_VERSION: u8 = 1;
 
 /// How many pages a volume has.
 pub const PAGES: usize = 51;

@@ -11,6 +11,8 @@ use std::marker::Model;
 #[derive(Drop)]
 pub struct VolumeRow {
     pub serial: Serial,
+    /// Whether hosts may only read the volume.
+    pub read_only: bool,
     /// The cartridge of the cylinders 0 to 201.
     pub first: CartridgeNo,
     /// The cartridge of the cylinders 202 to 403.
@@ -36,7 +38,7 @@ impl VolumeRow {
     ghost use Rattle.volume_table.specs.Row.{cartridge_with, frame_of, state_of, blank_row};
     ghost use Rattle.volume_table.specs.States.{state_number};
 
-    /// The row of a new volume: no page has a frame, each cylinder is blank.
+    /// The row of a new volume: it isn't read-only, no page has a frame, each cylinder is blank.
     pub fn blank(
         alloc: Global,
         serial: Serial,
@@ -49,6 +51,7 @@ impl VolumeRow {
         let states = blank_states(alloc)?;
         Ok(VolumeRow {
             serial,
+            read_only: false,
             first,
             second,
             pages,

@@ -2,10 +2,11 @@
 ghost use Rattle.std.specs.Prelude.{◌≡◌, ◌≤◌, ◌<◌, ◌*◌, None, Some, Ok, Err, length, IfErr, OnOk, OnErr, slice_index};
 ghost use Rattle.volume_table.specs.Changes.{IsInRange};
 ghost use Rattle.volume_table.specs.Grammar.{body, Gives};
-ghost use Rattle.volume_table.specs.Slots.{after_slot, assignment, change_by, change_of, changed_by, cylinder_change, frameless_change, number_below, slot_fault, slot_of, slots_from, spelled_slot, told_by};
+ghost use Rattle.volume_table.specs.Slots.{after_slot, assignment, change_by, change_of, changed_by, cylinder_change, frameless_change, mark_change, number_below, slot_fault, slot_of, slots_from, spelled_slot, told_by};
 
 use crate::changes::{Change, apply, is_allowed};
 use crate::decode::decode_row;
+use crate::encode::mark_byte;
 use crate::fault::{DecodeFault, RowFault, RowField};
 use crate::layout::{CHANGE_BYTES, PAGES, ROW_BYTES, SLOT_BYTES};
 use crate::row::VolumeRow;
@@ -32,6 +33,7 @@ pub fn encode_slot(change: &Change) -> [u8; 7]
         Change::Staged { cylinder } => spelled_slot(3, cylinder.get(), 0),
         Change::Changed { cylinder } => spelled_slot(4, cylinder.get(), 0),
         Change::Destaged { cylinder } => spelled_slot(5, cylinder.get(), 0),
+        Change::Protect { on } => spelled_slot(6, mark_byte(*on) as u16, 0),
     }
 }
 
@@ -76,12 +78,25 @@ fn cylinder_change(kind: u8, cylinder: Cylinder) -> Option<Change>
     }
 }
 
+fn mark_change(number: u16) -> Option<Change>
+    ensures { result ≡ mark_change number }
+{
+    if number < 2 {
+        Some(Change::Protect { on: number == 1 })
+    } else {
+        None
+    }
+}
+
 fn frameless_change(kind: u8, number: u16) -> Option<Change>
     ensures { result ≡ frameless_change kind number }
 {
     if kind == 2 {
         let page = page_at(number)?;
         return Some(Change::Free { page });
+    }
+    if kind == 6 {
+        return mark_change(number);
     }
     let cylinder = cylinder_at(number)?;
     cylinder_change(kind, cylinder)

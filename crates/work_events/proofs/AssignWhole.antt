@@ -168,9 +168,9 @@ module _ (S : Type 0) {C : Type 0} (tells : Type 0) (s : SiteLog) (v : CoreValue
         (λ tl.
         let c = changed tl in
         let may = may_now S tells s v whole open_ wanted.volume (Assign (wanted.cylinder / 8) old.frame) r there give_allowed give_ready (λ _. tt) tl in
-        told_by_change S s t v x core (whole.told tl) open_ wanted.volume mark (Assign (wanted.cylinder / 8) old.frame) r there low_a (λ o. refl) (λ k. refl) (give_allowed, nowhere_a) may c.writes c.changed c.at_end c.grows give_owners v.moving v.requests v.tasks
+        told_by_change S s t v x core (whole.told tl) open_ wanted.volume mark (Assign (wanted.cylinder / 8) old.frame) r there low_a (λ o. refl) refl (give_allowed, nowhere_a) may c.writes c.changed c.at_end c.grows give_owners v.moving v.requests v.tasks
         (λ m task is. given_served S v core wanted.volume (wanted.cylinder / 8) old.frame r there low_a none inside_a nowhere_a (content s) (content t)
-        (λ unit block nt. blocks_stay S s t v x core (whole.told tl) open_ wanted.volume mark (Assign (wanted.cylinder / 8) old.frame) r there low_a (λ o. refl) (λ k. refl) (give_allowed, nowhere_a) may c.writes c.changed c.at_end c.grows v.owners v.moving v.requests [] (λ k z zz. absurd (none_some z zz)) unit block nt)
+        (λ unit block nt. blocks_stay S s t v x core (whole.told tl) open_ wanted.volume mark (Assign (wanted.cylinder / 8) old.frame) r there low_a (λ o. refl) refl (give_allowed, nowhere_a) may c.writes c.changed c.at_end c.grows v.owners v.moving v.requests [] (λ k z zz. absurd (none_some z zz)) unit block nt)
         task (core.tasks_.each m task is) (served_now S tells s v whole open_ tl m task is)))
 
 -- ---- the core that is left, and that it is the event's

@@ -136,11 +136,11 @@ module _ (S : Type 0) {C : Type 0} (tells : Type 0) (s : SiteLog) (v : CoreValue
         (λ tl.
         let c = changed tl in
         let may = may_now S tells s v whole open_ transfer.volume (Destaged transfer.cylinder) r there four destage_ready (destage_firm firm) tl in
-        told_by_change S s t v x core (whole.told tl) open_ transfer.volume mark (Destaged transfer.cylinder) r there low (λ o. refl) (λ w. refl) (four, tt) may c.writes c.changed c.at_end c.grows v.owners v.moving v.requests _
+        told_by_change S s t v x core (whole.told tl) open_ transfer.volume mark (Destaged transfer.cylinder) r there low (λ o. refl) refl (four, tt) may c.writes c.changed c.at_end c.grows v.owners v.moving v.requests _
         (served_put S v core n old at wanted wants (content t) (listed (slice_set v.rows transfer.volume (Some (with_state transfer.cylinder 3 r)))) (Some done_task)
         (λ task e u k copies_ there_. let e' : ◌≡◌ {A = Option Transfer} None (Some u) = ap (λ (z : Task). z.transfer) (some_is done_task task e) ∙ copies_ in absurd cc)
         (λ m task other is. state_served S v core transfer.volume transfer.cylinder 3 r there low (content s) (content t)
-        (λ unit block none. blocks_stay S s t v x core (whole.told tl) open_ transfer.volume mark (Destaged transfer.cylinder) r there low (λ o. refl) (λ w. refl) (four, tt) may c.writes c.changed c.at_end c.grows v.owners v.moving v.requests [] (λ k z zz. absurd (none_some z zz)) unit block none)
+        (λ unit block none. blocks_stay S s t v x core (whole.told tl) open_ transfer.volume mark (Destaged transfer.cylinder) r there low (λ o. refl) refl (four, tt) may c.writes c.changed c.at_end c.grows v.owners v.moving v.requests [] (λ k z zz. absurd (none_some z zz)) unit block none)
         v.moving v.requests task (core.tasks_.each m task is) (differs m task other is) (served_now S tells s v whole open_ tl m task is))))
 
 -- ---- the core that is left, and that it is the event's

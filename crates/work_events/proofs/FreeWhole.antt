@@ -144,11 +144,11 @@ module _ (S : Type 0) {C : Type 0} (tells : Type 0) (s : SiteLog) (v : CoreValue
         (λ tl.
         let c = changed tl in
         let may = may_now S tells s v whole open_ w.0 (Free w.1) r there free_allowed (λ _. tt) (λ _. tt) tl in
-        told_by_change S s t v x core (whole.told tl) open_ w.0 mark (Free w.1) r there low_f (λ o. refl) (λ k. refl) (free_allowed, tt) may c.writes c.changed c.at_end c.grows (slice_set v.owners old.frame None) v.moving v.requests _
+        told_by_change S s t v x core (whole.told tl) open_ w.0 mark (Free w.1) r there low_f (λ o. refl) refl (free_allowed, tt) may c.writes c.changed c.at_end c.grows (slice_set v.owners old.frame None) v.moving v.requests _
         (served_put S v core n old at wanted wants (content t) (listed free_rows) (Some free_task)
         (λ task e u k copies_ there_. let e' : ◌≡◌ {A = Option Transfer} None (Some u) = sym bare ∙ ap (λ (z : Task). z.transfer) (some_is free_task task e) ∙ copies_ in absurd cc)
         (λ m task other is. freed_served S v core w.0 w.1 old.frame r there low_f has_f (content s) (content t)
-        (λ unit block none. blocks_stay S s t v x core (whole.told tl) open_ w.0 mark (Free w.1) r there low_f (λ o. refl) (λ k. refl) (free_allowed, tt) may c.writes c.changed c.at_end c.grows v.owners v.moving v.requests [] (λ k z zz. absurd (none_some z zz)) unit block none)
+        (λ unit block none. blocks_stay S s t v x core (whole.told tl) open_ w.0 mark (Free w.1) r there low_f (λ o. refl) refl (free_allowed, tt) may c.writes c.changed c.at_end c.grows v.owners v.moving v.requests [] (λ k z zz. absurd (none_some z zz)) unit block none)
         task (core.tasks_.each m task is) (frames_apart S v core n old at m task other is) (served_now S tells s v whole open_ tl m task is))))
 
 -- ---- the core that is left, and that it is the event's

@@ -27,7 +27,7 @@ use Rattle.core_state.specs.declared.rule.WorkAnswer.{WorkAnswer}
 use Rattle.core_state.specs.declared.rule.WorkAnswer.TheVariants.{Did, Idle, Stopped, Memory}
 use Rattle.core_state.specs.declared.rule.WorkRule.{WorkRule}
 use Rattle.core_state.specs.declared.rule.WorkRule.TheVariants.{IsStopped, IsIdle, GivesBack, Picks, PicksVictim, Abandons, Fetches, Copies, Ends, Frees, Assigns}
-use Rattle.core_state.specs.Agrees.{creates, message_of}
+use Rattle.core_state.specs.Agrees.{is_early}
 use Rattle.core_state.specs.Beginning.{KeepsBeginning}
 use Rattle.core_state.specs.CoreValue.{CoreData, DevicesSeen}
 use Rattle.core_state.specs.Devices.{StillHold}
@@ -36,7 +36,7 @@ use Rattle.core_state.specs.Rows.{Rewrites}
 use Rattle.core_state.specs.Steps.{with_change, most_recent, with_owner, with_task, picked, task_ended, given_back, fetched}
 use Rattle.core_state.specs.WorkEvents.{Does, ChangesThen, CopiesIt, EndsIt, TellsEnd, WithTask, WorkDoes}
 use Rattle.core_state.specs.WorkRules.{task_of}
-use Rattle.core_state.proofs.ChangeLemmas.{created-push}
+use Rattle.core_state.proofs.ChangeLemmas.{handed-push}
 use Rattle.work_events.specs.WorkLaws.{LeavesHosts, SameCartridges, AddsTrack, IsOfCopies}
 
 -- ---- what a step leaves
@@ -169,7 +169,7 @@ module _ (tells : Type 0) (may : List Candidate → ℕ → Type 0) (core : Core
 
   of_same : (rule : WorkRule) (told : WorkAnswer) → IsSame tells core left → Answered tells core rule told left → Comes rule told
   of_same rule told same answer = record {
-    beginning = begun_by _ same.1 (record { config = refl; first_write = refl; first_faults = refl; created = λ _. refl });
+    beginning = begun_by _ same.1 (record { config = refl; first_write = refl; first_faults = refl; handed = λ _. refl });
     hosts = left_by _ same.1 (record { began = refl; history = refl; marks = refl; hosts = refl });
     cartridges = λ _ tl. inl (still same.0 tl);
     requests = inl (ap (λ (c : CoreData). c.requests) same.1);
@@ -192,7 +192,7 @@ module _ (tells : Type 0) (may : List Candidate → ℕ → Type 0) (core : Core
     of_does told does =
         let k = keeps before in
         record {
-          beginning = begun_by _ does.2 (record { config = k.beginning.config; first_write = k.beginning.first_write; first_faults = k.beginning.first_faults; created = k.beginning.created });
+          beginning = begun_by _ does.2 (record { config = k.beginning.config; first_write = k.beginning.first_write; first_faults = k.beginning.first_faults; handed = k.beginning.handed });
           hosts = left_by _ does.2 (record { began = k.hosts.began; history = k.hosts.history; marks = k.hosts.marks; hosts = k.hosts.hosts });
           cartridges = λ _ tl. inl (still does.0 tl);
           requests = asked_by before refl (ap (λ (c : CoreData). c.requests) does.2);
@@ -200,7 +200,7 @@ module _ (tells : Type 0) (may : List Candidate → ℕ → Type 0) (core : Core
         }
 
     -- a row is changed behind a sync, or at once
-    module _ (from : DevicesSeen) (since : from.faults ≡ core.site.faults) (leads : tells → Settles core.site.told from.told × Leaves core.site.told from.told) (volume : ℕ) (change : Change) (named : row_by rule ≡ Some volume) (no_create : (v : ℕ) → creates v (message_of left.site.writes volume change (listed core.rows)) ≡ false) where
+    module _ (from : DevicesSeen) (since : from.faults ≡ core.site.faults) (leads : tells → Settles core.site.told from.told × Leaves core.site.told from.told) (volume : ℕ) (change : Change) (named : row_by rule ≡ Some volume) (late_change : is_early change ≡ false) where
       row_there : HasRowBy core rule → (r : RowValue) × (listed core.rows volume ≡ Some r)
       row_there has = by (listed core.rows volume) (has volume named)
         where
@@ -217,14 +217,14 @@ module _ (tells : Type 0) (may : List Candidate → ℕ → Type 0) (core : Core
           let k = keeps (with_change volume change before) in
           record {
             beginning = begun_by _ does.2
-                (record { config = k.beginning.config; first_write = k.beginning.first_write; first_faults = k.beginning.first_faults; created = λ v. k.beginning.created v ∙ created-push v core.console _ (no_create v) });
+                (record { config = k.beginning.config; first_write = k.beginning.first_write; first_faults = k.beginning.first_faults; handed = λ rows. k.beginning.handed rows ∙ handed-push rows core.console _ late_change });
             hosts = left_by _ does.2 (record { began = k.hosts.began; history = k.hosts.history; marks = k.hosts.marks; hosts = k.hosts.hosts });
             cartridges = λ has tl. let row = row_there has in inl (leaves_changed ((does.0 row.0 row.1).write.moments tl) tl);
             requests = asked_by (with_change volume change before) refl (ap (λ (c : CoreData). c.requests) does.2);
             answer = λ _. ap (λ (c : CoreData). c.stopped) does.2 ∙ k.stopped;
           }
       of_changes (Stopped fault) does = record {
-        beginning = begun_by _ does.1 (record { config = refl; first_write = refl; first_faults = refl; created = λ _. refl });
+        beginning = begun_by _ does.1 (record { config = refl; first_write = refl; first_faults = refl; handed = λ _. refl });
         hosts = left_by _ does.1 (record { began = refl; history = refl; marks = refl; hosts = refl });
         cartridges = λ has tl. let row = row_there has in inl (leaves_changed ((does.0 row.0 row.1).write.moments tl) tl);
         requests = inl (ap (λ (c : CoreData). c.requests) does.1);
@@ -267,14 +267,14 @@ module _ (tells : Type 0) (may : List Candidate → ℕ → Type 0) (core : Core
 
     of_copies : (told : WorkAnswer) (task : Task) → told ≡ Did kind.Copy → CopiesIt tells core n task t left → Comes (Copies t) told
     of_copies told task is (inl copied) = record {
-      beginning = begun_by _ copied.1 (record { config = refl; first_write = refl; first_faults = refl; created = λ _. refl });
+      beginning = begun_by _ copied.1 (record { config = refl; first_write = refl; first_faults = refl; handed = λ _. refl });
       hosts = left_by _ copied.1 (record { began = refl; history = refl; marks = refl; hosts = refl });
       cartridges = λ _ tl. copied_on t.kind refl (copied.0.written tl) (copied.0.copied tl);
       requests = inl (ap (λ (c : CoreData). c.requests) copied.1);
       answer = λ _. subst (λ (a : WorkAnswer). Answered tells core (Copies t) a left) (sym is) (ap (λ (c : CoreData). c.stopped) copied.1);
     }
     of_copies told task is (inr failed) = record {
-      beginning = begun_by _ failed.1 (record { config = refl; first_write = refl; first_faults = refl; created = λ _. refl });
+      beginning = begun_by _ failed.1 (record { config = refl; first_write = refl; first_faults = refl; handed = λ _. refl });
       hosts = left_by _ failed.1 (record { began = refl; history = refl; marks = refl; hosts = refl });
       cartridges = λ _ tl. left_on t.kind refl (failed.0.left tl) (ap (λ (c : CoreData). c.tasks) failed.1);
       requests = inr (task.host, request.Failed left.site.faults, ap (λ (c : CoreData). c.requests) failed.1, λ fault same. ((t, inl refl), record { count = the_fault fault same; rises = failed.0.failed }));
@@ -291,16 +291,16 @@ module _ (tells : Type 0) (may : List Candidate → ℕ → Type 0) (core : Core
 
         by : (k : TransferKind) → TellsEnd tells (record core { site = firm }) n task k t told left → Comes (Ends t) told
         by Destage done_ =
-            of_changes (Ends t) kind.End (with_task n (Some (record task { transfer = None }))) (λ c. kept_all c (with_task n (Some (record task { transfer = None })) c) (record { config = refl; first_write = refl; first_faults = refl; created = λ _. refl }) refl refl refl refl refl (inl refl))
-            firm sync.sound leads t.volume (change.Destaged t.cylinder) refl (λ v. refl) told done_
+            of_changes (Ends t) kind.End (with_task n (Some (record task { transfer = None }))) (λ c. kept_all c (with_task n (Some (record task { transfer = None })) c) (record { config = refl; first_write = refl; first_faults = refl; handed = λ _. refl }) refl refl refl refl refl (inl refl))
+            firm sync.sound leads t.volume (change.Destaged t.cylinder) refl refl told done_
         by StageBlank done_ =
-            of_changes (Ends t) kind.End (task_ended n task request.Ready) (λ c. kept_all c (task_ended n task request.Ready c) (record { config = refl; first_write = refl; first_faults = refl; created = λ _. refl }) refl refl refl refl refl (inr (task.host, request.Ready, refl, not_ready)))
-            firm sync.sound leads t.volume (change.Staged t.cylinder) refl (λ v. refl) told done_
+            of_changes (Ends t) kind.End (task_ended n task request.Ready) (λ c. kept_all c (task_ended n task request.Ready c) (record { config = refl; first_write = refl; first_faults = refl; handed = λ _. refl }) refl refl refl refl refl (inr (task.host, request.Ready, refl, not_ready)))
+            firm sync.sound leads t.volume (change.Staged t.cylinder) refl refl told done_
         by StageCartridge done_ =
-            of_changes (Ends t) kind.End (task_ended n task request.Ready) (λ c. kept_all c (task_ended n task request.Ready c) (record { config = refl; first_write = refl; first_faults = refl; created = λ _. refl }) refl refl refl refl refl (inr (task.host, request.Ready, refl, not_ready)))
-            firm sync.sound leads t.volume (change.Staged t.cylinder) refl (λ v. refl) told done_
+            of_changes (Ends t) kind.End (task_ended n task request.Ready) (λ c. kept_all c (task_ended n task request.Ready c) (record { config = refl; first_write = refl; first_faults = refl; handed = λ _. refl }) refl refl refl refl refl (inr (task.host, request.Ready, refl, not_ready)))
+            firm sync.sound leads t.volume (change.Staged t.cylinder) refl refl told done_
     of_ends told task (inr (loose, is, path)) = record {
-      beginning = begun_by _ path (record { config = refl; first_write = refl; first_faults = refl; created = λ _. refl });
+      beginning = begun_by _ path (record { config = refl; first_write = refl; first_faults = refl; handed = λ _. refl });
       hosts = left_by _ path (record { began = refl; history = refl; marks = refl; hosts = refl });
       cartridges = λ _ tl. inl (leaves_sync (target_unit t) core.site.told left.site.told (inr (loose.told tl)));
       requests = inr (task.host, request.Failed left.site.faults, ap (λ (c : CoreData). c.requests) path, λ fault same. ((t, inr refl), record { count = the_fault fault same; rises = loose.failed }));
@@ -313,22 +313,22 @@ module _ (tells : Type 0) (may : List Candidate → ℕ → Type 0) (core : Core
   outcome (IsStopped fault) told does = of_same (IsStopped fault) told does.1 (subst (λ (a : WorkAnswer). Answered tells core (IsStopped fault) a left) (sym does.0) (inl (refl, does.1)))
   outcome rule Memory does = of_same rule Memory does does
   outcome IsIdle told does = of_same IsIdle told does.1 (subst (λ (a : WorkAnswer). Answered tells core IsIdle a left) (sym does.0) (refl, does.1))
-  outcome (GivesBack cartridge) told does = of_does (GivesBack cartridge) kind.GiveBack (given_back n cartridge) (λ c. kept_all c (given_back n cartridge c) (record { config = refl; first_write = refl; first_faults = refl; created = λ _. refl }) refl refl refl refl refl (inl refl)) told does
-  outcome (Fetches cartridge) told does = of_does (Fetches cartridge) kind.Fetch (fetched n cartridge) (λ c. kept_all c (fetched n cartridge c) (record { config = refl; first_write = refl; first_faults = refl; created = λ _. refl }) refl refl refl refl refl (inl refl)) told does
-  outcome (Picks h frame) told does = of_does (Picks h frame) kind.Pick (picked n h frame None) (λ c. kept_all c (picked n h frame None c) (record { config = refl; first_write = refl; first_faults = refl; created = λ _. refl }) refl refl refl refl refl (inr (h, request.Moving, refl, not_moving))) told does
+  outcome (GivesBack cartridge) told does = of_does (GivesBack cartridge) kind.GiveBack (given_back n cartridge) (λ c. kept_all c (given_back n cartridge c) (record { config = refl; first_write = refl; first_faults = refl; handed = λ _. refl }) refl refl refl refl refl (inl refl)) told does
+  outcome (Fetches cartridge) told does = of_does (Fetches cartridge) kind.Fetch (fetched n cartridge) (λ c. kept_all c (fetched n cartridge c) (record { config = refl; first_write = refl; first_faults = refl; handed = λ _. refl }) refl refl refl refl refl (inl refl)) told does
+  outcome (Picks h frame) told does = of_does (Picks h frame) kind.Pick (picked n h frame None) (λ c. kept_all c (picked n h frame None c) (record { config = refl; first_write = refl; first_faults = refl; handed = λ _. refl }) refl refl refl refl refl (inr (h, request.Moving, refl, not_moving))) told does
   outcome (PicksVictim h) told does =
       of_does (PicksVictim h) kind.Pick (picked n h does.1.frame (Some (does.1.volume, does.1.page)))
-      (λ c. kept_all c (picked n h does.1.frame (Some (does.1.volume, does.1.page)) c) (record { config = refl; first_write = refl; first_faults = refl; created = λ _. refl }) refl refl refl refl refl (inr (h, request.Moving, refl, not_moving))) told does.4
+      (λ c. kept_all c (picked n h does.1.frame (Some (does.1.volume, does.1.page)) c) (record { config = refl; first_write = refl; first_faults = refl; handed = λ _. refl }) refl refl refl refl refl (inr (h, request.Moving, refl, not_moving))) told does.4
   outcome Abandons told does =
       let it = the_task (task_of core n) _ does in
-      of_does Abandons kind.Abandon (task_ended n it.0 request.Queued) (λ c. kept_all c (task_ended n it.0 request.Queued c) (record { config = refl; first_write = refl; first_faults = refl; created = λ _. refl }) refl refl refl refl refl (inr (it.0.host, request.Queued, refl, not_queued))) told it.1
+      of_does Abandons kind.Abandon (task_ended n it.0 request.Queued) (λ c. kept_all c (task_ended n it.0 request.Queued c) (record { config = refl; first_write = refl; first_faults = refl; handed = λ _. refl }) refl refl refl refl refl (inr (it.0.host, request.Queued, refl, not_queued))) told it.1
   outcome (Copies t) told does = let it = the_task (task_of core n) _ does in of_copies t told it.0 it.1.0 it.1.1
   outcome (Ends t) told does = let it = the_task (task_of core n) _ does in of_ends t told it.0 it.1
   outcome (Frees volume page) told does =
       let it = the_task (task_of core n) _ does in
       of_changes (Frees volume page) kind.Free (λ now. with_task n (Some (record it.0 { victim = None })) (with_owner it.0.frame None now))
-      (λ c. kept_all c (with_task n (Some (record it.0 { victim = None })) (with_owner it.0.frame None c)) (record { config = refl; first_write = refl; first_faults = refl; created = λ _. refl }) refl refl refl refl refl (inl refl)) core.site refl (λ _. (settles_none core.site.told, leaves_same _ _ refl)) volume (change.Free page) refl (λ v. refl) told it.1
+      (λ c. kept_all c (with_task n (Some (record it.0 { victim = None })) (with_owner it.0.frame None c)) (record { config = refl; first_write = refl; first_faults = refl; handed = λ _. refl }) refl refl refl refl refl (inl refl)) core.site refl (λ _. (settles_none core.site.told, leaves_same _ _ refl)) volume (change.Free page) refl refl told it.1
   outcome (Assigns volume page) told does =
       let it = the_task (task_of core n) _ does in
       of_changes (Assigns volume page) kind.Assign (λ now. most_recent it.0.frame (with_owner it.0.frame (Some (volume, page)) now))
-      (λ c. kept_all c (most_recent it.0.frame (with_owner it.0.frame (Some (volume, page)) c)) (record { config = refl; first_write = refl; first_faults = refl; created = λ _. refl }) refl refl refl refl refl (inl refl)) core.site refl (λ _. (settles_none core.site.told, leaves_same _ _ refl)) volume (change.Assign page it.0.frame) refl (λ v. refl) told it.1
+      (λ c. kept_all c (most_recent it.0.frame (with_owner it.0.frame (Some (volume, page)) c)) (record { config = refl; first_write = refl; first_faults = refl; handed = λ _. refl }) refl refl refl refl refl (inl refl)) core.site refl (λ _. (settles_none core.site.told, leaves_same _ _ refl)) volume (change.Assign page it.0.frame) refl refl told it.1

@@ -196,10 +196,10 @@ module _ (S : Type 0) {C : Type 0} (tells : Type 0) (s : SiteLog) (v : CoreValue
         (λ tl.
         let c = changed tl in
         let may = may_now S tells s v whole open_ transfer.volume (Staged transfer.cylinder) r there stage_allowed stage_ready (stage_firm firm) tl in
-        told_by_change S s t v x core (whole.told tl) open_ transfer.volume mark (Staged transfer.cylinder) r there low_s (λ o. refl) (λ w. refl) (stage_allowed, tt) may c.writes c.changed c.at_end c.grows v.owners _ _ _
+        told_by_change S s t v x core (whole.told tl) open_ transfer.volume mark (Staged transfer.cylinder) r there low_s (λ o. refl) refl (stage_allowed, tt) may c.writes c.changed c.at_end c.grows v.owners _ _ _
         (served_put S v core n old at wanted wants (content t) (listed (slice_set v.rows transfer.volume (Some staged_row))) None (λ task e. absurd (none_some task e))
         (λ m task other is. state_served S v core transfer.volume transfer.cylinder (state_of r transfer.cylinder + 2) r there low_s (content s) (content t)
-        (λ unit block none. blocks_stay S s t v x core (whole.told tl) open_ transfer.volume mark (Staged transfer.cylinder) r there low_s (λ o. refl) (λ w. refl) (stage_allowed, tt) may c.writes c.changed c.at_end c.grows v.owners v.moving v.requests [] (λ k z zz. absurd (none_some z zz)) unit block none)
+        (λ unit block none. blocks_stay S s t v x core (whole.told tl) open_ transfer.volume mark (Staged transfer.cylinder) r there low_s (λ o. refl) refl (stage_allowed, tt) may c.writes c.changed c.at_end c.grows v.owners v.moving v.requests [] (λ k z zz. absurd (none_some z zz)) unit block none)
         v.moving v.requests task (core.tasks_.each m task is) (differs_s m task other is) (served_now S tells s v whole open_ tl m task is))))
 
 -- ---- the core that is left, and that it is the event's

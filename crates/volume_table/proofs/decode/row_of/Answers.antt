@@ -1,4 +1,4 @@
-use Rattle.std.proofs.Common.{◌≡◌, sym, subst, arith, rules, map}
+use Rattle.std.proofs.Common.{◌≡◌, ◌==◌, get_or, sym, subst, arith, rules, map}
 use Rattle.std.proofs.lemmas.Grind.{common_steps}
 use Rattle.mss_base.specs.Serial.{IsSerial}
 use Rattle.volume_table.specs.States.{state_number}
@@ -22,7 +22,7 @@ unwrap-second-requires c =
 
 pub invariant_of-result : goal.invariant_of-result
 invariant_of-result c =
-    let made : RowValue = record { serial = c.unwrap-serial.result; first = c.unwrap-first.result; second = c.unwrap-second.result; pages = c.in_ok-pages.pages.items; states = map state_number c.in_ok-states.states.items } in
+    let made : RowValue = record { serial = c.unwrap-serial.result; read_only = get_or c.args.body.now 62 0 == 1; first = c.unwrap-first.result; second = c.unwrap-second.result; pages = c.in_ok-pages.pages.items; states = map state_number c.in_ok-states.states.items } in
     let e : made ≡ row_at c.args.body.now = first_of (search rules, grind (arith, common_steps)) in
     subst IsRow (sym e) (row_good c.args.body.now c.requires.long c.requires.good)
 

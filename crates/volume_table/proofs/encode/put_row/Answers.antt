@@ -1,4 +1,4 @@
-use Rattle.std.proofs.Common.{◌≡◌, ◌∙◌, ap, ℕ, List, Option, map}
+use Rattle.std.proofs.Common.{◌≡◌, ◌∙◌, [], ◌∷◌, ap, ℕ, List, Option, map}
 use Rattle.std.specs.Int.{w16, to_be_bytes}
 use Rattle.mss_base.specs.Content.{splice}
 use Rattle.volume_table.specs.States.{state_number}
@@ -20,7 +20,7 @@ returns c =
     (c.put-3.ensures ∙ ap (λ (b : List ℕ). splice 8 b c.put-2.new.into) first)
     (c.put-4.ensures ∙ ap (λ (b : List ℕ). splice 10 b c.put-3.new.into) second)
     (c.put_pages.ensures ∙ ap (λ (ps : List (Option ℕ)). splice 12 (map page_byte ps) c.put-4.new.into) c.as_slice-2.ensures)
-    c.put-5.ensures
+    (c.put-5.ensures ∙ ap (λ (b : ℕ). splice 63 (b ∷ []) c.put_pages.new.into) c.mark_byte.ensures)
     (c.put_states.ensures ∙ ap (λ (xs : List CylinderState). splice 64 (map state_number xs) c.put-5.new.into) c.as_slice-3.ensures)
     c.put-6.ensures
     ∙ ap (λ (v : RowValue). splice 1 (spelling v) c.args.into.now) c.row.view_is
