@@ -31,13 +31,17 @@ class Drawing:
     def job(self):
         draw = self.draw
         volumes = draw.randint(1, 4)
-        lines = [f"mss 1 frames {draw.randint(1, 4)} recorders {self.recorders}"]
-        lines += [f"volume {volume} VOL{volume:03}" for volume in range(volumes)]
+        head = f"mss 1 frames {draw.randint(1, 4)} recorders {self.recorders}"
+        lines = []
         for host in draw.sample(range(1, 9), draw.randint(*self.hosts)):
             lines.append(f"host {host}")
             for _ in range(draw.randint(1, 3)):
                 lines += self.stay(draw.randrange(volumes))
-        return "\n".join([*lines, "done"]) + "\n"
+        return "\n".join([head, *map(self.volume, range(volumes)), *lines, "done"]) + "\n"
+
+    def volume(self, number):
+        """The line of a volume; one of five is read-only."""
+        return f"volume {number} VOL{number:03}" + " readonly" * (self.draw.random() < 0.2)
 
     def stay(self, volume):
         """A mount, programs, and mostly a demount."""

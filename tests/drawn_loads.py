@@ -11,7 +11,7 @@ KINDS = ("assign", "free", "staged", "changed", "destaged")
 def summary(order, programs):
     """The text of a load's summary."""
     job = read_job(load(order, programs).encode())
-    lines = Model(job, plain.Machine(job.volumes), plain).report().splitlines()
+    lines = Model(job, plain.Machine(job.volumes, job.read_only), plain).report().splitlines()
     made = [line.split()[4] for line in lines if line.startswith("change ")]
     counts = [f"entries {sum(line.startswith('entry ') for line in lines)}"]
     counts += [f"{kind} {made.count(kind)}" for kind in KINDS]

@@ -23,7 +23,7 @@ def moments(job, report):
 
 def told_moments(job, report):
     """The same, each with whether it is one after an entry."""
-    machine, last = Machine(job.volumes), {}
+    machine, last = Machine(job.volumes, job.read_only), {}
     allowed = [(last, True)]
     for entry, source in zip(report.entries, sources_of(job, report), strict=True):
         reply(machine, entry, source)

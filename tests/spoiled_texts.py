@@ -13,6 +13,7 @@ def variants(line):
         [line.upper()],
         [line.replace(b"1", b"9")],
         [line + b"0"],
+        [line + b" readonly"],
         [line[:half] + b"\t" + line[half + 1 :]],
         [b" ".join(line.split(b" ")[::-1])],
         [b"tic 1"],

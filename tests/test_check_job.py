@@ -47,9 +47,18 @@ class Carets(Test):
     """Where the caret stands, and what is said there."""
 
     def check(self, line, due):
-        text = f"mss 1 frames 1 recorders 1\nvolume 0 VOL001\nhost 1\n{line}\n"
-        lines = run([TOOL, "-"], None, text).stdout.decode().splitlines()
-        self.assertEqual(lines[-1], f"    {due}")
+        self.check_lines(["volume 0 VOL001", "host 1", line], due)
+
+    def check_lines(self, lines, due):
+        text = "\n".join(["mss 1 frames 1 recorders 1", *lines, ""])
+        told = run([TOOL, "-"], None, text).stdout.decode().splitlines()
+        self.assertEqual(told[-1], f"    {due}")
+
+    def test_another_word_behind_a_serial(self):
+        self.check_lines(["volume 0 VOL001 writable"], "                ^ expected `readonly`")
+
+    def test_a_fourth_word_of_a_volume(self):
+        self.check_lines(["volume 0 VOL001 readonly 1"], "                         ^ nothing more is expected")
 
 
 class GoodJobs(Test):

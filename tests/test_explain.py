@@ -58,6 +58,15 @@ class Explained(Test):
         self.assert_told((CASES / "words.explained").read_text(), told)
         self.assertEqual(status, 0)
 
+    def test_a_read_only_volume(self):
+        *front, last = FIRST.with_suffix(".report").read_text().partition("volume 0 VOL001\n")
+        marks = [f"change {number} volume 0 protect {word}" for number, word in enumerate(("on", "off", "on"), 5)]
+        report = "\n".join([front[0] + marks[0], *marks[1:], "volume 0 VOL001 readonly", last])
+        status, told = explained(FIRST, "-", report)
+        self.assertEqual((status, count(told, "change")), (0, 7), told)
+        self.assertIn(f"{marks[1]}\n    the volume is no longer read-only\n", told)
+        self.assertIn("\nvolume 0 VOL001 readonly\n    as it is at the end", told)
+
     def test_the_report_of_another_job(self):
         status, told = explained(FIRST, EXAMPLES / "keys.report")
         self.assertEqual(status, 1)

@@ -57,7 +57,7 @@ def due(text, order, turns):
     """The report of the model, with the status."""
     job = read_job(text.encode())
     drawn = drawn_turns(order, turns, len(job.hosts) + job.recorders)
-    report = Model(job, plain.Machine(job.volumes), plain).report(drawn)
+    report = Model(job, plain.Machine(job.volumes, job.read_only), plain).report(drawn)
     return f"{report}status {LIMIT_STATUS if report.splitlines()[-1] == 'LIMIT' else 0}"
 
 

@@ -197,7 +197,7 @@ class ModelByRules(SiteTest):
         """What is told otherwise; none where nothing is."""
         job = read_job(text.encode())
         drawn = drawn_turns(order, turns, len(job.hosts) + job.recorders)
-        due = Model(job, plain.Machine(job.volumes), plain, chooser_of(words[0])).report(drawn)
+        due = Model(job, plain.Machine(job.volumes, job.read_only), plain, chooser_of(words[0])).report(drawn)
         told = told_by(run_on_blank([PROGRAM, "policy", *words], text, self.folder))
         return difference(f"{due}status {LIMIT_STATUS if due.splitlines()[-1] == 'LIMIT' else 0}", told)
 
@@ -219,7 +219,7 @@ def comparison(text):
     choosers = [(name, chooser_of(name)) for name in ("lru", "clean", "quota:1")] + [("other", few_changed)]
     told, last, status = "MSS POLICIES 1\n", "END", 0
     for name, chooser in choosers:
-        lines = Model(job, plain.Machine(job.volumes), plain, chooser).report([]).splitlines()
+        lines = Model(job, plain.Machine(job.volumes, job.read_only), plain, chooser).report([]).splitlines()
         kinds = [line.split(" ")[4] for line in lines if line.startswith("change ")]
         counts = " ".join(f"{kind} {kinds.count(kind)}" for kind in ("staged", "destaged", "free"))
         told += f"policy {name} {counts}\n"

@@ -240,6 +240,16 @@ def copy_of(kind, serial):
     return bytes(row)
 
 
+def listed_with(is_marked):
+    """How VOL001 is listed."""
+    return f"{VOLUME} readonly" if is_marked else VOLUME
+
+
+def is_marked_by(slots):
+    """Whether slots make a volume read-only that wasn't."""
+    return [slot for slot in slots if slot in (PROTECT, UNPROTECT)][-1:] == [PROTECT]
+
+
 class RowTest(SiteTest):
     """A test of a site whose files it writes."""
 
@@ -296,7 +306,7 @@ class Rows(RowTest):
     def test_versions_and_marks(self):
         for version, mark, fault in VERSIONS:
             self.put_row(row_by_hand(6, 5, version, mark), [ASSIGN_1])
-            self.assert_shown(fault and f"volume 0 copy A row {fault}")
+            self.assert_shown(fault and f"volume 0 copy A row {fault}", listed_with(mark))
 
     def test_a_row_by_hand(self):
         row = row_by_hand(7, 199)
@@ -324,7 +334,8 @@ class Rows(RowTest):
             for name, change in CHANGES.items():
                 self.put_row(spelled_row("VOL001", 0, 1), [*slots, change])
                 fault = f"volume 0 copy A row slot {len(slots)} value {int(change[2:4])}"
-                self.assert_shown(None if name in allowed else fault)
+                listed = listed_with(is_marked_by([*slots, change]))
+                self.assert_shown(None if name in allowed else fault, listed)
 
     def test_a_row_by_its_slots(self):
         for slots, frame, state in KINDS:

@@ -1,5 +1,6 @@
-"""The program on sites in files: a job, a second one that reads what the first wrote, the listing; folders and files
-that can't be used; files that can't grow; closed descriptors; two runs at once; and runs that are killed."""
+"""The program on sites in files: a job, a second one that reads what the first wrote, the listing; rows of version 1;
+folders and files that can't be used; files that can't grow; closed descriptors; two runs at once; and runs that are
+killed."""
 
 import fcntl
 import os
@@ -8,14 +9,18 @@ import shutil
 import signal
 import unittest
 
-from fixtures import CASES, EXAMPLES, PROGRAM, SiteTest, run, tests_of, told_by
+from fixtures import CASES, EXAMPLES, PROGRAM, SiteTest, remove_site, run, tests_of, told_by
 from killed_runs import faults_of_kills
+from test_slots import ASSIGNED, CHANGED, STAGED, slots_of
+from test_spoiled_sites import spelled_row
+from test_stops import may_trace
 
 BLOCK = 16_384
 FIRST = (EXAMPLES / "first.job").read_bytes()
 REPORT = (EXAMPLES / "first.report").read_text()
 LISTING = "MSS VOLUMES 1\n"
 RECORD = "volume 0 VOL001\ntrack 5 3\nrecord 0005000301 - 414243\nEND\nstatus 0"
+MARKED = "volume 0 VOL001 readonly\ntrack 5 3\nrecord 0005000301 - 414243\nEND\nstatus 0"
 READ_BACK = """mss 1 frames 1 recorders 1
 volume 0 VOL001
 host 1
@@ -35,6 +40,48 @@ entry 3 host 1 ccw 31 status 0C
 entry 4 host 1 ccw 31 status 4C
 entry 5 host 1 ccw 06 status 0C data 414243
 """
+WRITE_ON_READ_ONLY = """mss 1 frames 1 recorders 1
+volume 0 VOL001 readonly
+host 1
+mount VOL001
+program
+ccw 07 000000050003
+ccw 31 0005000301
+tic 1
+ccw 05 41
+end
+program
+ccw 04
+end
+done
+"""
+PROTECTED = f"""MSS REPORT 1
+entry 1 host 1 mount 0 mounted
+entry 2 host 1 ccw 07 status 0C
+entry 3 host 1 ccw 31 status 0C
+entry 4 host 1 ccw 31 status 4C
+entry 5 host 1 ccw 05 status 0E
+entry 6 host 1 ccw 04 status 0C data 0004{22 * "00"}
+"""
+TO_MARK = """mss 1 frames 1 recorders 1
+volume 0 VOL001 readonly
+volume 1 VOL002
+volume 2 VOL003 readonly
+done
+"""
+NEW_AND_MARKED = """MSS REPORT 1
+change 1 volume 0 create VOL001 0 1
+change 2 volume 1 create VOL002 2 3
+change 3 volume 2 create VOL003 4 5
+change 4 volume 0 protect on
+change 5 volume 2 protect on
+volume 0 VOL001 readonly
+volume 1 VOL002
+volume 2 VOL003 readonly
+END
+status 0"""
+LAST_ALONE = "mss 1 frames 1 recorders 1\nvolume 2 VOL003\ndone\n"
+LAST_UNMARKED = "MSS REPORT 1\nchange 1 volume 2 protect off\nvolume 2 VOL003\nEND\nstatus 0"
 COPIES_FAIL = """MSS REPORT 1
 entry 1 host 1 mount 0 mounted
 entry 2 host 1 ccw 07 status 0C
@@ -55,6 +102,16 @@ STOPPED 1
 status 5"""
 UNREAD = "restart refused volume 0 unread fault 2\nstatus 4"
 STOPPED = "restart refused stopped fault 1\nstatus 4"
+
+# Places of a row, and slots of marks.
+VERSION, FRAME_OF_PAGE_0, STATE_OF_CYLINDER_5, SLOTS_AT = 1, 12, 69, 512
+PROTECT, UNPROTECT = bytes.fromhex("06000100000000"), bytes.fromhex("06000000000000")
+
+# A start syncs the three files that the first job leaves. It writes both copies of a row anew, each by four writes and
+# three syncs, and marks each by two writes and two syncs. The mark counts from the tenth write on, that of the gate of
+# copy A, which the eleventh sync stands behind.
+CALLS_OF_START = [("pwrite64", 2 * 4 + 2 * 2), ("fdatasync", 3 + 2 * 3 + 2 * 2)]
+FIRST_MARKED = 11
 
 # Words that are no command.
 REFUSED = [
@@ -111,6 +168,24 @@ class Histories(SiteTest):
         (self.site / "table_b").unlink()
         self.assert_told(LISTING + RECORD, self.told("show"), "a table file that is gone")
 
+    def test_a_volume_that_is_read_only_in_one_job(self):
+        """Its mark comes and goes with the jobs, and its track stays."""
+        self.told("serial", text=FIRST)
+        due = f"{PROTECTED}change 1 volume 0 protect on\n{MARKED}"
+        self.assert_told(due, self.told("serial", text=WRITE_ON_READ_ONLY))
+        self.assert_told(LISTING + MARKED, self.told("show"))
+        self.assert_told(PROTECTED + MARKED, self.told("serial", text=WRITE_ON_READ_ONLY), "the same job again")
+        due = f"{READ}change 1 volume 0 protect off\n{RECORD}"
+        self.assert_told(due, self.told("serial", text=READ_BACK))
+        self.assert_told(LISTING + RECORD, self.told("show"))
+
+    def test_new_volumes_that_are_read_only(self):
+        """One start creates all volumes, and then marks them. A job that has one alone leaves the mark of the other."""
+        self.assert_told(NEW_AND_MARKED, self.told("serial", text=TO_MARK))
+        self.assert_told(LAST_UNMARKED, self.told("serial", text=LAST_ALONE))
+        left = "volume 0 VOL001 readonly\nvolume 1 VOL002\nvolume 2 VOL003\nEND\nstatus 0"
+        self.assert_told(LISTING + left, self.told("show"))
+
     def test_the_same_job_again(self):
         """The same replies, and no change, since its cylinder is staged and changed still."""
         self.assert_told(f"{REPORT}status 0", self.told("serial", text=FIRST))
@@ -154,6 +229,66 @@ class Histories(SiteTest):
             file.seek(BLOCK * block)
             held = file.read(BLOCK)
         return held[129:130] == b"\xc1" and held[256:265].hex() == record
+
+
+class OldRows(SiteTest):
+    """The site of the first job with its row in version 1, whose slots tell the frame and the state of its cylinder.
+    The next job has the volume read-only."""
+
+    def make(self):
+        """Makes that site."""
+        remove_site(self.folder)
+        self.assertEqual(self.ran("serial", text=FIRST).returncode, 0)
+        for path in self.copies():
+            row = bytearray(path.read_bytes())
+            self.assertEqual((row[VERSION], slots_of(row)), (2, [ASSIGNED, STAGED, CHANGED]))
+            row[VERSION] = 1
+            path.write_bytes(row)
+
+    def copies(self):
+        return [self.site / name for name in ("table_a", "table_b")]
+
+    def assert_new(self, *slots):
+        """That both copies have the row of the first job in a body of version 2, and these slots alone."""
+        due = bytearray(spelled_row("VOL001", 0, 1))
+        due[FRAME_OF_PAGE_0], due[STATE_OF_CYLINDER_5] = 0, 4
+        for path in self.copies():
+            row = path.read_bytes()
+            self.assertEqual((row[:SLOTS_AT].hex(), slots_of(row)), (due.hex(), [*slots]), path.name)
+
+    def test_a_mark_and_no_mark(self):
+        """Both copies are written anew in version 2, which isn't told, and the mark comes. It goes with the next job."""
+        self.make()
+        self.assert_told(LISTING + RECORD, self.told("show"))
+        due = f"{PROTECTED}change 1 volume 0 protect on\n{MARKED}"
+        self.assert_told(due, self.told("serial", text=WRITE_ON_READ_ONLY))
+        self.assert_new(PROTECT)
+        due = f"{READ}change 1 volume 0 protect off\n{RECORD}"
+        self.assert_told(due, self.told("serial", text=READ_BACK))
+        self.assert_new(PROTECT, UNPROTECT)
+
+    @unittest.skipUnless(may_trace(), "this machine has no strace, or may not trace")
+    def test_kills_within_the_start(self):
+        """The track stays at each of its writes and syncs, and the same job takes the site up. No more calls come."""
+        for call, count in CALLS_OF_START:
+            for number in range(1, count + 1):
+                self.make()
+                self.assertEqual(self.status_of_kill(call, number), -signal.SIGKILL, f"killed at {call} {number}")
+                self.assert_taken_up(number >= FIRST_MARKED, f"killed at {call} {number}")
+            self.make()
+            self.assertEqual(self.status_of_kill(call, count + 1), 0, f"there is a {call} {count + 1}")
+
+    def status_of_kill(self, call, number):
+        """How the next job ends where it is killed at the call with this number."""
+        tracing = ["strace", "--quiet=all", "--output=calls", f"--inject={call}:signal=KILL:when={number}"]
+        return run([*tracing, PROGRAM, "serial"], self.folder, WRITE_ON_READ_ONLY).returncode
+
+    def assert_taken_up(self, is_marked, name):
+        """That the site shows the mark or shows none, and that the next job sets it where it isn't there."""
+        self.assert_told(LISTING + (MARKED if is_marked else RECORD), self.told("show"), name)
+        change = "" if is_marked else "change 1 volume 0 protect on\n"
+        self.assert_told(PROTECTED + change + MARKED, self.told("serial", text=WRITE_ON_READ_ONLY), f"{name}, again")
+        self.assertEqual([path.read_bytes()[VERSION] for path in self.copies()], [2, 2], f"{name}, the versions")
 
 
 class Words(SiteTest):

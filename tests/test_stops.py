@@ -82,7 +82,7 @@ def calls_of(text):
 
 def states_after(job, report):
     """The tracks after the history of a report, and those that an entry which was stopped may leave."""
-    machine = Machine(job.volumes)
+    machine = Machine(job.volumes, job.read_only)
     pairs = list(zip(report.entries, sources_of(job, report), strict=True))
     for entry, source in pairs:
         reply(machine, entry, source)

@@ -116,6 +116,17 @@ ROWS = [
         report(["ccw 1F status 0C", "ccw 07 status 0E", f"ccw 04 status 0C data 0004{REST}"], [], BLANK),
     ),
     (
+        "writes on a read-only volume",
+        0,
+        job(["ccw 05 41"], SENSE, WRITTEN, SENSE).replace("VOL001", "VOL001 readonly", 1),
+        report(
+            ["ccw 05 status 0E", f"ccw 04 status 0C data 8000{REST}"]
+            + [*DONE_WRITE[:2], "ccw 1D status 0E", f"ccw 04 status 0C data 0004{REST}"],
+            ["protect on", "assign page 0 frame 0", "staged cylinder 5"],
+            ["volume 0 VOL001 readonly", "END"],
+        ),
+    ),
+    (
         "a transfer to a transfer",
         0,
         job(["ccw 03", "tic 2", "tic 0"]),

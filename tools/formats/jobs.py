@@ -101,6 +101,7 @@ def fixed(text):
     return Slot(f"`{text}`", lambda word: word == text.encode())
 
 
+VOLUME = number("a volume number", 0, 31)
 SERIAL = Slot("a serial, six of A to Z and 0 to 9", is_serial)
 CODE = Slot("a code, two hexadecimal digits", is_byte)
 ARGUMENT = Slot("bytes, pairs of hexadecimal digits", is_hex)
@@ -117,7 +118,7 @@ FORMS = {
             number("a number of recorders", 1, 8),
         )
     ],
-    b"volume": [(number("a volume number", 0, 31), SERIAL)],
+    b"volume": [(VOLUME, SERIAL), (VOLUME, SERIAL, fixed("readonly"))],
     b"host": [(number("a host number", 1, 8),)],
     b"done": [()],
     b"mount": [(SERIAL,), (SERIAL, fixed("bind"))],
@@ -171,6 +172,7 @@ class Job:
     frames: int = 0
     recorders: int = 0
     volumes: dict = field(default_factory=dict)  # number to serial, as text
+    read_only: set = field(default_factory=set)  # the numbers of those that hosts only read
     hosts: list = field(default_factory=list)
     lines: list = field(default_factory=list)
 
@@ -203,6 +205,8 @@ class Reader:
         for place, named in enumerate([("volume", volume), ("serial", serial)], 1):
             self.name(line, place, named)
         self.job.volumes[volume] = serial
+        if len(words) == 4:
+            self.job.read_only.add(volume)
 
     def take_host(self, line, words):
         self.name(line, 1, ("host", int(words[1])))

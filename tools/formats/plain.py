@@ -63,10 +63,12 @@ def is_met(kind, track, argument):
 
 
 class Host:
-    """A host's part of the state. Its volume is None, or the tracks of one by cylinder and head."""
+    """A host's part of the state. Its volume is None, or the tracks of one by cylinder and head; whether that is
+    read-only stands beside it."""
 
     def __init__(self):
         self.volume = None
+        self.is_protected = False
         self.chain = False
         self.cylinder = self.head = 0
         self.mask = 0
@@ -124,10 +126,11 @@ class Host:
 
 
 class Machine:
-    """The volumes of a job, by number, and its hosts."""
+    """The volumes of a job, by number, those of them that are read-only, and its hosts."""
 
-    def __init__(self, volumes):
+    def __init__(self, volumes, read_only):
         self.volumes = {number: {} for number in volumes}
+        self.read_only = read_only
         self.hosts = {number: Host() for number in range(1, 9)}
 
     def mount(self, host, volume):
@@ -138,7 +141,7 @@ class Machine:
             return "already mounted"
         if volume not in self.volumes:
             return "no volume"
-        host.volume = self.volumes[volume]
+        host.volume, host.is_protected = self.volumes[volume], volume in self.read_only
         host.cylinder = host.head = 0
         host.sense = bytes(SENSE_BYTES)
         return "mounted"
@@ -149,7 +152,7 @@ class Machine:
             return "in chain"
         if host.volume is None:
             return "not mounted"
-        host.volume = None
+        host.volume, host.is_protected = None, False
         return "demounted"
 
     def break_off(self, host):
@@ -200,6 +203,8 @@ def check(host, code, argument, prior):
         raise Check(FILE_PROTECTED)
     if code in WRITES and not may_write(code, host.mask, prior):
         raise Check(COMMAND_REJECT)
+    if code in WRITES and host.is_protected:
+        raise Check(FILE_PROTECTED)
     cylinder, head = int.from_bytes(argument[2:4], "big"), int.from_bytes(argument[4:6], "big")
     if code in (SEEK, SEEK_CYLINDER) and (argument[:2] != b"\0\0" or cylinder >= CYLINDERS):
         raise Check(COMMAND_REJECT)

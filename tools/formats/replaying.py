@@ -1,5 +1,7 @@
 """Whether a report is one that plain volumes give: each reply, each change of the table, and the volumes at the end."""
 
+from dataclasses import dataclass, field
+
 from .following import followed, unfinished
 from .plain import EQUIPMENT_CHECK, NO_SPACE, Machine
 from .progress import quiet
@@ -12,9 +14,19 @@ class Differs(Exception):
     """Where a report isn't what plain volumes give."""
 
 
+@dataclass
+class Table:
+    """What the changes so far made of blank devices."""
+
+    created: dict = field(default_factory=dict)  # the serial of each volume
+    read_only: set = field(default_factory=set)
+    frames: dict = field(default_factory=dict)  # the page, with its volume, that has each frame
+    staged: dict = field(default_factory=dict)  # by volume and cylinder, where it has a copy, whether that was changed
+
+
 def replay(job, report, watch=quiet):
     """Goes through a report of a job. What plain volumes don't give is told as Differs."""
-    machine = Machine(job.volumes)
+    machine = Machine(job.volumes, job.read_only)
     sources, following = followed(job, report)
     if len(sources) < len(report.entries):
         raise Differs(f"entry {len(sources) + 1} doesn't follow from the job")
@@ -51,39 +63,48 @@ def reply(machine, entry, source):
 
 def replay_changes(job, report):
     """Each change is one that the table allows, on blank devices; frames are those of the job."""
-    frames = {}  # the page, with its volume, that has each frame
-    staged = {}  # the cylinders that have a copy, with their volumes, and whether it was changed
-    created = {}
+    table = Table()
     for change in report.changes:
-        if not is_allowed(job, change, frames, staged, created):
+        if not is_allowed(job, change, table):
             raise Differs(f"change {change.number}: {change.text} isn't allowed there")
-    if report.changes and created != job.volumes:
+    if report.changes and table.created != job.volumes:
         raise Differs("not every volume is created")
+    if report.changes and table.read_only != job.read_only:
+        raise Differs("not every read-only volume is marked")
 
 
-def is_allowed(job, change, frames, staged, created):
+def is_allowed(job, change, table):
     page = (change.volume, change.page if change.cylinder is None else change.cylinder // OF_PAGE)
     cylinder = (change.volume, change.cylinder)
-    frame = next((frame for frame, other in frames.items() if other == page), None)
+    frame = next((frame for frame, other in table.frames.items() if other == page), None)
     if change.kind == "create":
-        created[change.volume] = change.serial
-        first = CARTRIDGES * (len(created) - 1)
+        table.created[change.volume] = change.serial
+        first = CARTRIDGES * (len(table.created) - 1)
         return job.volumes.get(change.volume) == change.serial and change.cartridges == (first, first + 1)
+    if change.kind == "protect":
+        return change.read_only and is_marked_next(job, change.volume, table)
     if change.kind == "assign":
-        is_free = frame is None and change.frame not in frames and change.frame < job.frames
-        frames[change.frame] = page
+        is_free = frame is None and change.frame not in table.frames and change.frame < job.frames
+        table.frames[change.frame] = page
         return is_free
     if change.kind == "free":
-        pages = [other for other in staged if (other[0], other[1] // OF_PAGE) == page]
-        is_clean = frame == change.frame and not any(staged[other] for other in pages)
-        frames.pop(frame, None)
+        pages = [other for other in table.staged if (other[0], other[1] // OF_PAGE) == page]
+        is_clean = frame == change.frame and not any(table.staged[other] for other in pages)
+        table.frames.pop(frame, None)
         for other in pages:
-            del staged[other]
+            del table.staged[other]
         return is_clean
     allowed = {"staged": None, "changed": False, "destaged": True}[change.kind]
-    was = staged.get(cylinder)
-    staged[cylinder] = change.kind == "changed"
+    was = table.staged.get(cylinder)
+    table.staged[cylinder] = change.kind == "changed"
     return frame is not None and was is allowed
+
+
+def is_marked_next(job, volume, table):
+    """Marks a volume as read-only. Marks come behind all creations, in order of number, and before pages get frames."""
+    due = min(job.read_only - table.read_only, default=None)
+    table.read_only.add(volume)
+    return volume == due and table.created == job.volumes and not table.frames
 
 
 def compare_volumes(job, machine, report):
@@ -92,6 +113,8 @@ def compare_volumes(job, machine, report):
     for (number, serial), volume in zip(sorted(job.volumes.items()), report.volumes, strict=True):
         if (volume.number, volume.serial) != (number, serial):
             raise Differs(f"volume {volume.number} {volume.serial} isn't of the job")
+        if volume.read_only != (number in job.read_only):
+            raise Differs(f"volume {number} has another mark")
         due = {
             place: [(record.identity, record.key, record.data) for record in track]
             for place, track in machine.volumes[number].items()

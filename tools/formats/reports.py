@@ -32,8 +32,9 @@ CREATE = re.compile(rf"create ([A-Z0-9]{{6}}) {NUMBER} {NUMBER}")
 ASSIGN = re.compile(rf"assign page {NUMBER} frame {NUMBER}")
 FREE = re.compile(rf"free page {NUMBER} frame (?:{NUMBER}|-)")
 CYLINDER = re.compile(rf"(staged|changed|destaged) cylinder {NUMBER}")
+PROTECT = re.compile(r"protect (on|off)")
 
-VOLUME = re.compile(rf"volume {NUMBER} ([A-Z0-9]{{6}})")
+VOLUME = re.compile(rf"volume {NUMBER} ([A-Z0-9]{{6}})( readonly)?")
 TRACK = re.compile(rf"track {NUMBER} {NUMBER}")
 RECORD = re.compile(r"record ([0-9A-F]{10}) (-|[0-9A-F]+) (-|[0-9A-F]+)")
 LAST = re.compile(rf"END|LIMIT|STOPPED {NUMBER}")
@@ -69,12 +70,13 @@ class Change:
     number: int
     volume: int
     text: str
-    kind: str  # create, assign, free, staged, changed or destaged
+    kind: str  # create, assign, free, staged, changed, destaged or protect
     serial: str = ""
     cartridges: tuple = ()
     page: int = None
     frame: int = None  # of assign and free, where it is told
     cylinder: int = None
+    read_only: bool = None  # of protect: what the volume is from here on
 
     def page_of_cylinder(self):
         return self.cylinder // CYLINDERS_OF_PAGE
@@ -91,7 +93,12 @@ class Track:
 class Volume:
     number: int
     serial: str
+    read_only: bool = False
     tracks: list = field(default_factory=list)
+
+    def heading(self):
+        """Its line."""
+        return f"volume {self.number} {self.serial}{' readonly' if self.read_only else ''}"
 
 
 @dataclass
@@ -144,7 +151,7 @@ def take_line(report, line):
 def take_volume_line(report, line):
     """Takes a line of what the volumes have, or the last line."""
     if match := VOLUME.fullmatch(line):
-        report.volumes.append(Volume(int(match[1]), match[2]))
+        report.volumes.append(Volume(int(match[1]), match[2], match[3] is not None))
         return True
     if (match := TRACK.fullmatch(line)) and report.volumes:
         report.volumes[-1].tracks.append(Track(int(match[1]), int(match[2])))
@@ -215,6 +222,8 @@ def change_of(number, volume, text):
         change.page, change.frame = int(match[1]), int(match[2]) if match[2] else None
     elif match := CYLINDER.fullmatch(text):
         change.cylinder = int(match[2])
+    elif match := PROTECT.fullmatch(text):
+        change.read_only = match[1] == "on"
     else:
         return None
     return change

@@ -97,6 +97,8 @@ class Model:
         self.serials = sorted(self.job.volumes.items())
         for number, (volume, serial) in enumerate(self.serials):
             self.tell(volume, f"create {serial} {2 * number} {2 * number + 1}")
+        for volume in sorted(self.job.read_only):
+            self.tell(volume, "protect on")
 
     # ---- what is told
 
@@ -360,7 +362,8 @@ class Model:
         lines += [f"entry {number} {text}" for number, text in enumerate(self.entries, 1)]
         lines += [f"change {number} {text}" for number, text in enumerate(self.changes, 1)]
         for volume, serial in self.serials:
-            lines += [f"volume {volume} {serial}", *self.tracks(volume)]
+            mark = " readonly" if volume in self.job.read_only else ""
+            lines += [f"volume {volume} {serial}{mark}", *self.tracks(volume)]
         return "\n".join([*lines, "LIMIT" if is_full else "END"]) + "\n"
 
     def tracks(self, volume):

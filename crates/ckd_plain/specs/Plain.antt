@@ -1,4 +1,5 @@
 -- The plain machine: each call's reply, and the state after it.
+use Rattle.mss_base.specs.Configs.{VolumeData, serial_in, marked_in}
 use Rattle.std.specs.Prelude.{◌≡◌, ℕ, ◌==◌, Bool, true, false, ◌&&◌, not, List, [], ◌∷◌, replicate, Option, Some, None, Result, Ok, Err, is_some, option_map, if◌then◌else◌}
 use Rattle.channel_commands.specs.declared.call.BreakCause.{BreakCause}
 use Rattle.channel_commands.specs.declared.call.BreakCause.TheVariants as cause
@@ -210,22 +211,8 @@ fresh_host = record { mounted = None; protected = false; chain_open = false; cyl
 abbrev pub start_of : Volumes → State
 start_of volumes = record { volumes = volumes; host = λ h. fresh_host }
 
--- a volume's number, its serial, and whether it is read-only
-abbrev pub Labelled : Type 0
-Labelled = ℕ × List ℕ × Bool
-
--- the serial of a volume among these
-abbrev pub serial_in : List Labelled → ℕ → Option (List ℕ)
-serial_in [] v = None
-serial_in (volume ∷ volumes) v = if v == volume.0 then Some volume.1 else serial_in volumes v
-
--- whether a volume is among these as a read-only one
-abbrev pub marked_in : List Labelled → ℕ → Bool
-marked_in [] v = false
-marked_in (volume ∷ volumes) v = if v == volume.0 then volume.2 else marked_in volumes v
-
 -- these volumes, each track without records
-abbrev pub blank_volumes : List Labelled → Volumes
+abbrev pub blank_volumes : List VolumeData → Volumes
 blank_volumes volumes = record { serial = serial_in volumes; read_only = marked_in volumes; track = λ v c h. [] }
 
 -- the replies of the plain machine to calls of hosts

@@ -1,14 +1,15 @@
 -- The core with which a session begins is whole, and its counts are right.
-use Rattle.std.proofs.Common.{◌≡◌, ℕ, ◌≤◌, List, length, Option, None, refl, sym, ◌∙◌, ap, subst, arith}
+use Rattle.std.proofs.Common.{◌≡◌, ℕ, ◌*◌, ◌≤◌, List, [], ◌++◌, length, map, Option, None, refl, sym, ◌∙◌, ap, subst, arith}
 use Rattle.std.specs.Prelude.{vec_len}
-use Rattle.mss_base.specs.Configs.{ConfigData, VolumeData}
+use Rattle.mss_base.specs.Configs.{ConfigData}
 use Rattle.mss_base.specs.Content.{SiteLog, content}
 use Rattle.mss_base.specs.declared.block.TheConstants.{BLOCK_BYTES}
 use Rattle.volume_table.specs.Listed.{AreRows, listed}
 use Rattle.shown_volumes.specs.Shown.{RowsOf}
 use Rattle.shown_volumes.proofs.QuietFacts.{firm_quiet}
-use Rattle.mss_restart.specs.Opening.{missing, IsOpened, AreHeld}
-use Rattle.mss_restart.specs.declared.creations.Creation.{Creation}
+use Rattle.mss_restart.specs.Opening.{OpeningChange, opening_changes, IsOpened, AreHeld}
+use Rattle.mss_restart.specs.Creations.{AreTold}
+use Rattle.mss_restart.specs.declared.steps.OpeningStep.{OpeningStep}
 use Rattle.mss_restart.specs.declared.opening.Opened.{Opened}
 use Rattle.mss_restart.proofs.Creating.{AreRising}
 use Rattle.mss_restart.proofs.UsableFacts.{AreFew, few_listed}
@@ -21,18 +22,18 @@ use Rattle.core_state.specs.SessionData as session
 use Rattle.core_state.specs.declared.session.Message.{Message}
 use Rattle.staging_adapter.specs.Frames.{FramesData}
 use Rattle.accessors.specs.Rails.{RailData, rail_start}
-use Rattle.std.proofs.lemmas.List.{length-replicate}
-use Rattle.mss_restart.specs.Answers.{CreatesCounted, IsUsable}
+use Rattle.std.proofs.lemmas.List.{append-nil, length-replicate}
+use Rattle.mss_restart.specs.Answers.{TellsChanges, IsUsable, steps_of}
 use Rattle.core_restart.specs.declared.parts.Parts.{Parts}
 use Rattle.core_state.proofs.Begun.{begun, whole_begun}
 use Rattle.core_state.proofs.CountedFacts.{counted_begun}
 use Rattle.core_restart.specs.Owners.{AreOwners}
-use Rattle.core_restart.specs.Console.{creations_of, HaveRows, TellCreations}
+use Rattle.core_restart.specs.Console.{message_in, steps_in, FreeNone}
 use Rattle.core_restart.specs.Opening.{opened_in}
 use Rattle.core_restart.specs.Parts.{AreParts, IsFirm, MayBegin}
 use Rattle.core_restart.specs.Begins.{Begins}
 use Rattle.core_restart.proofs.OwnerFacts.{are_owned}
-use Rattle.core_restart.proofs.ConsoleFacts.{HaveNone, AreApart, missing_apart, missing_none, few_missing, as_many, have_rows, all_done, leads, all_allowed, handed_are}
+use Rattle.core_restart.proofs.ConsoleFacts.{HaveNone, AreApart, opening_apart, opening_none, few_changes, as_many, all_done, leads, all_allowed, handed_are, messages_append}
 
 -- a core in which nothing has happened is one of its parts
 begins_is : {S C : Type 0} (config : ConfigData) (chooser : C) (writes faults : ℕ) (v : CoreValue S C) → Begins config chooser writes faults v → v ≡ begun v.site chooser config v.store v.rows v.used v.owners v.console writes faults
@@ -61,50 +62,47 @@ begins_is config chooser writes faults v is = λ i. record {
 }
 
 module _ (tells : Type 0) (told : SiteLog) (writes faults : ℕ) (config : ConfigData) (rising : AreRising config.volumes) where
-  -- each created volume has a row
-  pub rows_made : (opened : Opened) → MayBegin tells told writes config opened → HaveRows (listed opened.rows) opened.creations.items
-  rows_made opened ready =
+  -- each configured volume is created once at most, and marked once
+  pub few_steps : (opened : Opened) → MayBegin tells told writes config opened → length (steps_of opened) ≤ 2 * length config.volumes
+  few_steps opened ready =
       let c = ready.counted in
-      have_rows (missing c.before config.volumes) c.before (listed opened.rows) opened.creations.items ready.written writes c.creates (missing_apart c.before config.volumes rising) c.counted
-
-  -- and each configured volume was created once at most
-  pub few_made : (opened : Opened) → MayBegin tells told writes config opened → length opened.creations.items ≤ length config.volumes
-  few_made opened ready =
-      let c = ready.counted in
-      let few = few_missing c.before config.volumes in
-      let same = as_many (missing c.before config.volumes) opened.creations.items ready.written writes c.counted in
+      let few = few_changes c.before config.volumes in
+      let same = as_many (opening_changes c.before config.volumes) (steps_of opened) c.before (listed opened.rows) ready.written writes c.told in
       omega (arith, few, same)
 
   module _ {S C : Type 0} (chooser : C) (v : CoreValue S C) (is : Begins config chooser writes faults v) (ready : MayBegin tells told writes config (opened_in v)) where
     abbrev before : RowsOf
     before = ready.counted.before
 
-    abbrev made : List VolumeData
-    made = missing ready.counted.before config.volumes
+    abbrev changes : List OpeningChange
+    changes = opening_changes ready.counted.before config.volumes
 
     abbrev now : RowsOf
     now = listed v.rows
 
-    apart : AreApart made
-    apart = missing_apart before config.volumes rising
+    told_ : AreTold changes (steps_in v.console) before now ready.written writes
+    told_ = subst (λ (xs : List OpeningStep). AreTold changes xs before now ready.written writes) (append-nil (steps_in v.console)) ready.counted.told
 
-    none : HaveNone before made
-    none = missing_none before config.volumes
+    apart : AreApart changes
+    apart = opening_apart before config.volumes rising
+
+    none : HaveNone before changes
+    none = opening_none before config.volumes
 
     few : AreFew now
     few = few_listed v.rows ready.rows_.places
 
     handed : handed_rows now v.console ≡ before
-    handed = handed_are made before now v.console ready.written writes ready.counted.creates ready.counted.counted is.created none
+    handed = handed_are changes v.console before now ready.written writes told_ apart none
 
     allowed : AllAllowed (handed_rows now v.console) v.console
-    allowed = subst (λ (r : RowsOf). AllAllowed r v.console) (sym handed) (all_allowed made before now v.console ready.written writes ready.counted.creates apart ready.counted.counted is.created none few)
+    allowed = subst (λ (r : RowsOf). AllAllowed r v.console) (sym handed) (all_allowed changes v.console before now ready.written writes told_ is.freed_none apart none few)
 
     leads_now : rows_after (handed_rows now v.console) v.console ≡ now
-    leads_now = ap (λ (r : RowsOf). rows_after r v.console) handed ∙ leads made before now v.console ready.written writes ready.counted.creates apart ready.counted.counted is.created
+    leads_now = ap (λ (r : RowsOf). rows_after r v.console) handed ∙ leads changes v.console before now ready.written writes told_
 
     done : AllDone writes v.console
-    done = (all_done made v.console ready.written writes ready.counted.counted).1
+    done = (all_done changes v.console before now ready.written writes told_).1
 
     module _ (at_end : tells → writes ≡ length told.log) where
       whole : IsWhole tells told v
@@ -153,7 +151,7 @@ core_of site chooser parts opened frames rail d = record {
 
 module _ {S C : Type 0} (site : S) (chooser kept : C) (parts : Parts) (opened : Opened) (frames : FramesData) (rail : RailData) (d : SessionData) (console : List Message) (writes faults : ℕ)
     (are : AreParts parts.config parts) (kept_is : kept ≡ chooser) (places : length opened.used.items ≡ 32) (owners : AreOwners (length parts.frames.owners) (listed opened.rows) frames.owners) (moving : frames.moving ≡ parts.frames.moving) (rail_is : rail ≡ rail_start)
-    (tells_console : TellCreations (listed opened.rows) console) (is : d ≡ session.begun console writes faults) where
+    (frees : FreeNone console) (is : d ≡ session.begun console writes faults) where
   pub begins_of : Begins parts.config chooser writes faults (core_of site kept parts opened frames rail d)
   begins_of = record {
     config_ = refl;
@@ -172,22 +170,22 @@ module _ {S C : Type 0} (site : S) (chooser kept : C) (parts : Parts) (opened : 
     fresh = are.hosts_;
     no_entries = ap (λ (x : SessionData). x.history) is;
     no_marks = ap (λ (x : SessionData). x.marks) is;
-    created = subst (λ (ms : List Message). TellCreations (listed opened.rows) ms) (sym (ap (λ (x : SessionData). x.console) is)) tells_console;
+    freed_none = subst FreeNone (sym (ap (λ (x : SessionData). x.console) is)) frees;
     no_events = ap (λ (x : SessionData). x.events) is;
     first_write_ = ap (λ (x : SessionData). x.first_write) is;
     first_faults_ = ap (λ (x : SessionData). x.first_faults) is;
     going = ap (λ (x : SessionData). x.stopped) is;
   }
 
-  pub kept_of : (tells : Type 0) (told : SiteLog) → AreRising parts.config.volumes → creations_of console ≡ opened.creations.items → MayBegin tells told writes parts.config opened → (tells → writes ≡ length told.log)
+  pub kept_of : (tells : Type 0) (told : SiteLog) → AreRising parts.config.volumes → steps_in console ≡ steps_of opened → MayBegin tells told writes parts.config opened → (tells → writes ≡ length told.log)
       → IsKept tells told writes faults (vec_len parts.buffer) (core_of site kept parts opened frames rail d)
   kept_of tells told rising made_is ready at_end =
-      let same : creations_of d.console ≡ opened.creations.items = ap (λ (x : SessionData). creations_of x.console) is ∙ made_is in
+      let same : steps_in d.console ++ [] ≡ steps_of opened = append-nil (steps_in d.console) ∙ ap (λ (x : SessionData). steps_in x.console) is ∙ made_is in
       kept_begun tells told writes faults parts.config rising chooser (core_of site kept parts opened frames rail d) begins_of (record {
         rows_ = ready.rows_;
         used_ = ready.used_;
         written = ready.written;
-        counted = subst (λ (ms : List Creation). CreatesCounted parts.config ready.written writes (listed opened.rows) ms) (sym same) ready.counted;
+        counted = subst (λ (ms : List OpeningStep). TellsChanges parts.config ready.written writes (listed opened.rows) ms) (sym same) ready.counted;
         from = ready.from;
         opened_ = ready.opened_;
         firm = ready.firm;
@@ -196,7 +194,7 @@ module _ {S C : Type 0} (site : S) (chooser kept : C) (parts : Parts) (opened : 
 
 -- an opening that was answered is one to begin from
 pub may_begin : (tells : Type 0) (config : ConfigData) (old new : DevicesSeen) (opened : Opened) → length opened.rows ≡ 32 → AreRows opened.rows → IsUsable config opened
-    → CreatesCounted config old.writes new.writes (listed opened.rows) opened.creations.items → (tells → IsOpened config (content old.told) (content new.told) opened.rows opened.used.items) → (tells → IsFirm new.told)
+    → TellsChanges config old.writes new.writes (listed opened.rows) (steps_of opened) → (tells → IsOpened config (content old.told) (content new.told) opened.rows opened.used.items) → (tells → IsFirm new.told)
     → MayBegin tells new.told new.writes config opened
 may_begin tells config old new opened places are_rows usable counted is firm = record {
   rows_ = record { places = places; are_rows = are_rows; below = usable.rows_.usable.frames_below; once = usable.rows_.usable.frames_once };
@@ -207,3 +205,10 @@ may_begin tells config old new opened places are_rows usable counted is firm = r
   opened_ = is;
   firm = firm;
 }
+
+-- what the console tells of an opening, told in two parts
+pub console_of : (opened : Opened) (start then last : List Message) (a b : List OpeningStep) → start ≡ [] → then ≡ start ++ map message_in a → last ≡ then ++ map message_in b → a ≡ opened.creations.items → b ≡ opened.marks.items
+    → last ≡ map message_in (steps_of opened)
+console_of opened start then last a b none first second a_is b_is =
+    second ∙ ap (λ (ms : List Message). ms ++ map message_in b) (first ∙ ap (λ (ms : List Message). ms ++ map message_in a) none)
+    ∙ messages_append a b ∙ (λ i. map message_in (a_is i ++ b_is i))

@@ -8,13 +8,13 @@ use Rattle.accessors.specs.Rails.{rail_start}
 use Rattle.victim_choice.specs.Order.{untouched}
 use Rattle.core_state.specs.CoreValue.{CoreValue}
 use Rattle.core_restart.specs.Owners.{AreOwners}
-use Rattle.core_restart.specs.Console.{TellCreations}
+use Rattle.core_restart.specs.Console.{FreeNone}
 
 -- Nothing has happened: no entry, no event, no request, no task. The recorders are empty, each
 -- cartridge is in its cell, the accessors are at the ends of their rail. A frame belongs to the page
 -- that has it by the rows, none moves, and frame 0 is the least recently touched. There is a count of
--- slots in use for each of the 32 volumes. The console tells which volumes were created, and nothing
--- else. So many writes and faults were counted by now.
+-- slots in use for each of the 32 volumes. The console tells what the opening did to the volumes, and
+-- of no freed frame. So many writes and faults were counted by now.
 pub record Begins {S C : Type 0} (config : ConfigData) (chooser : C) (writes faults : ℕ)
     (core : CoreValue S C) : Type 0 where
   pub config_ : core.config ≡ config
@@ -31,7 +31,7 @@ pub record Begins {S C : Type 0} (config : ConfigData) (chooser : C) (writes fau
   pub fresh : core.hosts ≡ replicate 8 fresh_host
   pub no_entries : core.history ≡ []
   pub no_marks : core.marks ≡ []
-  pub created : TellCreations (listed core.rows) core.console
+  pub freed_none : FreeNone core.console
   pub no_events : core.events ≡ []
   pub first_write_ : core.first_write ≡ writes
   pub first_faults_ : core.first_faults ≡ faults

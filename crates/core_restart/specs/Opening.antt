@@ -6,30 +6,31 @@ use Rattle.mss_base.specs.Counts.{Rises}
 use Rattle.shown_volumes.specs.declared.refused.Refused.{Refused}
 use Rattle.shown_volumes.specs.declared.refused.Refused.TheVariants.{Stopped, Memory}
 use Rattle.mss_restart.specs.declared.opening.Opened.{Opened}
-use Rattle.mss_restart.specs.Answers.{AnswersOpening, OpensSite}
+use Rattle.mss_restart.specs.Answers.{AnswersOpening, OpensSite, steps_of}
 use Rattle.core_state.specs.CoreValue.{CoreValue, DevicesSeen}
 use Rattle.core_state.specs.Devices.{FailSync}
-use Rattle.core_restart.specs.Console.{creations_of}
+use Rattle.core_restart.specs.Console.{steps_in}
 
 -- the site that the core has, or that is handed back
 abbrev pub site_of : {S C : Type 0} → Result (CoreValue S C) (S × Refused) → S
 site_of (Ok core) = core.site
 site_of (Err refused) = refused.0
 
--- the rows of the core, with their slots in use, and the creations that its console tells; no room
--- is told
+-- the rows of the core, with their slots in use, and the steps that its console tells, as one list; no
+-- room is told
 abbrev pub opened_in : {S C : Type 0} → CoreValue S C → Opened
 opened_in core = record {
   rows = core.rows;
   used = record { items = core.used; spare = 0 };
-  creations = record { items = creations_of core.console; spare = 0 };
+  creations = record { items = steps_in core.console; spare = 0 };
+  marks = record { items = []; spare = 0 };
 }
 
 -- a core has what was opened
 pub record HasOpened {S C : Type 0} (opened : Opened) (core : CoreValue S C) : Type 0 where
   pub rows_ : core.rows ≡ opened.rows
   pub used_ : core.used ≡ opened.used.items
-  pub creations_ : creations_of core.console ≡ opened.creations.items
+  pub steps_ : steps_in core.console ≡ steps_of opened
 
 -- what was opened, or why the site is refused
 abbrev pub answer_of : {S C : Type 0} → Result (CoreValue S C) (S × Refused)

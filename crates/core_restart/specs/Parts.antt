@@ -1,5 +1,5 @@
 -- What a core needs of memory beside its rows, and from what it can begin.
-use Rattle.std.specs.Prelude.{◌≡◌, ◌≤◌, ℕ, [], length, replicate, None, vec_len}
+use Rattle.std.specs.Prelude.{◌≡◌, ◌≤◌, ◌*◌, ℕ, [], length, replicate, None, vec_len}
 use Rattle.mss_base.specs.Configs.{ConfigData}
 use Rattle.mss_base.specs.Content.{Content, SiteLog, IsLoose, content}
 use Rattle.mss_base.specs.declared.place.UnitNo.{UnitNo}
@@ -11,11 +11,11 @@ use Rattle.staging_adapter.specs.Frames.{free_frames}
 use Rattle.victim_choice.specs.Order.{untouched}
 use Rattle.mss_restart.specs.declared.opening.Opened.{Opened}
 use Rattle.mss_restart.specs.Opening.{IsOpened}
-use Rattle.mss_restart.specs.Answers.{CreatesCounted}
+use Rattle.mss_restart.specs.Answers.{TellsChanges, steps_of}
 use Rattle.core_restart.specs.declared.parts.Parts.{Parts}
 use Rattle.core_restart.specs.Owners.{HaveFrames}
 
--- everything at its start, with room for a message of each configured volume
+-- everything at its start, with room for two messages of each configured volume
 pub record AreParts (config : ConfigData) (parts : Parts) : Type 0 where
   pub config_ : parts.config ≡ config
   pub buffer_ : vec_len parts.buffer ≡ BLOCK_BYTES
@@ -27,20 +27,20 @@ pub record AreParts (config : ConfigData) (parts : Parts) : Type 0 where
   pub recorders_ : parts.recorders.items ≡ replicate config.recorders None
   pub hosts_ : parts.hosts.items ≡ replicate 8 fresh_host
   pub console_ : parts.console.items ≡ []
-  pub room : length config.volumes ≤ parts.console.spare
+  pub room : 2 * length config.volumes ≤ parts.console.spare
 
 -- nothing that was written to a site is loose
 abbrev pub IsFirm : SiteLog → Type 0
 IsFirm s = (unit : UnitNo) (block : ℕ) → IsLoose s unit block → ⊥
 
 -- an opened site, of which so many writes were made by now, all of them firm: its rows, with a count
--- of slots for each of the 32 volumes, and the creations behind them
+-- of slots for each of the 32 volumes, and the steps that led to them
 pub record MayBegin (tells : Type 0) (told : SiteLog) (writes : ℕ) (config : ConfigData)
     (opened : Opened) : Type 0 where
   pub rows_ : HaveFrames config.frames opened.rows
   pub used_ : length opened.used.items ≡ 32
   pub written : ℕ
-  pub counted : CreatesCounted config written writes (listed opened.rows) opened.creations.items
+  pub counted : TellsChanges config written writes (listed opened.rows) (steps_of opened)
   pub from : Content
   pub opened_ : tells → IsOpened config from (content told) opened.rows opened.used.items
   pub firm : tells → IsFirm told

@@ -1,6 +1,8 @@
 -- What a restart takes up: content in which its configuration finds no fault, as a stop leaves it.
-use Rattle.std.specs.Prelude.{◌≡◌, ◌≤◌, ◌<◌, ℕ, List, [], length, Some, None, Result, Ok, Err, IfOk}
-use Rattle.mss_base.specs.Configs.{ConfigData, VolumeData, IsConfig}
+use Rattle.std.specs.Prelude.{◌≡◌, ◌≤◌, ◌<◌, ℕ, Bool, List, [], length, map, Some, None, Result, Ok, Err, IfOk}
+use Rattle.mss_base.specs.Configs.{ConfigData, VolumeData, IsConfig, serial_in, marked_in}
+use Rattle.std.specs.List.Sorted.{IsStrictlySortedBy}
+use Rattle.std.specs.Ordering.{nat_cmp}
 use Rattle.mss_base.specs.Content.{Content, SiteLog, Item, Tear, Got, content, image}
 use Rattle.ckd_track.specs.Data.{Volumes}
 use Rattle.ckd_plain.specs.Plain.{start_of}
@@ -10,8 +12,7 @@ use Rattle.shown_volumes.specs.Shown.{rows_of, shown}
 use Rattle.shown_volumes.specs.Sound.{SoundAs}
 use Rattle.shown_volumes.specs.Faults.{first_fault}
 use Rattle.mss_restart.specs.declared.opening.Opened.{Opened}
-use Rattle.mss_restart.specs.Opening.{ShowsFront, missing, with_blanks}
-use Rattle.mss_restart.specs.Serials.{serial_in}
+use Rattle.mss_restart.specs.Opening.{ShowsFront, opened_all, opening_changes}
 use Rattle.core_state.specs.CoreValue.{CoreValue, DevicesSeen}
 use Rattle.core_state.specs.IsCore.{IsTold, opening_of}
 use Rattle.core_restart.specs.Opening.{OpensSynced}
@@ -20,19 +21,29 @@ use Rattle.core_restart.specs.Opening.{OpensSynced}
 abbrev pub Answer : Type 0 → Type 0 → Type 0
 Answer S C = Result (CoreValue S C) (S × Refused)
 
--- each of these volumes is there, with its serial
+-- a volume is there with this serial and this mark
+pub record IsThere (volumes : Volumes) (volume : ℕ) (serial : List ℕ) (mark : Bool) : Type 0 where
+  pub serial_ : volumes.serial volume ≡ Some serial
+  pub mark_ : volumes.read_only volume ≡ mark
+
+-- each of these volumes is there, with its serial and its mark
 abbrev pub AreThere : List VolumeData → Volumes → Type 0
 AreThere asked volumes =
     (volume : ℕ) (serial : List ℕ) → serial_in asked volume ≡ Some serial
-    → volumes.serial volume ≡ Some serial
+    → IsThere volumes volume serial (marked_in asked volume)
+
+-- volumes in rising order of number
+abbrev pub AreRising : List VolumeData → Type 0
+AreRising volumes = IsStrictlySortedBy nat_cmp (map (λ v. v.0) volumes)
 
 -- a configuration finds no fault in a content
 abbrev pub IsFaultless : ConfigData → Content → Type 0
 IsFaultless config c = first_fault config.frames (serial_in config.volumes) c ≡ None
 
--- the volumes that a content shows, with the further ones of a configuration, blank
+-- the volumes that a content shows, with the further ones of a configuration, blank, and with the marks
+-- that it asks for
 abbrev pub shown_for : ConfigData → Content → Volumes
-shown_for config c = with_blanks (missing (rows_of c) config.volumes) (shown c)
+shown_for config c = opened_all (opening_changes (rows_of c) config.volumes) (shown c)
 
 -- no call failed, and the count of faults could tell
 pub record NoneFailed (before now : ℕ) : Type 0 where
@@ -48,6 +59,7 @@ pub record BeginsWith {S C : Type 0} (config : ConfigData) (volumes : Volumes) (
   pub opening_ : opening_of site core ≡ start_of volumes
   pub shows : SoundAs config.frames volumes (content site)
   pub there : AreThere config.volumes volumes
+  pub rising : AreRising config.volumes
   pub no_entries : core.history ≡ []
 
 -- such a core, or that memory ran out
@@ -61,7 +73,7 @@ IsNoRefusal (Ok core) = Unit {0}
 IsNoRefusal (Err refused) = refused.1 ≡ Memory
 
 -- of a site that tells: content without a fault isn't refused where no call fails, and a core
--- begins with the volumes that were shown, and the further ones, blank
+-- begins with the volumes that were shown, the further ones, blank, and the marks that are asked for
 pub record TakesUp {S C : Type 0} (config : ConfigData) (old new : DevicesSeen)
     (answer : Answer S C) : Type 0 where
   pub faultless : IsFaultless config (content old.told) → NoneFailed old.faults new.faults
@@ -93,6 +105,7 @@ left_by {first} {site} stop = image site stop.moment stop.tear
 pub record IsSession {S C : Type 0} (site : SiteLog) (core : CoreValue S C) : Type 0 where
   pub told : IsTold site core
   pub there : AreThere core.config.volumes (opening_of site core).volumes
+  pub rising : AreRising core.config.volumes
 
 -- a core later in a session: writes were added to the log, and configuration and beginning stayed
 pub record IsLater {S C : Type 0} (old : SiteLog) (core : CoreValue S C) (new : SiteLog)
@@ -102,11 +115,12 @@ pub record IsLater {S C : Type 0} (old : SiteLog) (core : CoreValue S C) (new : 
   pub items : List Item
   pub grown : Got items old new
 
--- what a stop within a session leaves: content without a fault, in which no volume is missing
+-- what a stop within a session leaves: content without a fault, in which no volume is missing or has
+-- another mark
 pub record LeavesAll (config : ConfigData) (c : Content) : Type 0 where
   pub faultless : IsFaultless config c
   pub all_there : AreThere config.volumes (shown c)
-  pub none_missing : missing (rows_of c) config.volumes ≡ []
+  pub none_changed : opening_changes (rows_of c) config.volumes ≡ []
 
 -- a restart that opened content without a fault, whatever it answered
 pub record OpensFaultless (config : ConfigData) (old new : DevicesSeen)
@@ -116,8 +130,8 @@ pub record OpensFaultless (config : ConfigData) (old new : DevicesSeen)
   pub opens : OpensSynced (Unit {0}) config old new answer
 
 -- what a stop within a restart leaves: content without a fault, which shows the volumes of before
--- with a front of the further ones, and of which the same volumes come in the end
+-- after a front of the opening changes, and of which the same volumes come in the end
 pub record LeavesFront (config : ConfigData) (old c : Content) : Type 0 where
   pub faultless : IsFaultless config c
-  pub front : ShowsFront config.frames (missing (rows_of old) config.volumes) (shown old) c
+  pub front : ShowsFront config.frames (opening_changes (rows_of old) config.volumes) (shown old) c
   pub in_the_end : shown_for config c ≡ shown_for config old

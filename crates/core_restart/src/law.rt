@@ -51,6 +51,7 @@ pub fn restart_takes_up_every_stop<S: Site, C: Choose>()
         → IsTakenUp core.config (shown (left_by stop)) new.told answer }
 {
     ckd_plain::laws::only_the_track_under_a_write_changes();
+    ckd_plain::laws::hosts_know_their_marks();
     shown_volumes::law::first_fault_is_of_unsound_content();
 }
 

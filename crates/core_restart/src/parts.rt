@@ -1,5 +1,5 @@
 // What a core needs of memory, which is taken before anything is written.
-ghost use Rattle.std.specs.Prelude.{◌≡◌, ◌≤◌, ℕ, [], length, replicate, None, IfOk, vec_len};
+ghost use Rattle.std.specs.Prelude.{◌≡◌, ◌≤◌, ◌*◌, ℕ, [], length, replicate, None, IfOk, vec_len};
 ghost use Rattle.mss_base.specs.declared.block.TheConstants.{BLOCK_BYTES};
 ghost use Rattle.cartridge_store.specs.Places.{home_of, place_of};
 ghost use Rattle.ckd_plain.specs.Plain.{fresh_host};
@@ -28,7 +28,7 @@ pub struct Parts {
     pub store: Store,
     pub recorders: RecorderList,
     pub hosts: HostStateList,
-    /// Room for a message of each configured volume.
+    /// Room for two messages of each configured volume: that it was created, and that its mark was changed.
     pub console: MessageList,
 }
 
@@ -79,13 +79,13 @@ fn fresh_hosts(alloc: Global) -> Result<HostStateList, NoMemory>
     HostStateList::of(alloc, &[HostState::fresh(); 8])
 }
 
-/// Room for a message of each of these volumes.
-fn console_for(alloc: Global, volumes: &[(VolumeNo, Serial)]) -> Result<MessageList, NoMemory>
+/// Room for two messages of each of these volumes.
+fn console_for(alloc: Global, volumes: &[(VolumeNo, Serial, bool)]) -> Result<MessageList, NoMemory>
     ensures none { IfOk result (λ console. console.items ≡ []) }
-    ensures room { IfOk result (λ console. length volumes.now ≤ console.spare) }
+    ensures room { IfOk result (λ console. 2 * length volumes.now ≤ console.spare) }
 {
     let mut console = MessageList::new(alloc);
-    console.reserve(volumes.len())?;
+    console.reserve(2 * volumes.len())?;
     Ok(console)
 }
 
@@ -115,15 +115,15 @@ fn device_parts(alloc: Global, count: u8) -> Result<(TaskList, RecorderList, Sto
     Ok((tasks, recorders, store))
 }
 
-/// The hosts as they begin, with no request, and room for a message of each of these volumes.
+/// The hosts as they begin, with no request, and room for two messages of each of these volumes.
 fn host_parts(
     alloc: Global,
-    volumes: &[(VolumeNo, Serial)],
+    volumes: &[(VolumeNo, Serial, bool)],
 ) -> Result<(HostStateList, Queue, MessageList), NoMemory>
     ensures hosts { IfOk result (λ parts. parts.0.items ≡ replicate 8 fresh_host) }
     ensures requests { IfOk result (λ parts. parts.1 ≡ []) }
     ensures console { IfOk result (λ parts. parts.2.items ≡ []) }
-    ensures room { IfOk result (λ parts. length volumes.now ≤ parts.2.spare) }
+    ensures room { IfOk result (λ parts. 2 * length volumes.now ≤ parts.2.spare) }
 {
     let hosts = fresh_hosts(alloc)?;
     let requests = Queue::new(alloc)?;

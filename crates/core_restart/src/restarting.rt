@@ -17,7 +17,7 @@ ghost use Rattle.core_restart.specs.Parts.{AreParts, MayBegin};
 ghost use Rattle.core_restart.specs.TakingUp.{TakesUp};
 ghost use Rattle.core_state.specs.CoreValue.{seen_site};
 
-use crate::console::tell_creations;
+use crate::console::tell_steps;
 use crate::owners::own_frames;
 use crate::parts::Parts;
 use accessors::Rail;
@@ -61,10 +61,11 @@ fn begin<S: Site, C: Choose>(
         hosts,
         mut console,
     } = parts;
-    // The numbers of its volumes rise, which a body knows of a configuration that it looks into.
+    // A body knows of a configuration that it looks into that the numbers of its volumes rise.
     let _volumes = &config.volumes;
     own_frames(&mut frames, &opened.rows);
-    tell_creations(&mut console, &opened.rows, opened.creations.as_slice());
+    tell_steps(&mut console, opened.creations.as_slice());
+    tell_steps(&mut console, opened.marks.as_slice());
     let session = session_of(alloc, &site, console);
     Core {
         config,
@@ -105,14 +106,15 @@ fn sync_site<S: Site>(site: &mut S) -> Result<(), Refused>
 }
 
 /// Opens a site and makes the core of a session on it, in which nothing has happened yet. The session begins with the
-/// volumes that the site showed and the further ones of the configuration, blank; its console tells which were created.
+/// volumes that the site showed and the further ones of the configuration, blank, with the marks that it asks for; its
+/// console tells which were created, and which marks were changed.
 ///
 /// It begins with a sync of all units, so that what an earlier run left is firm before anything counts on it. A
 /// content with a fault is refused by its first fault, and nothing is written. `RowUnread` and `Stopped` come only
-/// where a call of the site failed, and keep its count of faults. After want of memory each repair and creation that
-/// was begun was written to its end. Where it refuses, it hands the site back. A stop at any moment, also within a
-/// call that fails, leaves a sound content sound; it then shows the volumes that it showed before, with a front of
-/// the new ones.
+/// where a call of the site failed, and keep its count of faults. After want of memory all that was begun was written
+/// to its end. Where it refuses, it hands the site back. A stop at any moment, also within a call that fails, leaves
+/// a sound content sound; it then shows the volumes that it showed before, after a front of the new ones and the new
+/// marks.
 ///
 /// The memory of the core is taken before anything is written, but for that of the rows
 /// that it creates.
@@ -132,6 +134,8 @@ pub fn restart<S: Site, C: Choose + Drop>(
     ensures begins { IfOk result (λ core.
         Begins config.now chooser (S.writes core.site) (S.faults core.site) core) }
 {
+    // The numbers of its volumes rise.
+    let _volumes = &config.volumes;
     let Ok(parts) = Parts::new(alloc, config) else {
         return Err((site, Refused::Memory));
     };

@@ -25,7 +25,7 @@ world = record {
   core = record {
     site = no_devices;
     chooser = tt;
-    config = record { frames = 1; recorders = 1; volumes = (0, serial) ∷ [] };
+    config = record { frames = 1; recorders = 1; volumes = (0, serial, false) ∷ [] };
     rows = Some (blank_row serial 0 1) ∷ replicate 31 None;
     used = replicate 32 no_slots;
     owners = None ∷ [];

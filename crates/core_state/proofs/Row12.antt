@@ -6,6 +6,7 @@ use Rattle.ckd_plain.specs.Plain.{fresh_host, run, performed, blank_volumes, res
 use Rattle.ckd_plain.specs.Checks.{admitted}
 use Rattle.ckd_plain.specs.Effects.{effect, search, read, write_}
 use Rattle.ckd_plain.specs.Index.{pass_index, next_within, next_record, same_record, to_home}
+use Rattle.mss_base.specs.Configs.{VolumeData}
 use Rattle.mss_base.specs.Firsts.{first_below}
 use Rattle.table_pair.specs.Slots.{no_slots}
 use Rattle.volume_table.specs.Row.{blank_row}
@@ -25,8 +26,8 @@ use Rattle.core_state.proofs.RuleRows.{no_devices}
 abbrev pub serial : ℕ → List ℕ
 serial n = 0x56 ∷ 0x4F ∷ 0x4C ∷ 0x30 ∷ 0x30 ∷ n ∷ []
 
-abbrev pub volumes : List (ℕ × List ℕ)
-volumes = (0, serial 0x31) ∷ (1, serial 0x32) ∷ []
+abbrev pub volumes : List VolumeData
+volumes = (0, serial 0x31, false) ∷ (1, serial 0x32, false) ∷ []
 
 abbrev pub world : World
 world = record {
@@ -53,7 +54,7 @@ world = record {
     first_faults = 0;
     stopped = None;
   };
-  volumes = blank_volumes ((0, serial 0x31, false) ∷ (1, serial 0x32, false) ∷ []);
+  volumes = blank_volumes volumes;
 }
 
 abbrev pub seek : CallData

@@ -55,8 +55,8 @@ abbrev pub load_config : ConfigData
 load_config = record {
   frames = 24;
   recorders = 2;
-  volumes =
-      (0, codes "LOAD00") ∷ (1, codes "LOAD01") ∷ (2, codes "LOAD02") ∷ (3, codes "LOAD03") ∷ [];
+  volumes = (0, codes "LOAD00", false) ∷ (1, codes "LOAD01", false)
+      ∷ (2, codes "LOAD02", false) ∷ (3, codes "LOAD03", false) ∷ [];
 }
 
 abbrev pub scripts_of : List ℕ → List ScriptData

@@ -1,5 +1,5 @@
 //! The job of a load.
-ghost use Rattle.std.specs.Prelude.{◌≡◌, ◌<◌, ◌≤◌, ◌^◌, ◌++◌, [], ◌∷◌, IfOk, OnOk, length, map};
+ghost use Rattle.std.specs.Prelude.{◌≡◌, ◌<◌, ◌≤◌, ◌^◌, ◌++◌, [], ◌∷◌, false, IfOk, OnOk, length, map};
 ghost use Rattle.job_text.specs.Jobs.{IsJob};
 ghost use Rattle.job_text.specs.Views.{item_of};
 ghost use Rattle.draws.specs.Load.{load_config, load_job, load_serial, own_program, script_of};
@@ -81,11 +81,11 @@ fn load_serial(number: u8) -> Serial
 fn put_volume(volumes: &mut VolumeList, number: u8) -> Result<(), NoMemory>
     requires { number ≤ 3 }
     ensures { OnOk result (volumes.new.items
-        ≡ volumes.old.items ++ (number, load_serial number) ∷ []) }
+        ≡ volumes.old.items ++ (number, load_serial number, false) ∷ []) }
 {
     let volume = VolumeNo::of(number).unwrap();
     volumes.reserve(1)?;
-    volumes.push((volume, load_serial(number)));
+    volumes.push((volume, load_serial(number), false));
     Ok(())
 }
 

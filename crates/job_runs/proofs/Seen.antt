@@ -41,7 +41,7 @@ module _ {S C : Type 0} (g : Ghosts S) (v : CoreValue S C) where
     fresh = is.fresh;
     no_entries = is.no_entries;
     no_marks = is.no_marks;
-    created = is.created;
+    freed_none = is.freed_none;
     no_events = is.no_events;
     first_write_ = is.first_write_;
     first_faults_ = is.first_faults_;
@@ -49,4 +49,4 @@ module _ {S C : Type 0} (g : Ghosts S) (v : CoreValue S C) where
   }
 
   pub with_seen : (config : ConfigData) (volumes : Volumes) → BeginsWith config volumes (g.told v.site) v → BeginsWith config volumes (g.told v.site) there
-  with_seen config volumes is = record { opening_ = is.opening_; shows = is.shows; there = is.there; no_entries = is.no_entries }
+  with_seen config volumes is = record { opening_ = is.opening_; shows = is.shows; there = is.there; rising = is.rising; no_entries = is.no_entries }

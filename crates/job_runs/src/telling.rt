@@ -34,7 +34,7 @@ pub fn tell<S: Site, O: Sink>(
     alloc: Global,
     site: &mut S,
     rows: &Rows,
-    volumes: &[(VolumeNo, Serial)],
+    volumes: &[(VolumeNo, Serial, bool)],
     session: &Session,
     end: DriveAnswer,
     output: &mut O,

@@ -1,5 +1,5 @@
 -- A word of one pair of digits, and the bytes of a word of many.
-use Rattle.std.proofs.Common.{◌≡◌, ℕ, Bool, true, false, List, Option, Some, None, refl, sym}
+use Rattle.std.proofs.Common.{◌≡◌, ℕ, Bool, true, false, List, Some, None, refl}
 use Rattle.std.specs.Prelude.{if◌then◌else◌}
 use Rattle.job_text.specs.Words.{byte_of, byte_word, is_hex_byte}
 

@@ -46,5 +46,6 @@ job_back_unfed j text is same small =
     let c = j.config in
     let whole : slice_split (λ b. b == 10) text ≡ map line_bytes lines = append_cancel_right (slice_split (λ b. b == 10) text) (map line_bytes lines) ([] ∷ []) parts in
     let split : lines_of text ≡ map line_bytes lines = ap lines_of_parts whole
-    ∙ done_last (mss c.frames c.recorders ∷ map (λ v. volume v.0 v.1) c.volumes ++ flat_map (script_lines c.volumes) j.hosts) in
+    ∙ done_last
+    (mss c.frames c.recorders ∷ map (λ v. volume v.0 v.1 v.2) c.volumes ++ flat_map (script_lines c.volumes) j.hosts) in
     rw few (ap (λ ls. job_of_reading (lines_after nothing 1 ls)) split ∙ ap job_of_reading (run_back nothing 1 lines (known j) leads refl) ∙ ap (λ (k : JobData). Ok k) (job_known j is))

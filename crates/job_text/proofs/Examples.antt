@@ -1,5 +1,5 @@
 -- A job of each line form, and a text for each kind of refusal, computed by the definition.
-use Rattle.std.specs.Prelude.{◌≡◌, ℕ, true, List, [], ◌∷◌, ◌++◌, Result, Ok, Err, codes}
+use Rattle.std.specs.Prelude.{◌≡◌, ℕ, true, false, List, [], ◌∷◌, ◌++◌, Result, Ok, Err, codes}
 use Rattle.std.specs.List.{flat_map}
 use Rattle.std.proofs.Common.{refl}
 use Rattle.job_text.specs.declared.kind.JobKind.{JobKind}
@@ -14,7 +14,7 @@ text : List (List ℕ) → List ℕ
 text lines = flat_map (λ line. line ++ 10 ∷ []) lines
 
 abbrev start : List (List ℕ)
-start = codes "mss 1 frames 24 recorders 2" ∷ codes "volume 7 LOAD07" ∷ codes "volume 3 LOAD03" ∷ []
+start = codes "mss 1 frames 24 recorders 2" ∷ codes "volume 7 LOAD07 readonly" ∷ codes "volume 3 LOAD03" ∷ []
 
 bad : ℕ → JobKind → Result JobData BadLine
 bad n k = Err (record { line = n; kind = k })
@@ -25,7 +25,11 @@ a_job = refl
 
 a_whole_job : job_of (text (start ++ codes "" ∷ codes "host 2" ∷ codes "mount LOAD07 bind" ∷ codes "program" ∷ codes "ccw 07 0000000A0004" ∷ codes "ccw 1d 0a fill FF 3" ∷ codes "tic 1" ∷ codes "end" ∷ codes "host 1" ∷ codes "demount" ∷ codes "done" ∷ codes "# end" ∷ []))
     ≡ Ok (record {
-      config = record { frames = 24; recorders = 2; volumes = (3, codes "LOAD03") ∷ (7, codes "LOAD07") ∷ [] };
+      config = record {
+        frames = 24;
+        recorders = 2;
+        volumes = (3, codes "LOAD03", false) ∷ (7, codes "LOAD07", true) ∷ [];
+      };
       hosts = record { host = 2; items = mounting 7 true ∷ running (device 0x07 (0 ∷ 0 ∷ 0 ∷ 10 ∷ 0 ∷ 4 ∷ []) ∷ device 0x1D (10 ∷ 255 ∷ 255 ∷ 255 ∷ []) ∷ transfer 1 ∷ []) ∷ [] }
           ∷ record { host = 1; items = demounting ∷ [] } ∷ [];
     })
@@ -47,6 +51,14 @@ unknown = refl
 two_spaces : job_of (text (start ++ codes "host  1" ∷ [])) ≡ bad 4 Shape
 unfolding text bad
 two_spaces = refl
+
+another_word : job_of (text (start ++ codes "volume 9 LOAD09 writable" ∷ [])) ≡ bad 4 Shape
+unfolding text bad
+another_word = refl
+
+a_fourth_word : job_of (text (start ++ codes "volume 9 LOAD09 readonly now" ∷ [])) ≡ bad 4 Shape
+unfolding text bad
+a_fourth_word = refl
 
 range : job_of (text (start ++ codes "host 9" ∷ [])) ≡ bad 4 Range
 unfolding text bad

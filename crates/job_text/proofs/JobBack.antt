@@ -154,17 +154,20 @@ hosts_lead (h ∷ hs) s between each differ small =
     (same_hosts s _ _ _ _ apart (omega arith))
 
 volumes_lead : (vs before : List VolumeData) (f r : ℕ) → AllByRecursion IsVolume vs → IsDistinct ◌==◌ (map (λ v. v.0) (before ++ vs))
-    → IsDistinct bytes_eq (map (λ v. v.1) (before ++ vs)) → LeadsTo (at_volumes f r before) (map (λ v. volume v.0 v.1) vs) (at_volumes f r (before ++ vs))
+    → IsDistinct bytes_eq (map (λ v. v.1) (before ++ vs))
+    → LeadsTo (at_volumes f r before) (map (λ v. volume v.0 v.1 v.2) vs) (at_volumes f r (before ++ vs))
 volumes_lead [] before f r each numbers serials = ap (at_volumes f r) (sym (append-nil before))
 volumes_lead (v ∷ vs) before f r each numbers serials =
     let s = at_volumes f r before in
     let apart = append_assoc before (v ∷ []) vs in
-    let twice : is_twice s (volume v.0 v.1) ≡ false =
+    let twice : is_twice s (volume v.0 v.1 v.2) ≡ false =
     any_either (λ (w : VolumeData). w.0 == v.0) (λ (w : VolumeData). bytes_eq w.1 v.1) before (none_equal ◌==◌ (λ (w : VolumeData). w.0) before v vs numbers) (none_equal bytes_eq (λ (w : VolumeData). w.1) before v vs serials) in
     let rest = volumes_lead vs (before ++ v ∷ []) f r each.1
     (subst (λ (xs : List VolumeData). IsDistinct ◌==◌ (map (λ w. w.0) xs)) (sym apart) numbers)
     (subst (λ (xs : List VolumeData). IsDistinct bytes_eq (map (λ w. w.1) xs)) (sym apart) serials) in
-    leads_to s _ _ (map (λ w. volume w.0 w.1) (v ∷ vs)) (leads_on s (volume v.0 v.1) (map (λ w. volume w.0 w.1) vs) _ (each.0.0, from_serial v.1 each.0.1) refl (good s (volume v.0 v.1) twice refl refl) rest)
+    leads_to s _ _ (map (λ w. volume w.0 w.1 w.2) (v ∷ vs))
+    (leads_on s (volume v.0 v.1 v.2) (map (λ w. volume w.0 w.1 w.2) vs) _ (each.0.0, from_serial v.1 each.0.1) refl
+    (good s (volume v.0 v.1 v.2) twice refl refl) rest)
     (ap (at_volumes f r) apart)
 
 -- what is known at a job's end
@@ -187,7 +190,7 @@ job_leads j is =
     let valid = is.config_ in
     let s = at_volumes c.frames c.recorders c.volumes in
     let between : IsBetween s = record { host_ = refl; done_ = refl; closed_ = refl; each = valid.volumes_; differ = valid.serials } in
-    let vs = map (λ (v : VolumeData). volume v.0 v.1) c.volumes in
+    let vs = map (λ (v : VolumeData). volume v.0 v.1 v.2) c.volumes in
     let hs = flat_map (script_lines c.volumes) j.hosts in
     let volumes = volumes_lead c.volumes [] c.frames c.recorders valid.volumes_ (distinct_rising (map (λ v. v.0) c.volumes) valid.rising) valid.serials in
     let hosts = hosts_lead j.hosts s between is.scripts is.hosts_differ (omega (arith, is.small)) in

@@ -80,10 +80,11 @@ judged_ok s t line h = elim (cases_Bool (is_twice s line)) [
   ]
 ]
 
-volume_kept : (s : SoFar) (n : ℕ) (serial : List ℕ) → IsBase s → IsHostless s → IsVolume (n, serial) → is_twice s (volume n serial) ≡ false
-    → IsBase (after s (volume n serial)) × IsHostless (after s (volume n serial))
-volume_kept s n serial base hostless is twice =
-    let v : VolumeData = (n, serial) in
+volume_kept : (s : SoFar) (n : ℕ) (serial : List ℕ) (mark : Bool) → IsBase s → IsHostless s
+    → IsVolume (n, serial, mark) → is_twice s (volume n serial mark) ≡ false
+    → IsBase (after s (volume n serial mark)) × IsHostless (after s (volume n serial mark))
+volume_kept s n serial mark base hostless is twice =
+    let v : VolumeData = (n, serial, mark) in
     let none = neither (λ (w : VolumeData). w.0 == n) (λ (w : VolumeData). bytes_eq w.1 serial) s.volumes twice in (
       record {
         some_frames = base.some_frames;
@@ -256,8 +257,9 @@ kept_on place.Head (mss f r) s here kept is allowed a b d =
     let base : IsBase start = record { some_frames = is.0; few_frames = is.1; some_recorders = is.2; few_recorders = is.3; volumes_ = tt; numbers = tt; serials = tt; closed_ = tt; small = omega arith } in
     let hostless : IsHostless start = record { none_closed = refl; none_present = refl; no_words = refl; no_bytes = refl } in
     subst (λ (x : SoFar). IsKeptAt place.Volumes (after x (mss f r))) (sym kept) (base, hostless)
-kept_on place.Volumes (volume n serial) s here kept is allowed a b d =
-    subst (λ (q : Place). IsKeptAt q (after s (volume n serial))) (sym here) (volume_kept s n serial kept.0 kept.1 (is.0, to_serial serial is.1) a)
+kept_on place.Volumes (volume n serial mark) s here kept is allowed a b d =
+    subst (λ (q : Place). IsKeptAt q (after s (volume n serial mark))) (sym here)
+    (volume_kept s n serial mark kept.0 kept.1 (is.0, to_serial serial is.1) a)
 kept_on place.Volumes (host n) s here kept is allowed a b d = host_kept s n kept.0 (whole_hostless s kept.1) is a
 kept_on place.Volumes done s here kept is allowed a b d = done_kept s kept.0 (whole_hostless s kept.1)
 kept_on place.Host (host n) s here kept is allowed a b d = host_kept s n kept.0 (whole_open s kept.1 kept.0 kept.2 kept.3) is a

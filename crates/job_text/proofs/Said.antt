@@ -65,10 +65,16 @@ is_said Mss (v ∷ a ∷ f ∷ b ∷ r ∷ []) line h =
     let recorders = between 1 (number_of r) 8 (and_parts _ _ p.1).0 in
     said_of Mss (mss (number_of f) (number_of r)) line t.2 (frames.0, frames.1, recorders.0, recorders.1) refl
 is_said Volume (v ∷ s ∷ []) line h =
-    let t = checked_ok (number 0 31 v ∷ serial s ∷ []) (volume (number_of v) s) line h in
+    let t = checked_ok (number 0 31 v ∷ serial s ∷ []) (volume (number_of v) s false) line h in
     let n = between 0 (number_of v) 31 (and_parts _ _ t.1).0 in
     let parts = and_parts _ _ t.0 in
-    said_of Volume (volume (number_of v) s) line t.2 (n.1, (and_parts _ _ parts.1).0) refl
+    said_of Volume (volume (number_of v) s false) line t.2 (n.1, (and_parts _ _ parts.1).0) refl
+is_said Volume (v ∷ s ∷ r ∷ []) line h =
+    let slots = number 0 31 v ∷ serial s ∷ fixed (codes "readonly") r ∷ [] in
+    let t = checked_ok slots (volume (number_of v) s true) line h in
+    let n = between 0 (number_of v) 31 (and_parts _ _ t.1).0 in
+    let parts = and_parts _ _ t.0 in
+    said_of Volume (volume (number_of v) s true) line t.2 (n.1, (and_parts _ _ parts.1).0) refl
 is_said Host (n ∷ []) line h =
     let t = checked_ok (number 1 8 n ∷ []) (host (number_of n)) line h in
     said_of Host (host (number_of n)) line t.2 (between 1 (number_of n) 8 (and_parts _ _ t.1).0) refl

@@ -63,7 +63,8 @@ ArePlain words = AllByRecursion (λ w. list_all plain w ≡ true) words
 
 pub words_plain : (line : LineData) → IsLine line → ArePlain (spelling (keyword_of line) ∷ words_said line)
 words_plain (mss f r) h = (refl, (refl, (refl, (number_plain f (omega (arith, h.1)), (refl, (number_plain r (omega (arith, h.3)), tt))))))
-words_plain (volume n s) h = (refl, (number_plain n (omega (arith, h.0)), (word_plain s h.1, tt)))
+words_plain (volume n s true) h = (refl, (number_plain n (omega (arith, h.0)), (word_plain s h.1, (refl, tt))))
+words_plain (volume n s false) h = (refl, (number_plain n (omega (arith, h.0)), (word_plain s h.1, tt)))
 words_plain (host n) h = (refl, (number_plain n (omega (arith, h.1)), tt))
 words_plain done h = (refl, tt)
 words_plain (mount s true) h = (refl, (word_plain s h, (refl, tt)))
@@ -110,7 +111,8 @@ not_skipped b rest h = rw (ne_eqb (suc (length rest)) 0 (λ (e : suc (length res
 
 said_not_skipped : (line : LineData) → is_skipped (line_bytes line) ≡ false
 said_not_skipped (mss f r) = not_skipped 109 (drop 1 (line_bytes (mss f r))) refl
-said_not_skipped (volume n s) = not_skipped 118 (drop 1 (line_bytes (volume n s))) refl
+said_not_skipped (volume n s true) = not_skipped 118 (drop 1 (line_bytes (volume n s true))) refl
+said_not_skipped (volume n s false) = not_skipped 118 (drop 1 (line_bytes (volume n s false))) refl
 said_not_skipped (host n) = not_skipped 104 (drop 1 (line_bytes (host n))) refl
 said_not_skipped done = not_skipped 100 (drop 1 (line_bytes done)) refl
 said_not_skipped (mount s true) = not_skipped 109 (drop 1 (line_bytes (mount s true))) refl

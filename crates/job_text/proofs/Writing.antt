@@ -37,8 +37,9 @@ job_put j old x y hosts same head tail =
 
 -- the parts of a configuration, put one behind the other
 pub config_put : (config : ConfigData) (old x : List ℕ) (volumes : List VolumeData) → volumes ≡ config.volumes → x ≡ old ++ line_text (mss config.frames config.recorders)
-    → x ++ flat_map line_text (map (λ v. volume v.0 v.1) volumes) ≡ old ++ config_text config
+    → x ++ flat_map line_text (map (λ v. volume v.0 v.1 v.2) volumes) ≡ old ++ config_text config
 config_put config old x volumes same head =
-    let tail : List ℕ = flat_map line_text (map (λ (v : VolumeData). volume v.0 v.1) config.volumes) in
-    ap (λ (vs : List VolumeData). x ++ flat_map line_text (map (λ v. volume v.0 v.1) vs)) same ∙ ap (λ (text : List ℕ). text ++ tail) head
+    let tail : List ℕ = flat_map line_text (map (λ (v : VolumeData). volume v.0 v.1 v.2) config.volumes) in
+    ap (λ (vs : List VolumeData). x ++ flat_map line_text (map (λ v. volume v.0 v.1 v.2) vs)) same
+    ∙ ap (λ (text : List ℕ). text ++ tail) head
     ∙ append_assoc old (line_text (mss config.frames config.recorders)) tail

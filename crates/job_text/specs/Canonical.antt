@@ -24,7 +24,7 @@ hex bytes = flat_map hex_byte bytes
 
 abbrev pub keyword_of : LineData → Keyword
 keyword_of (mss f r) = keyword.Mss
-keyword_of (volume n s) = keyword.Volume
+keyword_of (volume n s read_only) = keyword.Volume
 keyword_of (host n) = keyword.Host
 keyword_of done = keyword.Done
 keyword_of (mount s bind) = keyword.Mount
@@ -37,7 +37,8 @@ keyword_of end = keyword.End
 -- the words after the keyword
 abbrev pub words_said : LineData → List (List ℕ)
 words_said (mss f r) = codes "1" ∷ codes "frames" ∷ decimal f ∷ codes "recorders" ∷ decimal r ∷ []
-words_said (volume n s) = decimal n ∷ s ∷ []
+words_said (volume n s true) = decimal n ∷ s ∷ codes "readonly" ∷ []
+words_said (volume n s false) = decimal n ∷ s ∷ []
 words_said (host n) = decimal n ∷ []
 words_said done = []
 words_said (mount s true) = s ∷ codes "bind" ∷ []
@@ -52,7 +53,7 @@ words_said end = []
 -- what a line may say, wherever it stands
 abbrev pub IsLine : LineData → Type 0
 IsLine (mss f r) = (1 ≤ f) × (f ≤ 200) × (1 ≤ r) × (r ≤ 8)
-IsLine (volume n s) = (n ≤ 31) × (is_serial s ≡ true)
+IsLine (volume n s read_only) = (n ≤ 31) × (is_serial s ≡ true)
 IsLine (host n) = (1 ≤ n) × (n ≤ 8)
 IsLine (mount s bind) = is_serial s ≡ true
 IsLine (ccw code argument) = (code < 256) × AllByRecursion (λ b. b < 256) argument
@@ -86,7 +87,8 @@ abbrev pub script_lines : List VolumeData → ScriptData → List LineData
 script_lines volumes script = host script.host ∷ flat_map (item_lines volumes) script.items
 
 abbrev pub config_lines : ConfigData → List LineData
-config_lines config = mss config.frames config.recorders ∷ map (λ v. volume v.0 v.1) config.volumes
+config_lines config =
+    mss config.frames config.recorders ∷ map (λ v. volume v.0 v.1 v.2) config.volumes
 
 abbrev pub job_lines : JobData → List LineData
 job_lines job = config_lines job.config ++ flat_map (script_lines job.config.volumes) job.hosts ++ done ∷ []

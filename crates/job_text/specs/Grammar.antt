@@ -44,7 +44,7 @@ scripts s = s.closed ++ option_map_or (λ n. record { host = n; items = s.items 
 
 -- a volume number, a serial or a host number stands in an earlier line
 abbrev pub is_twice : SoFar → LineData → Bool
-is_twice s (volume n serial) = list_any (λ v. v.0 == n || bytes_eq v.1 serial) s.volumes
+is_twice s (volume n serial read_only) = list_any (λ v. v.0 == n || bytes_eq v.1 serial) s.volumes
 is_twice s (host n) = list_any (λ script. script.host == n) (scripts s)
 is_twice s _ = false
 
@@ -72,7 +72,8 @@ mounting_of (Some n) bind = mounting n bind ∷ []
 -- what is known after a good line
 abbrev pub after : SoFar → LineData → SoFar
 after s (mss f r) = record s { place = place.Volumes; frames = f; recorders = r }
-after s (volume n serial) = record s { volumes = s.volumes ++ (n, serial) ∷ [] }
+after s (volume n serial read_only) =
+    record s { volumes = s.volumes ++ (n, serial, read_only) ∷ [] }
 after s (host n) = record s { place = place.Host; closed = scripts s; present = Some n; items = [] }
 after s done = record s { place = place.After; closed = scripts s; present = None; items = [] }
 after s (mount serial bind) = record s { items = s.items ++ mounting_of (number_of_serial s serial) bind }

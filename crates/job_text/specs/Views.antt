@@ -8,7 +8,7 @@ use Rattle.job_text.specs.Lines.{LineData, mss, volume, host, done, mount, demou
 
 abbrev pub said : Line → LineData
 said (variant.Mss f r) = mss f r
-said (variant.Volume n s) = volume n s
+said (variant.Volume n s read_only) = volume n s read_only
 said (variant.Host n) = host n
 said variant.Done = done
 said (variant.Mount s bind) = mount s bind

@@ -16,15 +16,32 @@ use std::alloc::{AllocError, AllocFailed, Global};
 /// What a line says.
 #[derive(Drop)]
 pub enum Line {
-    Mss { frames: u16, recorders: u8 },
-    Volume { number: VolumeNo, serial: Serial },
-    Host { number: HostNo },
+    Mss {
+        frames: u16,
+        recorders: u8,
+    },
+    Volume {
+        number: VolumeNo,
+        serial: Serial,
+        read_only: bool,
+    },
+    Host {
+        number: HostNo,
+    },
     Done,
-    Mount { serial: Serial, bind: bool },
+    Mount {
+        serial: Serial,
+        bind: bool,
+    },
     Demount,
     Program,
-    Ccw { code: u8, argument: Bytes },
-    Tic { to: u8 },
+    Ccw {
+        code: u8,
+        argument: Bytes,
+    },
+    Tic {
+        to: u8,
+    },
     End,
 }
 
@@ -147,7 +164,28 @@ fn volume_line(volume: &[u8], serial: &[u8]) -> Result<Line, LineFault>
     let serial = spelled_serial(serial)?;
     in_range(volume, 0, 31)?;
     match VolumeNo::of(volume as u8) {
-        Some(number) => Ok(Line::Volume { number, serial }),
+        Some(number) => Ok(Line::Volume {
+            number,
+            serial,
+            read_only: false,
+        }),
+        None => Err(LineFault::Bad(JobKind::Range)),
+    }
+}
+
+fn volume_readonly_line(volume: &[u8], serial: &[u8], readonly: &[u8]) -> Result<Line, LineFault>
+    ensures { Gives said result (line_of Volume (volume.now ∷ serial.now ∷ readonly.now ∷ [])) }
+{
+    let volume = spelled_number(volume)?;
+    let serial = spelled_serial(serial)?;
+    spelled_as(readonly, "readonly")?;
+    in_range(volume, 0, 31)?;
+    match VolumeNo::of(volume as u8) {
+        Some(number) => Ok(Line::Volume {
+            number,
+            serial,
+            read_only: true,
+        }),
         None => Err(LineFault::Bad(JobKind::Range)),
     }
 }
@@ -266,6 +304,7 @@ fn volume_words(words: &[&[u8]]) -> Result<Line, LineFault>
 {
     match words {
         [volume, serial] => volume_line(volume, serial),
+        [volume, serial, readonly] => volume_readonly_line(volume, serial, readonly),
         _ => Err(LineFault::Bad(JobKind::Shape)),
     }
 }

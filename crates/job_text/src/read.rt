@@ -103,7 +103,7 @@ fn read_lines(alloc: Global, text: &[u8]) -> Result<Reading, JobFault>
 /// Puts the volume with this number, if there is one.
 fn put_numbered(
     ordered: &mut VolumeList,
-    volumes: &[(VolumeNo, Serial)],
+    volumes: &[(VolumeNo, Serial, bool)],
     number: u8,
 ) -> Result<(), NoMemory>
     ensures { OnOk result (ordered.new.items ≡ ordered.old.items ++ option_to_list (find (λ v. v.0 == number) volumes.now)) }
@@ -116,7 +116,7 @@ fn put_numbered(
 }
 
 /// The volumes in order of number.
-fn by_number(alloc: Global, volumes: &[(VolumeNo, Serial)]) -> Result<VolumeList, NoMemory>
+fn by_number(alloc: Global, volumes: &[(VolumeNo, Serial, bool)]) -> Result<VolumeList, NoMemory>
     ensures { IfOk result (λ ordered. ordered.items ≡ by_number volumes.now) }
 {
     let mut ordered = VolumeList::new(alloc);

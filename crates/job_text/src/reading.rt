@@ -90,19 +90,19 @@ pub struct Reading {
     pub total: usize,
 }
 
-fn clashes(known: &(VolumeNo, Serial), number: VolumeNo, serial: &Serial) -> bool
+fn clashes(known: &(VolumeNo, Serial, bool), number: VolumeNo, serial: &Serial) -> bool
     ensures { result ≡ (known.now.0 == number || bytes_eq known.now.1 serial.now) }
 {
     known.0.get() == number.get() || known.1.as_slice() == serial.as_slice()
 }
 
-fn is_volume_among(volumes: &[(VolumeNo, Serial)], number: VolumeNo, serial: &Serial) -> bool
+fn is_volume_among(volumes: &[(VolumeNo, Serial, bool)], number: VolumeNo, serial: &Serial) -> bool
     ensures { result ≡ list_any (λ v. v.0 == number || bytes_eq v.1 serial.now) volumes.now }
 {
     volumes.iter().any(|v| clashes(v, number, serial))
 }
 
-fn volume_among(volumes: &[(VolumeNo, Serial)], serial: &Serial) -> Option<VolumeNo>
+fn volume_among(volumes: &[(VolumeNo, Serial, bool)], serial: &Serial) -> Option<VolumeNo>
     ensures { result ≡ option_map (λ v. v.0) (find (λ v. bytes_eq v.1 serial.now) volumes.now) }
 {
     volumes
@@ -146,7 +146,7 @@ impl Reading {
     }
 
     fn is_volume_twice(&self, number: VolumeNo, serial: &Serial) -> bool
-        ensures { result ≡ is_twice (so_far self.now) (volume number serial.now) }
+        ensures { result ≡ is_twice (so_far self.now) (volume number serial.now false) }
     {
         is_volume_among(self.volumes.as_slice(), number, serial)
     }
@@ -172,13 +172,19 @@ impl Reading {
         Ok(())
     }
 
-    fn put_volume(&mut self, number: VolumeNo, serial: Serial) -> Result<(), LineFault>
-        ensures { Steps result (so_far self.new) (judged (so_far self.old) (volume number serial)) }
+    fn put_volume(
+        &mut self,
+        number: VolumeNo,
+        serial: Serial,
+        read_only: bool,
+    ) -> Result<(), LineFault>
+        ensures { Steps result (so_far self.new)
+            (judged (so_far self.old) (volume number serial read_only)) }
     {
         if self.is_volume_twice(number, &serial) {
             return Err(LineFault::Bad(JobKind::Twice));
         }
-        push(&mut self.volumes, (number, serial))?;
+        push(&mut self.volumes, (number, serial, read_only))?;
         Ok(())
     }
 
@@ -303,7 +309,11 @@ impl Reading {
     {
         match line {
             Line::Mss { frames, recorders } => self.put_mss(frames, recorders),
-            Line::Volume { number, serial } => self.put_volume(number, serial),
+            Line::Volume {
+                number,
+                serial,
+                read_only,
+            } => self.put_volume(number, serial, read_only),
             Line::Host { number } => self.put_host(alloc, number),
             Line::Done => self.put_done(alloc),
             Line::Mount { serial, bind } => self.put_mount(serial, bind),

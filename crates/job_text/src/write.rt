@@ -45,19 +45,35 @@ fn push_mss(out: &mut Bytes, frames: u16, recorders: u8) -> Result<(), NoMemory>
     push_line(out, Keyword::Mss, &words)
 }
 
-fn push_volume(out: &mut Bytes, number: VolumeNo, serial: &Serial) -> Result<(), NoMemory>
-    ensures { OnOk result (out.new.items ≡ out.old.items ++ line_text (volume number serial.now)) }
+fn push_volume(
+    out: &mut Bytes,
+    number: VolumeNo,
+    serial: &Serial,
+    read_only: bool,
+) -> Result<(), NoMemory>
+    ensures { OnOk result (out.new.items
+        ≡ out.old.items ++ line_text (volume number serial.now read_only)) }
 {
     let mut buffer = itoa::Buffer::new();
     let number = buffer.format(number.get()).as_bytes();
-    push_line(out, Keyword::Volume, &[number, serial.as_slice()])
+    let serial = serial.as_slice();
+    if read_only {
+        push_line(
+            out,
+            Keyword::Volume,
+            &[number, serial, "readonly".as_bytes()],
+        )
+    } else {
+        push_line(out, Keyword::Volume, &[number, serial])
+    }
 }
 
-fn push_volumes(out: &mut Bytes, volumes: &[(VolumeNo, Serial)]) -> Result<(), NoMemory>
-    ensures { OnOk result (out.new.items ≡ out.old.items ++ flat_map line_text (map (λ v. volume v.0 v.1) volumes.now)) }
+fn push_volumes(out: &mut Bytes, volumes: &[(VolumeNo, Serial, bool)]) -> Result<(), NoMemory>
+    ensures { OnOk result (out.new.items
+        ≡ out.old.items ++ flat_map line_text (map (λ v. volume v.0 v.1 v.2) volumes.now)) }
 {
-    for (number, serial) in volumes {
-        push_volume(out, *number, serial)?;
+    for (number, serial, read_only) in volumes {
+        push_volume(out, *number, serial, *read_only)?;
     }
     Ok(())
 }
@@ -108,14 +124,14 @@ fn push_mount(out: &mut Bytes, serial: &[u8], bind: bool) -> Result<(), NoMemory
 /// Puts the mount of a volume; a number that no volume has leaves the serial empty.
 fn push_mounting(
     out: &mut Bytes,
-    volumes: &[(VolumeNo, Serial)],
+    volumes: &[(VolumeNo, Serial, bool)],
     volume: VolumeNo,
     bind: bool,
 ) -> Result<(), NoMemory>
     ensures { OnOk result (out.new.items ≡ out.old.items ++ line_text (mount (serial_of volumes.now volume) bind)) }
 {
     match volume_with(volumes, volume.get()) {
-        Some((_, serial)) => push_mount(out, serial.as_slice(), bind),
+        Some((_, serial, _)) => push_mount(out, serial.as_slice(), bind),
         None => push_mount(out, &[], bind),
     }
 }
@@ -128,7 +144,11 @@ fn push_program(out: &mut Bytes, program: &Program) -> Result<(), NoMemory>
     push_line(out, Keyword::End, &[])
 }
 
-fn push_item(out: &mut Bytes, volumes: &[(VolumeNo, Serial)], item: &Item) -> Result<(), NoMemory>
+fn push_item(
+    out: &mut Bytes,
+    volumes: &[(VolumeNo, Serial, bool)],
+    item: &Item,
+) -> Result<(), NoMemory>
     ensures { OnOk result (out.new.items ≡ out.old.items ++ flat_map line_text (item_lines volumes.now (item_of item.now))) }
 {
     match item {
@@ -140,7 +160,7 @@ fn push_item(out: &mut Bytes, volumes: &[(VolumeNo, Serial)], item: &Item) -> Re
 
 fn push_items(
     out: &mut Bytes,
-    volumes: &[(VolumeNo, Serial)],
+    volumes: &[(VolumeNo, Serial, bool)],
     items: &[Item],
 ) -> Result<(), NoMemory>
     ensures { OnOk result (out.new.items ≡ out.old.items ++ flat_map line_text (flat_map (item_lines volumes.now) (map item_of items.now))) }
@@ -164,7 +184,7 @@ fn push_host(out: &mut Bytes, number: HostNo) -> Result<(), NoMemory>
 
 fn push_script(
     out: &mut Bytes,
-    volumes: &[(VolumeNo, Serial)],
+    volumes: &[(VolumeNo, Serial, bool)],
     script: &HostScript,
 ) -> Result<(), NoMemory>
     ensures { OnOk result (out.new.items ≡ out.old.items ++ flat_map line_text (script_lines volumes.now script.now)) }

@@ -2,7 +2,7 @@
 use Rattle.std.proofs.Common.{◌≡◌, ℕ, List, [], ◌++◌, ◌∙◌}
 use Rattle.mss_base.specs.Configs.{VolumeData}
 use Rattle.mss_base.specs.Content.{Content}
-use Rattle.mss_restart.specs.Serials.{serial_in}
+use Rattle.mss_base.specs.Configs.{serial_in}
 use Rattle.shown_volumes.specs.Shown.{RowsOf, rows_of}
 use Rattle.mss_audit.specs.declared.finding.Finding.{Finding}
 use Rattle.mss_audit.specs.Listing.{joined_below}

@@ -1,7 +1,7 @@
 // The audit: four walks, one after the other, each to its end.
 ghost use Rattle.std.specs.Prelude.{◌≡◌, ◌++◌, IfOk, OnOk};
 ghost use Rattle.mss_base.specs.Content.{content};
-ghost use Rattle.mss_restart.specs.Serials.{serial_in};
+ghost use Rattle.mss_base.specs.Configs.{serial_in};
 ghost use Rattle.volume_table.specs.Listed.{listed};
 ghost use Rattle.mss_audit.specs.Auditing.{Inspects};
 ghost use Rattle.mss_audit.specs.Findings.{findings, rest_findings};

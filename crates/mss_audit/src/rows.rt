@@ -1,7 +1,7 @@
 // The rows: both copies of each are read.
 ghost use Rattle.std.specs.Prelude.{◌≡◌, ◌≢◌, ◌++◌, IfOk, OnOk};
 ghost use Rattle.mss_base.specs.Content.{content};
-ghost use Rattle.mss_restart.specs.Serials.{serial_in};
+ghost use Rattle.mss_base.specs.Configs.{serial_in};
 ghost use Rattle.volume_table.specs.Listed.{listed};
 ghost use Rattle.table_pair.specs.Copies.{copy_at};
 ghost use Rattle.table_pair.specs.Pair.{read_of, row_of, unread};
@@ -67,7 +67,7 @@ fn list_row<S: Site>(
 pub fn list_rows<S: Site>(
     alloc: Global,
     site: &mut S,
-    volumes: &[(VolumeNo, Serial)],
+    volumes: &[(VolumeNo, Serial, bool)],
     findings: &mut Findings,
 ) -> Result<Rows, AuditFault>
     ensures rows { S.tells → IfOk result (λ rows.

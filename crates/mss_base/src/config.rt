@@ -2,8 +2,8 @@
 use crate::{Listed, Serial, VolumeNo};
 use std::marker::Model;
 
-/// Volumes, each with its serial.
-pub type VolumeList = Listed<(VolumeNo, Serial)>;
+/// Volumes, each with its serial, and whether it is read-only.
+pub type VolumeList = Listed<(VolumeNo, Serial, bool)>;
 
 /// What a session is made of.
 #[derive(Drop)]

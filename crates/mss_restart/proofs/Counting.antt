@@ -1,10 +1,6 @@
--- Creations as they are told, and each written to its end.
-use Rattle.std.proofs.Common.{◌≡◌, ℕ, ◌<◌, ◌≤◌, true, false, List, [], ◌∷◌, ◌++◌, append_assoc, None, Some, Err, refl, sym, ◌∙◌, ap, subst, arith}
-use Rattle.std.specs.Prelude.{is_some}
-use Rattle.std.specs.List.{AllByRecursion}
+-- Opening changes as they are told, and each written to its end.
+use Rattle.std.proofs.Common.{◌≡◌, ℕ, ◌≤◌, List, [], ◌∷◌, ◌++◌, append_assoc, None, Some, Err, refl, sym, ◌∙◌, ap, subst, arith}
 use Rattle.std.proofs.lemmas.List.{append-nil}
-use Rattle.std.proofs.lemmas.Bool.{cond-true, cond-false}
-use Rattle.mss_base.specs.Configs.{VolumeData}
 use Rattle.mss_base.specs.Content.{SiteLog}
 use Rattle.volume_table.specs.Row.{RowValue, blank_row}
 use Rattle.shown_volumes.specs.Shown.{RowsOf}
@@ -12,10 +8,9 @@ use Rattle.shown_volumes.specs.Changing.{with_row}
 use Rattle.shown_volumes.specs.declared.refused.Refused.{Refused}
 use Rattle.shown_volumes.specs.declared.refused.Refused.TheVariants.{Memory}
 use Rattle.mss_restart.specs.Cartridges.{IsLowestFree}
-use Rattle.mss_restart.specs.Opening.{missing, IsNewRow, HasNewRow, Creates}
-use Rattle.mss_restart.specs.Creations.{IsCreation, AreCreations, IsFrontCreated, AreCounted, CreatesRows, CreatesWhole}
-use Rattle.mss_restart.specs.declared.creations.Creation.{Creation}
-use Rattle.mss_restart.proofs.Creating.{creates_last, missing_past}
+use Rattle.mss_restart.specs.Opening.{OpeningChange, volume_of, IsNewRow, IsRowAfter}
+use Rattle.mss_restart.specs.Creations.{AreTold, MakesRow, IsWritten, AreWritten, IsFrontWritten, ChangesWhole}
+use Rattle.mss_restart.specs.declared.steps.OpeningStep.{OpeningStep}
 
 -- a blank row on the two lowest cartridges that are free
 pub new_row : (rows : RowsOf) (first second : ℕ) (serial : List ℕ) (row : RowValue) → IsLowestFree rows None first → IsLowestFree rows (Some first) second → row ≡ blank_row serial first second → IsNewRow rows serial row
@@ -28,89 +23,88 @@ new_row rows first second serial row one two is =
       second = subst (λ (n : ℕ). IsLowestFree rows (Some n) row.second) first_is (subst (λ (n : ℕ). IsLowestFree rows (Some first) n) second_is two);
     }
 
-counted_on : (vs : List VolumeData) (cs : List Creation) (begun mid now : ℕ) (v : VolumeData) (made : Creation) → AreCounted begun mid vs cs → mid ≤ now → made.volume ≡ v.0 → made.writes ≡ now → AreCounted begun now (vs ++ v ∷ []) (cs ++ made ∷ [])
-counted_on [] [] begun mid now v made before later is count = (is, omega (arith, before, later, count), omega (arith, count))
-counted_on [] (m ∷ ms) begun mid now v made before later is count = absurd before
-counted_on (w ∷ ws) [] begun mid now v made before later is count = absurd before
-counted_on (w ∷ ws) (m ∷ ms) begun mid now v made before later is count = (before.0, before.1, counted_on ws ms m.writes mid now v made before.2 later is count)
+-- one more is told
+told_on : (changes : List OpeningChange) (steps : List OpeningStep) (rows mid last : RowsOf) (before writes now : ℕ) (change : OpeningChange) (step : OpeningStep) → AreTold changes steps rows mid before writes
+    → MakesRow change step mid last now → writes ≤ now → AreTold (changes ++ change ∷ []) (steps ++ step ∷ []) rows last before now
+told_on [] [] rows mid last before writes now change step told one later =
+    let a = told.1 in
+    let b = one.count in (
+      one.row,
+      subst (λ (x : RowsOf). IsRowAfter x change one.row) told.0 one.is_row,
+      one.tells,
+      omega (arith, a, b, later),
+      (one.now ∙ ap (with_row (volume_of change) one.row) told.0, omega (arith, b)),
+    )
+told_on [] (s ∷ steps) rows mid last before writes now change step told one later = absurd told
+told_on (w ∷ changes) [] rows mid last before writes now change step told one later = absurd told
+told_on (w ∷ changes) (s ∷ steps) rows mid last before writes now change step told one later =
+    (told.0, told.1, told.2, told.3, told_on changes steps (with_row (volume_of w) told.0 rows) mid last s.writes writes now change step told.4 one later)
 
-creations_on : (vs : List VolumeData) (cs : List Creation) (rows last after : RowsOf) (old mid new : SiteLog) (v : VolumeData) (made : Creation) → AreCreations vs cs rows last old mid → IsCreation last after v made mid new
-    → AreCreations (vs ++ v ∷ []) (cs ++ made ∷ []) rows after old new
-creations_on [] [] rows last after old mid new v made before one =
-    (new, (after, subst (λ (x : RowsOf). IsCreation x after v made old new) before.0 (subst (λ (x : SiteLog). IsCreation last after v made x new) before.1 one), (refl, refl)))
-creations_on [] (m ∷ ms) rows last after old mid new v made before one = absurd before
-creations_on (w ∷ ws) [] rows last after old mid new v made before one = absurd before
-creations_on (w ∷ ws) (m ∷ ms) rows last after old mid new v made before one =
-    (before.0, (before.1.0, before.1.1, creations_on ws ms before.1.0 last after before.0 mid new v made before.1.2 one))
+written_on : (changes : List OpeningChange) (steps : List OpeningStep) (rows last after : RowsOf) (old mid new : SiteLog) (change : OpeningChange) (step : OpeningStep) → AreWritten changes steps rows last old mid
+    → IsWritten last after change step mid new → AreWritten (changes ++ change ∷ []) (steps ++ step ∷ []) rows after old new
+written_on [] [] rows last after old mid new change step before one =
+    (new, (after, subst (λ (x : RowsOf). IsWritten x after change step old new) before.0 (subst (λ (x : SiteLog). IsWritten last after change step x new) before.1 one), (refl, refl)))
+written_on [] (s ∷ steps) rows last after old mid new change step before one = absurd before
+written_on (w ∷ changes) [] rows last after old mid new change step before one = absurd before
+written_on (w ∷ changes) (s ∷ steps) rows last after old mid new change step before one =
+    (before.0, (before.1.0, before.1.1, written_on changes steps before.1.0 last after before.0 mid new change step before.1.2 one))
 
--- these volumes are to come, and those before them were told
-pub record AreComing (all : List VolumeData) (start : RowsOf) (written writes : ℕ) (rows : RowsOf) (made : List Creation) (rest : List VolumeData) : Type 0 where
-  pub done : List VolumeData
-  pub order : done ++ missing rows rest ≡ missing start all
-  pub created : Creates done start rows
-  pub counted : AreCounted written writes done made
+-- these changes are to come, and those before them were told
+pub record AreComing (all : List OpeningChange) (start : RowsOf) (written writes : ℕ) (rows : RowsOf) (steps : List OpeningStep) (rest : List OpeningChange) : Type 0 where
+  pub done_ : List OpeningChange
+  pub order : done_ ++ rest ≡ all
+  pub told : AreTold done_ steps start rows written writes
 
 -- and each was written to its end
-pub record AreLogged (all : List VolumeData) (start : RowsOf) (begun now : SiteLog) (rows : RowsOf) (made : List Creation) (rest : List VolumeData) : Type 0 where
-  pub done : List VolumeData
-  pub order : done ++ missing rows rest ≡ missing start all
-  pub each : AreCreations done made start rows begun now
+pub record AreLogged (all : List OpeningChange) (start : RowsOf) (begun now : SiteLog) (rows : RowsOf) (steps : List OpeningStep) (rest : List OpeningChange) : Type 0 where
+  pub done_ : List OpeningChange
+  pub order : done_ ++ rest ≡ all
+  pub each : AreWritten done_ steps start rows begun now
 
-pub none_coming : (all : List VolumeData) (rows : RowsOf) (written : ℕ) (made : List Creation) → made ≡ [] → AreComing all rows written written rows made all
-none_coming all rows written made none = subst (λ (x : List Creation). AreComing all rows written written rows x all) (sym none) (record { done = []; order = refl; created = refl; counted = omega arith })
+pub none_coming : (all : List OpeningChange) (rows : RowsOf) (written : ℕ) (steps : List OpeningStep) → steps ≡ [] → AreComing all rows written written rows steps all
+none_coming all rows written steps none = subst (λ (x : List OpeningStep). AreComing all rows written written rows x all) (sym none) (record { done_ = []; order = refl; told = (refl, omega arith) })
 
-pub none_logged : (all : List VolumeData) (rows : RowsOf) (s : SiteLog) (made : List Creation) → made ≡ [] → AreLogged all rows s s rows made all
-none_logged all rows s made none = subst (λ (x : List Creation). AreLogged all rows s s rows x all) (sym none) (record { done = []; order = refl; each = (refl, refl) })
+pub none_logged : (all : List OpeningChange) (rows : RowsOf) (s : SiteLog) (steps : List OpeningStep) → steps ≡ [] → AreLogged all rows s s rows steps all
+none_logged all rows s steps none = subst (λ (x : List OpeningStep). AreLogged all rows s s rows x all) (sym none) (record { done_ = []; order = refl; each = (refl, refl) })
 
--- the next one has a row
-past_order : (done : List VolumeData) (all : List VolumeData) (start rows : RowsOf) (v : VolumeData) (rest : List VolumeData) → is_some (rows v.0) ≡ true → done ++ missing rows (v ∷ rest) ≡ missing start all → done ++ missing rows rest ≡ missing start all
-past_order done all start rows v rest has order = ap (λ (vs : List VolumeData). done ++ vs) (sym (cond-true _ _ _ has)) ∙ order
+module _ (all : List OpeningChange) (start rows : RowsOf) (steps : List OpeningStep) (change : OpeningChange) (rest : List OpeningChange) where
+  pub coming_on : (written writes : ℕ) → AreComing all start written writes rows steps (change ∷ rest) → (after : RowsOf) (more : List OpeningStep) (now : ℕ) (one : OpeningStep) → more ≡ steps ++ one ∷ []
+      → MakesRow change one rows after now → writes ≤ now → AreComing all start written now after more rest
+  coming_on written writes so_far after more now one pushed makes later = subst (λ (x : List OpeningStep). AreComing all start written now after x rest) (sym pushed) (record {
+    done_ = so_far.done_ ++ change ∷ [];
+    order = append_assoc so_far.done_ (change ∷ []) rest ∙ so_far.order;
+    told = told_on so_far.done_ steps start rows after written writes now change one so_far.told makes later;
+  })
 
--- it has none, and gets one
-next_order : (done : List VolumeData) (all : List VolumeData) (start rows after : RowsOf) (v : VolumeData) (rest : List VolumeData) (row : RowValue) → is_some (rows v.0) ≡ false → after ≡ with_row v.0 row rows → AllByRecursion (λ w. v.0 < w.0) rest
-    → done ++ missing rows (v ∷ rest) ≡ missing start all → (done ++ v ∷ []) ++ missing after rest ≡ missing start all
-next_order done all start rows after v rest row none now above order =
-    ap (λ (r : RowsOf). (done ++ v ∷ []) ++ missing r rest) now ∙ ap (λ (vs : List VolumeData). (done ++ v ∷ []) ++ vs) (missing_past v.0 row rows rest above)
-    ∙ append_assoc done (v ∷ []) (missing rows rest) ∙ ap (λ (vs : List VolumeData). done ++ vs) (sym (cond-false _ _ _ none)) ∙ order
+  pub logged_on : (begun mid : SiteLog) → AreLogged all start begun mid rows steps (change ∷ rest) → (after : RowsOf) (more : List OpeningStep) (now : SiteLog) (one : OpeningStep) → more ≡ steps ++ one ∷ []
+      → IsWritten rows after change one mid now → AreLogged all start begun now after more rest
+  logged_on begun mid so_far after more now one pushed is = subst (λ (x : List OpeningStep). AreLogged all start begun now after x rest) (sym pushed) (record {
+    done_ = so_far.done_ ++ change ∷ [];
+    order = append_assoc so_far.done_ (change ∷ []) rest ∙ so_far.order;
+    each = written_on so_far.done_ steps start rows after begun mid now change one so_far.each is;
+  })
 
-module _ (all : List VolumeData) (start rows : RowsOf) (made : List Creation) (v : VolumeData) (rest : List VolumeData) where
-  module _ (written writes : ℕ) (so_far : AreComing all start written writes rows made (v ∷ rest)) where
-    pub coming_past : is_some (rows v.0) ≡ true → AreComing all start written writes rows made rest
-    coming_past has = record { done = so_far.done; order = past_order so_far.done all start rows v rest has so_far.order; created = so_far.created; counted = so_far.counted }
+-- said in another way
+pub coming_as : {all : List OpeningChange} {start : RowsOf} {written writes : ℕ} {rows : RowsOf} {steps : List OpeningStep} {rest other : List OpeningChange} → AreComing all start written writes rows steps rest → rest ≡ other
+    → AreComing all start written writes rows steps other
+coming_as {all} {start} {written} {writes} {rows} {steps} is same = subst (AreComing all start written writes rows steps) same is
 
-    pub coming_on : (after : RowsOf) (more : List Creation) (now : ℕ) (one : Creation) → more ≡ made ++ one ∷ [] → is_some (rows v.0) ≡ false → HasNewRow v.0 v.1 rows after → AllByRecursion (λ w. v.0 < w.0) rest → writes ≤ now → one.volume ≡ v.0 → one.writes ≡ now → AreComing all start written now after more rest
-    coming_on after more now one pushed none new above later is count = subst (λ (x : List Creation). AreComing all start written now after x rest) (sym pushed) (record {
-      done = so_far.done ++ v ∷ [];
-      order = next_order so_far.done all start rows after v rest new.row none new.now above so_far.order;
-      created = creates_last so_far.done v start rows after new.row so_far.created new.is_new new.now;
-      counted = counted_on so_far.done made written writes now v one so_far.counted later is count;
-    })
-
-  module _ (begun mid : SiteLog) (so_far : AreLogged all start begun mid rows made (v ∷ rest)) where
-    pub logged_past : is_some (rows v.0) ≡ true → AreLogged all start begun mid rows made rest
-    logged_past has = record { done = so_far.done; order = past_order so_far.done all start rows v rest has so_far.order; each = so_far.each }
-
-    pub logged_on : (after : RowsOf) (more : List Creation) (now : SiteLog) (one : Creation) → more ≡ made ++ one ∷ [] → is_some (rows v.0) ≡ false → IsCreation rows after v one mid now → AllByRecursion (λ w. v.0 < w.0) rest → AreLogged all start begun now after more rest
-    logged_on after more now one pushed none is above = subst (λ (x : List Creation). AreLogged all start begun now after x rest) (sym pushed) (record {
-      done = so_far.done ++ v ∷ [];
-      order = next_order so_far.done all start rows after v rest is.row none is.now above so_far.order;
-      each = creations_on so_far.done made start rows after begun mid now v one so_far.each is;
-    })
+pub logged_as : {all : List OpeningChange} {start : RowsOf} {begun now : SiteLog} {rows : RowsOf} {steps : List OpeningStep} {rest other : List OpeningChange} → AreLogged all start begun now rows steps rest → rest ≡ other
+    → AreLogged all start begun now rows steps other
+logged_as {all} {start} {begun} {now} {rows} {steps} is same = subst (AreLogged all start begun now rows steps) same is
 
 -- none are to come
-pub all_come : (all : List VolumeData) (start rows : RowsOf) (written writes : ℕ) (made : List Creation) → AreComing all start written writes rows made [] → CreatesRows (record { volumes = all; before = start; after = rows; made = made }) written writes
-all_come all start rows written writes made is =
-    let whole : is.done ≡ missing start all = sym (append-nil is.done) ∙ is.order in
-    record { rows = subst (λ (vs : List VolumeData). Creates vs start rows) whole is.created; counted = subst (λ (vs : List VolumeData). AreCounted written writes vs made) whole is.counted }
+pub all_come : (all : List OpeningChange) (start rows : RowsOf) (written writes : ℕ) (steps : List OpeningStep) → AreComing all start written writes rows steps [] → AreTold all steps start rows written writes
+all_come all start rows written writes steps is =
+    subst (λ (xs : List OpeningChange). AreTold xs steps start rows written writes) (sym (append-nil is.done_) ∙ is.order) is.told
 
-pub all_logged : (all : List VolumeData) (start rows : RowsOf) (begun now : SiteLog) (made : List Creation) → AreLogged all start begun now rows made [] → AreCreations (missing start all) made start rows begun now
-all_logged all start rows begun now made is =
-    let whole : is.done ≡ missing start all = sym (append-nil is.done) ∙ is.order in
-    subst (λ (vs : List VolumeData). AreCreations vs made start rows begun now) whole is.each
+pub all_logged : (all : List OpeningChange) (start rows : RowsOf) (begun now : SiteLog) (steps : List OpeningStep) → AreLogged all start begun now rows steps [] → AreWritten all steps start rows begun now
+all_logged all start rows begun now steps is =
+    subst (λ (xs : List OpeningChange). AreWritten xs steps start rows begun now) (sym (append-nil is.done_) ∙ is.order) is.each
 
--- want of memory leaves the creations that were made
-pub memory_creates : (all : List VolumeData) (start rows last : RowsOf) (begun mid now : SiteLog) (made told : List Creation) (rest : List VolumeData) (e : Refused) → AreLogged all start begun mid rows made rest → (e ≡ Memory → now ≡ mid)
-    → CreatesWhole (record { volumes = all; before = start; after = last; made = told }) begun now (Err e)
-memory_creates all start rows last begun mid now made told rest Memory is same =
-    subst (IsFrontCreated (missing start all) start begun) (sym (same refl)) (record { done = is.done; later = missing rows rest; order = is.order; made = made; last = rows; each = is.each })
-memory_creates all start rows last begun mid now made told rest _ is same = tt
+-- want of memory leaves the changes that were made
+pub memory_changes : (all : List OpeningChange) (start rows last : RowsOf) (begun mid now : SiteLog) (steps told : List OpeningStep) (rest : List OpeningChange) (e : Refused) → AreLogged all start begun mid rows steps rest
+    → (e ≡ Memory → now ≡ mid) → ChangesWhole (record { changes = all; before = start; after = last; steps = told }) begun now (Err e)
+memory_changes all start rows last begun mid now steps told rest Memory is same =
+    subst (IsFrontWritten all start begun) (sym (same refl)) (record { done_ = is.done_; later = rest; order = is.order; steps = steps; last = rows; each = is.each })
+memory_changes all start rows last begun mid now steps told rest _ is same = tt

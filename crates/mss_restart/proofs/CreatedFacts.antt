@@ -13,11 +13,14 @@ use Rattle.table_pair.specs.Slots.{HasSlots, no_slots}
 use Rattle.table_pair.proofs.PairFacts.{held_row}
 use Rattle.shown_volumes.specs.Shown.{RowsOf, shown}
 use Rattle.shown_volumes.specs.Sound.{IsSound}
-use Rattle.shown_volumes.specs.Changing.{IsFresh, WithOrWithout, with_row}
+use Rattle.shown_volumes.specs.Changing.{IsFresh, with_row}
 use Rattle.shown_volumes.proofs.MomentFacts.{blank_new, creation_moments}
 use Rattle.volume_table.specs.Listed.{listed}
 use Rattle.mss_restart.specs.Cartridges.{IsLowestFree}
-use Rattle.mss_restart.specs.Opening.{RowsAre, AreHeld, IsNewRow, HasNewRow, IsCreated}
+use Rattle.mss_restart.specs.Opening.{RowsAre, AreHeld, IsNewRow, IsOpeningDone, BeforeOrAfter, made}
+use Rattle.volume_table.specs.declared.changes.Change.TheVariants.{Create}
+use Rattle.mss_restart.specs.Creations.{MakesRow}
+use Rattle.mss_restart.specs.declared.steps.OpeningStep.{OpeningStep}
 use Rattle.mss_restart.proofs.FreshFacts.{is_fresh, rows_with}
 use Rattle.mss_restart.proofs.SlotFacts.{slots_with}
 
@@ -59,7 +62,7 @@ module _ (before : List (Option RowValue)) (s t : SiteLog) (are : RowsAre before
   fresh : IsFresh volume first second (content s)
   fresh = is_fresh before (content s) are volume first second low none one two
 
-  pub moments_of : (frames : ℕ) → IsSound frames (content s) → Writes (λ d. IsSound frames d × WithOrWithout volume serial (shown (content s)) (shown d)) s t
+  pub moments_of : (frames : ℕ) → IsSound frames (content s) → Writes (λ d. IsSound frames d × BeforeOrAfter (made volume serial) (shown (content s)) (shown d)) s t
   moments_of frames sound =
       creation_moments frames volume first second serial s t sound fresh (subst (λ (r : RowValue). Writes (ChangesRow volume (NoneOrNew volume r) (content s)) s t) is w)
 
@@ -76,12 +79,12 @@ module _ (before : List (Option RowValue)) (s t : SiteLog) (are : RowsAre before
         second = subst (λ (n : ℕ). IsLowestFree (listed before) (Some n) row.second) first_is (subst (λ (n : ℕ). IsLowestFree (listed before) (Some first) n) second_is two);
       }
 
-  pub created_of : HoldsRow row volume (content t) → HasSlots no_slots volume (content t) → (rows : List (Option RowValue)) → rows ≡ set before volume (Some row) → IsCreated volume serial (content s) (content t) before rows
+  pub created_of : HoldsRow row volume (content t) → HasSlots no_slots volume (content t) → (rows : List (Option RowValue)) → rows ≡ set before volume (Some row) → IsOpeningDone (made volume serial) (content s) (content t) before rows
   created_of holds unused rows set_is =
       let now : listed rows ≡ with_row volume row (listed before) = ap listed set_is ∙ listed_set before volume row (omega (arith, long, low)) in
       record {
         row = row;
-        is_new = is_new;
+        is_row = is_new;
         now = now;
         are = subst (λ (x : List (Option RowValue)). RowsAre x (content t)) (sym set_is) (rows_with before (content s) (content t) volume row (NoneOrNew volume row) are long low within holds);
         held = λ held. subst (λ (x : RowsOf). AreHeld x (content t)) (sym now) (held_with (listed before) (content s) (content t) volume row (NoneOrNew volume row) within holds held);
@@ -96,5 +99,16 @@ on_ok P (Ok value) is holds = holds
 on_ok P (Err e) is holds = absurd cc
 
 -- the listed rows have the new one
-abbrev pub listed_new : (before rows : List (Option RowValue)) (volume : ℕ) (serial : List ℕ) (row : RowValue) → length before ≡ 32 → volume < 32 → IsNewRow (listed before) serial row → rows ≡ set before volume (Some row) → HasNewRow volume serial (listed before) (listed rows)
-listed_new before rows volume serial row long low new set_is = record { row = row; is_new = new; now = ap listed set_is ∙ listed_set before volume row (omega (arith, long, low)) }
+pub now_set : (before rows : List (Option RowValue)) (volume : ℕ) (row : RowValue) → length before ≡ 32 → volume < 32 → rows ≡ set before volume (Some row) → listed rows ≡ with_row volume row (listed before)
+now_set before rows volume row long low set_is = ap listed set_is ∙ listed_set before volume row (omega (arith, long, low))
+
+-- which is told
+pub makes_new : (before rows : List (Option RowValue)) (volume : ℕ) (serial : List ℕ) (row : RowValue) (step : OpeningStep) (writes : ℕ) → length before ≡ 32 → volume < 32 → IsNewRow (listed before) serial row → rows ≡ set before volume (Some row)
+    → step.volume ≡ volume → step.change ≡ Create row.serial row.first row.second → step.writes ≡ writes → MakesRow (made volume serial) step (listed before) (listed rows) writes
+makes_new before rows volume serial row step writes long low new set_is named change count = record {
+  row = row;
+  is_row = new;
+  now = ap listed set_is ∙ listed_set before volume row (omega (arith, long, low));
+  tells = record { volume_ = named; change_ = change };
+  count = count;
+}

@@ -1,5 +1,5 @@
--- One creation after another.
-use Rattle.std.proofs.Common.{◌≡◌, ◌≢◌, inl, inr, ℕ, suc, ◌+◌, ◌<◌, true, false, cond, List, [], ◌∷◌, ◌++◌, length, map, drop, get_or, append_assoc, Option, refl, sym, ◌∙◌, ap, subst, arith}
+-- One opening change after another.
+use Rattle.std.proofs.Common.{◌≡◌, ◌≢◌, inl, inr, ℕ, suc, ◌+◌, ◌<◌, cond, List, [], ◌∷◌, ◌++◌, length, map, drop, get_or, append_assoc, Option, refl, sym, ◌∙◌, ap, subst, arith}
 use Rattle.std.specs.Prelude.{is_some}
 use Rattle.std.proofs.lemmas.List.{append-nil}
 use Rattle.std.specs.List.{AllByRecursion}
@@ -7,7 +7,7 @@ use Rattle.std.specs.List.Sorted.{IsStrictlySortedBy}
 use Rattle.std.specs.Ordering.{nat_cmp}
 use Rattle.std.specs.declared.cmp.Ordering.TheVariants.{Less}
 use Rattle.std.proofs.lemmas.Cmp.{ranked}
-use Rattle.std.proofs.lemmas.Bool.{cond-true, cond-false, ne_eqb}
+use Rattle.std.proofs.lemmas.Bool.{cond-false, ne_eqb}
 use Rattle.mss_base.specs.Configs.{VolumeData}
 use Rattle.mss_base.specs.Content.{Content, SiteLog, Settles, content, Writes}
 use Rattle.mss_base.proofs.Moments.{started, then_firm, weaker}
@@ -15,51 +15,51 @@ use Rattle.mss_base.proofs.Settling.{settles_none, settles_then}
 use Rattle.ckd_track.specs.Data.{Volumes}
 use Rattle.volume_table.specs.Row.{RowValue}
 use Rattle.table_pair.specs.declared.copy.SlotsUsed.{SlotsUsed}
-use Rattle.table_pair.specs.Slots.{AreUsed, with_none_used}
+use Rattle.table_pair.specs.Slots.{AreUsed}
 use Rattle.shown_volumes.specs.Shown.{RowsOf, shown}
 use Rattle.shown_volumes.specs.Sound.{IsSound, SoundAs}
-use Rattle.shown_volumes.specs.Changing.{WithOrWithout, with_row, with_blank}
+use Rattle.shown_volumes.specs.Changing.{with_row}
 use Rattle.std.proofs.Math.Seq.{drop-cons}
 use Rattle.volume_table.specs.Listed.{listed}
 use Rattle.mss_restart.specs.Creations.{RepairsOthers}
 use Rattle.mss_restart.proofs.OtherRows.{nothing_else, others_then, others_of, is_apart}
-use Rattle.mss_restart.specs.Opening.{AreKnown, missing, with_blanks, ShowsFront, IsNewRow, Creates, IsCreated, AreCreated}
+use Rattle.mss_restart.specs.Opening.{OpeningChange, made, marked, volume_of, opened_by, opened_all, BeforeOrAfter, to_make, to_mark, is_marked_as, AreKnown, ShowsFront, IsRowAfter, OpensRows, IsOpeningDone, AreOpened, used_by}
 
 abbrev pub AreRising : List VolumeData → Type 0
 AreRising vs = IsStrictlySortedBy nat_cmp (map (λ v. v.0) vs)
 
--- no volume is there yet, since nothing was written
-pub none_shown : (frames : ℕ) (volumes : List VolumeData) (s t : SiteLog) → t ≡ s → IsSound frames (content s) → Writes (ShowsFront frames volumes (shown (content s))) s t
-none_shown frames volumes s t same sound =
-    subst (λ (u : SiteLog). Writes (ShowsFront frames volumes (shown (content s))) s u) (sym same)
-    (started (ShowsFront frames volumes (shown (content s))) s (record { sound = sound; made = []; later = volumes; order = refl; same = refl }))
+-- no change is shown yet, since nothing was written
+pub none_shown : (frames : ℕ) (changes : List OpeningChange) (s t : SiteLog) → t ≡ s → IsSound frames (content s) → Writes (ShowsFront frames changes (shown (content s))) s t
+none_shown frames changes s t same sound =
+    subst (λ (u : SiteLog). Writes (ShowsFront frames changes (shown (content s))) s u) (sym same)
+    (started (ShowsFront frames changes (shown (content s))) s (record { sound = sound; done_ = []; later = changes; order = refl; same = refl }))
 
-pub none_made : (frames volume : ℕ) (serial : List ℕ) (s t : SiteLog) → t ≡ s → IsSound frames (content s)
-    → Writes (λ d. IsSound frames d × WithOrWithout volume serial (shown (content s)) (shown d)) s t
-none_made frames volume serial s t same sound =
-    let Shows : Content → Type 0 = λ d. IsSound frames d × WithOrWithout volume serial (shown (content s)) (shown d) in
+pub none_made : (frames : ℕ) (change : OpeningChange) (s t : SiteLog) → t ≡ s → IsSound frames (content s)
+    → Writes (λ d. IsSound frames d × BeforeOrAfter change (shown (content s)) (shown d)) s t
+none_made frames change s t same sound =
+    let Shows : Content → Type 0 = λ d. IsSound frames d × BeforeOrAfter change (shown (content s)) (shown d) in
     subst (λ (u : SiteLog). Writes Shows s u) (sym same) (started Shows s (sound, inl refl))
 
--- the rows of these volumes are to come, those before them are done, and firm
-pub record IsCreating (all : List VolumeData) (start : RowsOf) (begun now : SiteLog) (rows : List (Option RowValue)) (used : List SlotsUsed) (rest : List VolumeData) : Type 0 where
-  pub made : List VolumeData
-  pub order : made ++ missing (listed rows) rest ≡ missing start all
-  pub moments : (frames : ℕ) → IsSound frames (content begun) → Writes (ShowsFront frames (missing start all) (shown (content begun))) begun now
-  pub shows : (frames : ℕ) → IsSound frames (content begun) → SoundAs frames (with_blanks made (shown (content begun))) (content now)
+-- the last of these changes are to come, those before them are done, and firm
+pub record IsOpening (all : List OpeningChange) (start : RowsOf) (begun now : SiteLog) (rows : List (Option RowValue)) (used : List SlotsUsed) (rest : List OpeningChange) : Type 0 where
+  pub done_ : List OpeningChange
+  pub order : done_ ++ rest ≡ all
+  pub moments : (frames : ℕ) → IsSound frames (content begun) → Writes (ShowsFront frames all (shown (content begun))) begun now
+  pub shows : (frames : ℕ) → IsSound frames (content begun) → SoundAs frames (opened_all done_ (shown (content begun))) (content now)
   pub known : AreKnown rows used (content now)
-  pub created : Creates made start (listed rows)
-  pub others : RepairsOthers (missing start all) begun now
+  pub opens : OpensRows done_ start (listed rows)
+  pub others : RepairsOthers all begun now
   pub firm : Settles begun now
 
-pub nothing_created : (all : List VolumeData) (s : SiteLog) (rows : List (Option RowValue)) (used : List SlotsUsed) → AreKnown rows used (content s) → IsCreating all (listed rows) s s rows used all
-nothing_created all s rows used known = record {
-  made = [];
+pub nothing_opened : (all : List OpeningChange) (s : SiteLog) (rows : List (Option RowValue)) (used : List SlotsUsed) → AreKnown rows used (content s) → IsOpening all (listed rows) s s rows used all
+nothing_opened all s rows used known = record {
+  done_ = [];
   order = refl;
-  moments = λ frames sound. none_shown frames (missing (listed rows) all) s s refl sound;
+  moments = λ frames sound. none_shown frames all s s refl sound;
   shows = λ frames sound. record { sound = sound; same = refl };
   known = known;
-  created = refl;
-  others = nothing_else (missing (listed rows) all) s s refl;
+  opens = refl;
+  others = nothing_else all s s refl;
   firm = settles_none s;
 }
 
@@ -71,102 +71,99 @@ pub rising_first : (v : VolumeData) (vs : List VolumeData) → AreRising (v ∷ 
 unfolding IsStrictlySortedBy
 rising_first v vs rising = (all_above v.0 vs rising.0, rising.1)
 
--- a new row of an earlier volume doesn't tell of later ones
-pub missing_past : (n : ℕ) (row : RowValue) (rows : RowsOf) (vs : List VolumeData) → AllByRecursion (λ w. n < w.0) vs → missing (with_row n row rows) vs ≡ missing rows vs
-missing_past n row rows [] above = refl
-missing_past n row rows (w ∷ vs) above =
-    let e : with_row n row rows w.0 ≡ rows w.0 = cond-false _ _ _ (ne_eqb w.0 n (λ (e : w.0 ≡ n). omega (arith, above.0))) in
-    let later = missing_past n row rows vs above.1 in
-    (λ i. cond (is_some (e i)) (later i) (w ∷ later i))
+-- another row of an earlier volume tells nothing of later ones
+row_past : (n : ℕ) (row : RowValue) (rows : RowsOf) (w : VolumeData) → n < w.0 → with_row n row rows w.0 ≡ rows w.0
+row_past n row rows w above = cond-false _ _ _ (ne_eqb w.0 n (λ (e : w.0 ≡ n). omega arith))
 
-pub blanks_last : (vs : List VolumeData) (v : VolumeData) (volumes : Volumes) → with_blanks (vs ++ v ∷ []) volumes ≡ with_blank v.0 v.1 (with_blanks vs volumes)
-blanks_last [] v volumes = refl
-blanks_last (w ∷ vs) v volumes = blanks_last vs v (with_blank w.0 w.1 volumes)
+pub to_make_past : (n : ℕ) (row : RowValue) (rows : RowsOf) (vs : List VolumeData) → AllByRecursion (λ w. n < w.0) vs → to_make (with_row n row rows) vs ≡ to_make rows vs
+to_make_past n row rows [] above = refl
+to_make_past n row rows (w ∷ vs) above =
+    let e = row_past n row rows w above.0 in
+    let later = to_make_past n row rows vs above.1 in
+    (λ i. cond (is_some (e i)) (later i) (made w.0 w.1 ∷ later i))
 
-pub creates_last : (vs : List VolumeData) (v : VolumeData) (start mid last : RowsOf) (row : RowValue) → Creates vs start mid → IsNewRow mid v.1 row → last ≡ with_row v.0 row mid → Creates (vs ++ v ∷ []) start last
-creates_last [] v start mid last row made is_new now = (row, (subst (λ (x : RowsOf). IsNewRow x v.1 row) made is_new, now ∙ ap (with_row v.0 row) made))
-creates_last (w ∷ vs) v start mid last row made is_new now = (made.0, (made.1.0, creates_last vs v (with_row w.0 made.0 start) mid last row made.1.1 is_new now))
+pub to_mark_past : (n : ℕ) (row : RowValue) (rows : RowsOf) (vs : List VolumeData) → AllByRecursion (λ w. n < w.0) vs → to_mark (with_row n row rows) vs ≡ to_mark rows vs
+to_mark_past n row rows [] above = refl
+to_mark_past n row rows (w ∷ vs) above =
+    let e = row_past n row rows w above.0 in
+    let later = to_mark_past n row rows vs above.1 in
+    (λ i. cond (is_marked_as w.2 (e i)) (later i) (marked w.0 w.2 ∷ later i))
 
-module _ (all : List VolumeData) (start : RowsOf) (begun mid : SiteLog) (rows : List (Option RowValue)) (used : List SlotsUsed) (v : VolumeData) (rest : List VolumeData) (so_far : IsCreating all start begun mid rows used (v ∷ rest)) where
-  -- it has a row
-  pub passed_over : is_some (listed rows v.0) ≡ true → IsCreating all start begun mid rows used rest
-  passed_over has = record {
-    made = so_far.made;
-    order = ap (λ (vs : List VolumeData). so_far.made ++ vs) (sym (cond-true _ _ _ has)) ∙ so_far.order;
-    moments = so_far.moments;
-    shows = so_far.shows;
-    known = so_far.known;
-    created = so_far.created;
-    others = so_far.others;
-    firm = so_far.firm;
-  }
+opened_last : (changes : List OpeningChange) (change : OpeningChange) (volumes : Volumes) → opened_all (changes ++ change ∷ []) volumes ≡ opened_by change (opened_all changes volumes)
+opened_last [] change volumes = refl
+opened_last (w ∷ changes) change volumes = opened_last changes change (opened_by w volumes)
 
-  -- it has none
-  module _ (none : is_some (listed rows v.0) ≡ false) where
-    front : so_far.made ++ (v ∷ missing (listed rows) rest) ≡ missing start all
-    front = ap (λ (vs : List VolumeData). so_far.made ++ vs) (sym (cond-false _ _ _ none)) ∙ so_far.order
+opens_last : (changes : List OpeningChange) (change : OpeningChange) (start mid last : RowsOf) (row : RowValue) → OpensRows changes start mid → IsRowAfter mid change row → last ≡ with_row (volume_of change) row mid
+    → OpensRows (changes ++ change ∷ []) start last
+opens_last [] change start mid last row opens is_row now = (row, (subst (λ (x : RowsOf). IsRowAfter x change row) opens is_row, now ∙ ap (with_row (volume_of change) row) opens))
+opens_last (w ∷ changes) change start mid last row opens is_row now =
+    (opens.0, (opens.1.0, opens_last changes change (with_row (volume_of w) opens.0 start) mid last row opens.1.1 is_row now))
 
-    front_with : (so_far.made ++ v ∷ []) ++ missing (listed rows) rest ≡ missing start all
-    front_with = append_assoc so_far.made (v ∷ []) (missing (listed rows) rest) ∙ front
+-- the changes to come, said in another way
+pub opening_as : {all : List OpeningChange} {start : RowsOf} {begun now : SiteLog} {rows : List (Option RowValue)} {used : List SlotsUsed} {rest other : List OpeningChange} → IsOpening all start begun now rows used rest → rest ≡ other
+    → IsOpening all start begun now rows used other
+opening_as {all} {start} {begun} {now} {rows} {used} is same = subst (IsOpening all start begun now rows used) same is
 
-    -- its creation leaves the others
-    pub others_on : (now : SiteLog) → RepairsOthers (v ∷ []) mid now → RepairsOthers (missing start all) begun now
-    others_on now one =
-        others_then (missing start all) begun mid now so_far.firm so_far.others (others_of (v ∷ []) (missing start all) mid now (λ volume apart.
-        (is_apart volume so_far.made v (missing (listed rows) rest) (subst (AllByRecursion (λ w. w.0 ≢ volume)) (sym front) apart), tt)) one)
+module _ (all : List OpeningChange) (start : RowsOf) (begun mid : SiteLog) (rows : List (Option RowValue)) (used : List SlotsUsed) (change : OpeningChange) (rest : List OpeningChange)
+    (so_far : IsOpening all start begun mid rows used (change ∷ rest)) where
+  front_with : (so_far.done_ ++ change ∷ []) ++ rest ≡ all
+  front_with = append_assoc so_far.done_ (change ∷ []) rest ∙ so_far.order
 
-    within : (frames : ℕ) → IsSound frames (content begun) → (d : Content) → IsSound frames d × WithOrWithout v.0 v.1 (shown (content mid)) (shown d) → ShowsFront frames (missing start all) (shown (content begun)) d
-    within frames sound d is =
-        let at_mid = (so_far.shows frames sound).same in
-        elim is.1 [
-          | inl without ↦ record { sound = is.0; made = so_far.made; later = v ∷ missing (listed rows) rest; order = front; same = without ∙ at_mid }
-          | inr with_it ↦ record {
-            sound = is.0;
-            made = so_far.made ++ v ∷ [];
-            later = missing (listed rows) rest;
-            order = front_with;
-            same = with_it ∙ ap (with_blank v.0 v.1) at_mid ∙ sym (blanks_last so_far.made v (shown (content begun)));
-          }
-        ]
+  -- it leaves the others
+  pub others_on : (now : SiteLog) → RepairsOthers (change ∷ []) mid now → RepairsOthers all begun now
+  others_on now one =
+      others_then all begun mid now so_far.firm so_far.others (others_of (change ∷ []) all mid now (λ volume apart.
+      (is_apart volume so_far.done_ change rest (subst (AllByRecursion (λ w. volume_of w ≢ volume)) (sym so_far.order) apart), tt)) one)
 
-    module _ (now : SiteLog)
-        (moments : (frames : ℕ) → IsSound frames (content mid) → Writes (λ d. IsSound frames d × WithOrWithout v.0 v.1 (shown (content mid)) (shown d)) mid now) where
-      pub moments_on : (frames : ℕ) → IsSound frames (content begun) → Writes (ShowsFront frames (missing start all) (shown (content begun))) begun now
-      moments_on frames sound =
-          then_firm (ShowsFront frames (missing start all) (shown (content begun))) begun mid now so_far.firm (so_far.moments frames sound)
-          (weaker (λ d. IsSound frames d × WithOrWithout v.0 v.1 (shown (content mid)) (shown d)) (ShowsFront frames (missing start all) (shown (content begun))) (within frames sound) mid now
-          (moments frames (so_far.shows frames sound).sound))
+  within : (frames : ℕ) → IsSound frames (content begun) → (d : Content) → IsSound frames d × BeforeOrAfter change (shown (content mid)) (shown d) → ShowsFront frames all (shown (content begun)) d
+  within frames sound d is =
+      let at_mid = (so_far.shows frames sound).same in
+      elim is.1 [
+        | inl before ↦ record { sound = is.0; done_ = so_far.done_; later = change ∷ rest; order = so_far.order; same = before ∙ at_mid }
+        | inr after ↦ record {
+          sound = is.0;
+          done_ = so_far.done_ ++ change ∷ [];
+          later = rest;
+          order = front_with;
+          same = after ∙ ap (opened_by change) at_mid ∙ sym (opened_last so_far.done_ change (shown (content begun)));
+        }
+      ]
 
-      pub created_too : RepairsOthers (v ∷ []) mid now → Settles mid now → (after : List (Option RowValue)) (used_after : List SlotsUsed) → IsCreated v.0 v.1 (content mid) (content now) rows after → length used ≡ 32 → used_after ≡ with_none_used v.0 used
-          → AllByRecursion (λ w. v.0 < w.0) rest → IsCreating all start begun now after used_after rest
-      created_too others firm after used_after one places used_is above = record {
-        made = so_far.made ++ v ∷ [];
-        order = ap (λ (r : RowsOf). (so_far.made ++ v ∷ []) ++ missing r rest) one.now ∙ ap (λ (vs : List VolumeData). (so_far.made ++ v ∷ []) ++ vs) (missing_past v.0 one.row (listed rows) rest above) ∙ front_with;
-        moments = moments_on;
-        shows = λ frames sound.
-            let at_mid = so_far.shows frames sound in
-            let done = one.shows frames at_mid.sound in
-            record { sound = done.sound; same = done.same ∙ ap (with_blank v.0 v.1) at_mid.same ∙ sym (blanks_last so_far.made v (shown (content begun))) };
-        known = record {
-          told = one.are;
-          held = one.held so_far.known.held;
-          slots_ = subst (λ (xs : List SlotsUsed). AreUsed xs (content now)) (sym used_is) (one.slots_ used places so_far.known.slots_);
-        };
-        created = creates_last so_far.made v start (listed rows) (listed after) one.row so_far.created one.is_new one.now;
-        others = others_on now others;
-        firm = settles_then begun mid now so_far.firm firm;
-      }
+  module _ (now : SiteLog) (moments : (frames : ℕ) → IsSound frames (content mid) → Writes (λ d. IsSound frames d × BeforeOrAfter change (shown (content mid)) (shown d)) mid now) where
+    pub moments_on : (frames : ℕ) → IsSound frames (content begun) → Writes (ShowsFront frames all (shown (content begun))) begun now
+    moments_on frames sound =
+        then_firm (ShowsFront frames all (shown (content begun))) begun mid now so_far.firm (so_far.moments frames sound)
+        (weaker (λ d. IsSound frames d × BeforeOrAfter change (shown (content mid)) (shown d)) (ShowsFront frames all (shown (content begun))) (within frames sound) mid now
+        (moments frames (so_far.shows frames sound).sound))
+
+    pub opened_too : RepairsOthers (change ∷ []) mid now → Settles mid now → (after : List (Option RowValue)) (used_after : List SlotsUsed) → IsOpeningDone change (content mid) (content now) rows after → length used ≡ 32 → used_after ≡ used_by change used
+        → IsOpening all start begun now after used_after rest
+    opened_too others firm after used_after one places used_is = record {
+      done_ = so_far.done_ ++ change ∷ [];
+      order = front_with;
+      moments = moments_on;
+      shows = λ frames sound.
+          let at_mid = so_far.shows frames sound in
+          let done = one.shows frames at_mid.sound in
+          record { sound = done.sound; same = done.same ∙ ap (opened_by change) at_mid.same ∙ sym (opened_last so_far.done_ change (shown (content begun))) };
+      known = record {
+        told = one.are;
+        held = one.held so_far.known.held;
+        slots_ = subst (λ (xs : List SlotsUsed). AreUsed xs (content now)) (sym used_is) (one.slots_ used places so_far.known.slots_);
+      };
+      opens = opens_last so_far.done_ change start (listed rows) (listed after) one.row so_far.opens one.is_row one.now;
+      others = others_on now others;
+      firm = settles_then begun mid now so_far.firm firm;
+    }
 
 -- none are to come
-pub all_created : (all : List VolumeData) (s t : SiteLog) (before rows : List (Option RowValue)) (used : List SlotsUsed) → IsCreating all (listed before) s t rows used [] → AreCreated all (content s) (content t) before rows used
-all_created all s t before rows used is =
-    let whole : is.made ≡ missing (listed before) all = sym (append-nil is.made) ∙ is.order in
+pub all_opened : (all : List OpeningChange) (s t : SiteLog) (before rows : List (Option RowValue)) (used : List SlotsUsed) → IsOpening all (listed before) s t rows used [] → AreOpened all (content s) (content t) before rows used
+all_opened all s t before rows used is =
+    let whole : is.done_ ≡ all = sym (append-nil is.done_) ∙ is.order in
     record {
-      created = subst (λ (vs : List VolumeData). Creates vs (listed before) (listed rows)) whole is.created;
-      are = is.known.told;
-      held = is.known.held;
-      slots_ = is.known.slots_;
-      shows = λ frames sound. subst (λ (vs : List VolumeData). SoundAs frames (with_blanks vs (shown (content s))) (content t)) whole (is.shows frames sound);
+      opens = subst (λ (xs : List OpeningChange). OpensRows xs (listed before) (listed rows)) whole is.opens;
+      known = is.known;
+      shows = λ frames sound. subst (λ (xs : List OpeningChange). SoundAs frames (opened_all xs (shown (content s))) (content t)) whole (is.shows frames sound);
     }
 
 -- what is to come: this one, and those behind it

@@ -1,8 +1,7 @@
 -- What a whole opening leaves, from what its parts do.
 use Rattle.std.proofs.Common.{◌≡◌, inl, inr, ℕ, ◌≤◌, false, List, [], ◌∷◌, Option, None, Result, Ok, Err, refl, sym, ◌∙◌, subst, arith}
-use Rattle.mss_base.specs.Configs.{ConfigData, VolumeData}
+use Rattle.mss_base.specs.Configs.{ConfigData, serial_in}
 use Rattle.mss_base.specs.Content.{Content, SiteLog, content}
-use Rattle.mss_restart.specs.Serials.{serial_in}
 use Rattle.volume_table.specs.Row.{RowValue}
 use Rattle.table_pair.specs.Pair.{known, unknown, row_of}
 use Rattle.shown_volumes.specs.declared.refused.Refused.{Refused}
@@ -13,62 +12,71 @@ use Rattle.mss_base.proofs.FirstFacts.{or_none}
 use Rattle.volume_table.specs.Listed.{listed}
 use Rattle.mss_restart.specs.Walks.{rest_fault}
 use Rattle.mss_restart.specs.Survey.{AreFaultless}
-use Rattle.mss_restart.specs.Opening.{RowsAre}
-use Rattle.mss_restart.specs.Creations.{IsStop, AreRepaired, IsFrontCreated, Account, new_in, AreCounted, CreatesRows, RepairsWhole, CreatesWhole, CompletesWhole}
+use Rattle.mss_restart.specs.Opening.{OpeningChange, opening_changes, RowsAre}
+use Rattle.mss_restart.specs.Creations.{IsStop, AreRepaired, AreRewritten, IsFrontWritten, Account, AreTold, RepairsWhole, MigratesWhole, RewritesWhole, ChangesWhole, CompletesWhole}
 use Rattle.mss_restart.specs.Answers.{RefusesAs, KeepsOpening, RefusalLeaves, account_from}
-use Rattle.mss_restart.specs.declared.creations.Creation.{Creation}
+use Rattle.mss_restart.specs.declared.steps.OpeningStep.{OpeningStep}
 use Rattle.mss_restart.proofs.ReadRows.{right_readings}
 use Rattle.mss_restart.proofs.Surveyed.{row_walk, is_rest, none_apart}
-use Rattle.mss_restart.proofs.Repaired.{none_repaired}
+use Rattle.mss_restart.proofs.Repaired.{none_repaired, none_migrated}
 
-none_created : (volumes : List VolumeData) (rows : RowsOf) (s : SiteLog) → IsFrontCreated volumes rows s s
-none_created volumes rows s = record { done = []; later = volumes; order = refl; made = []; last = rows; each = (refl, refl) }
+none_written : (changes : List OpeningChange) (rows : RowsOf) (s : SiteLog) → IsFrontWritten changes rows s s
+none_written changes rows s = record { done_ = []; later = changes; order = refl; steps = []; last = rows; each = (refl, refl) }
 
 -- want of memory within the repairs
-pub repairs_complete : (a : Account) (old new : SiteLog) (e : Refused) → RepairsWhole {T = Unit {0}} old new (Err e) → CompletesWhole a old new (Err e)
-repairs_complete a old new Memory is = (is.0, (new, is.1, none_created (new_in a) a.before new))
-repairs_complete a old new _ is = tt
+pub repairs_whole : (old new : SiteLog) (e : Refused) → RepairsWhole {T = Unit {0}} old new (Err e) → RewritesWhole {T = Unit {0}} old new (Err e)
+repairs_whole old new Memory is = (is.0, (0, record { mid = new; repaired = is.1; migrated = none_migrated new }))
+repairs_whole old new _ is = tt
 
--- creations behind all repairs
-pub creates_complete : (a : Account) (old mid new : SiteLog) (result : Result (Unit {0}) Refused) → AreRepaired 32 old mid → CreatesWhole a mid new result → CompletesWhole a old new result
-creates_complete a old mid new (Ok value) repaired is = (mid, repaired, is)
-creates_complete a old mid new (Err Memory) repaired is = (32, (mid, repaired, is))
-creates_complete a old mid new (Err _) repaired is = tt
+-- migrations behind all repairs
+pub migrates_whole : (old mid new : SiteLog) (result : Result (Unit {0}) Refused) → AreRepaired 32 old mid → MigratesWhole mid new result → RewritesWhole old new result
+migrates_whole old mid new (Ok value) repaired is = record { mid = mid; repaired = repaired; migrated = is }
+migrates_whole old mid new (Err Memory) repaired is = (32, (is.0, record { mid = mid; repaired = repaired; migrated = is.1 }))
+migrates_whole old mid new (Err _) repaired is = tt
+
+-- want of memory within both
+pub rewrites_complete : (a : Account) (old new : SiteLog) (e : Refused) → RewritesWhole {T = Unit {0}} old new (Err e) → CompletesWhole a old new (Err e)
+rewrites_complete a old new Memory is = (is.0, (is.1.0, (new, is.1.1, none_written a.changes a.before new)))
+rewrites_complete a old new _ is = tt
+
+-- changes behind all repairs and migrations
+pub changes_complete : (a : Account) (old mid new : SiteLog) (result : Result (Unit {0}) Refused) → AreRewritten 32 32 old mid → ChangesWhole a mid new result → CompletesWhole a old new result
+changes_complete a old mid new (Ok value) rewritten is = (mid, rewritten, is)
+changes_complete a old mid new (Err Memory) rewritten is = (32, (32, (mid, rewritten, is)))
+changes_complete a old mid new (Err _) rewritten is = tt
 
 -- nothing was written
 pub none_complete : (a : Account) (old new : SiteLog) (e : Refused) → new ≡ old → CompletesWhole a old new (Err e)
-none_complete a old new Memory same = subst (λ (x : SiteLog). CompletesWhole a old x (Err Memory)) (sym same) (0, (old, none_repaired old, none_created (new_in a) a.before old))
+none_complete a old new Memory same = subst (λ (x : SiteLog). CompletesWhole a old x (Err Memory)) (sym same)
+    (0, (0, (old, record { mid = old; repaired = none_repaired old; migrated = none_migrated old }, none_written a.changes a.before old)))
 none_complete a old new _ same = tt
 
--- of a refusal neither the creations nor the last rows are told
-other_names : (a : Account) (told : List Creation) (other : RowsOf) (old new : SiteLog) (e : Refused) → CompletesWhole a old new (Err e) → CompletesWhole (record a { after = other; made = told }) old new (Err e)
+-- of a refusal neither the steps nor the last rows are told
+other_names : (a : Account) (told : List OpeningStep) (other : RowsOf) (old new : SiteLog) (e : Refused) → CompletesWhole a old new (Err e) → CompletesWhole (record a { after = other; steps = told }) old new (Err e)
 other_names a told other old new Memory is = is
 other_names a told other old new _ is = tt
 
-abbrev pub told_by : ConfigData → RowsOf → RowsOf → List Creation → Account
-told_by config rows last made = record { volumes = config.volumes; before = rows; after = last; made = made }
+abbrev pub told_by : ConfigData → RowsOf → RowsOf → List OpeningStep → Account
+told_by config rows last steps = record { changes = opening_changes rows config.volumes; before = rows; after = last; steps = steps }
 
-pub refusal_complete : (config : ConfigData) (made : List Creation) (rows last : RowsOf) (old mid new : SiteLog) (e : Refused) → mid ≡ old → rows ≡ rows_of (content old) → CompletesWhole (told_by config rows last made) mid new (Err e)
+pub refusal_complete : (config : ConfigData) (steps : List OpeningStep) (rows last : RowsOf) (old mid new : SiteLog) (e : Refused) → mid ≡ old → rows ≡ rows_of (content old) → CompletesWhole (told_by config rows last steps) mid new (Err e)
     → CompletesWhole (account_from config old new []) old new (Err e)
-refusal_complete config made rows last old mid new e same rows_are is =
+refusal_complete config steps rows last old mid new e same rows_are is =
     subst (λ (r : RowsOf). CompletesWhole (told_by config r (rows_of (content new)) []) old new (Err e)) rows_are
-    (subst (λ (x : SiteLog). CompletesWhole (told_by config rows (rows_of (content new)) []) x new (Err e)) same (other_names (told_by config rows last made) [] (rows_of (content new)) mid new e is))
+    (subst (λ (x : SiteLog). CompletesWhole (told_by config rows (rows_of (content new)) []) x new (Err e)) same (other_names (told_by config rows last steps) [] (rows_of (content new)) mid new e is))
 
-pub answer_complete : (config : ConfigData) (made : List Creation) (rows last : RowsOf) (old mid new : SiteLog) → mid ≡ old → rows ≡ rows_of (content old) → last ≡ rows_of (content new) → CompletesWhole (told_by config rows last made) mid new (Ok tt)
-    → CompletesWhole (account_from config old new made) old new (Ok tt)
-answer_complete config made rows last old mid new same rows_are last_is is =
-    subst (λ (r : RowsOf). CompletesWhole (told_by config r (rows_of (content new)) made) old new (Ok tt)) rows_are
-    (subst (λ (x : SiteLog). CompletesWhole (told_by config rows (rows_of (content new)) made) x new (Ok tt)) same
-    (subst (λ (l : RowsOf). CompletesWhole (told_by config rows l made) mid new (Ok tt)) last_is is))
+pub answer_complete : (config : ConfigData) (steps : List OpeningStep) (rows last : RowsOf) (old mid new : SiteLog) → mid ≡ old → rows ≡ rows_of (content old) → last ≡ rows_of (content new) → CompletesWhole (told_by config rows last steps) mid new (Ok tt)
+    → CompletesWhole (account_from config old new steps) old new (Ok tt)
+answer_complete config steps rows last old mid new same rows_are last_is is =
+    subst (λ (r : RowsOf). CompletesWhole (told_by config r (rows_of (content new)) steps) old new (Ok tt)) rows_are
+    (subst (λ (x : SiteLog). CompletesWhole (told_by config rows (rows_of (content new)) steps) x new (Ok tt)) same
+    (subst (λ (l : RowsOf). CompletesWhole (told_by config rows l steps) mid new (Ok tt)) last_is is))
 
-pub counted_since : (begun before now : ℕ) (vs : List VolumeData) (cs : List Creation) → begun ≤ before → AreCounted before now vs cs → AreCounted begun now vs cs
-counted_since begun before now [] [] start is = omega (arith, start, is)
-counted_since begun before now [] (m ∷ ms) start is = absurd is
-counted_since begun before now (v ∷ vs) [] start is = absurd is
-counted_since begun before now (v ∷ vs) (m ∷ ms) start is = (is.0, omega (arith, start, is.1), is.2)
-
-pub creates_since : (a : Account) (begun mid now : ℕ) → begun ≤ mid → CreatesRows a mid now → CreatesRows a begun now
-creates_since a begun mid now start is = record { rows = is.rows; counted = counted_since begun mid now (new_in a) a.made start is.counted }
+pub told_since : (changes : List OpeningChange) (steps : List OpeningStep) (rows last : RowsOf) (begun before now : ℕ) → begun ≤ before → AreTold changes steps rows last before now → AreTold changes steps rows last begun now
+told_since [] [] rows last begun before now start told = (told.0, (let a = told.1 in omega (arith, start, a)))
+told_since [] (x ∷ steps) rows last begun before now start told = absurd told
+told_since (w ∷ changes) [] rows last begun before now start told = absurd told
+told_since (w ∷ changes) (x ∷ steps) rows last begun before now start told = (told.0, told.1, told.2, (let a = told.3 in omega (arith, start, a)), told.4)
 
 -- what a refusal leaves and keeps
 pub unwritten_refusal : (written writes before now : ℕ) (e : Refused) → writes ≡ written → RefusalLeaves written writes before now e

@@ -2,7 +2,7 @@
 use Rattle.std.proofs.Common.{◌≡◌, inl, inr, ℕ, ◌+◌, ◌<◌, true, false, List, length, Option, Some, None, Ok, Err, refl, sym, ◌∙◌, ap, subst, arith}
 use Rattle.std.proofs.lemmas.Bool.{cases_Bool, cases_lt, cond-true, cond-false, lt-ltb, le-ltb}
 use Rattle.std.proofs.lemmas.List.{get_or_past}
-use Rattle.mss_restart.specs.Serials.{serial_in}
+use Rattle.mss_base.specs.Configs.{serial_in}
 use Rattle.mss_base.specs.Configs.{ConfigData}
 use Rattle.mss_base.specs.Content.{Content, SiteLog, content}
 use Rattle.mss_base.specs.declared.place.UnitNo.TheVariants.{TableB}

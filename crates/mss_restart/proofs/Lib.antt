@@ -16,6 +16,8 @@ pub mod Counting
 pub mod OpenedRows
 pub mod UsableFacts
 pub mod KnownRows
+pub mod MarkedFacts
+pub mod MigratedFacts
 pub mod Completed
 pub mod Finishing
 pub mod OneCopy

@@ -1,21 +1,22 @@
--- Where each copy tells its row alone, it does so after whole repairs and whole creations.
+-- Where each copy tells its row alone, it does so after whole repairs, migrations and opening changes.
 use Rattle.std.proofs.Common.{◌≡◌, inl, inr, ℕ, zero, suc, ◌<◌, ◌==◌, false, List, [], ◌∷◌, Some, None, Result, Ok, Err, sym, ◌∙◌, ap, subst}
 use Rattle.std.proofs.lemmas.Bool.{cases_Bool, eqb-true}
-use Rattle.mss_base.specs.Configs.{ConfigData, VolumeData}
+use Rattle.mss_base.specs.Configs.{ConfigData}
 use Rattle.mss_base.specs.Content.{Content, SiteLog, content}
 use Rattle.mss_base.specs.declared.place.UnitNo.TheVariants.{TableA, TableB}
 use Rattle.mss_base.proofs.Moments.{ended_with}
 use Rattle.table_pair.specs.Copies.{copy_at}
-use Rattle.table_pair.specs.Pair.{known, IsOpenWith, ChangesRow, NoneOrNew}
+use Rattle.table_pair.specs.Pair.{known, IsOpenWith, ChangesRow}
 use Rattle.table_pair.specs.Repairs.{KeepsRow}
 use Rattle.table_pair.proofs.PairFacts.{held_row, closed_row}
 use Rattle.shown_volumes.specs.declared.refused.Refused.{Refused}
 use Rattle.shown_volumes.specs.declared.refused.Refused.TheVariants.{Stopped, Memory}
 use Rattle.shown_volumes.specs.Shown.{RowsOf}
-use Rattle.mss_restart.specs.Creations.{SameCopies, IsRepair, AreRepaired, IsCreation, AreCreations}
+use Rattle.mss_restart.specs.Opening.{OpeningChange, volume_of}
+use Rattle.mss_restart.specs.Creations.{SameCopies, IsRepair, AreRepaired, IsMigration, AreMigrated, AreRewritten, StopsWithin, IsWritten, AreWritten}
 use Rattle.mss_restart.specs.Answers.{Opens, OpensWhole}
 use Rattle.mss_restart.specs.OneCopy.{IsPaired, ArePaired, StayPaired}
-use Rattle.mss_restart.specs.declared.creations.Creation.{Creation}
+use Rattle.mss_restart.specs.declared.steps.OpeningStep.{OpeningStep}
 use Rattle.mss_restart.specs.declared.opening.Opened.{Opened}
 
 paired_same : (volume : ℕ) (c d : Content) → SameCopies volume c d → IsPaired volume c → IsPaired volume d
@@ -55,19 +56,36 @@ unfolding AreRepaired
 repaired_paired zero s t same paired = subst (λ (x : SiteLog). ArePaired (content x)) (sym same) paired
 repaired_paired (suc count) s t repaired paired = repair_paired count repaired.0 t repaired.2 (repaired_paired count s repaired.0 repaired.1 paired)
 
-creation_paired : (rows after : RowsOf) (v : VolumeData) (made : Creation) (s t : SiteLog) → IsCreation rows after v made s t → ArePaired (content s) → ArePaired (content t)
-creation_paired rows after v made s t created paired =
-    paired_but v.0 (NoneOrNew v.0 created.row) (content s) (content t) (ended_with (ChangesRow v.0 (NoneOrNew v.0 created.row) (content s)) s t created.moments) paired (λ _. inl (created.row, created.held))
+migration_paired : (volume : ℕ) (s t : SiteLog) → IsMigration volume s t → ArePaired (content s) → ArePaired (content t)
+migration_paired volume s t migration paired =
+    paired_but volume (KeepsRow volume (content s)) (content s) (content t) (ended_with (ChangesRow volume (KeepsRow volume (content s)) (content s)) s t migration.moments) paired (λ low. here (paired volume low))
+  where
+    here : IsPaired volume (content s) → IsPaired volume (content t)
+    here (inl held) = inl (held.0, migration.held held.0 held.1)
+    here (inr unmade) = subst (λ (x : SiteLog). IsPaired volume (content x)) (sym (migration.without (closed_row volume (content s) unmade.closed))) (inr unmade)
 
-created_paired : (vs : List VolumeData) (made : List Creation) (rows last : RowsOf) (s t : SiteLog) → AreCreations vs made rows last s t → ArePaired (content s) → ArePaired (content t)
-created_paired [] [] rows last s t created paired = subst (λ (x : SiteLog). ArePaired (content x)) (sym created.1) paired
-created_paired [] (m ∷ ms) rows last s t created paired = absurd created
-created_paired (v ∷ vs) [] rows last s t created paired = absurd created
-created_paired (v ∷ vs) (m ∷ ms) rows last s t created paired =
-    created_paired vs ms created.1.0 last created.0 t created.1.2 (creation_paired rows created.1.0 v m s created.0 created.1.1 paired)
+migrated_paired : (count : ℕ) (s t : SiteLog) → AreMigrated count s t → ArePaired (content s) → ArePaired (content t)
+unfolding AreMigrated
+migrated_paired zero s t same paired = subst (λ (x : SiteLog). ArePaired (content x)) (sym same) paired
+migrated_paired (suc count) s t migrated paired = migration_paired count migrated.0 t migrated.2 (migrated_paired count s migrated.0 migrated.1 paired)
+
+rewritten_paired : (repairs migrations : ℕ) (s t : SiteLog) → AreRewritten repairs migrations s t → ArePaired (content s) → ArePaired (content t)
+rewritten_paired repairs migrations s t is paired = migrated_paired migrations is.mid t is.migrated (repaired_paired repairs s is.mid is.repaired paired)
+
+change_paired : (rows after : RowsOf) (change : OpeningChange) (step : OpeningStep) (s t : SiteLog) → IsWritten rows after change step s t → ArePaired (content s) → ArePaired (content t)
+change_paired rows after change step s t is paired =
+    let P : Content → Type 0 = StopsWithin change is.row (content s) in
+    paired_but (volume_of change) P (content s) (content t) (ended_with (ChangesRow (volume_of change) P (content s)) s t is.moments) paired (λ _. inl (is.row, is.held))
+
+written_paired : (changes : List OpeningChange) (steps : List OpeningStep) (rows last : RowsOf) (s t : SiteLog) → AreWritten changes steps rows last s t → ArePaired (content s) → ArePaired (content t)
+written_paired [] [] rows last s t written paired = subst (λ (x : SiteLog). ArePaired (content x)) (sym written.1) paired
+written_paired [] (x ∷ steps) rows last s t written paired = absurd written
+written_paired (w ∷ changes) [] rows last s t written paired = absurd written
+written_paired (w ∷ changes) (x ∷ steps) rows last s t written paired =
+    written_paired changes steps written.1.0 last written.0 t written.1.2 (change_paired rows written.1.0 w x s written.0 written.1.1 paired)
 
 pub stay_paired : (before now : ℕ) (config : ConfigData) (old new : SiteLog) (result : Result Opened Refused) → Opens before now config old new result → OpensWhole config old new result → StayPaired (content old) (content new) result
-stay_paired before now config old new (Ok opened) opens whole = λ paired. created_paired _ _ _ _ whole.0 new whole.2 (repaired_paired 32 old whole.0 whole.1 paired)
+stay_paired before now config old new (Ok opened) opens whole = λ paired. written_paired _ _ _ _ whole.0 new whole.2 (rewritten_paired 32 32 old whole.0 whole.1 paired)
 stay_paired before now config old new (Err (Stopped fault)) opens whole = tt
-stay_paired before now config old new (Err Memory) opens whole = λ paired. created_paired _ _ _ _ whole.1.0 new whole.1.2.each (repaired_paired whole.0 old whole.1.0 whole.1.1 paired)
+stay_paired before now config old new (Err Memory) opens whole = λ paired. written_paired _ _ _ _ whole.1.1.0 new whole.1.1.2.each (rewritten_paired whole.0 whole.1.0 old whole.1.1.0 whole.1.1.1 paired)
 stay_paired before now config old new (Err e) opens whole = λ paired. subst (λ (x : SiteLog). ArePaired (content x)) (sym opens.0) paired

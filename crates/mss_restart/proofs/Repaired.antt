@@ -14,7 +14,7 @@ use Rattle.mss_base.specs.Sites.{MayWrite}
 use Rattle.mss_base.specs.declared.site.Site.{Ghosts}
 use Rattle.shown_volumes.specs.declared.refused.Refused.{Refused}
 use Rattle.shown_volumes.specs.declared.refused.Refused.TheVariants.{Memory}
-use Rattle.mss_restart.specs.Creations.{IsStop, StopsAlone, StepsOn, WritesOn, IsRepair, AreRepaired, RepairsWhole}
+use Rattle.mss_restart.specs.Creations.{IsStop, StopsAlone, StepsOn, WritesOn, IsRepair, AreRepaired, RepairsWhole, IsMigration, AreMigrated, MigratesWhole}
 use Rattle.shown_volumes.specs.Shown.{shown}
 use Rattle.shown_volumes.specs.Sound.{IsSound, SoundAs}
 use Rattle.shown_volumes.proofs.MomentFacts.{repair_moments}
@@ -91,6 +91,18 @@ one_repaired n volume begun mid now before same one =
     let e : suc n ≡ n + 1 = omega arith in
     subst (λ (k : ℕ). AreRepaired k begun now) e (mid, before, subst (λ (v : ℕ). IsRepair v mid now) same one)
 
+-- ---- so each migration
+
+pub none_migrated : (s : SiteLog) → AreMigrated 0 s s
+unfolding AreMigrated
+none_migrated s = refl
+
+pub one_migrated : (n volume : ℕ) (begun mid now : SiteLog) → AreMigrated n begun mid → volume ≡ n → IsMigration volume mid now → AreMigrated (n + 1) begun now
+unfolding AreMigrated
+one_migrated n volume begun mid now before same one =
+    let e : suc n ≡ n + 1 = omega arith in
+    subst (λ (k : ℕ). AreMigrated k begun now) e (mid, before, subst (λ (v : ℕ). IsMigration v mid now) same one)
+
 -- a stop of a later part of a call, before which none failed
 pub stop_since : (begun before now : ℕ) (e : Refused) → before ≡ begun → IsStop before now e → IsStop begun now e
 stop_since begun before now e same stops = subst (λ (n : ℕ). IsStop n now e) same stops
@@ -130,3 +142,8 @@ module _ {S : Type 0} (g : Ghosts S) where
 pub memory_repairs : (count : ℕ) (begun mid now : SiteLog) (e : Refused) → AreRepaired count begun mid → (e ≡ Memory → now ≡ mid) → RepairsWhole {T = Unit {0}} begun now (Err e)
 memory_repairs count begun mid now Memory before same = (count, subst (AreRepaired count begun) (sym (same refl)) before)
 memory_repairs count begun mid now _ before same = tt
+
+-- and the migrations
+pub memory_migrations : (count : ℕ) (begun mid now : SiteLog) (e : Refused) → AreMigrated count begun mid → (e ≡ Memory → now ≡ mid) → MigratesWhole {T = Unit {0}} begun now (Err e)
+memory_migrations count begun mid now Memory before same = (count, subst (AreMigrated count begun) (sym (same refl)) before)
+memory_migrations count begun mid now _ before same = tt

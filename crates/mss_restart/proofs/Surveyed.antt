@@ -5,7 +5,7 @@ use Rattle.std.proofs.lemmas.List.{get_or_past}
 use Rattle.mss_base.specs.Content.{Content}
 use Rattle.mss_base.specs.Counts.{IsFaultSince}
 use Rattle.mss_base.specs.declared.place.UnitNo.TheVariants.{TableA, TableB}
-use Rattle.mss_restart.specs.Serials.{serial_in}
+use Rattle.mss_base.specs.Configs.{VolumeData, serial_in}
 use Rattle.volume_table.specs.Row.{RowValue}
 use Rattle.table_pair.specs.Pair.{CopyRead, RowReading, reading, row_of}
 use Rattle.table_pair.specs.Reads.{IsReadOf}
@@ -210,10 +210,10 @@ rows_survey before now frames asked c Memory later ends = record { mid = before;
 rows_survey before now frames asked c e later ends = row_survey before now frames asked c e ends
 
 -- the same survey, by other names of the configuration and the content
-pub renamed : (before now f n : ℕ) (v w : List (ℕ × List ℕ)) (c d : Content) (result : Result (List (Option RowValue)) Refused) → f ≡ n → v ≡ w → c ≡ d
+pub renamed : (before now f n : ℕ) (v w : List VolumeData) (c d : Content) (result : Result (List (Option RowValue)) Refused) → f ≡ n → v ≡ w → c ≡ d
     → Surveys before now f (serial_in v) c result → Surveys before now n (serial_in w) d result
 renamed before now f n v w c d result frames volumes told s =
-    subst (λ (x : ℕ). Surveys before now x (serial_in w) d result) frames (subst (λ (x : List (ℕ × List ℕ)). Surveys before now f (serial_in x) d result) volumes (subst (λ (x : Content). Surveys before now f (serial_in v) x result) told s))
+    subst (λ (x : ℕ). Surveys before now x (serial_in w) d result) frames (subst (λ (x : List VolumeData). Surveys before now f (serial_in x) d result) volumes (subst (λ (x : Content). Surveys before now f (serial_in v) x result) told s))
 
-pub read_renamed : (before now : ℕ) (v w : List (ℕ × List ℕ)) (c : Content) (rows : List (Option RowValue)) (unread : Option ℕ) → v ≡ w → AreRead before now (serial_in v) c rows unread → AreRead before now (serial_in w) c rows unread
-read_renamed before now v w c rows unread volumes read = subst (λ (x : List (ℕ × List ℕ)). AreRead before now (serial_in x) c rows unread) volumes read
+pub read_renamed : (before now : ℕ) (v w : List VolumeData) (c : Content) (rows : List (Option RowValue)) (unread : Option ℕ) → v ≡ w → AreRead before now (serial_in v) c rows unread → AreRead before now (serial_in w) c rows unread
+read_renamed before now v w c rows unread volumes read = subst (λ (x : List VolumeData). AreRead before now (serial_in x) c rows unread) volumes read

@@ -1,5 +1,5 @@
 -- Rows that stand beside each other: what the walks over them find, and what a creation keeps.
-use Rattle.std.proofs.Common.{◌≡◌, ◌⊎◌, inl, inr, ℕ, ◌<◌, ◌==◌, Bool, true, false, cond, List, [], ◌∷◌, length, get_or, replicate, Option, Some, None, Result, Ok, Err, refl, sym, ◌∙◌, ap, subst, arith}
+use Rattle.std.proofs.Common.{◌≡◌, ◌⊎◌, inl, inr, ℕ, ◌<◌, ◌==◌, Bool, true, false, cond, List, [], ◌∷◌, ◌++◌, length, get_or, replicate, Option, Some, None, Result, Ok, Err, refl, sym, ◌∙◌, ap, subst, arith}
 use Rattle.std.specs.Prelude.{is_some, OnOk}
 use Rattle.std.specs.Option.{option_map, option_and_then, ForSome}
 use Rattle.std.specs.List.{AllByRecursion}
@@ -9,7 +9,7 @@ use Rattle.std.proofs.lemmas.List.{get_or-replicate, get_or_past, length-replica
 use Rattle.mss_base.specs.Configs.{ConfigData, VolumeData, IsVolume, IsConfig}
 use Rattle.mss_base.specs.Firsts.{first_below}
 use Rattle.mss_base.proofs.FirstFacts.{none_below, none_where}
-use Rattle.mss_restart.specs.Serials.{serial_in}
+use Rattle.mss_base.specs.Configs.{serial_in}
 use Rattle.volume_table.specs.Row.{RowValue, frame_of}
 use Rattle.shown_volumes.specs.Shown.{RowsOf}
 use Rattle.shown_volumes.specs.Sound.{cartridge_of, frame_in, HasCartridgesOnce, HasSerialsAsked}
@@ -21,11 +21,15 @@ use Rattle.shown_volumes.proofs.PageLemmas.{frames_below, frames_once}
 use Rattle.shown_volumes.proofs.RowFacts.{at_row}
 use Rattle.volume_table.specs.Listed.{listed}
 use Rattle.mss_restart.specs.Cartridges.{is_named}
-use Rattle.mss_restart.specs.Opening.{missing, IsNewRow, Creates}
+use Rattle.volume_table.specs.Changes.{with_mark}
+use Rattle.shown_volumes.proofs.MarkFacts.{cartridges_kept, frames_kept, frames_apart}
+use Rattle.mss_restart.specs.Opening.{OpeningChange, made, marked, volume_of, to_make, to_mark, opening_changes, IsNewRow, OpensRows}
+use Rattle.mss_restart.specs.Creations.{AreTold}
+use Rattle.mss_restart.specs.declared.steps.OpeningStep.{OpeningStep}
 use Rattle.mss_restart.specs.Usable.{AreUsable, AreUsableFor}
 use Rattle.mss_restart.proofs.Creating.{AreRising, rising_first}
 use Rattle.mss_restart.proofs.FreshFacts.{named_from}
-use Rattle.mss_restart.proofs.OpenedRows.{creates_asked}
+use Rattle.mss_restart.proofs.OpenedRows.{AreMarks, to_mark_marks, opens_asked}
 
 -- there are volumes 0 to 31
 abbrev pub AreFew : RowsOf → Type 0
@@ -140,42 +144,90 @@ module _ (rows : RowsOf) (few : AreFew rows) (volume : ℕ) (serial : List ℕ) 
         (λ r at s is. let e : row ≡ r = cc in ap (λ (x : RowValue). x.serial) (sym e ∙ new.blank) ∙ spelled s is) (λ w other. was.serials w);
   }
 
--- volumes to be created: their numbers are low, and their serials are asked
-abbrev pub AreAsked : (ℕ → Option (List ℕ)) → List VolumeData → Type 0
-AreAsked asked vs = AllByRecursion (λ v. (v.0 < 32) × ForSome (asked v.0) (λ s. v.1 ≡ s)) vs
+-- a row with another mark among usable ones
+module _ (rows : RowsOf) (few : AreFew rows) (volume : ℕ) (on : Bool) (old : RowValue) (there : rows volume ≡ Some old) where
+  abbrev marked_rows : RowsOf
+  marked_rows = with_row volume (with_mark on old) rows
 
-pub creates_usable : (frames : ℕ) (asked : ℕ → Option (List ℕ)) (vs : List VolumeData) (rows last : RowsOf) → AreAsked asked vs → AreFew rows → AreUsable frames asked rows → Creates vs rows last → AreUsable frames asked last
-creates_usable frames asked [] rows last each few was made = subst (AreUsable frames asked) (sym made) was
-creates_usable frames asked (v ∷ vs) rows last each few was made =
-    creates_usable frames asked vs (with_row v.0 made.0 rows) last each.1 (few_more rows few v.0 v.1 made.0 each.0.0 made.1.0)
-    (more_usable rows few v.0 v.1 made.0 each.0.0 made.1.0 frames asked each.0.1 was) made.1.1
+  pub few_marked : AreFew marked_rows
+  few_marked = at_row rows volume (with_mark on old) (λ w o. (r : RowValue) → o ≡ Some r → w < 32) (λ r at. few volume old there) (λ w other r at. few w r at)
 
-all_missing : (P : VolumeData → Type 0) (rows : RowsOf) (vs : List VolumeData) → AllByRecursion P vs → AllByRecursion P (missing rows vs)
-all_missing P rows [] each = tt
-all_missing P rows (v ∷ vs) each = elim (cases_Bool (is_some (rows v.0))) [
-  | inl has ↦ subst (AllByRecursion P) (sym (cond-true _ _ _ has)) (all_missing P rows vs each.1)
-  | inr none ↦ subst (AllByRecursion P) (sym (cond-false _ _ _ none)) (each.0, all_missing P rows vs each.1)
-]
+  pub marked_usable : (frames : ℕ) (asked : ℕ → Option (List ℕ)) → AreUsable frames asked rows → AreUsable frames asked marked_rows
+  marked_usable frames asked was = record {
+    cartridges_once = cartridges_kept rows volume on old there was.cartridges_once;
+    frames_below = frames_kept rows volume on old there frames was.frames_below;
+    frames_once = frames_apart rows volume on old there was.frames_once;
+    serials = at_row rows volume (with_mark on old) (λ w o. ForSome o (λ r. ForSome (asked w) (λ s. r.serial ≡ s)))
+        (λ r at s is. let e : with_mark on old ≡ r = cc in ap (λ (x : RowValue). x.serial) (sym e) ∙ was.serials volume old there s is) (λ w other. was.serials w);
+  }
+
+-- volumes to be made: their numbers are low, and their serials are asked
+abbrev pub AreAsked : (ℕ → Option (List ℕ)) → List OpeningChange → Type 0
+AreAsked asked [] = Unit {0}
+AreAsked asked (made volume serial ∷ changes) = ((volume < 32) × ForSome (asked volume) (λ s. serial ≡ s)) × AreAsked asked changes
+AreAsked asked (marked volume on ∷ changes) = AreAsked asked changes
+
+pub opens_usable : (frames : ℕ) (asked : ℕ → Option (List ℕ)) (changes : List OpeningChange) (rows last : RowsOf) → AreAsked asked changes → AreFew rows → AreUsable frames asked rows → OpensRows changes rows last → AreUsable frames asked last
+opens_usable frames asked [] rows last each few was opens = subst (AreUsable frames asked) (sym opens) was
+opens_usable frames asked (made volume serial ∷ changes) rows last each few was opens =
+    opens_usable frames asked changes (with_row volume opens.0 rows) last each.1 (few_more rows few volume serial opens.0 each.0.0 opens.1.0)
+    (more_usable rows few volume serial opens.0 each.0.0 opens.1.0 frames asked each.0.1 was) opens.1.1
+opens_usable frames asked (marked volume on ∷ changes) rows last each few was opens =
+    let is = opens.1.0 in
+    let now : with_row volume (with_mark on is.old) rows ≡ with_row volume opens.0 rows = ap (λ (r : RowValue). with_row volume r rows) (sym is.becomes) in
+    opens_usable frames asked changes (with_row volume opens.0 rows) last each (subst AreFew now (few_marked rows few volume on is.old is.there))
+    (subst (AreUsable frames asked) now (marked_usable rows few volume on is.old is.there frames asked was)) opens.1.1
+
+-- a configured volume asks for its own serial
+abbrev pub AskOwn : (ℕ → Option (List ℕ)) → List VolumeData → Type 0
+AskOwn asked vs = AllByRecursion (λ v. (v.0 < 32) × ForSome (asked v.0) (λ s. v.1 ≡ s)) vs
+
+asked_made : (asked : ℕ → Option (List ℕ)) (rows : RowsOf) (vs : List VolumeData) (behind : List OpeningChange) → AskOwn asked vs → AreAsked asked behind → AreAsked asked (to_make rows vs ++ behind)
+asked_made asked rows [] behind own rest = rest
+asked_made asked rows (v ∷ vs) behind own rest =
+    let later = asked_made asked rows vs behind own.1 rest in
+    elim (cases_Bool (is_some (rows v.0))) [
+      | inl has ↦ subst (λ (xs : List OpeningChange). AreAsked asked (xs ++ behind)) (sym (cond-true _ _ _ has)) later
+      | inr none ↦ subst (λ (xs : List OpeningChange). AreAsked asked (xs ++ behind)) (sym (cond-false _ _ _ none)) (own.0, later)
+    ]
+
+asked_marks : (asked : ℕ → Option (List ℕ)) (changes : List OpeningChange) → AreMarks changes → AreAsked asked changes
+asked_marks asked [] marks = tt
+asked_marks asked (made volume serial ∷ changes) marks = absurd marks
+asked_marks asked (marked volume on ∷ changes) marks = asked_marks asked changes marks
 
 -- the volumes of a configuration ask for their own serials
-past_first : (w : VolumeData) (vs us : List VolumeData) → AllByRecursion (λ u. w.0 < u.0) us → AreAsked (serial_in vs) us → AreAsked (serial_in (w ∷ vs)) us
+past_first : (w : VolumeData) (vs us : List VolumeData) → AllByRecursion (λ u. w.0 < u.0) us → AskOwn (serial_in vs) us → AskOwn (serial_in (w ∷ vs)) us
 past_first w vs [] above each = tt
 past_first w vs (u ∷ us) above each =
     let off : (u.0 == w.0) ≡ false = ne_eqb u.0 w.0 (λ (e : u.0 ≡ w.0). omega (arith, above.0)) in
     ((each.0.0, λ s is. each.0.1 s (sym (cond-false _ _ _ off) ∙ is)), past_first w vs us above.1 each.1)
 
-pub asks_own : (vs : List VolumeData) → AllByRecursion IsVolume vs → AreRising vs → AreAsked (serial_in vs) vs
+pub asks_own : (vs : List VolumeData) → AllByRecursion IsVolume vs → AreRising vs → AskOwn (serial_in vs) vs
 asks_own [] good rising = tt
 asks_own (v ∷ vs) good rising =
     let above = rising_first v vs rising in
     ((omega (arith, good.0.0), λ s is. let e : Some v.1 ≡ Some s = sym (cond-true _ _ _ (eq-eqb v.0 v.0 refl)) ∙ is in cc), past_first v vs vs above.0 (asks_own vs good.1 above.1))
 
--- the rows of a configuration after the creations
+pub asked_opening : (rows : RowsOf) (vs : List VolumeData) → AllByRecursion IsVolume vs → AreRising vs → AreAsked (serial_in vs) (opening_changes rows vs)
+asked_opening rows vs good rising =
+    asked_made (serial_in vs) rows vs (to_mark rows vs) (asks_own vs good rising) (asked_marks (serial_in vs) (to_mark rows vs) (to_mark_marks rows vs))
+
+-- the rows of a configuration after the changes
 pub usable_for : (config : ConfigData) (before rows : List (Option RowValue)) → IsConfig config → length before ≡ 32 → AreUsable config.frames (serial_in config.volumes) (listed before)
-    → Creates (missing (listed before) config.volumes) (listed before) (listed rows) → AreUsableFor config (listed rows)
-usable_for config before rows good long was made = record {
-  usable = creates_usable config.frames (serial_in config.volumes) (missing (listed before) config.volumes) (listed before) (listed rows)
-      (all_missing (λ v. (v.0 < 32) × ForSome (serial_in config.volumes v.0) (λ s. v.1 ≡ s)) (listed before) config.volumes (asks_own config.volumes good.volumes_ good.rising))
-      (few_listed before long) was made;
-  each = creates_asked config.volumes (listed before) (listed rows) good.rising was.serials made;
-}
+    → OpensRows (opening_changes (listed before) config.volumes) (listed before) (listed rows) → AreUsableFor config (listed rows)
+usable_for config before rows good long was opens =
+    let asked = serial_in config.volumes in
+    record {
+      usable = opens_usable config.frames asked (opening_changes (listed before) config.volumes) (listed before) (listed rows)
+          (asked_opening (listed before) config.volumes good.volumes_ good.rising)
+          (few_listed before long) was opens;
+      each = opens_asked config.volumes (listed before) (listed rows) good.rising opens was.serials;
+    }
+
+-- the rows after told changes
+pub told_opens : (changes : List OpeningChange) (steps : List OpeningStep) (rows last : RowsOf) (before now : ℕ) → AreTold changes steps rows last before now → OpensRows changes rows last
+told_opens [] [] rows last before now told = told.0
+told_opens [] (x ∷ steps) rows last before now told = absurd told
+told_opens (w ∷ changes) [] rows last before now told = absurd told
+told_opens (w ∷ changes) (x ∷ steps) rows last before now told = (told.0, (told.1, told_opens changes steps (with_row (volume_of w) told.0 rows) last x.writes now told.4))

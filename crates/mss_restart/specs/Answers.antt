@@ -1,10 +1,10 @@
 -- What opening answers.
-use Rattle.std.specs.Prelude.{◌≡◌, ◌⊎◌, ◌<◌, ◌≤◌, ℕ, List, [], length, Some, None, Result, Ok, Err, IfOk, IfErr}
-use Rattle.mss_base.specs.Configs.{ConfigData}
+use Rattle.std.specs.Prelude.{◌≡◌, ◌⊎◌, ◌<◌, ◌≤◌, ℕ, List, [], ◌++◌, length, Some, None, Result, Ok, Err, IfOk, IfErr}
+use Rattle.mss_base.specs.Configs.{ConfigData, VolumeData}
 use Rattle.mss_base.specs.Content.{Content, SiteLog, content, Writes}
 use Rattle.mss_base.specs.Counts.{IsFaultSince, IsFaultWithin}
 use Rattle.mss_base.specs.declared.site.Site.{Ghosts}
-use Rattle.mss_restart.specs.Serials.{serial_in}
+use Rattle.mss_base.specs.Configs.{serial_in}
 use Rattle.shown_volumes.specs.declared.refused.Refused.{Refused}
 use Rattle.shown_volumes.specs.declared.refused.Refused.TheVariants.{RowUnread, Stopped, Memory}
 use Rattle.shown_volumes.specs.Shown.{RowsOf, rows_in, rows_of, shown}
@@ -14,9 +14,9 @@ use Rattle.volume_table.specs.Listed.{listed}
 use Rattle.mss_restart.specs.Survey.{Readings, AreFaultless, StandApart, IsFirstAlone, Surveys}
 use Rattle.mss_restart.specs.Usable.{AreUsableFor}
 use Rattle.mss_restart.specs.OneCopy.{StayPaired}
-use Rattle.mss_restart.specs.Opening.{IsOpened, Creates, ShowsFront, missing}
-use Rattle.mss_restart.specs.Creations.{Account, CompletesWhole, AreCounted, RepairsOthers}
-use Rattle.mss_restart.specs.declared.creations.Creation.{Creation}
+use Rattle.mss_restart.specs.Opening.{IsOpened, ShowsFront, opening_changes}
+use Rattle.mss_restart.specs.Creations.{Account, AreTold, CompletesWhole, OpeningRun, RepairsOthers}
+use Rattle.mss_restart.specs.declared.steps.OpeningStep.{OpeningStep}
 use Rattle.mss_restart.specs.declared.opening.Opened.{Opened}
 
 -- nothing was written, or the content had no fault
@@ -68,54 +68,80 @@ RefusalLeaves written writes before now (Stopped fault) = Unit {0}
 RefusalLeaves written writes before now Memory = (writes ≡ written) ⊎ (now ≡ before)
 RefusalLeaves written writes before now e = writes ≡ written
 
--- the creations that are told are those of the volumes that had no row, whichever rows there were before
-pub record CreatesCounted (config : ConfigData) (written writes : ℕ) (rows : RowsOf) (made : List Creation)
+-- the changes that are told are those that the configuration asks for, whichever rows there were before
+pub record TellsChanges (config : ConfigData) (written writes : ℕ) (rows : RowsOf) (steps : List OpeningStep)
     : Type 0 where
   pub before : RowsOf
-  pub creates : Creates (missing before config.volumes) before rows
-  pub counted : AreCounted written writes (missing before config.volumes) made
+  pub told : AreTold (opening_changes before config.volumes) steps before rows written writes
+
+-- the steps of an opening: first the creations, then the marks
+abbrev pub steps_of : Opened → List OpeningStep
+steps_of opened = opened.creations.items ++ opened.marks.items
+
+-- no step was told yet, and there is room for so many creations and marks
+pub record HasNoSteps (opened : Opened) (count : ℕ) : Type 0 where
+  pub no_creations : opened.creations.items ≡ []
+  pub no_marks : opened.marks.items ≡ []
+  pub creations_room : count ≤ opened.creations.spare
+  pub marks_room : count ≤ opened.marks.spare
+
+-- the opening changes that lead from some rows to others
+abbrev pub run_of : List VolumeData → Opened → Opened → OpeningRun
+run_of volumes before left = record {
+  changes = opening_changes (listed before.rows) volumes;
+  before = before.rows;
+  rows = left.rows;
+  used = left.used.items;
+  steps = steps_of left;
+}
 
 abbrev pub MakesCounted : ConfigData → ℕ → ℕ → Result Opened Refused → Type 0
 MakesCounted config written writes (Ok opened) =
-    CreatesCounted config written writes (listed opened.rows) opened.creations.items
+    TellsChanges config written writes (listed opened.rows) (steps_of opened)
 MakesCounted config written writes (Err e) = Unit {0}
 
 -- an opening's account, by the rows that its contents tell
-abbrev pub account_from : ConfigData → SiteLog → SiteLog → List Creation → Account
-account_from config old new made = record {
-  volumes = config.volumes;
+abbrev pub account_from : ConfigData → SiteLog → SiteLog → List OpeningStep → Account
+account_from config old new steps = record {
+  changes = opening_changes (rows_of (content old)) config.volumes;
   before = rows_of (content old);
   after = rows_of (content new);
-  made = made;
+  steps = steps;
 }
 
--- the repairs and creations that were begun were written to their end where rows are answered or memory ran out
+-- the repairs, migrations and changes that were begun were written to their end where rows are answered or memory ran
+-- out
 abbrev pub OpensWhole : ConfigData → SiteLog → SiteLog → Result Opened Refused → Type 0
 OpensWhole config old new (Ok opened) =
-    CompletesWhole (account_from config old new opened.creations.items) old new (Ok tt)
+    CompletesWhole (account_from config old new (steps_of opened)) old new (Ok tt)
 OpensWhole config old new (Err e) = CompletesWhole (account_from config old new []) old new (Err e)
 
+-- at each moment a sound content stays sound, and shows its volumes after a front of the opening changes
+abbrev pub ShowsFronts : ConfigData → SiteLog → SiteLog → Type 0
+ShowsFronts config old new =
+    (frames : ℕ) → IsSound frames (content old)
+    → let changes = opening_changes (rows_of (content old)) config.volumes in
+    Writes (ShowsFront frames changes (shown (content old))) old new
+
 -- what an opening leaves of a site that tells, however it ends: what a stop or a failing call leaves at each moment;
--- that no row but the further ones is more than repaired; and that each repair and creation that was begun is whole
--- after Ok and after want of memory
+-- that no row but those of the changes is more than repaired and migrated; and that all that was begun is whole after
+-- Ok and after want of memory
 pub record LeavesRows (config : ConfigData) (old new : SiteLog) (answer : Result Opened Refused) : Type 0 where
-  pub moments : (frames : ℕ) → IsSound frames (content old)
-      → Writes (ShowsFront frames (missing (rows_of (content old)) config.volumes) (shown (content old))) old new
-  pub others : RepairsOthers (missing (rows_of (content old)) config.volumes) old new
+  pub moments : ShowsFronts config old new
+  pub others : RepairsOthers (opening_changes (rows_of (content old)) config.volumes) old new
   pub complete : OpensWhole config old new answer
 
 -- of a site that tells: what is answered, exactly where no call failed; what a stop or a failing call leaves at each
--- moment; that each repair and creation that was begun is whole after Ok and after want of memory; that no row but the
--- further ones is more than repaired, and that each copy goes on to tell its row alone, unless a call failed; that a
+-- moment; that all that was begun is whole after Ok and after want of memory; that no row but those of the changes is
+-- more than repaired and migrated, and that each copy goes on to tell its row alone, unless a call failed; that a
 -- content with a fault isn't written
 pub record OpensSite (before now : ℕ) (config : ConfigData) (old new : SiteLog) (answer : Result Opened Refused)
     : Type 0 where
   pub opens : Opens before now config old new answer
   pub exact : now ≡ before → before < 18446744073709551615 → OpensExactly config (content old) answer
-  pub moments : (frames : ℕ) → IsSound frames (content old)
-      → Writes (ShowsFront frames (missing (rows_of (content old)) config.volumes) (shown (content old))) old new
+  pub moments : ShowsFronts config old new
   pub complete : OpensWhole config old new answer
-  pub others : RepairsOthers (missing (rows_of (content old)) config.volumes) old new
+  pub others : RepairsOthers (opening_changes (rows_of (content old)) config.volumes) old new
   pub paired : StayPaired (content old) (content new) answer
   pub untouched : WritesIfFaultless config old new
 
@@ -134,7 +160,7 @@ pub record IsUsable (config : ConfigData) (opened : Opened) : Type 0 where
   pub rows_ : AreUsableFor config (listed opened.rows)
   pub used_ : length opened.used.items ≡ 32
 
--- of every site: what was opened can be used; the creations are told with rising counts of writes; what a refusal
+-- of every site: what was opened can be used; the changes are told with rising counts of writes; what a refusal
 -- leaves, and which counts it keeps
 pub record AnswersOpening (config : ConfigData) (counts : Counters) (answer : Result Opened Refused) : Type 0 where
   pub usable : IfOk answer (IsUsable config)

@@ -1,4 +1,3 @@
-pub mod Serials
 pub mod Walks
 pub mod Usable
 pub mod Survey

@@ -1,18 +1,18 @@
--- What opening the rows of a site makes of it: the volumes that have no row are created, blank, in order.
-use Rattle.std.specs.Prelude.{◌≡◌, ◌<◌, ℕ, false, if◌then◌else◌, List, [], ◌∷◌, ◌++◌, length}
+-- What opening the rows of a site makes of it: the volumes that have no row are made, and then marks changed, in order.
+use Rattle.std.specs.Prelude.{◌≡◌, ◌≢◌, ◌⊎◌, ◌<◌, ℕ, Bool, true, false, not, if◌then◌else◌, List, [], ◌∷◌, ◌++◌, length}
 use Rattle.std.specs.Prelude.{Option, Some, None, is_some, Result, Ok, Err}
 use Rattle.mss_base.specs.Content.{Content}
-use Rattle.mss_base.specs.Configs.{ConfigData, VolumeData}
-use Rattle.mss_restart.specs.Serials.{serial_in}
+use Rattle.mss_base.specs.Configs.{ConfigData, VolumeData, marked_in, serial_in}
 use Rattle.ckd_track.specs.Data.{Volumes}
 use Rattle.volume_table.specs.Row.{RowValue, blank_row}
+use Rattle.volume_table.specs.Changes.{with_mark}
 use Rattle.table_pair.specs.Pair.{HoldsRow, known, row_of}
-use Rattle.table_pair.specs.Slots.{AreUsed, with_none_used}
+use Rattle.table_pair.specs.Slots.{AreUsed, with_none_used, with_used_after}
 use Rattle.table_pair.specs.declared.copy.SlotsUsed.{SlotsUsed}
-use Rattle.shown_volumes.specs.Shown.{RowsOf, rows_of, shown}
+use Rattle.shown_volumes.specs.Shown.{RowsOf, rows_of, is_marked, shown}
 use Rattle.shown_volumes.specs.Sound.{IsSound, SoundAs}
 use Rattle.shown_volumes.specs.Faults.{first_fault}
-use Rattle.shown_volumes.specs.Changing.{with_row, with_blank}
+use Rattle.shown_volumes.specs.Changing.{with_row, with_blank, with_marked}
 use Rattle.volume_table.specs.Listed.{listed}
 use Rattle.mss_restart.specs.Cartridges.{IsLowestFree}
 use Rattle.mss_restart.specs.Usable.{HasRowWith}
@@ -32,23 +32,59 @@ pub record AreKnown (rows : List (Option RowValue)) (used : List SlotsUsed) (c :
   pub held : AreHeld (listed rows) c
   pub slots_ : AreUsed used c
 
--- the volumes of a list that have no row
-abbrev pub missing : RowsOf → List VolumeData → List VolumeData
-missing rows [] = []
-missing rows (v ∷ vs) = if is_some (rows v.0) then missing rows vs else (v ∷ missing rows vs)
+-- ---- the changes that opening makes to the volumes
 
--- volumes with these blank ones more
-abbrev pub with_blanks : List VolumeData → Volumes → Volumes
-with_blanks [] volumes = volumes
-with_blanks (v ∷ vs) volumes = with_blanks vs (with_blank v.0 v.1 volumes)
+-- a volume is made, blank and not read-only, or gets another mark
+pub data OpeningChange : Type 0 where
+  made : ℕ → List ℕ → OpeningChange
+  marked : ℕ → Bool → OpeningChange
 
--- a sound content that shows the volumes with a front of the new ones, blank
-pub record ShowsFront (frames : ℕ) (new : List VolumeData) (volumes : Volumes) (c : Content) : Type 0 where
+abbrev pub volume_of : OpeningChange → ℕ
+volume_of (made volume serial) = volume
+volume_of (marked volume on) = volume
+
+-- the volumes after it, and after several
+abbrev pub opened_by : OpeningChange → Volumes → Volumes
+opened_by (made volume serial) volumes = with_blank volume serial volumes
+opened_by (marked volume on) volumes = with_marked volume on volumes
+
+abbrev pub opened_all : List OpeningChange → Volumes → Volumes
+opened_all [] volumes = volumes
+opened_all (change ∷ changes) volumes = opened_all changes (opened_by change volumes)
+
+-- what a stop within it shows: the volumes before it, or after it
+abbrev pub BeforeOrAfter : OpeningChange → Volumes → Volumes → Type 0
+BeforeOrAfter change volumes shown = (shown ≡ volumes) ⊎ (shown ≡ opened_by change volumes)
+
+-- the volumes of a list that have no row are made
+abbrev pub to_make : RowsOf → List VolumeData → List OpeningChange
+to_make rows [] = []
+to_make rows (v ∷ vs) = if is_some (rows v.0) then to_make rows vs else (made v.0 v.1 ∷ to_make rows vs)
+
+-- whether a row has the mark that is asked for; what is to be made has none yet
+abbrev pub is_marked_as : Bool → Option RowValue → Bool
+is_marked_as true r = is_marked r
+is_marked_as false r = not (is_marked r)
+
+-- the others get their mark
+abbrev pub to_mark : RowsOf → List VolumeData → List OpeningChange
+to_mark rows [] = []
+to_mark rows (v ∷ vs) =
+    if is_marked_as v.2 (rows v.0) then to_mark rows vs else (marked v.0 v.2 ∷ to_mark rows vs)
+
+-- first the new volumes, then the marks, each in the order of the list
+abbrev pub opening_changes : RowsOf → List VolumeData → List OpeningChange
+opening_changes rows volumes = to_make rows volumes ++ to_mark rows volumes
+
+-- a sound content that shows the volumes after a front of these changes
+pub record ShowsFront (frames : ℕ) (changes : List OpeningChange) (volumes : Volumes) (c : Content) : Type 0 where
   pub sound : IsSound frames c
-  pub made : List VolumeData
-  pub later : List VolumeData
-  pub order : made ++ later ≡ new
-  pub same : shown c ≡ with_blanks made volumes
+  pub done_ : List OpeningChange
+  pub later : List OpeningChange
+  pub order : done_ ++ later ≡ changes
+  pub same : shown c ≡ opened_all done_ volumes
+
+-- ---- what they make of the rows
 
 -- the row of a new volume: blank, on the two lowest cartridges that no row names
 pub record IsNewRow (rows : RowsOf) (serial : List ℕ) (row : RowValue) : Type 0 where
@@ -56,52 +92,64 @@ pub record IsNewRow (rows : RowsOf) (serial : List ℕ) (row : RowValue) : Type 
   pub first : IsLowestFree rows None row.first
   pub second : IsLowestFree rows (Some row.first) row.second
 
--- a volume has its new row
-pub record HasNewRow (volume : ℕ) (serial : List ℕ) (before rows : RowsOf) : Type 0 where
-  pub row : RowValue
-  pub is_new : IsNewRow before serial row
-  pub now : rows ≡ with_row volume row before
+-- the row of a volume that gets another mark
+pub record IsMarkedRow (rows : RowsOf) (volume : ℕ) (on : Bool) (row : RowValue) : Type 0 where
+  pub old : RowValue
+  pub there : rows volume ≡ Some old
+  pub other : old.read_only ≢ on
+  pub becomes : row ≡ with_mark on old
 
--- the rows after these volumes were created, one after the other
-abbrev pub Creates : List VolumeData → RowsOf → RowsOf → Type 0
-Creates [] rows last = last ≡ rows
-Creates (v ∷ vs) rows last = (row : RowValue) × (IsNewRow rows v.1 row × Creates vs (with_row v.0 row rows) last)
+abbrev pub IsRowAfter : RowsOf → OpeningChange → RowValue → Type 0
+IsRowAfter rows (made volume serial) row = IsNewRow rows serial row
+IsRowAfter rows (marked volume on) row = IsMarkedRow rows volume on row
 
--- one volume was created: its row stands in both copies, without slots, and in the list, and it is shown blank
-pub record IsCreated (volume : ℕ) (serial : List ℕ) (c d : Content) (before rows : List (Option RowValue))
+-- the rows after these changes, one after the other
+abbrev pub OpensRows : List OpeningChange → RowsOf → RowsOf → Type 0
+OpensRows [] rows last = last ≡ rows
+OpensRows (change ∷ changes) rows last =
+    (row : RowValue) × (IsRowAfter rows change row
+    × OpensRows changes (with_row (volume_of change) row rows) last)
+
+-- a new row has no slots in use, and a mark is one slot more
+abbrev pub used_by : OpeningChange → List SlotsUsed → List SlotsUsed
+used_by (made volume serial) used = with_none_used volume used
+used_by (marked volume on) used = with_used_after volume used
+
+-- one change was made: its row stands in both copies and in the list, and is shown
+pub record IsOpeningDone (change : OpeningChange) (c d : Content) (before rows : List (Option RowValue))
     : Type 0 where
   pub row : RowValue
-  pub is_new : IsNewRow (listed before) serial row
-  pub now : listed rows ≡ with_row volume row (listed before)
+  pub is_row : IsRowAfter (listed before) change row
+  pub now : listed rows ≡ with_row (volume_of change) row (listed before)
   pub are : RowsAre rows d
   pub held : AreHeld (listed before) c → AreHeld (listed rows) d
-  pub slots_ : (used : List SlotsUsed) → length used ≡ 32 → AreUsed used c → AreUsed (with_none_used volume used) d
-  pub shows : (frames : ℕ) → IsSound frames c → SoundAs frames (with_blank volume serial (shown c)) d
+  pub slots_ : (used : List SlotsUsed) → length used ≡ 32 → AreUsed used c → AreUsed (used_by change used) d
+  pub shows : (frames : ℕ) → IsSound frames c → SoundAs frames (opened_by change (shown c)) d
 
--- the volumes of a list that had no row were created; so many slots of each volume are in use now
-pub record AreCreated (volumes : List VolumeData) (c d : Content) (before rows : List (Option RowValue))
+-- these changes were made; so many slots of each volume are in use now
+pub record AreOpened (changes : List OpeningChange) (c d : Content) (before rows : List (Option RowValue))
     (used : List SlotsUsed) : Type 0 where
-  pub created : Creates (missing (listed before) volumes) (listed before) (listed rows)
-  pub are : RowsAre rows d
-  pub held : AreHeld (listed rows) d
-  pub slots_ : AreUsed used d
-  pub shows : (frames : ℕ) → IsSound frames c
-      → SoundAs frames (with_blanks (missing (listed before) volumes) (shown c)) d
+  pub opens : OpensRows changes (listed before) (listed rows)
+  pub known : AreKnown rows used d
+  pub shows : (frames : ℕ) → IsSound frames c → SoundAs frames (opened_all changes (shown c)) d
 
--- an opened site: it was without a fault; it shows its volumes with the further ones of the configuration, blank; the
--- rows handed back are its rows, in both copies, with so many slots in use; each configured volume has one, and the
--- rows from before stay
+-- an opened site: it was without a fault; it shows its volumes after the opening changes; the rows handed back are its
+-- rows, in both copies, with so many slots in use; each configured volume has one, with its mark, and those from before
+-- stay but for their marks
 pub record IsOpened (config : ConfigData) (old new : Content) (rows : List (Option RowValue))
     (used : List SlotsUsed) : Type 0 where
   pub faultless : first_fault config.frames (serial_in config.volumes) old ≡ None
-  pub shows : SoundAs config.frames (with_blanks (missing (rows_of old) config.volumes) (shown old)) new
+  pub shows : SoundAs config.frames (opened_all (opening_changes (rows_of old) config.volumes) (shown old)) new
   pub rows_are : listed rows ≡ rows_of new
   pub held : AreHeld (rows_of new) new
   pub slots_ : AreUsed used new
-  pub created : Creates (missing (rows_of old) config.volumes) (rows_of old) (rows_of new)
+  pub opens : OpensRows (opening_changes (rows_of old) config.volumes) (rows_of old) (rows_of new)
   pub asked : (volume : ℕ) (serial : List ℕ)
       → serial_in config.volumes volume ≡ Some serial → HasRowWith (rows_of new) volume serial
-  pub kept : (volume : ℕ) (row : RowValue) → rows_of old volume ≡ Some row → rows_of new volume ≡ Some row
+  pub kept : (volume : ℕ) (row : RowValue) → rows_of old volume ≡ Some row
+      → (on : Bool) × (rows_of new volume ≡ Some (with_mark on row))
+  pub marks : (volume : ℕ) (serial : List ℕ) → serial_in config.volumes volume ≡ Some serial
+      → is_marked (rows_of new volume) ≡ marked_in config.volumes volume
 
 -- the site that is handed back, and the answer beside it
 abbrev pub site_of : {S A B : Type 0} → Result (S × A) (S × B) → S

@@ -1,7 +1,7 @@
 -- Rows that stand beside each other, whatever the devices tell.
 use Rattle.std.specs.Prelude.{◌≡◌, ℕ, List, Option, Some}
 use Rattle.mss_base.specs.Configs.{ConfigData}
-use Rattle.mss_restart.specs.Serials.{serial_in}
+use Rattle.mss_base.specs.Configs.{serial_in}
 use Rattle.volume_table.specs.Row.{RowValue}
 use Rattle.shown_volumes.specs.Shown.{RowsOf}
 use Rattle.shown_volumes.specs.Sound.{HasCartridgesOnce, HasFramesBelow, HasFramesOnce, HasSerialsAsked}

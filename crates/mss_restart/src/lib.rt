@@ -1,5 +1,5 @@
 //! The survey of a site: the rows of its volumes, or the first fault of what it holds. And its opening: the rows are
-//! repaired and their slots in use counted, and volumes that have none get one.
+//! repaired, migrated to version 2, and their slots in use counted; volumes that have none get one, and marks change.
 //!
 //! The layers above rely on `survey` and on `open_rows`, which answer over every content and every failing device. The
 //! survey writes nothing. Where no read failed its answer is exactly `first_fault` of `shown_volumes`; where one failed
@@ -17,18 +17,21 @@
 mod cartridges;
 mod creations;
 mod halves;
+mod marks;
+mod migrations;
 mod opening;
 mod pages;
 mod repairs;
 mod rows;
+mod steps;
 mod surveying;
 mod tracks;
 
-pub use creations::{Creation, Creations};
 pub use halves::half_fault;
 pub use opening::{Opened, open_rows};
 pub use pages::page_fault;
 pub use rows::{serial_asked, serial_fault};
 pub use shown_volumes::{Half, Refused};
+pub use steps::{OpeningStep, OpeningSteps};
 pub use surveying::survey;
 pub use tracks::check_track_of;

@@ -1,21 +1,26 @@
-// The rows of a site opened: surveyed, repaired, and those of the further volumes created.
-ghost use Rattle.std.specs.Prelude.{◌≡◌, ◌≤◌, ◌<◌, [], Ok, None, OnOk, IfOk, IfErr, length};
+// The rows of a site opened: surveyed, repaired and migrated, those of the further volumes created, and marks changed.
+ghost use Rattle.std.specs.Prelude.{◌≡◌, ◌<◌, None, OnOk, IfOk, IfErr, length, map};
+ghost use Rattle.std.specs.Ordering.{nat_cmp};
+ghost use Rattle.std.specs.List.Sorted.{IsStrictlySortedBy};
 ghost use Rattle.mss_base.specs.Content.{content};
 ghost use Rattle.mss_base.specs.Sites.{OnlyReads};
-ghost use Rattle.mss_restart.specs.Serials.{serial_in};
+ghost use Rattle.mss_base.specs.Configs.{serial_in};
 ghost use Rattle.shown_volumes.specs.Faults.{first_fault};
 ghost use Rattle.volume_table.specs.Listed.{listed};
 ghost use Rattle.mss_restart.specs.Usable.{AreUsable};
-ghost use Rattle.mss_restart.specs.Opening.{RowsAre, answer_of, site_of};
+ghost use Rattle.mss_restart.specs.Opening.{AreKnown, RowsAre, answer_of, opening_changes, site_of};
 ghost use Rattle.mss_restart.specs.Creations.{
+  AreTold,
+  ChangesWhole,
   CompletesWhole,
-  CreatesRows,
-  CreatesVolumes,
+  OpensVolumes,
+  RewritesRows,
   StepsOn,
   WritesOn,
 };
 ghost use Rattle.mss_restart.specs.Answers.{
   AnswersOpening,
+  HasNoSteps,
   IsUsable,
   KeepsOpening,
   LeavesRows,
@@ -27,25 +32,33 @@ ghost use Rattle.mss_restart.specs.Answers.{
   RefusesAs,
   WritesIfFaultless,
   counters,
+  run_of,
+  steps_of,
 };
 ghost use Rattle.mss_restart.specs.Survey.{NeverFails, TellsNoFailure};
 
-use crate::creations::{Creations, create_volumes};
+use crate::creations::create_volumes;
+use crate::marks::mark_volumes;
+use crate::migrations::migrate_rows;
 use crate::repairs::repair_rows;
+use crate::steps::OpeningSteps;
 use crate::surveying::survey_rows;
-use mss_base::{Config, Site};
+use mss_base::{Config, Serial, Site, VolumeNo};
 use shown_volumes::Refused;
 use std::alloc::Global;
 use table_pair::{SlotsUsed, SlotsUsedList};
 use volume_table::Rows;
 
-/// The rows of an opened site, and the volumes that were created in the opening.
+/// The rows of an opened site, and what the opening did to its volumes.
 #[derive(Drop)]
 pub struct Opened {
     pub rows: Rows,
     /// How many slots of the copies of each row are in use.
     pub used: SlotsUsedList,
-    pub creations: Creations,
+    /// The volumes that were created.
+    pub creations: OpeningSteps,
+    /// The marks that were changed behind that.
+    pub marks: OpeningSteps,
 }
 
 /// Surveys a site whose rows have to be told by all that was read of both copies.
@@ -72,40 +85,83 @@ fn known_rows<S: Site>(alloc: Global, site: &mut S, config: &Config) -> Result<R
     }
 }
 
-/// Repairs the rows of a site without a fault, and creates the further volumes of the configuration.
+/// Repairs and migrates the rows of a site without a fault. The rows are known then.
+fn rewrite_rows<S: Site>(
+    alloc: Global,
+    site: &mut S,
+    rows: &Rows,
+    used: &mut SlotsUsedList,
+) -> Result<(), Refused>
+    requires places { length used.old.items ≡ 32 }
+    requires told { S.tells → RowsAre rows.now (content (S.told site.old)) }
+    ensures rewrites { S.tells →
+        RewritesRows rows.now used.new.items (S.told site.old) (S.told site.new) result }
+    ensures places { length used.new.items ≡ 32 }
+    ensures site_ { StepsOn S.Site site.old site.new result }
+{
+    rows.look();
+    repair_rows(alloc, site, used)?;
+    migrate_rows(site, rows, used)
+}
+
+/// Makes the further volumes of a configuration, and gives its volumes the marks that it asks for.
+fn change_volumes<S: Site>(
+    alloc: Global,
+    site: &mut S,
+    volumes: &[(VolumeNo, Serial, bool)],
+    opened: &mut Opened,
+) -> Result<(), Refused>
+    requires none { HasNoSteps opened.old (length volumes.now) }
+    requires rising { IsStrictlySortedBy nat_cmp (map (λ v. v.0) volumes.now) }
+    requires known { S.tells →
+        AreKnown opened.old.rows opened.old.used.items (content (S.told site.old)) }
+    requires places { length opened.old.used.items ≡ 32 }
+    ensures told { S.tells → OpensVolumes ChangesWhole
+        (run_of volumes.now opened.old opened.new) (S.told site.old) (S.told site.new) result }
+    ensures places { length opened.new.used.items ≡ 32 }
+    ensures rows { OnOk result (AreTold
+        (opening_changes (listed opened.old.rows) volumes.now) (steps_of opened.new)
+        (listed opened.old.rows) (listed opened.new.rows) (S.writes site.old) (S.writes site.new)) }
+    ensures site_ { StepsOn S.Site site.old site.new result }
+{
+    create_volumes(
+        alloc,
+        site,
+        &mut opened.rows,
+        &mut opened.used,
+        &mut opened.creations,
+        volumes,
+    )?;
+    mark_volumes(
+        site,
+        &mut opened.rows,
+        &mut opened.used,
+        &mut opened.marks,
+        volumes,
+    )
+}
+
+/// Repairs and migrates the rows of a site without a fault, and makes the changes that the configuration asks for.
 fn complete_rows<S: Site>(
     alloc: Global,
     site: &mut S,
     config: &Config,
-    rows: &mut Rows,
-    used: &mut SlotsUsedList,
-    creations: &mut Creations,
+    opened: &mut Opened,
 ) -> Result<(), Refused>
-    requires none { creations.old.items ≡ [] }
-    requires room { length config.now.volumes ≤ creations.old.spare }
-    requires places { length used.old.items ≡ 32 }
-    requires told { S.tells → RowsAre rows.old (content (S.told site.old)) }
-    ensures told { S.tells → CreatesVolumes CompletesWhole
-        (record {
-          volumes = config.now.volumes;
-          before = rows.old;
-          left = record { rows = rows.new; used = used.new; creations = creations.new };
-        })
+    requires none { HasNoSteps opened.old (length config.now.volumes) }
+    requires places { length opened.old.used.items ≡ 32 }
+    requires told { S.tells → RowsAre opened.old.rows (content (S.told site.old)) }
+    ensures told { S.tells → OpensVolumes CompletesWhole
+        (run_of config.now.volumes opened.old opened.new)
         (S.told site.old) (S.told site.new) result }
-    ensures places { length used.new.items ≡ 32 }
-    ensures rows { OnOk result (CreatesRows
-        (record {
-          volumes = config.now.volumes;
-          before = listed rows.old;
-          after = listed rows.new;
-          made = creations.new.items;
-        }) (S.writes site.old) (S.writes site.new)) }
+    ensures places { length opened.new.used.items ≡ 32 }
+    ensures rows { OnOk result (AreTold
+        (opening_changes (listed opened.old.rows) config.now.volumes) (steps_of opened.new)
+        (listed opened.old.rows) (listed opened.new.rows) (S.writes site.old) (S.writes site.new)) }
     ensures site_ { StepsOn S.Site site.old site.new result }
 {
-    rows.look();
-    let volumes = config.volumes.as_slice();
-    repair_rows(alloc, site, used)?;
-    create_volumes(alloc, site, rows, used, creations, volumes)
+    rewrite_rows(alloc, site, &opened.rows, &mut opened.used)?;
+    change_volumes(alloc, site, config.volumes.as_slice(), opened)
 }
 
 /// Opens the rows of a site that is lent.
@@ -126,32 +182,37 @@ fn open_lent<S: Site>(alloc: Global, site: &mut S, config: &Config) -> Result<Op
     ensures devices { WritesOn S.Site site.old site.new }
 {
     // The numbers of its volumes rise, which a body knows of a configuration that it looks into.
-    let _volumes = &config.volumes;
-    let mut creations = Creations::new(alloc);
-    creations.reserve(config.volumes.as_slice().len())?;
-    let mut used = SlotsUsedList::of(alloc, &[SlotsUsed::none(); 32])?;
-    let mut rows = known_rows(alloc, site, config)?;
+    let count = config.volumes.as_slice().len();
+    let mut creations = OpeningSteps::new(alloc);
+    creations.reserve(count)?;
+    let mut marks = OpeningSteps::new(alloc);
+    marks.reserve(count)?;
+    let used = SlotsUsedList::of(alloc, &[SlotsUsed::none(); 32])?;
+    let rows = known_rows(alloc, site, config)?;
     rows.look();
-    complete_rows(alloc, site, config, &mut rows, &mut used, &mut creations)?;
-    rows.look();
-    Ok(Opened {
+    let mut opened = Opened {
         rows,
         used,
         creations,
-    })
+        marks,
+    };
+    complete_rows(alloc, site, config, &mut opened)?;
+    opened.rows.look();
+    Ok(opened)
 }
 
-/// Opens the rows of a site: surveys it, makes the two copies of each row equal, and creates the volumes of the
-/// configuration that have no row, in order, blank, each on the two lowest cartridges that no row names.
+/// Opens the rows of a site: surveys it, makes the two copies of each row equal, writes those of version 1 anew,
+/// creates the volumes of the configuration that have no row, in order, blank, each on the two lowest cartridges that
+/// no row names, and then gives each configured volume the mark that is asked for, in order.
 ///
 /// It answers over every content and every failing device, and takes the room for its writes itself. A stop at any
 /// moment, also within a call that fails, leaves a sound content sound; it then shows the volumes that it showed
-/// before, with a front of the new ones. A content with a fault is refused by its first fault, and nothing is
-/// written. `RowUnread` and `Stopped` come only where a call of the site failed, and keep its count of faults behind
-/// that; `Stopped` also where one copy alone told a row, since a read of the other failed: then it keeps the count of
-/// the first such row, and nothing is written. After want of memory each repair and creation that was begun was
-/// written to its end. At each moment the made marks of all other volumes stay, and so do their copies where they
-/// need no repair; and where each copy told its row alone, it does so afterwards, unless a call failed.
+/// before, after a front of the new ones and the new marks. A content with a fault is refused by its first fault, and
+/// nothing is written. `RowUnread` and `Stopped` come only where a call of the site failed, and keep its count of
+/// faults behind that; `Stopped` also where one copy alone told a row, since a read of the other failed: then it keeps
+/// the count of the first such row, and nothing is written. After want of memory all that was begun was written to its
+/// end. At each moment the made marks of all other volumes stay, and so do their copies where they need no repair and
+/// are of version 2; and where each copy told its row alone, it does so afterwards, unless a call failed.
 pub fn open_rows<S: Site>(
     alloc: Global,
     site: S,

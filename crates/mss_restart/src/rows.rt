@@ -1,7 +1,7 @@
 // The walk over the rows: each is read by the table of two copies, and its serial compared.
 ghost use Rattle.std.specs.Prelude.{◌≡◌, ◌≤◌, ℕ, List, Option, None, Err, IfOk};
 ghost use Rattle.mss_base.specs.Content.{content};
-ghost use Rattle.mss_restart.specs.Serials.{serial_in};
+ghost use Rattle.mss_base.specs.Configs.{serial_in};
 ghost use Rattle.mss_base.specs.Sites.{OnlyReads};
 ghost use Rattle.table_pair.specs.Pair.{RowReading};
 ghost use Rattle.table_pair.specs.Reads.{Tells, KeepsCount, MissesNone};
@@ -38,7 +38,7 @@ pub struct RowsRead {
 }
 
 /// The serial that is asked of a volume, if one is.
-pub fn serial_asked(volumes: &[(VolumeNo, Serial)], volume: VolumeNo) -> Option<Serial>
+pub fn serial_asked(volumes: &[(VolumeNo, Serial, bool)], volume: VolumeNo) -> Option<Serial>
     ensures { result ≡ serial_in volumes.now volume }
 {
     for entry in volumes {
@@ -121,7 +121,7 @@ fn read_volume<S: Site>(
 pub fn read_rows<S: Site>(
     alloc: Global,
     site: &mut S,
-    volumes: &[(VolumeNo, Serial)],
+    volumes: &[(VolumeNo, Serial, bool)],
 ) -> Result<RowsRead, Refused>
     ensures read { S.tells → ReadsRows (S.faults site.old) (S.faults site.new)
         (serial_in volumes.now) (content (S.told site.old)) result }

@@ -2,7 +2,7 @@
 ghost use Rattle.std.specs.Prelude.{◌≡◌, ◌<◌, ℕ, List, Option, IfOk, IfErr, OnOk};
 ghost use Rattle.mss_base.specs.Content.{content};
 ghost use Rattle.mss_base.specs.Sites.{OnlyReads};
-ghost use Rattle.mss_restart.specs.Serials.{serial_in};
+ghost use Rattle.mss_base.specs.Configs.{serial_in};
 ghost use Rattle.volume_table.specs.Listed.{listed};
 ghost use Rattle.mss_restart.specs.Walks.{rest_fault};
 ghost use Rattle.mss_restart.specs.OneCopy.{ArePaired, LosesOneTable};

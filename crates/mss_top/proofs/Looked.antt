@@ -5,7 +5,7 @@ use Rattle.std.specs.List.Sorted.{IsStrictlySortedBy}
 use Rattle.mss_base.specs.Configs.{IsConfig, VolumeData}
 use Rattle.mss_base.specs.Content.{Content, SiteLog, content}
 use Rattle.mss_base.specs.Counts.{Rises}
-use Rattle.mss_restart.specs.Serials.{serial_in}
+use Rattle.mss_base.specs.Configs.{serial_in}
 use Rattle.command_words.specs.declared.command.Command.{Command}
 use Rattle.volume_table.specs.Row.{RowValue}
 use Rattle.volume_table.specs.Listed.{listed}

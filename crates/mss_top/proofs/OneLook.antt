@@ -2,7 +2,7 @@
 use Rattle.std.proofs.Common.{◌≡◌, ◌≢◌, ℕ, List, [], Option, Ok, Err, sym, ◌∙◌, subst}
 use Rattle.mss_base.specs.Configs.{VolumeData}
 use Rattle.mss_base.specs.Content.{Content, content}
-use Rattle.mss_restart.specs.Serials.{serial_in}
+use Rattle.mss_base.specs.Configs.{serial_in}
 use Rattle.volume_table.specs.Row.{RowValue}
 use Rattle.report_text.specs.OneLines.{one_line_text}
 use Rattle.report_text.specs.declared.one_line.OneLine.{OneLine}

@@ -5,7 +5,8 @@ use Rattle.std.proofs.lemmas.Bool.Decides.{eqb_tells}
 use Rattle.std.proofs.lemmas.List.{get_or-take, length-take}
 use Rattle.ckd_track.specs.Data.{RecordData}
 use Rattle.ckd_plain.specs.Data.{State}
-use Rattle.ckd_plain.specs.Plain.{Labelled, fresh_host, start_of, serial_in, marked_in, blank_volumes}
+use Rattle.mss_base.specs.Configs.{VolumeData as Labelled, serial_in, marked_in}
+use Rattle.ckd_plain.specs.Plain.{fresh_host, start_of, blank_volumes}
 use Rattle.plain_machine.specs.StateData.{VolumeData, StateData, state_of, volume_at, is_read_only, track_of, volumes_of}
 
 abbrev pub nobody : Labelled

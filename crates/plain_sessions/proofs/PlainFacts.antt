@@ -1,20 +1,17 @@
 -- A session at a later moment, in plain volumes.
-use Rattle.std.proofs.Common.{◌≡◌, ◌≤◌, ◌<◌, ◌↔◌, ℕ, suc, List, [], ◌∷◌, length, take, Option, None, Ok, sym, ◌∙◌, ap, subst, arith}
-use Rattle.std.proofs.lemmas.List.{take_all, take-append-le}
-use Rattle.mss_base.specs.Configs.{ConfigData, VolumeData}
+use Rattle.std.proofs.Common.{◌≡◌, ◌≤◌, ◌<◌, ℕ, suc, List, [], ◌∷◌, ◌++◌, length, take, Ok, sym, ◌∙◌, ap, subst, arith}
+use Rattle.std.proofs.lemmas.List.{append-nil, take_all, take-append-le}
+use Rattle.mss_base.specs.Configs.{ConfigData}
 use Rattle.mss_base.specs.Content.{Content, SiteLog, Item, Tear, Got, content, image, after as written_after}
 use Rattle.mss_base.proofs.ContentLemmas.{image_front}
-use Rattle.channel_commands.specs.Data.{CallData}
 use Rattle.ckd_plain.specs.Data.{State}
 use Rattle.ckd_plain.specs.History.{IsLegal, after}
-use Rattle.ckd_plain.specs.Plain.{plain}
 use Rattle.volume_table.specs.Listed.{listed}
-use Rattle.shown_volumes.specs.Faults.{first_fault}
 use Rattle.shown_volumes.specs.Shown.{RowsOf, rows_of}
-use Rattle.shown_volumes.specs.Sound.{IsSound, HasSerialsAsked}
-use Rattle.mss_restart.specs.Creations.{AreCounted, AreCreations}
-use Rattle.mss_restart.specs.Opening.{Creates, missing}
-use Rattle.mss_restart.specs.declared.creations.Creation.{Creation}
+use Rattle.shown_volumes.specs.Changing.{with_row}
+use Rattle.mss_restart.specs.Creations.{AreTold, AreWritten}
+use Rattle.mss_restart.specs.Opening.{OpeningChange, opening_changes, volume_of}
+use Rattle.mss_restart.specs.declared.steps.OpeningStep.{OpeningStep}
 use Rattle.core_state.specs.Agrees.{Agrees, handed_rows, rows_after}
 use Rattle.core_state.specs.Beginning.{IsLater}
 use Rattle.core_state.specs.CoreValue.{CoreData, DevicesSeen}
@@ -22,27 +19,30 @@ use Rattle.core_state.specs.IsCore.{IsTold, handed_to, opening_of}
 use Rattle.core_state.specs.SessionData.{data_of}
 use Rattle.core_state.specs.StopRule.{StopsWell, opening}
 use Rattle.core_state.proofs.EntryLemmas.{opening_same, start_same}
-use Rattle.core_restart.specs.Console.{creations_of}
+use Rattle.core_restart.specs.Console.{steps_in}
 use Rattle.core_restart.specs.Opening.{OpensTold, opened_in}
 use Rattle.core_restart.specs.TakingUp.{IsFaultless, IsSession, LeavesFront, OpensFaultless, Stop, left_by, shown_for}
 use Rattle.core_restart.specs.TakingUp as taking
-use Rattle.core_restart.proofs.ConsoleFacts.{handed_are, missing_none}
+use Rattle.core_restart.proofs.ConsoleFacts.{handed_are, opening_apart, opening_none}
 use Rattle.core_restart.proofs.Syncing.{same_content}
-use Rattle.core_restart.proofs.TakenUp.{leaves_all, leaves_front, session_begun, session_later}
+use Rattle.core_restart.proofs.TakenUp.{Decides, PlainKeeps, leaves_all, leaves_front, session_begun, session_later}
 use Rattle.plain_sessions.specs.Sessions.{BeganOver, IsPlainSession, StopsAnywhere, plain_start}
 
--- creations that are counted, and are of these volumes
-counted_of : (vs ws : List VolumeData) (made : List Creation) (rows last : RowsOf) (old new : SiteLog) (from now : ℕ) → AreCreations vs made rows last old new → AreCounted from now ws made → AreCounted from now vs made
-counted_of [] [] [] rows last old new from now each counted = counted
-counted_of (v ∷ vs) (w ∷ ws) (one ∷ more) rows last old new from now (mid, (next, is, rest)) counted =
-    (is.named, counted.1, counted_of vs ws more next last mid new one.writes now rest counted.2)
-counted_of [] (w ∷ ws) [] rows last old new from now each counted = absurd counted
-counted_of (v ∷ vs) [] (one ∷ more) rows last old new from now each counted = absurd counted
-counted_of [] ws (one ∷ more) rows last old new from now each counted = absurd each
-counted_of (v ∷ vs) ws [] rows last old new from now each counted = absurd each
-
-abbrev Decides : Type 0
-Decides = (frames : ℕ) (asked : ℕ → Option (List ℕ)) (c : Content) → (first_fault frames asked c ≡ None) ↔ (IsSound frames c × HasSerialsAsked asked (rows_of c))
+-- changes that were written are told by their steps, whose counts don't fall, as any telling of these steps says
+told_of : (changes asked : List OpeningChange) (steps : List OpeningStep) (rows last before after : RowsOf) (old new : SiteLog) (from now : ℕ) → AreWritten changes steps rows last old new → AreTold asked steps before after from now → AreTold changes steps rows last from now
+told_of [] [] [] rows last before after old new from now written told = (written.0, told.1)
+told_of (c ∷ changes) (d ∷ asked) (x ∷ steps) rows last before after old new from now (mid, (next, is, rest)) told = (
+  is.row,
+  is.is_row,
+  is.tells,
+  told.3,
+  told_of changes asked steps (with_row (volume_of c) is.row rows) last (with_row (volume_of d) told.0 before) after mid new x.writes now
+      (subst (λ (r : RowsOf). AreWritten changes steps r last mid new) is.now rest) told.4,
+)
+told_of [] asked (x ∷ steps) rows last before after old new from now written told = absurd written
+told_of (c ∷ changes) asked [] rows last before after old new from now written told = absurd written
+told_of changes [] (x ∷ steps) rows last before after old new from now written told = absurd told
+told_of changes (d ∷ asked) [] rows last before after old new from now written told = absurd told
 
 module _ (config : ConfigData) (was : DevicesSeen) (began : CoreData) (b : BeganOver config was began) where
   -- the devices when all that they held was firm
@@ -55,20 +55,29 @@ module _ (config : ConfigData) (was : DevicesSeen) (began : CoreData) (b : Began
   abbrev opened : OpensTold config synced began.site (Ok (opened_in began))
   opened = b.opened.told tt
 
-  abbrev asked_new : List VolumeData
-  asked_new = missing (rows_of (content synced.told)) config.volumes
+  -- the rows that were opened, and what the configuration asks to be changed of them
+  abbrev found : RowsOf
+  found = rows_of (content synced.told)
+
+  abbrev changes : List OpeningChange
+  changes = opening_changes found config.volumes
 
   rows_now : listed began.rows ≡ rows_of (content began.site.told)
   rows_now = opened.opens.rows_are
 
-  -- the rows before the creations that the console tells are those that were handed in
+  -- the console tells the changes that were written
+  told_ : AreTold changes (steps_in began.console) found (rows_of (content began.site.told)) synced.writes began.site.writes
+  told_ =
+      let counted = b.opened.any.counted in
+      subst (λ (xs : List OpeningStep). AreTold changes xs found (rows_of (content began.site.told)) synced.writes began.site.writes) (append-nil (steps_in began.console))
+      (told_of changes (opening_changes counted.before config.volumes) (steps_in began.console ++ []) found (rows_of (content began.site.told)) counted.before (listed began.rows) opened.complete.0 began.site.told synced.writes began.site.writes opened.complete.2 counted.told)
+
+  -- the rows before the changes that the console tells are those that were handed in
   handed_in : handed_rows (listed began.rows) began.console ≡ rows_of (content was.told)
   handed_in =
-      let counted = b.opened.any.counted in
-      handed_are asked_new (rows_of (content synced.told)) (listed began.rows) began.console synced.writes began.site.writes
-      (subst (λ (r : RowsOf). Creates asked_new (rows_of (content synced.told)) r) (sym rows_now) opened.opens.created)
-      (counted_of asked_new (missing counted.before config.volumes) (creations_of began.console) (rows_of (content synced.told)) (rows_of (content began.site.told)) opened.complete.0 began.site.told synced.writes began.site.writes opened.complete.2 counted.counted)
-      b.begins.created (missing_none (rows_of (content synced.told)) config.volumes)
+      ap (λ (r : RowsOf). handed_rows r began.console) rows_now
+      ∙ handed_are changes began.console found (rows_of (content began.site.told)) synced.writes began.site.writes told_
+      (opening_apart found config.volumes b.whole.rising) (opening_none found config.volumes)
       ∙ ap rows_of same
 
   module _ (tells : Type 0) (t : tells) (left : CoreData) (l : IsLater tells began left) (told : IsTold left.site.told left) where
@@ -115,7 +124,7 @@ module _ (config : ConfigData) (was : DevicesSeen) (began : CoreData) (b : Began
       rows_ = λ none. (told.going none).rows_ ∙ sym (told.going none).told ∙ ap (λ (r : RowsOf). rows_after r left.console) handed_is;
     }
 
-    module _ (serials : (s : State) (h : ℕ) (call : CallData) → (plain s h call).1.volumes.serial ≡ s.volumes.serial) (decides : Decides) where
+    module _ (plain_keeps : PlainKeeps) (decides : Decides) where
       opened_faultless : OpensFaultless config was began.site (Ok (opened_in began))
       opened_faultless = record { whole = b.whole; faultless = subst (IsFaultless config) same opened.opens.faultless; opens = b.opened }
 
@@ -135,5 +144,5 @@ module _ (config : ConfigData) (was : DevicesSeen) (began : CoreData) (b : Began
       stops_at = record {
         opening_ = opening_stop;
         session_ = subst (λ (x : ℕ × State). StopsWell x.0 left.first_write x.1 left.history left.marks left.site.told) (λ i. ((config_is i).frames, opening_is i)) told.stops;
-        restarts = λ stop. subst (λ (k : ConfigData). taking.LeavesAll k (left_by stop)) config_is (leaves_all serials decides left.site.told left session stop);
+        restarts = λ stop. subst (λ (k : ConfigData). taking.LeavesAll k (left_by stop)) config_is (leaves_all plain_keeps decides left.site.told left session stop);
       }

@@ -1,5 +1,5 @@
 -- What a session promises, in plain volumes.
-use Rattle.std.specs.Prelude.{◌≡◌, ◌≤◌, ◌<◌, ℕ, List, length, Ok, None}
+use Rattle.std.specs.Prelude.{◌≡◌, ◌<◌, ℕ, List, length, Ok, None}
 use Rattle.mss_base.specs.Configs.{ConfigData, IsConfig}
 use Rattle.mss_base.specs.Content.{Content, SiteLog, Tear, content, image}
 use Rattle.ckd_track.specs.Data.{Volumes}
@@ -30,8 +30,8 @@ pub record BeganOver (config : ConfigData) (was : DevicesSeen) (core : CoreData)
 
 -- ---- plain volumes
 
--- the plain machine when a session begins: with the volumes that the content shows, and the further
--- ones of the configuration, blank
+-- the plain machine when a session begins: with the volumes that the content shows, the further
+-- ones of the configuration, blank, and the marks that it asks for
 abbrev pub plain_start : ConfigData → Content → State
 plain_start config c = start_of (shown_for config c)
 
@@ -54,9 +54,9 @@ pub record IsPlainSession (config : ConfigData) (was now : SiteLog) (s : Session
 -- ---- stops
 
 -- What a stop at any moment leaves, inside a write too, whatever it makes of writes that aren't firm.
--- While the site was opened, behind the sync of all units: the volumes of before, with a front of the
--- further ones. From then on: the plain volumes after the answered entries, or what the next one may
--- have made of them. Of each a restart is no refusal.
+-- While the site was opened, behind the sync of all units: the volumes of before, after a front of
+-- the opening changes. From then on: the plain volumes after the answered entries, or what the next
+-- one may have made of them. Of each a restart is no refusal.
 pub record StopsAnywhere (config : ConfigData) (was now : SiteLog) (s : SessionData) : Type 0 where
   pub opening_ : (k : ℕ) → length was.log < k → k < s.first_write → (tear : Tear)
       → LeavesFront config (content was) (image now k tear)

@@ -21,5 +21,6 @@ pub fn sessions_are_plain<S: Site>()
         → StopsAnywhere config was.told left.site.told (data_of left) }
 {
     ckd_plain::laws::only_the_track_under_a_write_changes();
+    ckd_plain::laws::hosts_know_their_marks();
     shown_volumes::law::first_fault_is_of_unsound_content();
 }

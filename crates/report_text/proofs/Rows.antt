@@ -54,9 +54,13 @@ whole_history : history_text (
 unfolding digits history_text entry_text lines
 whole_history = refl
 
-heading : heading_text 0 (codes "VOL001") ≡ codes "volume 0 VOL001\n"
+heading : heading_text 0 (codes "VOL001") false ≡ codes "volume 0 VOL001\n"
 unfolding digits heading_text
 heading = refl
+
+heading_of_a_marked_one : heading_text 31 (codes "VOL001") true ≡ codes "volume 31 VOL001 readonly\n"
+unfolding digits heading_text
+heading_of_a_marked_one = refl
 
 stopped_line : stopped_text 4 ≡ codes "STOPPED 4\n"
 unfolding digits stopped_text

@@ -1,5 +1,6 @@
 -- The text of a volume grows track by track. Layers above cite these lemmas.
-use Rattle.std.proofs.Common.{◌≡◌, ℕ, zero, suc, ◌+◌, ◌*◌, ◌/◌, ◌%◌, ◌<◌, ◌≤◌, ◌-◌, List, [], ◌++◌, refl, sym, ap, ◌∙◌, subst, arith, append_assoc}
+use Rattle.std.proofs.Common.{◌≡◌, ℕ, zero, suc, ◌+◌, ◌*◌, ◌/◌, ◌%◌, ◌<◌, ◌≤◌, ◌-◌, Bool, List, [], ◌++◌}
+use Rattle.std.proofs.Common.{refl, sym, ap, ◌∙◌, subst, arith, append_assoc}
 use Rattle.std.proofs.lemmas.List.{append-nil}
 use Rattle.ckd_track.specs.Data.{RecordData}
 use Rattle.mss_base.specs.Puts.{PutsFront}
@@ -11,9 +12,10 @@ abbrev pub Tracks : Type 0
 Tracks = ℕ → ℕ → List RecordData
 
 -- a volume is its heading and its 7,676 tracks
-pub volume_text_is : (number : ℕ) (serial : List ℕ) (track : Tracks) → volume_text number serial track ≡ heading_text number serial ++ tracks_text track 7676
+pub volume_text_is : (number : ℕ) (serial : List ℕ) (read_only : Bool) (track : Tracks)
+    → volume_text number serial read_only track ≡ heading_text number serial read_only ++ tracks_text track 7676
 unfolding volume_text
-volume_text_is number serial track = refl
+volume_text_is number serial read_only track = refl
 
 -- no tracks, no text
 pub no_tracks : (track : Tracks) → tracks_text track 0 ≡ []

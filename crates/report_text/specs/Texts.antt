@@ -129,13 +129,19 @@ abbrev pub place_text : ℕ → ℕ → ℕ → List ℕ
 place_text volume cylinder head =
     decimal volume ++ codes " cylinder " ++ decimal cylinder ++ codes " head " ++ decimal head
 
--- a volume's number and serial
-unfoldable pub heading_text : ℕ → List ℕ → List ℕ
-heading_text number serial = codes "volume " ++ decimal number ++ codes " " ++ serial ++ codes "\n"
+-- ` readonly` where hosts may only read the volume
+abbrev pub mark_text : Bool → List ℕ
+mark_text read_only = if read_only then codes " readonly" else []
+
+-- a volume's number, its serial, and its mark
+unfoldable pub heading_text : ℕ → List ℕ → Bool → List ℕ
+heading_text number serial read_only =
+    codes "volume " ++ decimal number ++ codes " " ++ serial ++ mark_text read_only ++ codes "\n"
 
 -- a volume and its tracks by cylinder and head: 404 cylinders of 19
-unfoldable pub volume_text : ℕ → List ℕ → (ℕ → ℕ → List RecordData) → List ℕ
-volume_text number serial track = heading_text number serial ++ tracks_text track 7676
+unfoldable pub volume_text : ℕ → List ℕ → Bool → (ℕ → ℕ → List RecordData) → List ℕ
+volume_text number serial read_only track =
+    heading_text number serial read_only ++ tracks_text track 7676
 
 -- the first line of a listing of volumes
 unfoldable pub listing_title : List ℕ

@@ -137,7 +137,7 @@ pub fn put_change<O: Sink>(
     put_bytes(output, buffer.as_slice())
 }
 
-/// Puts the heading of a volume.
+/// Puts the heading of a volume: its number, its serial, and a word where hosts may only read it.
 ///
 /// The content of the buffer means nothing afterwards.
 pub fn put_heading<O: Sink>(
@@ -145,13 +145,14 @@ pub fn put_heading<O: Sink>(
     buffer: &mut Bytes,
     number: VolumeNo,
     serial: &Serial,
+    read_only: bool,
 ) -> Result<(), ReportFault>
     ensures bytes { O.tells → Puts result (O.told output.old) (O.told output.new)
-        (heading_text number serial.now) }
+        (heading_text number serial.now read_only) }
     ensures cause { HasOutputCause (O.faults output.old) (O.faults output.new) result }
 {
     buffer.truncate(0);
-    push_heading(buffer, number, serial)?;
+    push_heading(buffer, number, serial, read_only)?;
     put_bytes(output, buffer.as_slice())
 }
 

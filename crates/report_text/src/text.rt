@@ -181,12 +181,19 @@ pub fn push_track(
 }
 
 #[tactic(auto, unfolding(crate::specs::Texts::heading_text))]
-pub fn push_heading(out: &mut Bytes, number: VolumeNo, serial: &Serial) -> Result<(), NoMemory>
-    ensures { OnOk result (out.new.items ≡ out.old.items ++ heading_text number serial.now) }
+pub fn push_heading(
+    out: &mut Bytes,
+    number: VolumeNo,
+    serial: &Serial,
+    read_only: bool,
+) -> Result<(), NoMemory>
+    ensures { OnOk result (out.new.items ≡ out.old.items
+        ++ heading_text number serial.now read_only) }
 {
     push_text(out, "volume ")?;
     push_number(out, u64::from(number.get()))?;
     push_text(out, " ")?;
     out.append(serial.as_slice())?;
+    push_text(out, if read_only { " readonly" } else { "" })?;
     push_text(out, "\n")
 }

@@ -13,11 +13,11 @@ use Rattle.ckd_track.specs.Data.{Volumes}
 use Rattle.volume_table.specs.Row.{RowValue, state_of}
 use Rattle.shown_volumes.specs.Shown.{track_at}
 use Rattle.shown_volumes.proofs.PlaceFacts.{source_blank}
-use Rattle.report_text.specs.Texts.{track_text, tracks_text, heading_text, volume_text}
+use Rattle.report_text.specs.Texts.{track_text, tracks_text, heading_text}
 use Rattle.report_text.proofs.LineLemmas.{no_track_text}
 use Rattle.report_text.proofs.TrackTexts.{Tracks, volume_text_is, no_tracks, tracks_text-next, tracks_go_on, tracks_stop}
 use Rattle.session_report.specs.Parts.{row_tracks, PutsTrack, PutsTracks, PutsVolumes}
-use Rattle.session_report.specs.Reports.{Grows, untitled, volumes_text, begun_text}
+use Rattle.session_report.specs.Reports.{Grows, Heading, untitled, listed_text, volumes_text, begun_text}
 use Rattle.session_report.specs.declared.fault.VolumesFault.{VolumesFault}
 use Rattle.session_report.specs.declared.fault.VolumesFault.TheVariants as volumes_fault
 
@@ -90,30 +90,41 @@ module _ (track : Tracks) (cylinder : ℕ) (blank : (head : ℕ) → track cylin
 
 -- ---- the listed volumes
 
-module _ (tells : Type 0) (shown : Volumes) (volumes : List (ℕ × List ℕ)) (i : ℕ) (x : ℕ × List ℕ) (below : i < length volumes) (is : x ≡ get_or volumes i x) (track : Tracks) (same : shown.track x.0 ≡ track) where
-  volume_is : volume_text x.0 x.1 (shown.track x.0) ≡ heading_text x.0 x.1 ++ tracks_text track 7676
-  volume_is = volume_text_is x.0 x.1 (shown.track x.0) ∙ ap (λ (t : Tracks). heading_text x.0 x.1 ++ tracks_text t 7676) same
+module _ (tells : Type 0) (shown : Volumes) (volumes : List Heading) (i : ℕ) (x : Heading)
+    (below : i < length volumes) (is : x ≡ get_or volumes i x) (track : Tracks) (same : shown.track x.0 ≡ track) where
+  -- its first line
+  abbrev heading : List ℕ
+  heading = heading_text x.0 x.1 (shown.read_only x.0)
+
+  volume_is : listed_text shown x ≡ heading ++ tracks_text track 7676
+  volume_is = volume_text_is x.0 x.1 (shown.read_only x.0) (shown.track x.0)
+      ∙ ap (λ (t : Tracks). heading ++ tracks_text t 7676) same
 
   volumes_front : take (i + 1) volumes ≡ take i volumes ++ x ∷ []
-  volumes_front = take_more volumes i x below ∙ ap (λ (y : ℕ × List ℕ). take i volumes ++ y ∷ []) (sym is)
+  volumes_front = take_more volumes i x below ∙ ap (λ (y : Heading). take i volumes ++ y ∷ []) (sym is)
 
   volumes_whole : volumes ≡ take i volumes ++ x ∷ drop (i + 1) volumes
   volumes_whole =
-      let rest : drop i volumes ≡ x ∷ drop (i + 1) volumes = drop-cons volumes i x below ∙ ap (λ (y : ℕ × List ℕ). y ∷ drop (suc i) volumes) (sym is) ∙ ap (λ (j : ℕ). x ∷ drop j volumes) (sym (add-one i)) in
-      sym (take-append-drop i volumes) ∙ ap (λ (l : List (ℕ × List ℕ)). take i volumes ++ l) rest
+      let rest : drop i volumes ≡ x ∷ drop (i + 1) volumes = drop-cons volumes i x below
+      ∙ ap (λ (y : Heading). y ∷ drop (suc i) volumes) (sym is)
+      ∙ ap (λ (j : ℕ). x ∷ drop j volumes) (sym (add-one i)) in
+      sym (take-append-drop i volumes) ∙ ap (λ (l : List Heading). take i volumes ++ l) rest
 
   module _ (old now new : List ℕ) (so_far : tells → now ≡ old ++ volumes_text shown (take i volumes)) where
     -- the volume was put
-    pub volumes_go_on : (tells → new ≡ now ++ (heading_text x.0 x.1 ++ tracks_text track 7676)) → tells → new ≡ old ++ volumes_text shown (take (i + 1) volumes)
+    pub volumes_go_on : (tells → new ≡ now ++ (heading ++ tracks_text track 7676)) → tells
+        → new ≡ old ++ volumes_text shown (take (i + 1) volumes)
     volumes_go_on put t =
-        put t ∙ ap (λ (l : List ℕ). now ++ l) (sym volume_is) ∙ ap (λ (l : List ℕ). l ++ volume_text x.0 x.1 (shown.track x.0)) (so_far t)
-        ∙ flat_map_more (λ (v : ℕ × List ℕ). volume_text v.0 v.1 (shown.track v.0)) old (take i volumes) x ∙ ap (λ (l : List (ℕ × List ℕ)). old ++ volumes_text shown l) (sym volumes_front)
+        put t ∙ ap (λ (l : List ℕ). now ++ l) (sym volume_is) ∙ ap (λ (l : List ℕ). l ++ listed_text shown x) (so_far t)
+        ∙ flat_map_more (listed_text shown) old (take i volumes) x
+        ∙ ap (λ (l : List Heading). old ++ volumes_text shown l) (sym volumes_front)
 
-    begun_is : (n : ℕ) → heading_text x.0 x.1 ++ tracks_text track n ≡ begun_text shown n (Some x)
-    begun_is n = ap (λ (t : Tracks). heading_text x.0 x.1 ++ tracks_text t n) (sym same)
+    begun_is : (n : ℕ) → heading ++ tracks_text track n ≡ begun_text shown n (Some x)
+    begun_is n = ap (λ (t : Tracks). heading ++ tracks_text t n) (sym same)
 
     -- the walk was left within the volume
-    pub volumes_left : (Here : ℕ → Type 0) (Unread : ℕ → ℕ → Type 0) → ((n : ℕ) → Here n → Unread i n) → (e : VolumesFault) → PutsTracks tells Here (heading_text x.0 x.1) track now new (Err e)
+    pub volumes_left : (Here : ℕ → Type 0) (Unread : ℕ → ℕ → Type 0) → ((n : ℕ) → Here n → Unread i n)
+        → (e : VolumesFault) → PutsTracks tells Here heading track now new (Err e)
         → PutsVolumes tells Unread (untitled volumes shown) (volumes_text shown volumes) old new (Err e)
     volumes_left Here Unread here (volumes_fault.Read fault) put = record {
       place = i;
@@ -121,13 +132,15 @@ module _ (tells : Type 0) (shown : Volumes) (volumes : List (ℕ × List ℕ)) (
       there = below;
       few = put.few;
       unread = here put.tracks put.unread;
-      put = λ t. put.put t ∙ ap (λ (l : List ℕ). l ++ (heading_text x.0 x.1 ++ tracks_text track put.tracks)) (so_far t)
-          ∙ append_assoc old (volumes_text shown (take i volumes)) (heading_text x.0 x.1 ++ tracks_text track put.tracks)
+      put = λ t. put.put t ∙ ap (λ (l : List ℕ). l ++ (heading ++ tracks_text track put.tracks)) (so_far t)
+          ∙ append_assoc old (volumes_text shown (take i volumes)) (heading ++ tracks_text track put.tracks)
           ∙ ap (λ (l : List ℕ). old ++ (volumes_text shown (take i volumes) ++ l)) (begun_is put.tracks ∙ ap (begun_text shown put.tracks) (sym (slice_get_read volumes (length volumes) i x refl below is)));
     }
     volumes_left Here Unread here (volumes_fault.Put fault) put = λ t.
         let rest : List ℕ = volumes_text shown (drop (i + 1) volumes) in
-        let split : volumes_text shown volumes ≡ volumes_text shown (take i volumes) ++ (volume_text x.0 x.1 (shown.track x.0) ++ rest) =
-        ap (volumes_text shown) volumes_whole ∙ flat_map-append (λ (v : ℕ × List ℕ). volume_text v.0 v.1 (shown.track v.0)) (take i volumes) (x ∷ drop (i + 1) volumes) in
-        part_stops old now new (volume_text x.0 x.1 (shown.track x.0)) rest (volumes_text shown volumes) (record { done = volumes_text shown (take i volumes); split = split; put = so_far t })
+        let split : volumes_text shown volumes ≡ volumes_text shown (take i volumes) ++ (listed_text shown x ++ rest) =
+        ap (volumes_text shown) volumes_whole
+        ∙ flat_map-append (listed_text shown) (take i volumes) (x ∷ drop (i + 1) volumes) in
+        part_stops old now new (listed_text shown x) rest (volumes_text shown volumes)
+        (record { done = volumes_text shown (take i volumes); split = split; put = so_far t })
         (subst (λ (l : List ℕ). PutsFront now new l) (sym volume_is) (put t))

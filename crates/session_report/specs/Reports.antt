@@ -1,8 +1,9 @@
 -- What a report says, and a listing.
-use Rattle.std.specs.Prelude.{◌≡◌, ◌≢◌, ◌⊎◌, ◌≤◌, ℕ, zero, suc, ◌<◌, ◌*◌, List, [], ◌∷◌, ◌++◌}
+use Rattle.std.specs.Prelude.{◌≡◌, ◌≢◌, ◌⊎◌, ◌≤◌, ℕ, zero, suc, ◌<◌, ◌*◌, Bool, List, [], ◌∷◌, ◌++◌}
 use Rattle.std.specs.Prelude.{length, take}
 use Rattle.std.specs.Prelude.{slice_get, Option, Some, None, Ok, Err}
 use Rattle.std.specs.List.{flat_map}
+use Rattle.mss_base.specs.Configs.{VolumeData}
 use Rattle.mss_base.specs.Counts.{IsFaultSince}
 use Rattle.mss_base.specs.Puts.{PutsFront}
 use Rattle.mss_base.specs.declared.numbers.TheConstants.{CYLINDERS, HEADS}
@@ -20,21 +21,26 @@ use Rattle.session_report.specs.Parties.{Stream, Devices, seen_with}
 
 -- ---- the volumes
 
--- a volume's number and its serial
+-- a volume's number, its serial, and whether it is asked for, or kept, as a read-only one
 abbrev pub Heading : Type 0
-Heading = ℕ × List ℕ
+Heading = VolumeData
 
 -- how many tracks a volume has
 abbrev pub TRACKS_OF_VOLUME : ℕ
 TRACKS_OF_VOLUME = CYLINDERS * HEADS
 
--- volumes that are listed: each its heading and its tracks
+-- a volume that is listed: its number and serial, and the mark and the tracks that are shown
+abbrev pub listed_text : Volumes → Heading → List ℕ
+listed_text shown v = volume_text v.0 v.1 (shown.read_only v.0) (shown.track v.0)
+
+-- volumes that are listed
 abbrev pub volumes_text : Volumes → List Heading → List ℕ
-volumes_text shown volumes = flat_map (λ v. volume_text v.0 v.1 (shown.track v.0)) volumes
+volumes_text shown volumes = flat_map (listed_text shown) volumes
 
 -- a volume's heading and its first tracks
 abbrev pub begun_text : Volumes → ℕ → Option Heading → List ℕ
-begun_text shown tracks (Some v) = heading_text v.0 v.1 ++ tracks_text (shown.track v.0) tracks
+begun_text shown tracks (Some v) =
+    heading_text v.0 v.1 (shown.read_only v.0) ++ tracks_text (shown.track v.0) tracks
 begun_text shown tracks None = []
 
 -- the listed volumes before one, and of that one the heading and the first tracks
@@ -75,21 +81,22 @@ report_matter s volumes shown = record {
 }
 
 -- a volume that is there
-abbrev pub heading_of : ℕ → Option (List ℕ) → List Heading
-heading_of n (Some serial) = (n, serial) ∷ []
-heading_of n None = []
+abbrev pub heading_of : ℕ → Option (List ℕ) → Bool → List Heading
+heading_of n (Some serial) read_only = (n, serial, read_only) ∷ []
+heading_of n None read_only = []
 
--- the volumes below a number that are there, by number
-unfoldable pub volumes_below : ℕ → (ℕ → Option (List ℕ)) → List Heading
-volumes_below zero serials = []
-volumes_below (suc n) serials = volumes_below n serials ++ heading_of n (serials n)
+-- the volumes below a number that are there, by number, by their serials and their marks
+unfoldable pub volumes_below : ℕ → (ℕ → Option (List ℕ)) → (ℕ → Bool) → List Heading
+volumes_below zero serials marks = []
+volumes_below (suc n) serials marks =
+    volumes_below n serials marks ++ heading_of n (serials n) (marks n)
 
 -- a listing is about all volumes that are there
 abbrev pub listing_matter : Volumes → Matter
 listing_matter shown = record {
   opening = listing_title;
   shown = shown;
-  volumes = volumes_below 32 shown.serial;
+  volumes = volumes_below 32 shown.serial shown.read_only;
 }
 
 -- ---- how it ends

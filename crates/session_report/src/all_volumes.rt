@@ -4,7 +4,7 @@ ghost use Rattle.std.specs.Option.{option_map};
 ghost use Rattle.mss_base.specs.Content.{content};
 ghost use Rattle.mss_base.specs.Sites.{OnlyReads};
 ghost use Rattle.volume_table.specs.Listed.{listed};
-ghost use Rattle.shown_volumes.specs.Shown.{shown_by};
+ghost use Rattle.shown_volumes.specs.Shown.{is_marked, shown_by};
 ghost use Rattle.report_text.specs.Texts.{listing_title};
 ghost use Rattle.session_report.specs.Parts.{CanReadShown, IsUnread};
 ghost use Rattle.session_report.specs.Answers.{SinkCounts};
@@ -26,22 +26,24 @@ use volume_table::Rows;
 /// How many volumes there may be.
 const VOLUMES: u8 = 32;
 
-/// Puts a volume last, with its serial, if it has a row.
+/// Puts a volume last, with its serial and its mark, if it has a row.
 fn push_volume(volumes: &mut VolumeList, rows: &Rows, volume: VolumeNo)
     requires room { 1 ≤ volumes.old.spare }
     ensures items { volumes.new.items ≡ volumes.old.items
-        ++ heading_of volume (option_map (λ r. r.serial) (listed rows.now volume)) }
+        ++ heading_of volume (option_map (λ r. r.serial) (listed rows.now volume))
+        (is_marked (listed rows.now volume)) }
     ensures spare { volumes.old.spare ≤ volumes.new.spare + 1 }
 {
     if let Some(row) = row_of(rows, volume) {
-        volumes.push((volume, row.serial));
+        volumes.push((volume, row.serial, row.read_only));
     }
 }
 
-/// The volumes that have a row, by number, each with its serial.
+/// The volumes that have a row, by number, each with its serial and its mark.
 fn listed_volumes(alloc: Global, rows: &Rows) -> Result<VolumeList, NoMemory>
     ensures { IfOk result (λ volumes. volumes.items
-        ≡ volumes_below 32 (λ volume. option_map (λ r. r.serial) (listed rows.now volume))) }
+        ≡ volumes_below 32 (λ volume. option_map (λ r. r.serial) (listed rows.now volume))
+        (λ volume. is_marked (listed rows.now volume))) }
 {
     let mut volumes = VolumeList::new(alloc);
     volumes.reserve(usize::from(VOLUMES))?;
@@ -69,7 +71,7 @@ pub fn listing<S: Site, O: Sink>(
         (sink_between O.Sink output.old output.new) result }
     ensures unread { let shown = shown_by (listed rows.now) (content (S.told site.old)) in
         OnRead result (BreaksOff
-        (IsUnread S.Site site.old (listed rows.now) (volumes_below 32 shown.serial))
+        (IsUnread S.Site site.old (listed rows.now) (listing_matter shown).volumes)
         (listing_matter shown) (seen_with (site_between S.Site site.old site.new)
         (sink_between O.Sink output.old output.new))) }
     ensures framed { O.tells → Frames listing_title (finished End)

@@ -1,8 +1,8 @@
-// Where the track lies that a row shows.
+// What a row shows of its volume: the mark, and where a track lies.
 ghost use Rattle.std.specs.Prelude.{◌≡◌, ◌==◌, ◌||◌};
 ghost use Rattle.volume_table.specs.Listed.{listed};
 ghost use Rattle.volume_table.specs.Row.{state_of};
-ghost use Rattle.shown_volumes.specs.Shown.{in_page, source};
+ghost use Rattle.shown_volumes.specs.Shown.{in_page, is_marked, source};
 
 use mss_base::{BlockPlace, Cylinder, Head, VolumeNo, frame_block};
 use shown_volumes::on_cartridge;
@@ -13,6 +13,16 @@ pub fn row_of(rows: &Rows, volume: VolumeNo) -> &Option<VolumeRow>
     ensures { result.now ≡ listed rows.now volume }
 {
     rows.row(volume)
+}
+
+/// Whether hosts may only read the volume of a row. Without a row it has no mark.
+pub fn is_marked(row: &Option<VolumeRow>) -> bool
+    ensures { result ≡ is_marked row.now }
+{
+    match row {
+        Some(row) => row.read_only,
+        None => false,
+    }
 }
 
 /// The place of a track in the frame of its page, if the page has one.

@@ -3,7 +3,7 @@ ghost use Rattle.std.specs.Prelude.{◌≡◌, [], Some};
 ghost use Rattle.mss_base.specs.Content.{content};
 ghost use Rattle.mss_base.specs.Sites.{OnlyReads};
 ghost use Rattle.volume_table.specs.Listed.{listed};
-ghost use Rattle.shown_volumes.specs.Shown.{shown_by, source};
+ghost use Rattle.shown_volumes.specs.Shown.{is_marked, shown_by, source};
 ghost use Rattle.report_text.specs.Texts.{track_text, heading_text};
 ghost use Rattle.session_report.specs.Parts.{row_tracks, PutsTrack, PutsTracks, PutsVolumes};
 ghost use Rattle.session_report.specs.Parts.{CountsReads, CountsPuts, TellsNoRead};
@@ -12,7 +12,7 @@ ghost use Rattle.session_report.specs.Parts.{IsUnread, MayFail, block_of};
 ghost use Rattle.session_report.specs.Reports.{Grows, untitled, volumes_text};
 
 use crate::fault::VolumesFault;
-use crate::place::{is_blank, row_of, shown_place};
+use crate::place::{is_blank, is_marked, row_of, shown_place};
 use mss_base::{Block, Bytes, CYLINDERS, Cylinder, HEADS, Head, Serial, Sink, Site, VolumeNo};
 use report_text::{put_heading, put_track};
 use volume_table::{Rows, VolumeRow};
@@ -109,7 +109,7 @@ fn put_row<S: Site, O: Sink>(
     put_tracks(site, output, row, block, line)
 }
 
-/// Puts a volume: its heading, and its tracks.
+/// Puts a volume: its heading, with the mark of its row, and its tracks.
 fn put_volume<S: Site, O: Sink>(
     site: &mut S,
     output: &mut O,
@@ -121,7 +121,7 @@ fn put_volume<S: Site, O: Sink>(
 ) -> Result<(), VolumesFault>
     ensures bytes { PutsTracks (S.tells × O.tells)
         (λ n. MayFail S.Site site.old (block_of (listed rows.now volume) n))
-        (heading_text volume serial.now)
+        (heading_text volume serial.now (is_marked (listed rows.now volume)))
         (row_tracks (content (S.told site.old)) (listed rows.now volume))
         (O.told output.old) (O.told output.new) result }
     ensures grown { O.tells → Grows (O.told output.old) (O.told output.new) }
@@ -130,8 +130,9 @@ fn put_volume<S: Site, O: Sink>(
     ensures site { OnlyReads S.Site site.old site.new }
     ensures output { CountsPuts (O.faults output.old) (O.faults output.new) result }
 {
-    put_heading(output, line, volume, serial)?;
-    put_row(site, output, row_of(rows, volume), block, line)
+    let row = row_of(rows, volume);
+    put_heading(output, line, volume, serial, is_marked(row))?;
+    put_row(site, output, row, block, line)
 }
 
 /// Puts each listed volume: its heading, and its tracks as the rows show them over the devices.
@@ -141,7 +142,7 @@ pub fn put_volumes<S: Site, O: Sink>(
     site: &mut S,
     output: &mut O,
     rows: &Rows,
-    volumes: &[(VolumeNo, Serial)],
+    volumes: &[(VolumeNo, Serial, bool)],
     block: &mut Block,
     line: &mut Bytes,
 ) -> Result<(), VolumesFault>

@@ -12,6 +12,7 @@ pub mod StateLemmas
 pub mod AllowedFacts
 pub mod BlankFacts
 pub mod MomentFacts
+pub mod MarkFacts
 pub mod QuietFacts
 pub mod UnderFacts
 pub mod TableFacts

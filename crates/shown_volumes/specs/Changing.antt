@@ -1,5 +1,5 @@
 -- Which blocks the shown volumes stand on, which of them are firm, and which changes of rows show the same.
-use Rattle.std.specs.Prelude.{◌≡◌, ◌≢◌, ◌⊎◌, ◌≤◌, ℕ, ◌+◌, ◌<◌, ◌==◌, false, List, [], Some, None, if◌then◌else◌}
+use Rattle.std.specs.Prelude.{◌≡◌, ◌≢◌, ◌⊎◌, ◌≤◌, ℕ, ◌+◌, ◌<◌, ◌==◌, Bool, false, List, [], Some, None, if◌then◌else◌}
 use Rattle.std.specs.Option.{ForSome}
 use Rattle.mss_base.specs.declared.numbers.TheConstants.{CYLINDERS, HEADS}
 use Rattle.mss_base.specs.Content.{Content, SiteLog, IsLoose, content}
@@ -63,6 +63,14 @@ with_blank volume serial volumes = record {
 -- what a stop within a creation shows: the volumes, or those with the new one
 abbrev pub WithOrWithout : ℕ → List ℕ → Volumes → Volumes → Type 0
 WithOrWithout volume serial volumes shown = (shown ≡ volumes) ⊎ (shown ≡ with_blank volume serial volumes)
+
+-- volumes of which one is read-only now, or isn't
+abbrev pub with_marked : ℕ → Bool → Volumes → Volumes
+with_marked volume on volumes = record volumes { read_only = λ v. if v == volume then on else volumes.read_only v }
+
+-- what a stop within the change of a mark shows: the volumes, or those with the other mark
+abbrev pub MarkedOrNot : ℕ → Bool → Volumes → Volumes → Type 0
+MarkedOrNot volume on volumes shown = (shown ≡ volumes) ⊎ (shown ≡ with_marked volume on volumes)
 
 -- ---- what is loose
 

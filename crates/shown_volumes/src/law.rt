@@ -1,5 +1,5 @@
 //! Laws of shown volumes, of sound content and of its first fault. A function calls a law to have it in its proof.
-ghost use Rattle.std.specs.Prelude.{◌≡◌, ◌↔◌, ◌≤◌, ◌<◌, ◌/◌, ℕ, false, List, length, Option, Some, None};
+ghost use Rattle.std.specs.Prelude.{◌≡◌, ◌↔◌, ◌≤◌, ◌<◌, ◌/◌, ℕ, Bool, false, List, length, Option, Some, None};
 ghost use Rattle.mss_base.specs.Content.{
   Content,
   SiteLog,
@@ -16,7 +16,7 @@ ghost use Rattle.mss_base.specs.Places.{frame_block};
 ghost use Rattle.ckd_plain.specs.Plain.{with_track};
 ghost use Rattle.ckd_track.specs.Track.{reading, reading_of};
 ghost use Rattle.volume_table.specs.Row.{RowValue, IsRow, frame_of, state_of, blank_row};
-ghost use Rattle.volume_table.specs.Changes.{IsAllowed, effect};
+ghost use Rattle.volume_table.specs.Changes.{IsAllowed, effect, with_mark};
 ghost use Rattle.volume_table.specs.declared.changes.Change.{Change};
 ghost use Rattle.table_pair.specs.Pair.{known, row_of, HoldsRow, ChangesRow, OldOrNew, NoneOrNew};
 ghost use Rattle.table_pair.specs.Repairs.{KeepsRow};
@@ -28,8 +28,10 @@ ghost use Rattle.shown_volumes.specs.Changing.{
   IsReady,
   IsFresh,
   MayChange,
+  MarkedOrNot,
   WithOrWithout,
   with_blank,
+  with_marked,
   IsQuiet,
   StillShows,
   MayWriteRow,
@@ -98,7 +100,8 @@ pub fn tracks_written_into_a_frame_are_shown()
         (reading (block_at d place)).records) d }
 {}
 
-/// With the row that an allowed change makes, where the blocks are ready for it, the content shows the same and is sound.
+/// With the row that an allowed change makes, where the blocks are ready for it, the content shows the same and is
+/// sound.
 pub fn allowed_changes_show_the_same()
     ensures { (frames volume : ℕ) (change : Change) (r : RowValue) (c : Content)
         → IsSound frames c → rows_of c volume ≡ Some r
@@ -135,6 +138,21 @@ pub fn creations_show_a_blank_volume()
         → ChangesRow volume (NoneOrNew volume (blank_row serial first second)) c d
         → row_of d volume ≡ known (Some (blank_row serial first second)) false
         → SoundAs frames (with_blank volume serial (shown c)) d }
+{}
+
+/// At each moment of a change of a volume's mark the content is sound, and shows the same volumes, or those with the
+/// mark; once the row is told, it shows them with the mark.
+pub fn marks_are_shown()
+    ensures moments { (frames volume : ℕ) (on : Bool) (r : RowValue) (s t : SiteLog)
+        → IsSound frames (content s) → rows_of (content s) volume ≡ Some r
+        → Writes (ChangesRow volume (OldOrNew volume (with_mark on r) (content s)) (content s)) s t
+        → Writes (λ d. IsSound frames d
+        × MarkedOrNot volume on (shown (content s)) (shown d)) s t }
+    ensures marked { (frames volume : ℕ) (on : Bool) (r : RowValue) (c d : Content)
+        → IsSound frames c → rows_of c volume ≡ Some r
+        → ChangesRow volume (OldOrNew volume (with_mark on r) c) c d
+        → row_of d volume ≡ known (Some (with_mark on r)) false
+        → SoundAs frames (with_marked volume on (shown c)) d }
 {}
 
 /// Whatever a stop makes of the loose writes of a quiet site, it shows the same.

@@ -1,8 +1,7 @@
 -- The moments of a migration.
-use Rattle.std.proofs.Common.{◌≡◌, inl, inr, ℕ, Bool, true, false, List, length, Result, Ok, refl, sym, ◌∙◌, ap, subst}
+use Rattle.std.proofs.Common.{◌≡◌, inl, inr, ℕ, Bool, false, List, length, Result, Ok, refl, sym, ◌∙◌, ap, subst}
 use Rattle.mss_base.specs.declared.place.BlockPlace.{BlockPlace}
 use Rattle.mss_base.specs.declared.place.UnitNo.TheVariants.{TableA}
-use Rattle.mss_base.specs.Blocks.{block_of}
 use Rattle.mss_base.specs.Content.{SiteLog, content, Settles, Writes, ChangesBlock}
 use Rattle.mss_base.proofs.Moments.{ended_with, weaker}
 use Rattle.mss_base.proofs.Settling.{settles_none, settles_then}

@@ -1,5 +1,5 @@
 -- Copies whose bodies are of version 1, which are written anew in version 2.
-use Rattle.std.specs.Prelude.{◌≡◌, ℕ, false, length, Result, OnOk, IfOk}
+use Rattle.std.specs.Prelude.{◌≡◌, ℕ, false, Result, OnOk, IfOk}
 use Rattle.mss_base.specs.Content.{Content, SiteLog, Settles, content}
 use Rattle.mss_base.specs.declared.place.UnitNo.TheVariants.{TableA, TableB}
 use Rattle.mss_base.specs.declared.place.BlockPlace.{BlockPlace}
@@ -20,16 +20,17 @@ pub record IsCopyNew (row : RowValue) (used : ℕ) (c : CopyView) : Type 0 where
   pub holds : IsCopyWith row used c
   pub is_new : is_old c.spelled ≡ false
 
--- what a call that migrates a copy does: a copy of version 2 isn't written. At Ok it tells how many slots are in use, and
--- no write of it is loose
-pub record MigratesCopy {E : Type 0} (row : RowValue) (at : BlockPlace) (old new : SiteLog) (result : Result ℕ E) : Type 0 where
+-- what a call that migrates a copy does: a copy of version 2 isn't written. At Ok it tells how many slots are in use,
+-- and no write of it is loose
+pub record MigratesCopy {E : Type 0} (row : RowValue) (at : BlockPlace) (old new : SiteLog)
+    (result : Result ℕ E) : Type 0 where
   pub moments : WritesCopy at (IsChanging row (copy_on old at)) old new
   pub done : IfOk result (λ used. IsCopyNew row used (copy_on new at))
   pub firm : OnOk result (Settles old new)
   pub untouched : is_old (copy_on old at).spelled ≡ false → new ≡ old
 
--- what a migration leaves: both copies hold the row, in version 2, and so many of their slots are in use; no write of it
--- is loose
+-- what a migration leaves: both copies hold the row, in version 2, and so many of their slots are in use; no write of
+-- it is loose
 pub record IsMigrated (row : RowValue) (used : SlotsUsed) (volume : ℕ) (old new : SiteLog) : Type 0 where
   pub holds : IsChanged row used volume old new
   pub are_new : AreNew volume (content new)

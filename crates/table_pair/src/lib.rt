@@ -1,12 +1,13 @@
 //! The row of a volume in two copies, such that a stop at any moment leaves the old row or the new one.
 //!
-//! Block v of the table's copy A and block v of its copy B each have a gate, the row's body, a made mark, and slots, which
-//! change the row of the body. A change appends a slot to each copy; where a copy has none free, it is rewritten with the
-//! new row and without slots. Bodies of version 1 are written anew by `migrate`. How many are in use is told to each call, and told by it (`SlotsUsed`).
-//! `specs/Pair.antt` says which row two copies tell, also where one of them can't be read, and what holds at each
-//! moment of a change; `specs/Slots.antt` says what a change leaves, and how many slots are in use then. The layers above
-//! rely on `read_row`, `change_row`, `create_row`, `repair` and `migrate`, over every site, on `law`, and on the lemmas of
-//! `proofs/PairFacts.antt` and `proofs/SiteLemmas.antt`.
+//! Block v of the table's copy A and block v of its copy B each have a gate, the row's body, a made mark, and slots,
+//! which change the row of the body. A change appends a slot to each copy; where a copy has none free, it is
+//! rewritten with the new row and without slots. Bodies of version 1 are written anew by `migrate`. How many are in
+//! use is told to each call, and told by it (`SlotsUsed`). `specs/Pair.antt` says which row two copies tell, also
+//! where one of them can't be read, and what holds at each moment of a change; `specs/Slots.antt` says what a change
+//! leaves, and how many slots are in use then. The layers above rely on `read_row`, `change_row`, `create_row`,
+//! `repair` and `migrate`, over every site, on `law`, and on the lemmas of `proofs/PairFacts.antt` and
+//! `proofs/SiteLemmas.antt`.
 #![tactic(auto)]
 
 mod change;

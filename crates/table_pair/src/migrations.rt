@@ -19,8 +19,8 @@ use crate::write::{COPY_ITEMS, gates_of, rewrite_copy};
 use mss_base::{BLOCK_BYTES, BlockPlace, Failed, Site, VolumeNo};
 use volume_table::{BODY, BODY_END, ROW_BYTES, VolumeRow, encode_row, is_old};
 
-/// Rewrites a copy with the row that it tells, without slots, where its body is of version 1. Gives how many slots are in
-/// use then.
+/// Rewrites a copy with the row that it tells, without slots, where its body is of version 1. Gives how many slots
+/// are in use then.
 fn migrate_copy<S: Site>(
     site: &mut S,
     at: &BlockPlace,
@@ -69,11 +69,11 @@ fn migrate_one<S: Site>(
 }
 
 /// Writes each copy of a volume's row anew whose body is of version 1, copy A first: in version 2, and without slots.
-/// Both copies are open with the row before and after. A copy of version 2 isn't written. `used` tells how many slots of
-/// the copies are in use, and the answer how many are then.
+/// Both copies are open with the row before and after. A copy of version 2 isn't written. `used` tells how many slots
+/// of the copies are in use, and the answer how many are then.
 ///
-/// It makes at most eight writes and six syncs. The row is the same at every moment, and so are the made marks. Where it
-/// fails, the site's count of faults has risen.
+/// It makes at most eight writes and six syncs. The row is the same at every moment, and so are the made marks. Where
+/// it fails, the site's count of faults has risen.
 pub fn migrate<S: Site>(
     site: &mut S,
     volume: VolumeNo,

@@ -1,9 +1,9 @@
 -- How a row is spelled, and the first field that spells none.
 --
--- A row's block begins with its gate (byte 0), its body (bytes 1 to 510) and its made mark (byte 511). The body has one
--- byte of version, six of the serial, two for each cartridge, one for each page, the mark of a read-only volume, one for
--- each cylinder, and 43 zeros. Version 1, which is read as well, has a zero in the place of the mark. Places here count
--- from the first byte of the body.
+-- A row's block begins with its gate (byte 0), its body (bytes 1 to 510) and its made mark (byte 511). The body has
+-- one byte of version, six of the serial, two for each cartridge, one for each page, the mark of a read-only volume,
+-- one for each cylinder, and 43 zeros. Version 1, which is read as well, has a zero in the place of the mark. Places
+-- here count from the first byte of the body.
 use Rattle.std.specs.Prelude.{◌≡◌, ℕ, suc, ◌+◌, ◌*◌, ◌/◌, ◌%◌, ◌==◌, nat_lt, Bool, true, false, ◌&&◌, ◌||◌, if◌then◌else◌, List, [], ◌∷◌, ◌++◌, take, drop, map, replicate, slice_index, Option, Some, None, Result, Ok, Err}
 use Rattle.mss_base.specs.Serial.{is_serial_byte}
 use Rattle.volume_table.specs.Row.{RowValue}

@@ -1,8 +1,8 @@
 -- A change as the seven bytes of a slot, and the row of a body and the slots behind it.
 --
--- A slot has eight bytes: a gate, a kind (1 a page gets a frame, 2 it gives it back, 3 a cylinder is staged, 4 changed, 5
--- destaged, 6 a volume becomes read-only or is no longer), two bytes for the page, the cylinder or the mark, one for the
--- frame, and three zeros. A new volume's row is a body without slots, so that no slot creates one.
+-- A slot has eight bytes: a gate, a kind (1 a page gets a frame, 2 it gives it back, 3 a cylinder is staged, 4
+-- changed, 5 destaged, 6 a volume becomes read-only or is no longer), two bytes for the page, the cylinder or the
+-- mark, one for the frame, and three zeros. A new volume's row is a body without slots, so that no slot creates one.
 use Rattle.std.specs.Prelude.{ℕ, zero, suc, ◌*◌, ◌/◌, ◌==◌, nat_lt, Bool, true, false, not, ◌&&◌, ◌||◌, if◌then◌else◌, List, [], ◌∷◌, ◌++◌, take, drop, slice_index, Option, Some, None, is_some, is_none, Result, Ok, Err}
 use Rattle.std.specs.Option.{option_and_then}
 use Rattle.mss_base.specs.declared.numbers.TheConstants.{CYLINDERS}

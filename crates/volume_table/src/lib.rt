@@ -2,13 +2,13 @@
 //! rows of all volumes.
 //!
 //! `specs/Row.antt` says what a row is, `specs/Grammar.antt` how its 512 bytes spell it, `specs/Changes.antt` which
-//! changes are allowed and what each does, `specs/Slots.antt` how a slot behind the row spells a change, and which row a
-//! body and its slots tell. Bodies of version 1 are read, and none is written. `decode_row`, `encode_row`, `is_allowed`, `apply`, `encode_slot`, `decode_slot` and
-//! `decode_told` are exactly these definitions. The layers above rely on them, and on `law`. `Rows` has a place for each of
-//! the 32 volumes; that there are so many, and that what stands in them are rows, is its invariant (`specs/Listed.antt`),
-//! which `look` tells. Proofs above may cite these files of proofs/: `RowFacts` (what a change does to each page and each
-//! cylinder), `RowLemmas` (what keeps a row one) and `SlotFacts` (that a change is read back from its slot, and that one
-//! slot more is one change more).
+//! changes are allowed and what each does, `specs/Slots.antt` how a slot behind the row spells a change, and which
+//! row a body and its slots tell. Bodies of version 1 are read, and none is written. `decode_row`, `encode_row`,
+//! `is_allowed`, `apply`, `encode_slot`, `decode_slot` and `decode_told` are exactly these definitions. The layers
+//! above rely on them, and on `law`. `Rows` has a place for each of the 32 volumes; that there are so many, and that
+//! what stands in them are rows, is its invariant (`specs/Listed.antt`), which `look` tells. Proofs above may cite
+//! these files of proofs/: `RowFacts` (what a change does to each page and each cylinder), `RowLemmas` (what keeps a
+//! row one) and `SlotFacts` (that a change is read back from its slot, and that one slot more is one change more).
 #![tactic(auto)]
 
 mod changes;

@@ -24,7 +24,7 @@ fn put_row<S: Site>(site: &mut S, unit: UnitNo, digit: u8, second: u8) -> Option
 fn config_of(alloc: Global, volume: VolumeNo, serial: Serial) -> Result<Config, NoMemory> {
     let mut volumes = VolumeList::new(alloc);
     volumes.reserve(1)?;
-    volumes.push((volume, serial));
+    volumes.push((volume, serial, false));
     Ok(Config {
         frames: 8,
         recorders: 1,

@@ -5,7 +5,7 @@ ghost use Rattle.mss_base.specs.declared.place.UnitNo.{UnitNo};
 ghost use Rattle.memory_devices.specs.MemorySite.{failing_of, told_of};
 ghost use Rattle.memory_devices.specs.declared.memory_site.MemorySite.{MemorySite};
 ghost use Rattle.memory_devices.specs.declared.memory_site.SiteFault.TheVariants.{ReadsOf};
-ghost use Rattle.mss_restart.specs.Serials.{serial_in};
+ghost use Rattle.mss_base.specs.Configs.{serial_in};
 ghost use Rattle.table_pair.specs.Pair.{is_table};
 ghost use Rattle.mss_restart.specs.OneCopy.{ArePaired, LosesOneTable};
 ghost use Rattle.mss_restart.specs.Survey.{IsExact};

@@ -1,7 +1,7 @@
 // Lines that survey devices, open them, and copy tracks.
-use crate::lines::answers::{Told, list, refused, volumes};
+use crate::lines::answers::{Told, list, opening, refused, volumes};
 use crate::lines::bench::Bench;
-use crate::lines::configs::three;
+use crate::lines::configs::{three, three_with};
 use crate::lines::devices::room;
 use crate::lines::numbers::{byte, cylinder, frame, is_word};
 use crate::lines::words::code;
@@ -66,7 +66,7 @@ fn opened<S: Site + Drop>(alloc: Global, slot: &mut Option<S>, config: &Config) 
     match open_rows(alloc, slot.take()?, config) {
         Ok((site, opened)) => {
             *slot = Some(site);
-            volumes(alloc, &opened.rows)
+            opening(alloc, &opened)
         }
         Err((site, fault)) => {
             *slot = Some(site);
@@ -75,7 +75,8 @@ fn opened<S: Site + Drop>(alloc: Global, slot: &mut Option<S>, config: &Config) 
     }
 }
 
-/// The line `open`, which takes the devices and gives them back.
-pub fn open_line(alloc: Global, slot: &mut Option<Bench>) -> Told {
-    opened(alloc, slot, &three(alloc)?)
+/// The line `open`, which takes the devices and gives them back. `open readonly` asks for volume 3 as a read-only one.
+pub fn open_line(alloc: Global, slot: &mut Option<Bench>, words: &[u64]) -> Told {
+    let read_only = is_word(words, 1, "readonly");
+    opened(alloc, slot, &three_with(alloc, read_only)?)
 }

@@ -27,7 +27,7 @@ fn lent_line(alloc: Global, bench: &mut Bench, words: &[u64]) -> Told {
 
 fn whole_line(alloc: Global, slot: &mut Option<Bench>, words: &[u64]) -> Told {
     if is_word(words, 0, "open") {
-        return open_line(alloc, slot);
+        return open_line(alloc, slot, words);
     }
     lent_line(alloc, slot.as_mut()?, words)
 }

@@ -2,6 +2,7 @@ use Rattle.std.proofs.Common.{inl, Ok, Err, refl, sym, subst}
 use Rattle.mss_base.specs.Configs.{ConfigData}
 use Rattle.shown_volumes.specs.declared.refused.Refused.TheVariants.{Memory}
 use Rattle.shown_volumes.proofs.QuietFacts.{all_firm, settled_firm}
+use Rattle.mss_restart.proofs.Creating.{AreRising}
 use Rattle.mss_restart.proofs.Settling.{opens_firm}
 use Rattle.core_state.specs.CoreValue.{DevicesSeen, seen_site}
 use Rattle.core_restart.specs.Opening.{OpensSynced, opened_in}
@@ -69,7 +70,7 @@ returns-in-Ok-open_rows-clause-takes_up g c = λ tells.
     takes_up_before c.args.config.now old synced (seen_site g.S.Site c.begin.result.site) (Ok c.begin.result)
     (same_content old.told synced.told (c.in-Ok-sync_site.ensures.synced.told tells)) c.in-Ok-sync_site.ensures.synced.unfailed
     (begun_taken g.S.Site c.args.config.now c.in-Ok.parts.config c.args.chooser synced c.in-Ok-open_rows.site c.begin.result
-    c.in-Ok-open_rows.opened.rows c.in-Ok-open_rows.opened.used.items c.begin.ensures.site c.in-Ok.ensures.config_ c.begin.ensures.begins (c.in-Ok-open_rows.ensures.told tells).opens (g.met.S.Site.counted c.in-Ok-open_rows.site tells))
+    c.in-Ok-open_rows.opened.rows c.in-Ok-open_rows.opened.used.items c.begin.ensures.site c.in-Ok.ensures.config_ c.begin.ensures.begins (subst (λ (x : ConfigData). AreRising x.volumes) c.config.view_is c.config.invariant.rising) (c.in-Ok-open_rows.ensures.told tells).opens (g.met.S.Site.counted c.in-Ok-open_rows.site tells))
 
 pub returns-in-Ok-open_rows-clause-restarts : goal.returns-in-Ok-open_rows-clause-restarts
 returns-in-Ok-open_rows-clause-restarts g c =

@@ -1,6 +1,6 @@
 use Rattle.std.proofs.Common.{refl, ◌++◌, ◌∙◌, ap, subst, arith, rules, ◌≡◌, ℕ, List, Option}
 use Rattle.mss_base.specs.Content.{Content, content}
-use Rattle.mss_restart.specs.Serials.{serial_in}
+use Rattle.mss_base.specs.Configs.{serial_in}
 use Rattle.table_pair.proofs.SiteLemmas.{reads_none, reads_then}
 use Rattle.mss_audit.specs.declared.finding.Finding.{Finding}
 use Rattle.mss_audit.specs.Findings.{row_findings}

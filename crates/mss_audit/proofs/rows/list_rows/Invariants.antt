@@ -1,5 +1,5 @@
 use Rattle.mss_base.specs.Content.{content}
-use Rattle.mss_restart.specs.Serials.{serial_in}
+use Rattle.mss_base.specs.Configs.{serial_in}
 use Rattle.mss_audit.specs.Listing.{joined_below}
 use Rattle.mss_audit.specs.Findings.{row_findings}
 use Rattle.mss_audit.proofs.Inspecting.{IsListing}

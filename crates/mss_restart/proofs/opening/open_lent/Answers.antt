@@ -4,15 +4,14 @@ use Rattle.shown_volumes.specs.declared.refused.Refused.{Refused}
 use Rattle.shown_volumes.specs.Shown.{rows_of}
 use Rattle.mss_restart.specs.declared.opening.Opened.{Opened}
 use Rattle.volume_table.specs.Listed.{listed}
-use Rattle.mss_restart.specs.Opening.{missing}
-use Rattle.mss_restart.specs.Answers.{Opens, OpensWhole, account_from}
+use Rattle.mss_restart.specs.Answers.{Opens, OpensWhole, account_from, steps_of}
 use Rattle.mss_restart.proofs.KnownRows.{rows_listed}
 use Rattle.mss_restart.proofs.Repaired.{stop_since}
-use Rattle.mss_restart.proofs.UsableFacts.{usable_for}
+use Rattle.mss_restart.proofs.UsableFacts.{usable_for, told_opens}
 use Rattle.mss_restart.proofs.Finishing.{none_complete, stop_refuses, refusal_complete, answer_complete}
 use Rattle.mss_base.specs.Configs.{ConfigData, IsConfig}
 use Rattle.mss_base.specs.Content.{SiteLog, content}
-use Rattle.mss_restart.specs.Opening.{AreCreated}
+use Rattle.mss_restart.specs.Opening.{AreOpened, opening_changes}
 use Rattle.mss_restart.proofs.Creating.{AreRising, none_shown}
 use Rattle.mss_restart.proofs.Completed.{moments_at, others_at, opened}
 use Rattle.mss_restart.proofs.OtherRows.{nothing_else}
@@ -22,20 +21,30 @@ pub returns-clause-opens : goal.returns-clause-opens
 returns-clause-opens g c = λ tells.
     let now = content (g.S.Site.told c.complete_rows.new.site) in
     let before = c.in_ok-rows.rows in
-    let after = c.complete_rows.new.rows in
-    let used = c.complete_rows.new.used.items in
-    let volumes = c.args.config.now.volumes in
+    let after = c.complete_rows.new.opened.rows in
+    let used = c.complete_rows.new.opened.used.items in
+    let changes = opening_changes (listed before) c.args.config.now.volumes in
     opened c.args.config.now (content (g.S.Site.told c.args.site.now)) now before after used (subst (λ (x : ConfigData). AreRising x.volumes) c.config.view_is c.config.invariant.rising) c.look.ensures.places
     (c.in_ok-rows.ensures.known tells) (c.in_ok-rows.ensures.faultless tells) c.look-2.ensures.places
-    (subst (λ (x : SiteLog). AreCreated volumes (content x) now before after used) (c.known_rows.ensures.devices.log tells) (c.in_ok-complete_rows.ensures.told tells).created)
+    (subst (λ (x : SiteLog). AreOpened changes (content x) now before after used) (c.known_rows.ensures.devices.log tells) (c.in_ok-complete_rows.ensures.told tells).opened)
 
 pub returns-in_err-reserve-clause-leaves : goal.returns-in_err-reserve-clause-leaves
 returns-in_err-reserve-clause-leaves g c = λ tells.
     let p = err_from_is_err_and c.from_residual.result c.from_residual.ensures.1 in
     let s = g.S.Site.told c.args.site.now in
     record {
-      moments = λ frames sound. none_shown frames (missing (rows_of (content s)) c.args.config.now.volumes) _ _ refl sound;
-      others = nothing_else (missing (rows_of (content s)) c.args.config.now.volumes) s s refl;
+      moments = λ frames sound. none_shown frames (opening_changes (rows_of (content s)) c.args.config.now.volumes) _ _ refl sound;
+      others = nothing_else (opening_changes (rows_of (content s)) c.args.config.now.volumes) s s refl;
+      complete = subst (λ (r : Result Opened Refused). OpensWhole c.args.config.now s s r) (sym p.1) (none_complete (account_from c.args.config.now s s []) s s p.0 refl);
+    }
+
+pub returns-in_err-reserve-2-clause-leaves : goal.returns-in_err-reserve-2-clause-leaves
+returns-in_err-reserve-2-clause-leaves g c = λ tells.
+    let p = err_from_is_err_and c.from_residual-in_err-reserve-2.result c.from_residual-in_err-reserve-2.ensures.1 in
+    let s = g.S.Site.told c.args.site.now in
+    record {
+      moments = λ frames sound. none_shown frames (opening_changes (rows_of (content s)) c.args.config.now.volumes) _ _ refl sound;
+      others = nothing_else (opening_changes (rows_of (content s)) c.args.config.now.volumes) s s refl;
       complete = subst (λ (r : Result Opened Refused). OpensWhole c.args.config.now s s r) (sym p.1) (none_complete (account_from c.args.config.now s s []) s s p.0 refl);
     }
 
@@ -44,8 +53,8 @@ returns-in_err-used-clause-leaves g c = λ tells.
     let p = err_from_is_err_and c.from_residual-in_err-used.result c.from_residual-in_err-used.ensures.1 in
     let s = g.S.Site.told c.args.site.now in
     record {
-      moments = λ frames sound. none_shown frames (missing (rows_of (content s)) c.args.config.now.volumes) _ _ refl sound;
-      others = nothing_else (missing (rows_of (content s)) c.args.config.now.volumes) s s refl;
+      moments = λ frames sound. none_shown frames (opening_changes (rows_of (content s)) c.args.config.now.volumes) _ _ refl sound;
+      others = nothing_else (opening_changes (rows_of (content s)) c.args.config.now.volumes) s s refl;
       complete = subst (λ (r : Result Opened Refused). OpensWhole c.args.config.now s s r) (sym p.1) (none_complete (account_from c.args.config.now s s []) s s p.0 refl);
     }
 
@@ -56,8 +65,8 @@ returns-in_err-rows-clause-leaves g c = λ tells.
     let new = g.S.Site.told c.known_rows.new.site in
     let same = c.known_rows.ensures.devices.log tells in
     record {
-      moments = λ frames sound. none_shown frames (missing (rows_of (content s)) c.args.config.now.volumes) _ _ same sound;
-      others = nothing_else (missing (rows_of (content s)) c.args.config.now.volumes) s new same;
+      moments = λ frames sound. none_shown frames (opening_changes (rows_of (content s)) c.args.config.now.volumes) _ _ same sound;
+      others = nothing_else (opening_changes (rows_of (content s)) c.args.config.now.volumes) s new same;
       complete = subst (λ (r : Result Opened Refused). OpensWhole c.args.config.now s new r) (sym p.1) (none_complete (account_from c.args.config.now s new []) s new p.0 same);
     }
 
@@ -88,7 +97,7 @@ returns-in_err-complete_rows-clause-leaves g c = λ tells.
       others = others_at s mid now rows volumes same places known (c.complete_rows.ensures.told tells).others;
       complete =
           subst (λ (r : Result Opened Refused). OpensWhole c.args.config.now s now r) (sym (p.1 ∙ ap Err p.2))
-          (refusal_complete c.args.config.now c.complete_rows.new.creations.items (listed rows) (listed c.complete_rows.new.rows) s mid now c.in_err-complete_rows.field-0.0 same
+          (refusal_complete c.args.config.now (steps_of c.complete_rows.new.opened) (listed rows) (listed c.complete_rows.new.opened.rows) s mid now c.in_err-complete_rows.field-0.0 same
           (rows_listed rows (content s) places known) (c.in_err-complete_rows.ensures.told tells).complete);
     }
 
@@ -98,7 +107,7 @@ returns-clause-leaves g c = λ tells.
     let mid = g.S.Site.told c.known_rows.new.site in
     let now = g.S.Site.told c.complete_rows.new.site in
     let rows = c.in_ok-rows.rows in
-    let after = c.complete_rows.new.rows in
+    let after = c.complete_rows.new.opened.rows in
     let volumes = c.args.config.now.volumes in
     let same = c.known_rows.ensures.devices.log tells in
     let places = c.look.ensures.places in
@@ -107,8 +116,8 @@ returns-clause-leaves g c = λ tells.
       moments = moments_at s mid now rows volumes same places known (c.complete_rows.ensures.told tells).moments;
       others = others_at s mid now rows volumes same places known (c.complete_rows.ensures.told tells).others;
       complete =
-          answer_complete c.args.config.now c.complete_rows.new.creations.items (listed rows) (listed after) s mid now same
-          (rows_listed rows (content s) places known) (rows_listed after (content now) c.look-2.ensures.places (c.in_ok-complete_rows.ensures.told tells).created.are)
+          answer_complete c.args.config.now (steps_of c.complete_rows.new.opened) (listed rows) (listed after) s mid now same
+          (rows_listed rows (content s) places known) (rows_listed after (content now) c.look-2.ensures.places (c.in_ok-complete_rows.ensures.told tells).opened.known.told)
           (c.in_ok-complete_rows.ensures.told tells).complete;
     }
 
@@ -120,6 +129,7 @@ returns-clause-untouched g c = λ tells. inr (c.in_ok-rows.ensures.faultless tel
 
 pub returns-clause-usable : goal.returns-clause-usable
 returns-clause-usable g c = record {
-  rows_ = usable_for c.args.config.now c.in_ok-rows.rows c.complete_rows.new.rows (subst IsConfig c.config.view_is c.config.invariant) c.look.ensures.places c.in_ok-rows.ensures.usable c.in_ok-complete_rows.ensures.rows.rows;
+  rows_ = usable_for c.args.config.now c.in_ok-rows.rows c.complete_rows.new.opened.rows (subst IsConfig c.config.view_is c.config.invariant) c.look.ensures.places c.in_ok-rows.ensures.usable
+      (told_opens _ _ _ _ _ _ c.in_ok-complete_rows.ensures.rows);
   used_ = c.complete_rows.ensures.places;
 }

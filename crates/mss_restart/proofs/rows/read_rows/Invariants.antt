@@ -1,7 +1,7 @@
 use Rattle.std.proofs.Common.{◌≡◌}
 use Rattle.mss_base.specs.Content.{content}
 use Rattle.mss_base.specs.Sites.{OnlyReads}
-use Rattle.mss_restart.specs.Serials.{serial_in}
+use Rattle.mss_base.specs.Configs.{serial_in}
 use Rattle.shown_volumes.specs.Sound.{HasSerialsAsked}
 use Rattle.volume_table.specs.Listed.{listed}
 use Rattle.mss_restart.specs.Survey.{CanReadTable, KeepsFirst}

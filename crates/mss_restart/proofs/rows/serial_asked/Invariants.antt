@@ -1,5 +1,5 @@
 use Rattle.std.proofs.Common.{◌≡◌, drop}
-use Rattle.mss_restart.specs.Serials.{serial_in}
+use Rattle.mss_base.specs.Configs.{serial_in}
 use Rattle.mss_restart.proofs.rows.serial_asked.Given as goal
 
 abbrev pub invariant-loop-entry : goal.invariant-loop-entry

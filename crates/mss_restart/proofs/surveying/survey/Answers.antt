@@ -1,6 +1,6 @@
 use Rattle.std.proofs.Common.{Ok, Err}
 use Rattle.mss_base.specs.Content.{content}
-use Rattle.mss_restart.specs.Serials.{serial_in}
+use Rattle.mss_base.specs.Configs.{serial_in}
 use Rattle.mss_restart.proofs.Surveyed.{exact}
 use Rattle.mss_restart.proofs.OneCopy.{exact_by_one}
 use Rattle.mss_restart.proofs.surveying.survey.Goals as goal

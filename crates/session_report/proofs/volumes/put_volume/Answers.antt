@@ -1,8 +1,10 @@
-use Rattle.std.proofs.Common.{Option, subst}
+use Rattle.std.proofs.Common.{◌≡◌, ◌++◌, Bool, ℕ, List, Option, ◌∙◌, ap, subst}
 use Rattle.std.proofs.lemmas.Result.{err_from_is_err_and}
 use Rattle.mss_base.specs.Content.{content}
 use Rattle.volume_table.specs.Row.{RowValue}
 use Rattle.volume_table.specs.Listed.{listed}
+use Rattle.shown_volumes.specs.Shown.{is_marked}
+use Rattle.mss_base.specs.Puts.{PutsFront}
 use Rattle.mss_base.proofs.Putting.{puts_stops}
 use Rattle.report_text.specs.Texts.{heading_text, tracks_text}
 use Rattle.session_report.specs.Parts.{row_tracks, CanReadRow, MayFail, PutsTracks, TellsNoRead, block_of}
@@ -13,21 +15,35 @@ use Rattle.session_report.proofs.volumes.put_volume.Goals as goal
 pub returns-in_err-put_heading-clause-bytes : goal.returns-in_err-put_heading-clause-bytes
 returns-in_err-put_heading-clause-bytes g c =
     let p = err_from_is_err_and c.from_residual.result c.from_residual.ensures.1 in
+    let was = g.O.Sink.told c.args.output.now in
+    let mid = g.O.Sink.told c.put_heading.new.output in
+    let row = listed c.args.rows.now c.args.volume in
+    let heading : Bool → List ℕ = heading_text c.args.volume c.args.serial.now in
     rw (p.1, p.2)
-    (λ t. puts_stops (g.O.Sink.told c.args.output.now) (g.O.Sink.told c.put_heading.new.output) (heading_text c.args.volume c.args.serial.now)
-    (tracks_text (row_tracks (content (g.S.Site.told c.args.site.now)) (listed c.args.rows.now c.args.volume)) 7676) (c.in_err-put_heading.ensures.bytes t.1))
+    (λ t. puts_stops was mid (heading (is_marked row))
+    (tracks_text (row_tracks (content (g.S.Site.told c.args.site.now)) row) 7676)
+    (subst (λ (marked : Bool). PutsFront was mid (heading marked))
+    (c.is_marked.ensures ∙ ap is_marked c.row_of-row.ensures) (c.in_err-put_heading.ensures.bytes t.1)))
 
 pub returns-clause-bytes : goal.returns-clause-bytes
 returns-clause-bytes g c =
-    subst (λ (row : Option RowValue). PutsTracks (g.S.Site.tells × g.O.Sink.tells) (λ n. MayFail g.S.Site c.args.site.now (block_of row n)) (heading_text c.args.volume c.args.serial.now) (row_tracks (content (g.S.Site.told c.args.site.now)) row) (g.O.Sink.told c.args.output.now) (g.O.Sink.told c.put_row.new.output) c.put_row.result)
-    c.row_of.ensures
-    (volume_put (g.S.Site.tells × g.O.Sink.tells) _ (heading_text c.args.volume c.args.serial.now) _ (g.O.Sink.told c.args.output.now) (g.O.Sink.told c.put_heading.new.output) (g.O.Sink.told c.put_row.new.output) c.put_row.result
-    (λ t. c.in_ok-put_heading.ensures.bytes t.1) c.put_row.ensures.bytes)
+    let both = g.S.Site.tells × g.O.Sink.tells in
+    let was = g.O.Sink.told c.args.output.now in
+    let mid = g.O.Sink.told c.put_heading.new.output in
+    let now = g.O.Sink.told c.put_row.new.output in
+    let heading : Bool → List ℕ = heading_text c.args.volume c.args.serial.now in
+    subst (λ (row : Option RowValue). PutsTracks both (λ n. MayFail g.S.Site c.args.site.now (block_of row n))
+    (heading (is_marked row)) (row_tracks (content (g.S.Site.told c.args.site.now)) row) was now c.put_row.result)
+    c.row_of-row.ensures
+    (volume_put both _ (heading (is_marked c.row_of-row.result.now)) _ was mid now c.put_row.result
+    (λ t. subst (λ (marked : Bool). mid ≡ was ++ heading marked) c.is_marked.ensures
+    (c.in_ok-put_heading.ensures.bytes t.1))
+    c.put_row.ensures.bytes)
 
 pub returns-clause-works : goal.returns-clause-works
 returns-clause-works g c =
     subst (λ (row : Option RowValue). CanReadRow g.S.Site c.args.site.now row → TellsNoRead c.put_row.result)
-    c.row_of.ensures c.put_row.ensures.works
+    c.row_of-row.ensures c.put_row.ensures.works
 
 pub returns-in_err-put_heading-clause-grown : goal.returns-in_err-put_heading-clause-grown
 returns-in_err-put_heading-clause-grown g c = λ told. grows_front _ _ _ (c.in_err-put_heading.ensures.bytes told)

@@ -1,5 +1,5 @@
 -- One volume is in order, and its serial differs from no other.
-use Rattle.std.proofs.Common.{rules, ◌≡◌, ◌≤◌, List, [], ◌∷◌, ◌++◌, subst, sym, ap, ◌∙◌, arith}
+use Rattle.std.proofs.Common.{rules, ◌≡◌, ◌≤◌, false, List, [], ◌∷◌, ◌++◌, subst, sym, ap, ◌∙◌, arith}
 use Rattle.std.specs.List.{IsDistinct}
 use Rattle.std.specs.List.Sorted.{IsStrictlySortedBy}
 use Rattle.mss_base.specs.Configs.{VolumeData, IsVolume, IsConfig}
@@ -22,7 +22,9 @@ pub invariant_of-result : goal.invariant_of-result
 invariant_of-result c =
     let numbered : c.args.volume ≤ 31 = search rules in
     let spelled : IsSerial c.args.serial = search rules in
-    let items : c.push.new.self.items ≡ (c.args.volume, c.args.serial) ∷ [] =
-    c.push.ensures.items ∙ ap (λ (vs : List VolumeData). vs ++ (c.args.volume, c.args.serial) ∷ []) (c.in_ok-reserve.ensures.items ∙ c.new-volumes.ensures) in
+    let items : c.push.new.self.items ≡ (c.args.volume, c.args.serial, false) ∷ [] =
+    c.push.ensures.items
+    ∙ ap (λ (vs : List VolumeData). vs ++ (c.args.volume, c.args.serial, false) ∷ [])
+    (c.in_ok-reserve.ensures.items ∙ c.new-volumes.ensures) in
     subst (λ (vs : List VolumeData). IsConfig (record { frames = 8; recorders = 1; volumes = vs })) (sym items)
-    (one_volume (c.args.volume, c.args.serial) (numbered, spelled))
+    (one_volume (c.args.volume, c.args.serial, false) (numbered, spelled))

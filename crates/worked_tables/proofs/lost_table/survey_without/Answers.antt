@@ -1,7 +1,7 @@
 use Rattle.std.proofs.Common.{◌≡◌, sym, subst}
 use Rattle.mss_base.specs.Content.{SiteLog, content}
 use Rattle.memory_devices.specs.MemorySite.{told_of}
-use Rattle.mss_restart.specs.Serials.{serial_in}
+use Rattle.mss_base.specs.Configs.{serial_in}
 use Rattle.mss_restart.specs.OneCopy.{ArePaired}
 use Rattle.mss_restart.specs.Survey.{IsExact}
 use Rattle.worked_tables.proofs.lost_table.survey_without.Goals as goal

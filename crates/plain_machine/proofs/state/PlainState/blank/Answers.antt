@@ -1,7 +1,8 @@
 -- Each volume is put beside those before it.
 use Rattle.std.proofs.Common.{◌≡◌, ℕ, List, ◌∷◌, [], ◌++◌, take, get_or, sym, ap, subst, ◌∙◌}
 use Rattle.std.proofs.lemmas.List.{get_or_read, take_more}
-use Rattle.ckd_plain.specs.Plain.{Labelled, start_of, blank_volumes}
+use Rattle.mss_base.specs.Configs.{VolumeData as Labelled}
+use Rattle.ckd_plain.specs.Plain.{start_of, blank_volumes}
 use Rattle.plain_machine.specs.StateData.{state_of}
 use Rattle.plain_machine.proofs.BlankFacts.{nobody, IsNew, blank_none, blank_put, new_before}
 use Rattle.plain_machine.proofs.state.PlainState.blank.Goals as goal

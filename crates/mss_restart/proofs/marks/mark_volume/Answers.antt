@@ -1,0 +1,82 @@
+use Rattle.std.proofs.Common.{rules, ◌≡◌, ◌<◌, ◌∙◌, [], ◌∷◌, refl, sym, ap, subst, Option, Some, Result, set}
+use Rattle.std.proofs.lemmas.Result.{err_from_is_err_and}
+use Rattle.std.specs.Option.{option_map}
+use Rattle.mss_base.specs.Content.{SiteLog, content, Writes}
+use Rattle.table_pair.specs.Pair.{ChangesRow, OldOrNew}
+use Rattle.table_pair.specs.Slots.{IsChanged, used_after, used_at}
+use Rattle.volume_table.specs.Row.{RowValue}
+use Rattle.volume_table.specs.Changes.{effect, with_mark}
+use Rattle.volume_table.specs.declared.changes.Change.TheVariants.{Protect}
+use Rattle.shown_volumes.specs.declared.refused.Refused.{Refused}
+use Rattle.mss_restart.specs.Opening.{marked}
+use Rattle.mss_restart.specs.Creations.{DoesChange}
+use Rattle.mss_restart.specs.declared.steps.OpeningStep.{OpeningStep}
+use Rattle.mss_restart.proofs.CreatedFacts.{now_set}
+use Rattle.mss_restart.proofs.MarkedFacts.{moments_of, marked_of}
+use Rattle.mss_restart.proofs.Creating.{none_made}
+use Rattle.mss_restart.proofs.OtherRows.{change_others, nothing_else}
+use Rattle.mss_restart.proofs.marks.mark_volume.Goals as goal
+
+pub returns-in_err-reserve-clause-does : goal.returns-in_err-reserve-clause-does
+returns-in_err-reserve-clause-does g c = λ tells.
+    let p = err_from_is_err_and c.from_residual.result c.from_residual.ensures.1 in
+    let change = marked c.args.volume c.args.on in
+    let s = g.S.Site.told c.args.site.now in
+    let t = g.S.Site.told c.reserve.new.self in
+    let same = c.reserve.ensures.told tells in
+    subst (λ (r : Result OpeningStep Refused). DoesChange change c.args.rows.now c.args.rows.now s t r) (sym p.1) (record {
+      moments = λ frames sound. none_made frames change s t same sound;
+      others = nothing_else (change ∷ []) s t same;
+      done_ = tt;
+      complete = tt;
+    })
+
+pub returns-in_default-change_row-clause-does : goal.returns-in_default-change_row-clause-does
+returns-in_default-change_row-clause-does g c = λ tells.
+    let s = g.S.Site.told c.args.site.now in
+    let t = g.S.Site.told c.change_row.new.site in
+    let volume = c.args.volume in
+    let on = c.args.on in
+    let there = c.requires.there in
+    let o : ◌≡◌ {A = Option RowValue} (Some c.in-Some.row) (Some (with_mark on there.0)) = sym c.in-Some.is ∙ c.row.ensures ∙ c.change.ensures.row ∙ ap (option_map (effect (Protect on))) there.1 in
+    let row : c.in-Some.row ≡ with_mark on there.0 = cc in
+    let w = subst (λ (x : SiteLog × RowValue). Writes (ChangesRow volume (OldOrNew volume x.1 (content x.0)) (content x.0)) x.0 t) (λ i. (c.reserve.ensures.told tells i, row i)) (c.change_row.ensures.moments tells) in
+    record {
+      moments = moments_of c.args.rows.now c.args.used.now.items s t (c.requires.known tells) c.look.ensures.places volume on there.0 (let low : volume < 32 = search rules in low) there.1 w;
+      others = change_others (marked volume on) (OldOrNew volume (with_mark on there.0) (content s)) s t w;
+      done_ = tt;
+      complete = tt;
+    }
+
+pub returns-clause-does : goal.returns-clause-does
+returns-clause-does g c = λ tells.
+    let s = g.S.Site.told c.args.site.now in
+    let mid = g.S.Site.told c.reserve.new.self in
+    let t = g.S.Site.told c.change_row.new.site in
+    let before = c.args.rows.now in
+    let volume = c.args.volume in
+    let on = c.args.on in
+    let there = c.requires.there in
+    let low : volume < 32 = search rules in
+    let o : ◌≡◌ {A = Option RowValue} (Some c.in-Some.row) (Some (with_mark on there.0)) = sym c.in-Some.is ∙ c.row.ensures ∙ c.change.ensures.row ∙ ap (option_map (effect (Protect on))) there.1 in
+    let row : c.in-Some.row ≡ with_mark on there.0 = cc in
+    let w = subst (λ (x : SiteLog × RowValue). Writes (ChangesRow volume (OldOrNew volume x.1 (content x.0)) (content x.0)) x.0 t) (λ i. (c.reserve.ensures.told tells i, row i)) (c.change_row.ensures.moments tells) in
+    let set_is : c.change.new.self ≡ set before volume (Some (with_mark on there.0)) =
+    c.change.ensures.rows ∙ ap (λ (x : Option RowValue). set before volume (option_map (effect (Protect on)) x)) there.1 in
+    let changed = subst (λ (x : SiteLog × RowValue). IsChanged x.1 (used_after (used_at c.args.used.now.items volume)) volume x.0 t) (λ i. (c.reserve.ensures.told tells i, row i))
+    (let is : IsChanged c.in-Some.row (used_after (used_at c.args.used.now.items volume)) volume mid t = search rules in is) in
+    record {
+      moments = moments_of before c.args.used.now.items s t (c.requires.known tells) c.look.ensures.places volume on there.0 low there.1 w;
+      others = change_others (marked volume on) (OldOrNew volume (with_mark on there.0) (content s)) s t w;
+      done_ = marked_of before c.args.used.now.items s t (c.requires.known tells) c.look.ensures.places volume on there.0 low there.1 w there.2 changed.holds changed.slots_ c.change.new.self set_is;
+      complete = record {
+        row = with_mark on there.0;
+        is_row = record { old = there.0; there = there.1; other = there.2; becomes = (λ i. with_mark on there.0) };
+        now = now_set before c.change.new.self volume (with_mark on there.0) c.look.ensures.places low set_is;
+        moments = w;
+        held = changed.holds;
+        firm = changed.firm;
+        tells = record { volume_ = refl; change_ = refl };
+        count = c.writes.ensures ∙ g.met.S.Site.counted c.change_row.new.site tells;
+      };
+    }
