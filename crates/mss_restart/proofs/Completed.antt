@@ -23,7 +23,7 @@ use Rattle.mss_restart.specs.declared.steps.OpeningStep.{OpeningStep}
 use Rattle.shown_volumes.specs.Changing.{with_row}
 use Rattle.shown_volumes.specs.declared.refused.Refused.{Refused}
 use Rattle.shown_volumes.specs.declared.refused.Refused.TheVariants.{Memory}
-use Rattle.mss_restart.proofs.OtherRows.{others_then, others_of, front_apart, rest_apart}
+use Rattle.mss_restart.proofs.OtherRows.{others_then, others_of, front_holds, rest_holds}
 use Rattle.mss_restart.proofs.Finishing.{told_since}
 use Rattle.mss_restart.proofs.Creating.{AreRising}
 use Rattle.mss_restart.proofs.KnownRows.{rows_listed}
@@ -95,7 +95,7 @@ moments_more frames xs ys s t w =
     weaker (ShowsFront frames xs (shown (content s))) (ShowsFront frames (xs ++ ys) (shown (content s))) (λ d is. front_more frames xs ys (shown (content s)) d is) s t w
 
 pub others_more : (xs ys : List OpeningChange) (s t : SiteLog) → RepairsOthers xs s t → RepairsOthers (xs ++ ys) s t
-others_more xs ys s t others = others_of xs (xs ++ ys) s t (λ volume apart. front_apart volume xs ys apart) others
+others_more xs ys s t others = others_of xs (xs ++ ys) s t (λ P holds. front_holds P xs ys holds) others
 
 -- all of the first were made, and then some of the others
 module _ (xs ys : List OpeningChange) (s mid t : SiteLog) (before between rows : List (Option RowValue)) (used_mid used : List SlotsUsed) (firm : Settles s mid) (opened : AreOpened xs (content s) (content mid) before between used_mid) where
@@ -109,7 +109,7 @@ module _ (xs ys : List OpeningChange) (s mid t : SiteLog) (before between rows :
 
   pub others_behind : RepairsOthers xs s mid → RepairsOthers ys mid t → RepairsOthers (xs ++ ys) s t
   others_behind first second =
-      others_then (xs ++ ys) s mid t firm (others_more xs ys s mid first) (others_of ys (xs ++ ys) mid t (λ volume apart. rest_apart volume xs ys apart) second)
+      others_then (xs ++ ys) s mid t firm (others_more xs ys s mid first) (others_of ys (xs ++ ys) mid t (λ P holds. rest_holds P xs ys holds) second)
 
   pub opened_behind : AreOpened ys (content mid) (content t) between rows used → AreOpened (xs ++ ys) (content s) (content t) before rows used
   opened_behind second = record {

@@ -1,5 +1,5 @@
 -- One opening change after another.
-use Rattle.std.proofs.Common.{◌≡◌, ◌≢◌, inl, inr, ℕ, suc, ◌+◌, ◌<◌, cond, List, [], ◌∷◌, ◌++◌, length, map, drop, get_or, append_assoc, Option, refl, sym, ◌∙◌, ap, subst, arith}
+use Rattle.std.proofs.Common.{◌≡◌, inl, inr, ℕ, suc, ◌+◌, ◌<◌, cond, List, [], ◌∷◌, ◌++◌, length, map, drop, get_or, append_assoc, Option, refl, sym, ◌∙◌, ap, subst, arith}
 use Rattle.std.specs.Prelude.{is_some}
 use Rattle.std.proofs.lemmas.List.{append-nil}
 use Rattle.std.specs.List.{AllByRecursion}
@@ -22,7 +22,7 @@ use Rattle.shown_volumes.specs.Changing.{with_row}
 use Rattle.std.proofs.Math.Seq.{drop-cons}
 use Rattle.volume_table.specs.Listed.{listed}
 use Rattle.mss_restart.specs.Creations.{RepairsOthers}
-use Rattle.mss_restart.proofs.OtherRows.{nothing_else, others_then, others_of, is_apart}
+use Rattle.mss_restart.proofs.OtherRows.{nothing_else, others_then, others_of, one_holds}
 use Rattle.mss_restart.specs.Opening.{OpeningChange, made, marked, volume_of, opened_by, opened_all, BeforeOrAfter, to_make, to_mark, is_marked_as, AreKnown, ShowsFront, IsRowAfter, OpensRows, IsOpeningDone, AreOpened, used_by}
 
 abbrev pub AreRising : List VolumeData → Type 0
@@ -112,8 +112,8 @@ module _ (all : List OpeningChange) (start : RowsOf) (begun mid : SiteLog) (rows
   -- it leaves the others
   pub others_on : (now : SiteLog) → RepairsOthers (change ∷ []) mid now → RepairsOthers all begun now
   others_on now one =
-      others_then all begun mid now so_far.firm so_far.others (others_of (change ∷ []) all mid now (λ volume apart.
-      (is_apart volume so_far.done_ change rest (subst (AllByRecursion (λ w. volume_of w ≢ volume)) (sym so_far.order) apart), tt)) one)
+      others_then all begun mid now so_far.firm so_far.others (others_of (change ∷ []) all mid now (λ P holds.
+      (one_holds P so_far.done_ change rest (subst (AllByRecursion P) (sym so_far.order) holds), tt)) one)
 
   within : (frames : ℕ) → IsSound frames (content begun) → (d : Content) → IsSound frames d × BeforeOrAfter change (shown (content mid)) (shown d) → ShowsFront frames all (shown (content begun)) d
   within frames sound d is =

@@ -124,8 +124,8 @@ ShowsFronts config old new =
     Writes (ShowsFront frames changes (shown (content old))) old new
 
 -- what an opening leaves of a site that tells, however it ends: what a stop or a failing call leaves at each moment;
--- that no row but those of the changes is more than repaired and migrated; and that all that was begun is whole after
--- Ok and after want of memory
+-- that no row but those of the changes is more than repaired and migrated, and that no made marks change but those of
+-- new volumes; and that all that was begun is whole after Ok and after want of memory
 pub record LeavesRows (config : ConfigData) (old new : SiteLog) (answer : Result Opened Refused) : Type 0 where
   pub moments : ShowsFronts config old new
   pub others : RepairsOthers (opening_changes (rows_of (content old)) config.volumes) old new
@@ -133,8 +133,8 @@ pub record LeavesRows (config : ConfigData) (old new : SiteLog) (answer : Result
 
 -- of a site that tells: what is answered, exactly where no call failed; what a stop or a failing call leaves at each
 -- moment; that all that was begun is whole after Ok and after want of memory; that no row but those of the changes is
--- more than repaired and migrated, and that each copy goes on to tell its row alone, unless a call failed; that a
--- content with a fault isn't written
+-- more than repaired and migrated, and that no made marks change but those of new volumes; that each copy goes on to
+-- tell its row alone, unless a call failed; that a content with a fault isn't written
 pub record OpensSite (before now : ℕ) (config : ConfigData) (old new : SiteLog) (answer : Result Opened Refused)
     : Type 0 where
   pub opens : Opens before now config old new answer

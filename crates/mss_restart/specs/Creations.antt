@@ -77,16 +77,22 @@ pub record IsMigration (volume : ℕ) (old new : SiteLog) : Type 0 where
   pub without : row_of (content old) volume ≡ known None false → new ≡ old
   pub firm : Settles old new
 
--- a volume's row is being repaired or migrated at most: its made marks stay, and so do copies that need neither
-pub record IsRepairing (volume : ℕ) (old now : Content) : Type 0 where
-  pub marks : KeepsMarks volume old now
-  pub equal : NeedsNoRepair volume old → AreNew volume old → SameCopies volume old now
+-- a change doesn't make this volume
+abbrev pub IsNotMade : ℕ → OpeningChange → Type 0
+IsNotMade volume (made other serial) = other ≢ volume
+IsNotMade volume (marked other on) = Unit {0}
 
--- at each moment no row but those of these changes is more than repaired and migrated
+-- a volume that these changes don't make keeps its made marks, also where its row gets another mark; where they don't
+-- change it, its row is being repaired or migrated at most, so copies that need neither stay
+pub record SparesVolume (changes : List OpeningChange) (volume : ℕ) (old now : Content) : Type 0 where
+  pub marks : AllByRecursion (IsNotMade volume) changes → KeepsMarks volume old now
+  pub equal : AllByRecursion (λ change. volume_of change ≢ volume) changes
+      → NeedsNoRepair volume old → AreNew volume old → SameCopies volume old now
+
+-- at each moment no row but those of these changes is more than repaired and migrated, and no volume but those that
+-- they make gets a made mark or loses one
 abbrev pub RepairsOthers : List OpeningChange → SiteLog → SiteLog → Type 0
-RepairsOthers changes old new =
-    (volume : ℕ) → AllByRecursion (λ change. volume_of change ≢ volume) changes
-    → Writes (IsRepairing volume (content old)) old new
+RepairsOthers changes old new = (volume : ℕ) → Writes (SparesVolume changes volume (content old)) old new
 
 -- the rows of the first volumes were repaired, one after the other
 unfoldable pub AreRepaired : ℕ → SiteLog → SiteLog → Type 0
@@ -198,8 +204,8 @@ RewritesWhole old new (Ok value) = AreRewritten 32 32 old new
 RewritesWhole old new (Err Memory) = (repairs : ℕ) × ((migrations : ℕ) × AreRewritten repairs migrations old new)
 RewritesWhole old new (Err e) = Unit {0}
 
--- repairs and migrations: a sound content shows the same at each moment; no row is more than repaired and migrated; the
--- rows are known where none failed; and each was written to its end
+-- repairs and migrations: a sound content shows the same at each moment; no row is more than repaired and migrated, and
+-- all made marks stay; the rows are known where none failed; and each was written to its end
 pub record RewritesRows {T : Type 0} (rows : List (Option RowValue)) (used : List SlotsUsed) (old new : SiteLog)
     (result : Result T Refused) : Type 0 where
   pub moments : (frames : ℕ) → IsSound frames (content old) → Writes (SoundAs frames (shown (content old))) old new
@@ -245,7 +251,7 @@ account_of run = record {
 }
 
 -- one change over a site that tells: what a sound content shows at each moment; that no other row is more than repaired
--- and migrated; and what was done
+-- and migrated, and that no made marks change but those of a new volume; and what was done
 pub record DoesChange (change : OpeningChange) (before rows : List (Option RowValue)) (old new : SiteLog)
     (result : Result OpeningStep Refused) : Type 0 where
   pub moments : (frames : ℕ) → IsSound frames (content old)
@@ -254,8 +260,9 @@ pub record DoesChange (change : OpeningChange) (before rows : List (Option RowVa
   pub done_ : OnOk result (IsOpeningDone change (content old) (content new) before rows)
   pub complete : IfOk result (λ step. IsWritten (listed before) (listed rows) change step old new)
 
--- several changes: what a sound content shows at each moment; that no other row is more than repaired and migrated;
--- what is left where none failed; and, as `IsWhole` says, that each was written to its end
+-- several changes: what a sound content shows at each moment; that no other row is more than repaired and migrated, and
+-- that no made marks change but those of new volumes; what is left where none failed; and, as `IsWhole` says, that each
+-- was written to its end
 pub record OpensVolumes (IsWhole : Leaves) (run : OpeningRun) (old new : SiteLog) (result : Result (Unit {0}) Refused)
     : Type 0 where
   pub moments : (frames : ℕ) → IsSound frames (content old)

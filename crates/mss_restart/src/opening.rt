@@ -211,8 +211,9 @@ fn open_lent<S: Site>(alloc: Global, site: &mut S, config: &Config) -> Result<Op
 /// nothing is written. `RowUnread` and `Stopped` come only where a call of the site failed, and keep its count of
 /// faults behind that; `Stopped` also where one copy alone told a row, since a read of the other failed: then it keeps
 /// the count of the first such row, and nothing is written. After want of memory all that was begun was written to its
-/// end. At each moment the made marks of all other volumes stay, and so do their copies where they need no repair and
-/// are of version 2; and where each copy told its row alone, it does so afterwards, unless a call failed.
+/// end. At each moment the made marks of all volumes but the new ones stay, and so do the copies of a volume that is
+/// neither new nor gets another mark, where they need no repair and are of version 2. Where each copy told its row
+/// alone, it does so afterwards, unless a call failed.
 pub fn open_rows<S: Site>(
     alloc: Global,
     site: S,

@@ -6,7 +6,7 @@ ghost use Rattle.table_pair.specs.Changing.{ChangesCopy, IsCopyDue};
 ghost use Rattle.table_pair.specs.Copies.{copy_on};
 ghost use Rattle.table_pair.specs.Places.{place_of};
 ghost use Rattle.table_pair.specs.Pair.{ChangesRow, OldOrNew};
-ghost use Rattle.table_pair.specs.Repairs.{NeedsNoRepair};
+ghost use Rattle.table_pair.specs.Repairs.{KeepsMarks, NeedsNoRepair};
 ghost use Rattle.table_pair.specs.Slots.{IsChanged, IsDue, slots_after, used_after};
 
 use crate::copy::{SlotsUsed, TableCopy, place_of};
@@ -74,9 +74,9 @@ fn change_one<S: Site>(
 /// `row` is the row after the change; `used` tells how many slots of the copies are in use, and the answer how many are
 /// then.
 ///
-/// A copy gets one slot more, by two writes and two syncs; where it has none free it is rewritten, without slots, by four
-/// writes and three syncs. A stop at any moment leaves the old row or the new one. Once it is done the new one is firm.
-/// Where it fails, the site's count of faults has risen.
+/// A copy gets one slot more, by two writes and two syncs; where it has none free it is rewritten, without slots, by
+/// four writes and three syncs. A stop at any moment leaves the old row or the new one, and the made marks as they were.
+/// Once it is done the new one is firm. Where it fails, the site's count of faults has risen.
 pub fn change_row<S: Site>(
     site: &mut S,
     volume: VolumeNo,
@@ -90,6 +90,8 @@ pub fn change_row<S: Site>(
     ensures moments { S.tells → Writes
         (ChangesRow volume (OldOrNew volume row.now (content (S.told site.old)))
         (content (S.told site.old))) (S.told site.old) (S.told site.new) }
+    ensures marks { S.tells → Writes (KeepsMarks volume (content (S.told site.old)))
+        (S.told site.old) (S.told site.new) }
     ensures done { S.tells → OnOk result
         (IsChanged row.now (used_after used) volume (S.told site.old) (S.told site.new)) }
     ensures used { IfOk result (λ now. now ≡ used_after used) }

@@ -11,7 +11,7 @@ use Rattle.mss_restart.specs.declared.steps.OpeningStep.{OpeningStep}
 use Rattle.mss_restart.proofs.CreatedFacts.{moments_of, created_of, makes_new, now_set, on_ok}
 use Rattle.mss_restart.proofs.Counting.{new_row}
 use Rattle.mss_restart.proofs.Creating.{none_made}
-use Rattle.mss_restart.proofs.OtherRows.{change_others, nothing_else}
+use Rattle.mss_restart.proofs.OtherRows.{made_others, nothing_else}
 use Rattle.mss_restart.proofs.creations.create_volume.Goals as goal
 
 pub returns-then-is_err-clause-does : goal.returns-then-is_err-clause-does
@@ -24,7 +24,7 @@ returns-then-is_err-clause-does g c = λ tells.
     record {
       moments = moments_of c.args.rows.now s t (c.requires.told tells) c.look.ensures.places volume c.lowest_free-first.result c.lowest_free-second.result c.args.serial row
           (let low : volume < 32 = search rules in low) c.requires.none c.lowest_free-first.ensures c.lowest_free-second.ensures c.in_ok-row.ensures w;
-      others = change_others (made volume c.args.serial) (NoneOrNew volume row) s t w;
+      others = made_others volume c.args.serial (NoneOrNew volume row) s t w;
       done_ = tt;
       complete = tt;
     }
@@ -44,7 +44,7 @@ returns-clause-does g c = λ tells.
     record {
       moments = moments_of before s t (c.requires.told tells) c.look.ensures.places volume c.lowest_free-first.result c.lowest_free-second.result c.args.serial row
           low c.requires.none c.lowest_free-first.ensures c.lowest_free-second.ensures c.in_ok-row.ensures w;
-      others = change_others (made volume c.args.serial) (NoneOrNew volume row) s t w;
+      others = made_others volume c.args.serial (NoneOrNew volume row) s t w;
       done_ = done;
       complete = record {
         row = row;

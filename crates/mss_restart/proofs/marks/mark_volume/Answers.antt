@@ -3,6 +3,7 @@ use Rattle.std.proofs.lemmas.Result.{err_from_is_err_and}
 use Rattle.std.specs.Option.{option_map}
 use Rattle.mss_base.specs.Content.{SiteLog, content, Writes}
 use Rattle.table_pair.specs.Pair.{ChangesRow, OldOrNew}
+use Rattle.table_pair.specs.Repairs.{KeepsMarks}
 use Rattle.table_pair.specs.Slots.{IsChanged, used_after, used_at}
 use Rattle.volume_table.specs.Row.{RowValue}
 use Rattle.volume_table.specs.Changes.{effect, with_mark}
@@ -14,7 +15,7 @@ use Rattle.mss_restart.specs.declared.steps.OpeningStep.{OpeningStep}
 use Rattle.mss_restart.proofs.CreatedFacts.{now_set}
 use Rattle.mss_restart.proofs.MarkedFacts.{moments_of, marked_of}
 use Rattle.mss_restart.proofs.Creating.{none_made}
-use Rattle.mss_restart.proofs.OtherRows.{change_others, nothing_else}
+use Rattle.mss_restart.proofs.OtherRows.{marked_others, nothing_else}
 use Rattle.mss_restart.proofs.marks.mark_volume.Goals as goal
 
 pub returns-in_err-reserve-clause-does : goal.returns-in_err-reserve-clause-does
@@ -43,7 +44,8 @@ returns-in_default-change_row-clause-does g c = λ tells.
     let w = subst (λ (x : SiteLog × RowValue). Writes (ChangesRow volume (OldOrNew volume x.1 (content x.0)) (content x.0)) x.0 t) (λ i. (c.reserve.ensures.told tells i, row i)) (c.change_row.ensures.moments tells) in
     record {
       moments = moments_of c.args.rows.now c.args.used.now.items s t (c.requires.known tells) c.look.ensures.places volume on there.0 (let low : volume < 32 = search rules in low) there.1 w;
-      others = change_others (marked volume on) (OldOrNew volume (with_mark on there.0) (content s)) s t w;
+      others = marked_others volume on (OldOrNew volume (with_mark on there.0) (content s)) s t w
+          (subst (λ (x : SiteLog). Writes (KeepsMarks volume (content x)) x t) (c.reserve.ensures.told tells) (c.change_row.ensures.marks tells));
       done_ = tt;
       complete = tt;
     }
@@ -67,7 +69,8 @@ returns-clause-does g c = λ tells.
     (let is : IsChanged c.in-Some.row (used_after (used_at c.args.used.now.items volume)) volume mid t = search rules in is) in
     record {
       moments = moments_of before c.args.used.now.items s t (c.requires.known tells) c.look.ensures.places volume on there.0 low there.1 w;
-      others = change_others (marked volume on) (OldOrNew volume (with_mark on there.0) (content s)) s t w;
+      others = marked_others volume on (OldOrNew volume (with_mark on there.0) (content s)) s t w
+          (subst (λ (x : SiteLog). Writes (KeepsMarks volume (content x)) x t) (c.reserve.ensures.told tells) (c.change_row.ensures.marks tells));
       done_ = marked_of before c.args.used.now.items s t (c.requires.known tells) c.look.ensures.places volume on there.0 low there.1 w there.2 changed.holds changed.slots_ c.change.new.self set_is;
       complete = record {
         row = with_mark on there.0;

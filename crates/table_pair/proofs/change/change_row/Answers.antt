@@ -1,4 +1,4 @@
-use Rattle.table_pair.proofs.ChangeLemmas.{due_b, moments_a, moments_b, is_changed, changed_settled}
+use Rattle.table_pair.proofs.ChangeLemmas.{due_b, moments_a, moments_b, marks_a, marks_b, is_changed, changed_settled}
 use Rattle.table_pair.proofs.change.change_row.Goals as goal
 
 pub returns-in_err-a-clause-moments : goal.returns-in_err-a-clause-moments
@@ -19,3 +19,12 @@ returns-clause-done g c = λ tells. is_changed _ (c.requires.due tells) (c.in_ok
 pub returns-clause-settled : goal.returns-clause-settled
 returns-clause-settled g c = λ tells.
     changed_settled (is_changed _ (c.requires.due tells) (c.in_ok-a.ensures.changes tells) (c.in_ok-b.ensures.changes tells))
+
+pub returns-in_err-a-clause-marks : goal.returns-in_err-a-clause-marks
+returns-in_err-a-clause-marks g c = λ tells. marks_a _ (c.requires.due tells) (c.change_one.ensures.changes tells)
+
+pub returns-in_err-b-clause-marks : goal.returns-in_err-b-clause-marks
+returns-in_err-b-clause-marks g c = λ tells. marks_b _ (c.requires.due tells) (c.in_ok-a.ensures.changes tells) (c.change_one-2.ensures.changes tells)
+
+pub returns-clause-marks : goal.returns-clause-marks
+returns-clause-marks g c = λ tells. marks_b _ (c.requires.due tells) (c.in_ok-a.ensures.changes tells) (c.change_one-2.ensures.changes tells)
