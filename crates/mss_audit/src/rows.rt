@@ -38,7 +38,7 @@ fn read_copy<S: Site>(
             fault: site.faults(),
         });
     }
-    let read = copy_state(alloc, block.as_slice())?;
+    let read = copy_state(alloc, block)?;
     Ok(read)
 }
 

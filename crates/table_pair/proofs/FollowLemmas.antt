@@ -1,7 +1,6 @@
 -- Which copy is to be rewritten.
-use Rattle.std.proofs.Common.{◌≡◌, inl, inr, Bool, true, false, ℕ, List, take, Option, Some, None, Result, Ok, Err, sym, ◌∙◌, ap, subst, ◌++◌, length}
+use Rattle.std.proofs.Common.{◌≡◌, inl, inr, Bool, true, false, ℕ, List, Option, Some, None, Result, Ok, Err, sym, ◌∙◌, ap, subst}
 use Rattle.std.specs.Prelude.{OnOk}
-use Rattle.std.proofs.lemmas.List.{take_at}
 use Rattle.volume_table.specs.Row.{RowValue}
 use Rattle.volume_table.specs.Grammar.{decode}
 use Rattle.volume_table.specs.declared.fault.RowFault.{RowFault}
@@ -47,7 +46,3 @@ refuted flag P is gives p = let e : false ≡ true = sym is ∙ gives p in cc
 pub on_ok_gives : {T E : Type 0} (r : Result T E) (P Q : Type 0) → (P → Q) → OnOk r P → OnOk r Q
 on_ok_gives (Ok value) P Q gives holds = gives holds
 on_ok_gives (Err e) P Q gives holds = tt
-
--- what was read into a buffer, seen in it later
-pub lent_back : (put rest : List ℕ) (size : ℕ) (seen : List ℕ) → length put ≡ size → seen ≡ take size (put ++ rest) → put ≡ seen
-lent_back put rest size seen long is = sym (is ∙ take_at put rest size long)

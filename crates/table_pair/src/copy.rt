@@ -3,7 +3,6 @@ ghost use Rattle.std.specs.Prelude.{◌≡◌};
 ghost use Rattle.table_pair.specs.Places.{place_of};
 
 use mss_base::{BlockPlace, Listed, NoMemory, UnitNo, VolumeNo};
-use std::alloc::AllocError;
 use volume_table::{RowFault, VolumeRow};
 
 /// A copy of the table.
@@ -86,16 +85,6 @@ impl From<NoMemory> for RowTrouble {
     }
 }
 
-impl From<AllocError> for RowTrouble {
-    ghost use Rattle.table_pair.specs.declared.copy.RowTrouble.TheVariants.{Memory};
-
-    ghost from_gives = { λ _ e. e ≡ Memory };
-
-    fn from(_: AllocError) -> Self {
-        RowTrouble::Memory
-    }
-}
-
 /// Why two copies weren't made equal.
 #[derive(Clone, Copy)]
 pub enum RepairFault {
@@ -111,16 +100,6 @@ impl From<NoMemory> for RepairFault {
     ghost from_gives = { λ _ e. e ≡ Memory };
 
     fn from(_: NoMemory) -> Self {
-        RepairFault::Memory
-    }
-}
-
-impl From<AllocError> for RepairFault {
-    ghost use Rattle.table_pair.specs.declared.copy.RepairFault.TheVariants.{Memory};
-
-    ghost from_gives = { λ _ e. e ≡ Memory };
-
-    fn from(_: AllocError) -> Self {
         RepairFault::Memory
     }
 }

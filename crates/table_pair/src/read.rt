@@ -11,16 +11,16 @@ ghost use Rattle.table_pair.specs.Reads.{seen, is_opened, IsReadable, IsReadOf, 
 
 use crate::copy::{CopyState, RowRead, RowTrouble, TableCopy, place_of};
 use crate::write::{GATE, MADE};
-use mss_base::{BLOCK_BYTES, BlockPlace, Failed, NoMemory, OPEN, Site, VolumeNo};
+use mss_base::{Block, BlockPlace, Failed, NoMemory, OPEN, Site, VolumeNo};
 use std::alloc::Global;
 use table_journal::read_slots;
 use volume_table::{DecodeFault, ROW_BYTES, RowFault, VolumeRow, decode_told};
 
 /// What a block that was read says of its copy.
-pub fn copy_state(alloc: Global, block: &[u8]) -> Result<CopyState, NoMemory>
-    requires { length block.now ≡ BLOCK_BYTES }
+pub fn copy_state(alloc: Global, block: &Block) -> Result<CopyState, NoMemory>
     ensures { IfOk result (λ c. seen c ≡ read_of (copy_at block.now)) }
 {
+    let block = block.as_slice();
     if block[GATE as usize] != OPEN {
         return Ok(CopyState::Closed {
             made: block[MADE as usize] != 0,
@@ -39,16 +39,15 @@ fn read_copy<S: Site>(
     alloc: Global,
     site: &mut S,
     at: &BlockPlace,
-    block: &mut [u8],
+    block: &mut Block,
 ) -> Result<CopyState, NoMemory>
-    requires { length block.old ≡ BLOCK_BYTES }
     ensures copy { S.tells → IfOk result (λ c. IsReadOf (S.faults site.old) (S.faults site.new)
         (block_of (S.told site.old) at.now) (seen c)) }
     ensures kept { CopyKeeps (S.faults site.old) (S.faults site.new) result }
     ensures works { IsReadable S.Site site.old at.now.unit → IfOk result (λ c. seen c ≢ unread) }
     ensures devices { OnlyReads S.Site site.old site.new }
 {
-    match site.read(at.unit, at.block, block) {
+    match block.read(site, at) {
         Ok(()) => copy_state(alloc, block),
         Err(Failed) => Ok(CopyState::Unread {
             fault: site.faults(),
@@ -129,7 +128,7 @@ pub fn read_row<S: Site>(
         → ReadsBoth (S.faults site.old) (S.faults site.new) result }
     ensures devices { OnlyReads S.Site site.old site.new }
 {
-    let mut block = vec![in alloc; 0u8; BLOCK_BYTES]?;
+    let mut block = Block::zeros(alloc)?;
     let a = read_copy(alloc, site, &place_of(TableCopy::A, volume), &mut block)?;
     if is_open(&a) {
         return by_table(a, CopyState::Closed { made: false });

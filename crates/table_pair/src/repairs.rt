@@ -13,7 +13,7 @@ ghost use Rattle.table_pair.specs.declared.copy.RepairFault.TheVariants.{Memory}
 use crate::copy::{CopyState, RepairFault, SlotsUsed, TableCopy, place_of};
 use crate::read::copy_state;
 use crate::write::{COPY_ITEMS, GATE, Gates, gates_of, rewrite_copy};
-use mss_base::{BLOCK_BYTES, BlockPlace, Failed, NoMemory, OPEN, Site, VolumeNo};
+use mss_base::{Block, BlockPlace, Failed, NoMemory, OPEN, Site, VolumeNo};
 use std::alloc::Global;
 use table_journal::read_slots;
 use volume_table::{BODY, BODY_END, ROW_BYTES, VolumeRow, encode_row};
@@ -35,16 +35,14 @@ pub struct Found {
     pub used: SlotsUsed,
 }
 
-fn is_open(block: &[u8]) -> bool
-    requires { length block.now ≡ BLOCK_BYTES }
+fn is_open(block: &Block) -> bool
     ensures { result ≡ (copy_at block.now).is_open }
 {
-    block[GATE as usize] == OPEN
+    block.as_slice()[GATE as usize] == OPEN
 }
 
 /// The row that a copy tells, if it is open and tells one.
-fn told_row(alloc: Global, block: &[u8]) -> Result<Option<VolumeRow>, NoMemory>
-    requires { length block.now ≡ BLOCK_BYTES }
+fn told_row(alloc: Global, block: &Block) -> Result<Option<VolumeRow>, NoMemory>
     ensures { IfOk result (λ row. TellsRow row (copy_at block.now)) }
 {
     match copy_state(alloc, block)? {
@@ -77,9 +75,7 @@ fn tells(told: &Option<VolumeRow>, row: &VolumeRow) -> bool
 
 /// What has to be rewritten, if anything. Copy A is followed where it is open, else an open copy B; a copy that tells no
 /// row isn't followed.
-fn stale_copy(alloc: Global, a: &[u8], b: &[u8]) -> Result<Option<Stale>, NoMemory>
-    requires a { length a.now ≡ BLOCK_BYTES }
-    requires b { length b.now ≡ BLOCK_BYTES }
+fn stale_copy(alloc: Global, a: &Block, b: &Block) -> Result<Option<Stale>, NoMemory>
     ensures { IfOk result (λ stale. MayBeStale stale (copy_at a.now) (copy_at b.now)) }
 {
     let by_b = told_row(alloc, b)?;
@@ -89,7 +85,7 @@ fn stale_copy(alloc: Global, a: &[u8], b: &[u8]) -> Result<Option<Stale>, NoMemo
         };
         return Ok(Some(Stale {
             copy: TableCopy::A,
-            gates: gates_of(a),
+            gates: gates_of(a.as_slice()),
             row,
         }));
     }
@@ -101,21 +97,19 @@ fn stale_copy(alloc: Global, a: &[u8], b: &[u8]) -> Result<Option<Stale>, NoMemo
     }
     Ok(Some(Stale {
         copy: TableCopy::B,
-        gates: gates_of(b),
+        gates: gates_of(b.as_slice()),
         row,
     }))
 }
 
 /// What two blocks that were read are found to be.
-fn found_in(alloc: Global, a: &[u8], b: &[u8]) -> Result<Found, NoMemory>
-    requires a { length a.now ≡ BLOCK_BYTES }
-    requires b { length b.now ≡ BLOCK_BYTES }
+fn found_in(alloc: Global, a: &Block, b: &Block) -> Result<Found, NoMemory>
     ensures { IfOk result (λ found. IsFound found (copy_at a.now) (copy_at b.now)) }
 {
     let stale = stale_copy(alloc, a, b)?;
     let used = SlotsUsed {
-        a: read_slots(a),
-        b: read_slots(b),
+        a: read_slots(a.as_slice()),
+        b: read_slots(b.as_slice()),
     };
     Ok(Found { stale, used })
 }
@@ -145,14 +139,13 @@ fn follow<S: Site>(site: &mut S, volume: VolumeNo, stale: &Stale) -> Result<(), 
 }
 
 /// Reads a block, or tells the count of faults after the read.
-fn read_block<S: Site>(site: &mut S, at: &BlockPlace, block: &mut [u8]) -> Result<(), RepairFault>
-    requires { length block.old ≡ BLOCK_BYTES }
+fn read_block<S: Site>(site: &mut S, at: &BlockPlace, block: &mut Block) -> Result<(), RepairFault>
     ensures block { S.tells → OnOk result (block.new ≡ block_of (S.told site.old) at.now) }
     ensures devices { OnlyReads S.Site site.old site.new }
     ensures kept { KeepsRepairFault (S.faults site.old) (S.faults site.new) result }
     ensures works { IsReadable S.Site site.old at.now.unit → IsOk result }
 {
-    match site.read(at.unit, at.block, block) {
+    match block.read(site, at) {
         Ok(()) => Ok(()),
         Err(Failed) => Err(RepairFault::Failed {
             fault: site.faults(),
@@ -171,8 +164,8 @@ fn find_stale<S: Site>(alloc: Global, site: &mut S, volume: VolumeNo) -> Result<
         → IsReadable S.Site site.old TableB → FailsNever result }
 {
     site.reserve(COPY_ITEMS)?;
-    let mut a = vec![in alloc; 0u8; BLOCK_BYTES]?;
-    let mut b = vec![in alloc; 0u8; BLOCK_BYTES]?;
+    let mut a = Block::zeros(alloc)?;
+    let mut b = Block::zeros(alloc)?;
     read_block(site, &place_of(TableCopy::A, volume), &mut a)?;
     read_block(site, &place_of(TableCopy::B, volume), &mut b)?;
     let found = found_in(alloc, &a, &b)?;

@@ -27,15 +27,21 @@ open_is block front rest count row is behind counted gate found =
 closed_is : (block : List ℕ) (made : Bool) → get_or block 0 0 ≢ 193 → made ≡ not (get_or block 511 0 == 0) → closed made ≡ read_of (copy_at block)
 closed_is block made is mark = ap closed (mark ∙ sym (mark_of block)) ∙ sym (closed_read (copy_at block) (gate_of block ∙ ne_eqb (get_or block 0 0) 193 is))
 
+-- the bytes that are read are those of the block
+of_block : (bytes block : List ℕ) → bytes ≡ block → read_of (copy_at bytes) ≡ read_of (copy_at block)
+of_block bytes block same = ap (λ (b : List ℕ). read_of (copy_at b)) same
+
 pub returns-then-block : goal.returns-then-block
-returns-then-block c = closed_is c.args.block.now _ c.if-block.true refl
+returns-then-block c =
+    let bytes = c.as_slice-block.result.now in
+    closed_is bytes _ c.if-block.true refl ∙ of_block bytes c.args.block.now c.as_slice-block.ensures.bytes
 
 pub returns-in-Ok : goal.returns-in-Ok
 returns-in-Ok c =
-    let block = c.args.block.now in
-    open_is block _ _ _ _ c.split_at.ensures.front c.split_at.ensures.back c.read_slots.ensures.count (omega arith) c.in-Ok.ensures
+    let bytes = c.as_slice-block.result.now in
+    open_is bytes _ _ _ _ c.split_at.ensures.front c.split_at.ensures.back c.read_slots.ensures.count (omega arith) c.in-Ok.ensures ∙ of_block bytes c.args.block.now c.as_slice-block.ensures.bytes
 
 pub returns-in-Err-Bad : goal.returns-in-Err-Bad
 returns-in-Err-Bad c =
-    let block = c.args.block.now in
-    open_is block _ _ _ _ c.split_at.ensures.front c.split_at.ensures.back c.read_slots.ensures.count (omega arith) (rw c.in-Err-Bad.field-0-is at c.in-Err-Bad.ensures)
+    let bytes = c.as_slice-block.result.now in
+    open_is bytes _ _ _ _ c.split_at.ensures.front c.split_at.ensures.back c.read_slots.ensures.count (omega arith) (rw c.in-Err-Bad.field-0-is at c.in-Err-Bad.ensures) ∙ of_block bytes c.args.block.now c.as_slice-block.ensures.bytes

@@ -5,7 +5,6 @@ use Rattle.mss_base.specs.declared.place.BlockPlace.{BlockPlace}
 use Rattle.mss_base.specs.declared.place.UnitNo.TheVariants.{TableA, TableB}
 use Rattle.table_pair.specs.Reads.{IsReadable}
 use Rattle.table_pair.specs.Repairs.{KeepsRepairFault}
-use Rattle.table_pair.proofs.FollowLemmas.{lent_back}
 use Rattle.table_pair.proofs.SiteLemmas.{got_room, room_read, readable_on}
 use Rattle.table_pair.proofs.RepairLemmas.{found_on, kept_since, never_err}
 use Rattle.table_pair.proofs.repairs.find_stale.Goals as goal
@@ -17,10 +16,8 @@ returns-clause-found g c = λ tells.
     let r1 : g.S.Site.told c.read_block.new.site ≡ s = c.read_block.ensures.devices.log tells ∙ r0 in
     let read_a : c.read_block.new.block ≡ content (g.S.Site.told c.reserve.new.self) c.place_of.result.unit c.place_of.result.block = c.in_ok-read_block.ensures.block tells in
     let read_b : c.read_block-2.new.block ≡ content (g.S.Site.told c.read_block.new.site) c.place_of-2.result.unit c.place_of-2.result.block = c.in_ok-read_block-2.ensures.block tells in
-    let is_a = ap (λ (q : SiteLog). content q TableA c.args.volume) (sym r0) ∙ sym (read_a ∙ ap (λ (at : BlockPlace). content (g.S.Site.told c.reserve.new.self) at.unit at.block) c.place_of.ensures)
-    ∙ lent_back c.read_block.new.block _ c.in_ok-a.a.len _ (c.read_block.auto.block ∙ c.deref_mut.ensures.len) c.deref.ensures.value in
-    let is_b = ap (λ (q : SiteLog). content q TableB c.args.volume) (sym r1) ∙ sym (read_b ∙ ap (λ (at : BlockPlace). content (g.S.Site.told c.read_block.new.site) at.unit at.block) c.place_of-2.ensures)
-    ∙ lent_back c.read_block-2.new.block _ c.in_ok-b.b.len _ (c.read_block-2.auto.block ∙ c.deref_mut-2.ensures.len) c.deref-2.ensures.value in
+    let is_a = ap (λ (q : SiteLog). content q TableA c.args.volume) (sym r0) ∙ sym (read_a ∙ ap (λ (at : BlockPlace). content (g.S.Site.told c.reserve.new.self) at.unit at.block) c.place_of.ensures) in
+    let is_b = ap (λ (q : SiteLog). content q TableB c.args.volume) (sym r1) ∙ sym (read_b ∙ ap (λ (at : BlockPlace). content (g.S.Site.told c.read_block.new.site) at.unit at.block) c.place_of-2.ensures) in
     found_on _ c.args.volume s _ _ is_a is_b c.in_ok-found.ensures
 
 pub returns-in_err-read_block-2-clause-kept : goal.returns-in_err-read_block-2-clause-kept
