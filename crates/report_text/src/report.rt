@@ -1,5 +1,5 @@
 // The parts of a report, each put into a sink.
-ghost use Rattle.std.specs.Prelude.{◌≡◌, ◌≢◌, [], IsOk, IsErrOf, IsOkUnless, length};
+ghost use Rattle.std.specs.Prelude.{◌≡◌, ◌≢◌, [], IsOk, IsErrOf, IsOkUnless};
 ghost use Rattle.mss_base.specs.Counts.{HasCause};
 ghost use Rattle.mss_base.specs.Puts.{Puts};
 ghost use Rattle.ckd_track.specs.Track.{reading};
@@ -22,7 +22,7 @@ use crate::pieces::{put_numbered, put_text};
 use crate::text::{push_entry, push_heading, push_track};
 use ckd_plain::Entry;
 use ckd_track::stored_records;
-use mss_base::{Bytes, Cylinder, Failed, FrameNo, Head, NoMemory, Serial, Sink, VolumeNo};
+use mss_base::{Block, Bytes, Cylinder, Failed, FrameNo, Head, NoMemory, Serial, Sink, VolumeNo};
 use volume_table::Change;
 
 /// Why a part of a report wasn't put whole. A front of it was.
@@ -164,15 +164,14 @@ pub fn put_track<O: Sink>(
     buffer: &mut Bytes,
     cylinder: Cylinder,
     head: Head,
-    block: &[u8],
+    block: &Block,
 ) -> Result<(), ReportFault>
-    requires { length block.now ≡ 16384 }
     ensures bytes { O.tells → Puts result (O.told output.old) (O.told output.new)
         (track_text cylinder head (reading block.now).records) }
     ensures blank { (reading block.now).records ≡ [] → IsOk result × (output.new ≡ output.old) }
     ensures cause { HasOutputCause (O.faults output.old) (O.faults output.new) result }
 {
-    let mut records = stored_records(block);
+    let mut records = stored_records(block.as_slice());
     let Some(first) = records.next() else {
         return Ok(());
     };

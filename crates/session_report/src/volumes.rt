@@ -46,7 +46,7 @@ fn put_shown<S: Site, O: Sink>(
             fault: site.faults(),
         });
     }
-    put_track(output, line, cylinder, head, block.as_slice())?;
+    put_track(output, line, cylinder, head, block)?;
     Ok(())
 }
 
