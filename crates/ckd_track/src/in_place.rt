@@ -7,28 +7,26 @@ ghost use Rattle.ckd_track.specs.Stored.{GoesOn};
 
 use crate::layout::{FIRST_PLACE, GATES, TRACK_COST, cost_at, record_length};
 use crate::{BadRecord, stored_records};
-use mss_base::{BLOCK_BYTES, OPEN};
+use mss_base::{BLOCK_BYTES, Block, OPEN};
 
-/// Whether a block of 16,384 bytes is a track, or its first record that is no part of one.
+/// Whether a block is a track, or its first record that is no part of one.
 ///
 /// It looks at one byte of a blank track.
-pub fn check_track(block: &[u8]) -> Result<(), BadRecord>
-    requires { length block.now ≡ BLOCK_BYTES }
+pub fn check_track(block: &Block) -> Result<(), BadRecord>
     ensures ok { IsOk result ↔ ((reading block.now).bad ≡ None) }
     ensures bad { IfErr result (λ e. (reading block.now).bad ≡ Some e) }
     ensures track { IsTrack (reading block.now).records }
 {
-    let mut stored = stored_records(block);
+    let mut stored = stored_records(block.as_slice());
     while stored.next_record()?.is_some() {}
     Ok(())
 }
 
 /// Whether a block is a blank track, which its first gate tells.
-pub fn is_blank(block: &[u8]) -> bool
-    requires { length block.now ≡ BLOCK_BYTES }
+pub fn is_blank(block: &Block) -> bool
     ensures { IsTrue result ↔ (reading block.now ≡ reading_of []) }
 {
-    block[GATES as usize + 1] != OPEN
+    block.as_slice()[GATES as usize + 1] != OPEN
 }
 
 /// What the records up to this one cost together, where it is one of the track.
@@ -72,21 +70,19 @@ pub fn find_place(block: &[u8], number: u8) -> Option<u16>
 
 /// How many records there are on a block's track.
 #[tactic(auto, using(crate::proofs::TrackFacts::reading_length))]
-pub fn record_count(block: &[u8]) -> u8
-    requires { length block.now ≡ BLOCK_BYTES }
+pub fn record_count(block: &Block) -> u8
     ensures count { result ≡ length (reading block.now).records }
     ensures few { result ≤ 97 }
 {
-    stored_records(block).count() as u8
+    stored_records(block.as_slice()).count() as u8
 }
 
 /// What the first `count` records of a block's track take of it together.
-pub fn cost_of_front(block: &[u8], count: u8) -> u32
-    requires { length block.now ≡ BLOCK_BYTES }
+pub fn cost_of_front(block: &Block, count: u8) -> u32
     ensures cost { result ≡ cost (take count (reading block.now).records) }
     ensures within { result ≤ TRACK_COST }
 {
-    let mut stored = stored_records(block);
+    let mut stored = stored_records(block.as_slice());
     let mut cost = 0;
     for _ in 0..count {
         let Some(record) = stored.next() else {

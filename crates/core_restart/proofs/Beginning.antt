@@ -1,9 +1,7 @@
 -- The core with which a session begins is whole, and its counts are right.
 use Rattle.std.proofs.Common.{◌≡◌, ℕ, ◌*◌, ◌≤◌, List, [], ◌++◌, length, map, Option, None, refl, sym, ◌∙◌, ap, subst, arith}
-use Rattle.std.specs.Prelude.{vec_len}
 use Rattle.mss_base.specs.Configs.{ConfigData}
 use Rattle.mss_base.specs.Content.{SiteLog, content}
-use Rattle.mss_base.specs.declared.block.TheConstants.{BLOCK_BYTES}
 use Rattle.volume_table.specs.Listed.{AreRows, listed}
 use Rattle.shown_volumes.specs.Shown.{RowsOf}
 use Rattle.shown_volumes.proofs.QuietFacts.{firm_quiet}
@@ -114,11 +112,10 @@ module _ (tells : Type 0) (told : SiteLog) (writes faults : ℕ) (config : Confi
           ready.used_ (λ tl. (ready.opened_ tl).slots_) (λ tl. firm_quiet told (ready.firm tl))
           (λ tl. subst (λ (n : ℕ). AllDone n v.console) (at_end tl) done) (λ tl. allowed) (λ tl. leads_now))
 
-      pub kept_begun : (room : ℕ) → room ≡ BLOCK_BYTES → IsKept tells told writes faults room v
-      kept_begun room is_block = record {
+      pub kept_begun : IsKept tells told writes faults v
+      kept_begun = record {
         whole = whole;
         counted = counted_begun writes faults v.requests (data_of v) is.no_entries is.no_marks is.no_requests is.going is.first_write_ is.first_faults_ done;
-        buffer = is_block;
       }
 
 -- ---- its parts
@@ -178,7 +175,7 @@ module _ {S C : Type 0} (site : S) (chooser kept : C) (parts : Parts) (opened : 
   }
 
   pub kept_of : (tells : Type 0) (told : SiteLog) → AreRising parts.config.volumes → steps_in console ≡ steps_of opened → MayBegin tells told writes parts.config opened → (tells → writes ≡ length told.log)
-      → IsKept tells told writes faults (vec_len parts.buffer) (core_of site kept parts opened frames rail d)
+      → IsKept tells told writes faults (core_of site kept parts opened frames rail d)
   kept_of tells told rising made_is ready at_end =
       let same : steps_in d.console ++ [] ≡ steps_of opened = append-nil (steps_in d.console) ∙ ap (λ (x : SessionData). steps_in x.console) is ∙ made_is in
       kept_begun tells told writes faults parts.config rising chooser (core_of site kept parts opened frames rail d) begins_of (record {
@@ -190,7 +187,6 @@ module _ {S C : Type 0} (site : S) (chooser kept : C) (parts : Parts) (opened : 
         opened_ = ready.opened_;
         firm = ready.firm;
       }) at_end
-      (vec_len parts.buffer) are.buffer_
 
 -- an opening that was answered is one to begin from
 pub may_begin : (tells : Type 0) (config : ConfigData) (old new : DevicesSeen) (opened : Opened) → length opened.rows ≡ 32 → AreRows opened.rows → IsUsable config opened

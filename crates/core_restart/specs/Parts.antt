@@ -1,9 +1,8 @@
 -- What a core needs of memory beside its rows, and from what it can begin.
-use Rattle.std.specs.Prelude.{◌≡◌, ◌≤◌, ◌*◌, ℕ, [], length, replicate, None, vec_len}
+use Rattle.std.specs.Prelude.{◌≡◌, ◌≤◌, ◌*◌, ℕ, [], length, replicate, None}
 use Rattle.mss_base.specs.Configs.{ConfigData}
 use Rattle.mss_base.specs.Content.{Content, SiteLog, IsLoose, content}
 use Rattle.mss_base.specs.declared.place.UnitNo.{UnitNo}
-use Rattle.mss_base.specs.declared.block.TheConstants.{BLOCK_BYTES}
 use Rattle.volume_table.specs.Listed.{listed}
 use Rattle.ckd_plain.specs.Plain.{fresh_host}
 use Rattle.cartridge_store.specs.Places.{place_of, home_of}
@@ -18,7 +17,6 @@ use Rattle.core_restart.specs.Owners.{HaveFrames}
 -- everything at its start, with room for two messages of each configured volume
 pub record AreParts (config : ConfigData) (parts : Parts) : Type 0 where
   pub config_ : parts.config ≡ config
-  pub buffer_ : vec_len parts.buffer ≡ BLOCK_BYTES
   pub frames_ : parts.frames ≡ free_frames config.frames
   pub recency_ : parts.recency ≡ untouched config.frames
   pub requests_ : parts.requests ≡ []

@@ -1,6 +1,5 @@
 // What a core needs of memory, which is taken before anything is written.
-ghost use Rattle.std.specs.Prelude.{◌≡◌, ◌≤◌, ◌*◌, ℕ, [], length, replicate, None, IfOk, vec_len};
-ghost use Rattle.mss_base.specs.declared.block.TheConstants.{BLOCK_BYTES};
+ghost use Rattle.std.specs.Prelude.{◌≡◌, ◌≤◌, ◌*◌, ℕ, [], length, replicate, None, IfOk};
 ghost use Rattle.cartridge_store.specs.Places.{home_of, place_of};
 ghost use Rattle.ckd_plain.specs.Plain.{fresh_host};
 ghost use Rattle.staging_adapter.specs.Frames.{free_frames};
@@ -10,7 +9,7 @@ use cartridge_store::Store;
 use ckd_plain::HostState;
 use core_state::{HostStateList, MessageList, RecorderList, TaskList};
 use fault_queue::Queue;
-use mss_base::{BLOCK_BYTES, Config, NoMemory, Serial, VolumeList, VolumeNo};
+use mss_base::{Block, Config, NoMemory, Serial, VolumeList, VolumeNo};
 use recording_devices::Recorder;
 use staging_adapter::Frames;
 use std::alloc::Global;
@@ -20,7 +19,7 @@ use victim_choice::Recency;
 #[derive(Drop)]
 pub struct Parts {
     pub config: Config,
-    pub buffer: Vec<u8>,
+    pub buffer: Block,
     pub frames: Frames,
     pub recency: Recency,
     pub requests: Queue,
@@ -41,13 +40,6 @@ fn copy_of(alloc: Global, config: &Config) -> Result<Config, NoMemory>
         recorders: config.recorders,
         volumes,
     })
-}
-
-/// Room for the block of one track.
-fn block(alloc: Global) -> Result<Vec<u8>, NoMemory>
-    ensures { IfOk result (λ buffer. vec_len buffer ≡ BLOCK_BYTES) }
-{
-    Ok(vec![in alloc; 0; BLOCK_BYTES]?)
 }
 
 /// No task for any of so many recorders, 8 at most.
@@ -132,11 +124,10 @@ fn host_parts(
 }
 
 /// Room for a block, and the configuration.
-fn own_parts(alloc: Global, config: &Config) -> Result<(Vec<u8>, Config), NoMemory>
-    ensures buffer { IfOk result (λ parts. vec_len parts.0 ≡ BLOCK_BYTES) }
-    ensures config { IfOk result (λ parts. parts.1 ≡ config.now) }
+fn own_parts(alloc: Global, config: &Config) -> Result<(Block, Config), NoMemory>
+    ensures { IfOk result (λ parts. parts.1 ≡ config.now) }
 {
-    let buffer = block(alloc)?;
+    let buffer = Block::zeros(alloc)?;
     let config = copy_of(alloc, config)?;
     Ok((buffer, config))
 }

@@ -33,11 +33,10 @@ whole_synced {S} tells s t unit v x whole open_ got =
     (λ tl. told_synced s t unit v x (whole.told tl) open_ core (got tl))
 
 -- with the counts, which only rise
-pub kept_synced : {S C : Type 0} (tells : Type 0) (s t : SiteLog) (unit : UnitNo) (writes faults later_writes later room : ℕ) (v : CoreValue S C) (x : S) → v.stopped ≡ None
+pub kept_synced : {S C : Type 0} (tells : Type 0) (s t : SiteLog) (unit : UnitNo) (writes faults later_writes later : ℕ) (v : CoreValue S C) (x : S) → v.stopped ≡ None
     → (tells → Got (synced unit ∷ []) s t ⊎ Got (unsynced ∷ []) s t) → writes ≤ later_writes → faults ≤ later
-    → IsKept tells s writes faults room v → IsKept tells t later_writes later room (record v { site = x })
-kept_synced tells s t unit writes faults later_writes later room v x open_ got more le kept = record {
+    → IsKept tells s writes faults v → IsKept tells t later_writes later (record v { site = x })
+kept_synced tells s t unit writes faults later_writes later v x open_ got more le kept = record {
   whole = whole_synced tells s t unit v x kept.whole open_ got;
   counted = counted_later writes faults later_writes later v.requests (data_of v) kept.counted more le;
-  buffer = kept.buffer;
 }

@@ -1,7 +1,6 @@
 -- A core that is whole.
 use Rattle.std.specs.Prelude.{◌≡◌, ◌≤◌, ℕ, length, None}
 use Rattle.mss_base.specs.Content.{SiteLog}
-use Rattle.mss_base.specs.declared.block.TheConstants.{BLOCK_BYTES}
 use Rattle.core_state.specs.declared.session.TheConstants.{ENTRY_LIMIT}
 use Rattle.core_state.specs.CoreValue.{CoreValue}
 use Rattle.core_state.specs.Counted.{IsCounted}
@@ -27,10 +26,8 @@ pub record IsWhole {S C : Type 0} (tells : Type 0) (site : SiteLog) (v : CoreVal
   pub kept : v.stopped ≡ None → IsCore v
   pub told : tells → IsTold site v
 
--- what the type of a core keeps, over every site: writes and faults are the site's counts now, room
--- the length of the buffer for one block
-pub record IsKept {S C : Type 0} (tells : Type 0) (site : SiteLog) (writes faults room : ℕ)
+-- what the type of a core keeps, over every site: writes and faults are the site's counts now
+pub record IsKept {S C : Type 0} (tells : Type 0) (site : SiteLog) (writes faults : ℕ)
     (v : CoreValue S C) : Type 0 where
   pub whole : IsWhole tells site v
   pub counted : IsCounted writes faults v.requests (data_of v)
-  pub buffer : room ≡ BLOCK_BYTES

@@ -11,7 +11,7 @@ use accessors::Rail;
 use cartridge_store::Store;
 use ckd_plain::HostState;
 use fault_queue::{Queue, Request};
-use mss_base::{Config, HostNo, Listed, RecorderNo, Site, VolumeNo};
+use mss_base::{Block, Config, HostNo, Listed, RecorderNo, Site, VolumeNo};
 use recording_devices::Recorder;
 use staging_adapter::Frames;
 use std::alloc::Global;
@@ -38,7 +38,7 @@ pub struct Core<S: Site, C: Choose> {
     /// Whence the events take their memory.
     pub alloc: Global,
     /// Room for the block of one track.
-    pub buffer: Vec<u8>,
+    pub buffer: Block,
     pub rows: Rows,
     /// How many slots of the copies of each row are in use.
     pub used: SlotsUsedList,
@@ -54,7 +54,6 @@ pub struct Core<S: Site, C: Choose> {
 }
 
 impl<S: Site, C: Choose> Model for Core<S, C> {
-    ghost use Rattle.std.specs.Prelude.{vec_len};
     ghost use Rattle.core_state.specs.CoreValue.{CoreValue};
     ghost use Rattle.core_state.specs.TheCore.{IsKept};
 
@@ -86,7 +85,7 @@ impl<S: Site, C: Choose> Model for Core<S, C> {
 
     ghost invariant = { λ c.
         IsKept S.tells (S.told c.site) (S.writes c.site) (S.faults c.site)
-        (vec_len c.buffer) (record {
+        (record {
           site = c.site;
           chooser = c.chooser;
           config = c.config;

@@ -47,8 +47,8 @@ use Rattle.host_events.proofs.RuleFacts.{OnMark, rule_marks}
 use Rattle.host_events.proofs.Standing.{mounted_host, staged_low}
 use Rattle.host_events.proofs.WholeMark.{whole_marked, whole_mark_failed}
 
-module _ (S : Type 0) {C : Type 0} (g : Ghosts S) {u : CoreValue S C} (v : CoreValue S C) (view : u ≡ v) (room : ℕ)
-    (kept : IsKept g.tells (g.told u.site) (g.writes u.site) (g.faults u.site) room u) (h : ℕ) (call : CallData) (volume cylinder : ℕ) (rule : host_rule v h call ≡ Marks volume cylinder) where
+module _ (S : Type 0) {C : Type 0} (g : Ghosts S) {u : CoreValue S C} (v : CoreValue S C) (view : u ≡ v)
+    (kept : IsKept g.tells (g.told u.site) (g.writes u.site) (g.faults u.site) u) (h : ℕ) (call : CallData) (volume cylinder : ℕ) (rule : host_rule v h call ≡ Marks volume cylinder) where
   on : OnMark u h call volume cylinder
   on = rule_marks u h call kept.whole.kept volume cylinder (subst (λ (z : CoreValue S C). host_rule z h call ≡ Marks volume cylinder) (sym view) rule)
 
@@ -154,14 +154,13 @@ module _ (S : Type 0) {C : Type 0} (g : Ghosts S) {u : CoreValue S C} (v : CoreV
             (whole_marked S g.tells (g.told u.site) u kept.whole on.goes.going h low_host volume cylinder on.bind on.mounted on.r on.there low_cylinder on.staged on.asks.free on.quiet on.cylinder_ (g.told x) x (g.writes x)
             (λ tl. moments_ tl on.r on.there) (λ tl. changed_ tl on.r on.there) counts grown_)
 
-        pub marked_kept : IsKept g.tells (g.told x) (g.writes x) (g.faults x) room (of_parts (with_used used u) x rows u.owners u.moving requests tasks u.hosts d)
-        marked_kept = subst (IsKept g.tells (g.told x) (g.writes x) (g.faults x) room) (sym kept_path) (record {
+        pub marked_kept : IsKept g.tells (g.told x) (g.writes x) (g.faults x) (of_parts (with_used used u) x rows u.owners u.moving requests tasks u.hosts d)
+        marked_kept = subst (IsKept g.tells (g.told x) (g.writes x) (g.faults x)) (sym kept_path) (record {
           whole = whole_;
           counted = counted_noted (g.writes x) (g.faults x) put _ (u.events ++ Host h ∷ [])
               (counted_message (g.writes x) (g.faults x) (g.writes x) (g.faults x) put (data_of u)
               (counted_request (g.writes u.site) (g.faults u.site) (g.writes x) (g.faults x) u.requests (data_of u) kept.counted more later h (Some (ready_for volume cylinder)) core.requests_ (λ fault is. absurd (none_some fault is)))
               (omega arith) (omega arith) (message_of (g.writes x) volume (Changed cylinder) (listed u.rows)) (omega arith));
-          buffer = kept.buffer;
         })
 
         pub marked_event : HostDoes g.tells (seen g v) h call (Marks volume cylinder) marked (seen g (of_parts (with_used used u) x rows u.owners u.moving requests tasks u.hosts d))
@@ -208,13 +207,12 @@ module _ (S : Type 0) {C : Type 0} (g : Ghosts S) {u : CoreValue S C} (v : CoreV
         behind : IsEntryBehind u.history (entry_of u.history h call stopped (Some (g.faults x)))
         behind = record { number = refl; fault = ((λ some_. refl), (λ keeps. refl)) }
 
-        pub unmarked_kept : IsKept g.tells (g.told x) (g.writes x) (g.faults x) room (of_parts (with_used used u) x rows u.owners u.moving requests u.tasks u.hosts d)
-        unmarked_kept = subst (IsKept g.tells (g.told x) (g.writes x) (g.faults x) room) (sym stop_path) (record {
+        pub unmarked_kept : IsKept g.tells (g.told x) (g.writes x) (g.faults x) (of_parts (with_used used u) x rows u.owners u.moving requests u.tasks u.hosts d)
+        unmarked_kept = subst (IsKept g.tells (g.told x) (g.writes x) (g.faults x)) (sym stop_path) (record {
           whole = whole_stopped;
           counted = counted_noted (g.writes x) (g.faults x) u.requests _ (u.events ++ Host h ∷ [])
               (counted_halt (g.writes u.site) (g.faults u.site) (g.writes x) (g.faults x) u.requests (data_of u) kept.counted more later on.goes.going (record { count = refl; rises = rises_ })
               (entry_of u.history h call stopped (Some (g.faults x))) behind tt refl);
-          buffer = kept.buffer;
         })
 
         pub unmarked_event : HostDoes g.tells (seen g v) h call (Marks volume cylinder) (halts fault) (seen g (of_parts (with_used used u) x rows u.owners u.moving requests u.tasks u.hosts d))

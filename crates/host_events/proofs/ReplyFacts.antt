@@ -37,9 +37,9 @@ use Rattle.host_events.specs.Replies.{after_answer, IsUpheld}
 use Rattle.host_events.proofs.RuleFacts.{Goes}
 
 -- what the type of a core keeps, of the value that a clause sees
-pub upheld_of : {S C : Type 0} (g : Ghosts S) (room : ℕ) (inside v : CoreValue S C) → inside ≡ v
-    → IsKept g.tells (g.told inside.site) (g.writes inside.site) (g.faults inside.site) room inside → IsUpheld g.tells (g.told v.site) (g.writes v.site) (g.faults v.site) v
-upheld_of g room inside v is kept =
+pub upheld_of : {S C : Type 0} (g : Ghosts S) (inside v : CoreValue S C) → inside ≡ v
+    → IsKept g.tells (g.told inside.site) (g.writes inside.site) (g.faults inside.site) inside → IsUpheld g.tells (g.told v.site) (g.writes v.site) (g.faults v.site) v
+upheld_of g inside v is kept =
     subst (λ (x : CoreValue _ _). IsUpheld g.tells (g.told x.site) (g.writes x.site) (g.faults x.site) x) is (record { whole = kept.whole; counted = kept.counted })
 
 -- the host that is put, by number

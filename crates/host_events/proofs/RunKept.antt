@@ -40,8 +40,8 @@ use Rattle.host_events.proofs.Standing.{mounted_host}
 use Rattle.host_events.proofs.UpheldRun.{upheld_moved, upheld_run, upheld_check, upheld_stop}
 use Rattle.host_events.proofs.WholeRun.{passes, data_, runs_on_tracks}
 
-module _ (S : Type 0) {C : Type 0} (g : Ghosts S) {u : CoreValue S C} (v : CoreValue S C) (view : u ≡ v) (room : ℕ)
-    (kept : IsKept g.tells (g.told u.site) (g.writes u.site) (g.faults u.site) room u) (h : ℕ) (call : CallData) (c : Command) (volume frame : ℕ) (rule : host_rule v h call ≡ Runs c volume frame)
+module _ (S : Type 0) {C : Type 0} (g : Ghosts S) {u : CoreValue S C} (v : CoreValue S C) (view : u ≡ v)
+    (kept : IsKept g.tells (g.told u.site) (g.writes u.site) (g.faults u.site) u) (h : ℕ) (call : CallData) (c : Command) (volume frame : ℕ) (rule : host_rule v h call ≡ Runs c volume frame)
     (state : HostState) (is : state ≡ host_at u.hosts h) (low : state.cylinder < 404) (low_head : state.head < 19) where
   on : OnRun u h call c volume frame
   on = rule_runs u h call kept.whole.kept c volume frame (subst (λ (z : CoreValue S C). host_rule z h call ≡ Runs c volume frame) (sym view) rule) (subst (λ (x : HostState). x.cylinder < 404) is low) (subst (λ (x : HostState). x.head < 19) is low_head)
@@ -123,10 +123,10 @@ module _ (S : Type 0) {C : Type 0} (g : Ghosts S) {u : CoreValue S C} (v : CoreV
         still_path : of_parts u x u.rows u.owners u.moving u.requests u.tasks u.hosts d ≡ record u { site = x }
         still_path i = of_parts u x u.rows u.owners u.moving u.requests u.tasks u.hosts (d_is i)
 
-        pub still_kept : IsKept g.tells (g.told x) (g.writes x) (g.faults x) room (of_parts u x u.rows u.owners u.moving u.requests u.tasks u.hosts d)
+        pub still_kept : IsKept g.tells (g.told x) (g.writes x) (g.faults x) (of_parts u x u.rows u.owners u.moving u.requests u.tasks u.hosts d)
         still_kept =
             let k = upheld_moved S g.tells u (g.told u.site) (g.told x) (g.writes u.site) (g.faults u.site) (g.writes x) (g.faults x) x up still_.told still_.unwritten still_.sound in
-            subst (IsKept g.tells (g.told x) (g.writes x) (g.faults x) room) (sym still_path) (record { whole = k.whole; counted = k.counted; buffer = kept.buffer })
+            subst (IsKept g.tells (g.told x) (g.writes x) (g.faults x)) (sym still_path) (record { whole = k.whole; counted = k.counted })
 
         pub still_event : HostDoes g.tells (seen g v) h call (Runs c volume frame) no_memory (seen g (of_parts u x u.rows u.owners u.moving u.requests u.tasks u.hosts d))
         still_event = subst (λ (z : CoreValue S C). HostDoes g.tells (seen g z) h call (Runs c volume frame) no_memory
@@ -148,12 +148,12 @@ module _ (S : Type 0) {C : Type 0} (g : Ghosts S) {u : CoreValue S C} (v : CoreV
             ∙ (λ i. record (of_parts u x u.rows u.owners u.moving (without_request h u.requests) (tasks_after c volume ((is i).cylinder / 8) u.tasks) (put_host u.hosts h now)
             (with_reply h call reply None (g.writes x) (data_of u))) { recency = touched frame u.recency })
 
-        pub run_kept : IsKept g.tells (g.told x) (g.writes x) (g.faults x) room (record (of_parts u x u.rows u.owners u.moving requests tasks hosts d) { recency = recency })
+        pub run_kept : IsKept g.tells (g.told x) (g.writes x) (g.faults x) (record (of_parts u x u.rows u.owners u.moving requests tasks hosts d) { recency = recency })
         run_kept =
             let k = upheld_run S g.tells u old new up h low_host call c volume frame on x more later counts reply now
             (run_from g.tells old (seen_site g mid) new reserves.log reserves.unwritten reserves.same run_there (reply, now)
             (subst (λ (r : Run). RunOn g.tells r (seen_site g mid) new (reply, now)) here_there ran)) in
-            subst (IsKept g.tells (g.told x) (g.writes x) (g.faults x) room) (sym run_path) (record { whole = k.whole; counted = k.counted; buffer = kept.buffer })
+            subst (IsKept g.tells (g.told x) (g.writes x) (g.faults x)) (sym run_path) (record { whole = k.whole; counted = k.counted })
 
         pub run_event : (copy : ReplyData) → copy ≡ reply → (index : ℕ) → index ≡ length u.history → HostDoes g.tells (seen g v) h call (Runs c volume frame) (replied index copy)
             (seen g (record (of_parts u x u.rows u.owners u.moving requests tasks hosts d) { recency = recency }))
@@ -180,11 +180,11 @@ module _ (S : Type 0) {C : Type 0} (g : Ghosts S) {u : CoreValue S C} (v : CoreV
             ∙ (λ i. of_parts u x u.rows u.owners u.moving (without_request h u.requests) u.tasks (put_host u.hosts h (checked check.EquipmentCheck (is i)))
             (with_reply h call equipment_check (Some (g.faults x)) (g.writes x) (data_of u)))
 
-        pub check_kept : IsKept g.tells (g.told x) (g.writes x) (g.faults x) room (of_parts u x u.rows u.owners u.moving requests u.tasks hosts d)
+        pub check_kept : IsKept g.tells (g.told x) (g.writes x) (g.faults x) (of_parts u x u.rows u.owners u.moving requests u.tasks hosts d)
         check_kept =
             let k = upheld_check S g.tells u old new up h low_host call c volume frame on x more later counts
             (read_from g.tells old (seen_site g mid) new reserves.log reserves.unwritten reserves.same failed) in
-            subst (IsKept g.tells (g.told x) (g.writes x) (g.faults x) room) (sym check_path) (record { whole = k.whole; counted = k.counted; buffer = kept.buffer })
+            subst (IsKept g.tells (g.told x) (g.writes x) (g.faults x)) (sym check_path) (record { whole = k.whole; counted = k.counted })
 
       -- ---- a failed write
 
@@ -196,12 +196,12 @@ module _ (S : Type 0) {C : Type 0} (g : Ghosts S) {u : CoreValue S C} (v : CoreV
             (λ i. of_parts u x u.rows u.owners u.moving u.requests u.tasks u.hosts (d_is i))
             ∙ (λ i. of_parts u x u.rows u.owners u.moving u.requests u.tasks u.hosts (with_stop (failed.cause.count i) (with_reply h call stopped (Some (failed.cause.count i)) (g.writes x) (data_of u))))
 
-        pub stop_kept : IsKept g.tells (g.told x) (g.writes x) (g.faults x) room (of_parts u x u.rows u.owners u.moving u.requests u.tasks u.hosts d)
+        pub stop_kept : IsKept g.tells (g.told x) (g.writes x) (g.faults x) (of_parts u x u.rows u.owners u.moving u.requests u.tasks u.hosts d)
         stop_kept =
             let k = upheld_stop S g.tells u old new up h low_host call c volume frame on x more later counts fault
             (stop_from g.tells old (seen_site g mid) new reserves.log reserves.unwritten reserves.same run_there fault
             (subst (λ (r : Run). FailOn g.tells r fault (seen_site g mid) new) here_there failed)) in
-            subst (IsKept g.tells (g.told x) (g.writes x) (g.faults x) room) (sym stop_path) (record { whole = k.whole; counted = k.counted; buffer = kept.buffer })
+            subst (IsKept g.tells (g.told x) (g.writes x) (g.faults x)) (sym stop_path) (record { whole = k.whole; counted = k.counted })
 
         pub stop_event : (given : ℕ) → given ≡ fault → HostDoes g.tells (seen g v) h call (Runs c volume frame) (halts given)
             (seen g (of_parts u x u.rows u.owners u.moving u.requests u.tasks u.hosts d))

@@ -3,7 +3,6 @@ ghost use Rattle.std.specs.Prelude.{◌≡◌, ◌≤◌, ◌<◌, Bool, length,
 ghost use Rattle.mss_base.specs.Content.{content};
 ghost use Rattle.mss_base.specs.Places.{frame_block};
 ghost use Rattle.mss_base.specs.Sites.{MayWrite};
-ghost use Rattle.mss_base.specs.declared.block.TheConstants.{BLOCK_BYTES};
 ghost use Rattle.mss_base.specs.declared.place.UnitNo.{UnitNo};
 ghost use Rattle.volume_table.specs.Listed.{listed};
 ghost use Rattle.channel_commands.specs.Views.{call_of, reply_of};
@@ -30,7 +29,7 @@ use ckd_plain::{HostState, UnitCheck};
 use ckd_track::FORMAT_ITEMS;
 use core_state::looks::host_at;
 use core_state::{Core, TaskList, touch_all};
-use mss_base::{Bytes, CYLINDERS, FrameNo, HEADS, Head, HostNo, Page, Site, VolumeNo};
+use mss_base::{Block, Bytes, CYLINDERS, FrameNo, HEADS, Head, HostNo, Page, Site, VolumeNo};
 use staging_adapter::{Translated, translate};
 use std::alloc::Global;
 use track_engine::{CylinderPlace, EngineFault, run_command};
@@ -99,14 +98,13 @@ fn bare(alloc: Global, command: &Command, reply: Reply) -> Reply
 fn run_in<S: Site>(
     alloc: Global,
     site: &mut S,
-    buffer: &mut [u8],
+    buffer: &mut Block,
     row: &VolumeRow,
     frame: FrameNo,
     call: &Call,
     command: &Command,
     host: &mut HostState,
 ) -> Result<(Reply, Reply), EngineFault>
-    requires buffer { length buffer.old ≡ BLOCK_BYTES }
     requires staged { IsStagedIn row.now frame host.old }
     requires may { MayRun (call_of call.now) command.now host.old }
     requires tracks { S.tells → AreTracks (content (S.told site.old))

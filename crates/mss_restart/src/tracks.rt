@@ -59,7 +59,7 @@ fn check_shown<S: Site>(
     ensures devices { OnlyReads S.Site site.old site.new }
 {
     read_block(site, place, into)?;
-    if check_track(into.as_slice()).is_err() {
+    if check_track(into).is_err() {
         return Err(Refused::TornTrack {
             volume,
             cylinder,
@@ -86,7 +86,7 @@ fn check_blank<S: Site>(
     ensures devices { OnlyReads S.Site site.old site.new }
 {
     read_block(site, place, into)?;
-    if !is_blank(into.as_slice()) {
+    if !is_blank(into) {
         return Err(Refused::StagedDiffers {
             volume,
             cylinder,

@@ -16,8 +16,8 @@ use Rattle.host_events.proofs.RuleOf.{at_limit as full_rule_met}
 use Rattle.serial_driver.specs.declared.answer.DriveAnswer.TheVariants.{Stopped, CommandLimit, Memory}
 use Rattle.serial_driver.specs.Drives.{HostTakes}
 
-pub kept_by : {S C : Type 0} (tells : Type 0) (site : SiteLog) (writes faults room : ℕ) (u v : CoreValue S C) → u ≡ v → IsKept tells site writes faults room u → v.stopped ≡ None → IsCore v
-kept_by tells site writes faults room u v view kept going = subst (λ c. IsCore c) view (kept.whole.kept (subst (λ c. c.stopped ≡ None) (sym view) going))
+pub kept_by : {S C : Type 0} (tells : Type 0) (site : SiteLog) (writes faults : ℕ) (u v : CoreValue S C) → u ≡ v → IsKept tells site writes faults u → v.stopped ≡ None → IsCore v
+kept_by tells site writes faults u v view kept going = subst (λ c. IsCore c) view (kept.whole.kept (subst (λ c. c.stopped ≡ None) (sym view) going))
 
 module _ {S C : Type 0} (g : Ghosts S) (v : CoreValue S C) where
   same : IsSame g.tells (seen g v) (seen g v)

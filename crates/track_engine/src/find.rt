@@ -17,7 +17,7 @@ use crate::place::{CylinderPlace, EngineFault, NotDone};
 use ckd_plain::steps::{FoundRecord, candidate, pass_index, to_home};
 use ckd_plain::{HostState, Refusal, UnitCheck};
 use ckd_track::{find_place, record_at};
-use mss_base::{BLOCK_BYTES, Failed, Head, Site};
+use mss_base::{BLOCK_BYTES, Block, Failed, Head, Site};
 
 /// How many tracks a command may look at.
 const LOOKS: u8 = 20;
@@ -59,10 +59,9 @@ pub fn bring_block<S: Site>(
 pub fn copy_block<S: Site>(
     site: &mut S,
     place: &CylinderPlace,
-    buffer: &mut [u8],
+    buffer: &mut Block,
     head: Head,
 ) -> Result<(), EngineFault>
-    requires buffer { length buffer.old ≡ BLOCK_BYTES }
     ensures block { S.tells → OnOk result (IsBlockOn (S.told site.old) place.now head buffer.new) }
     ensures reads { OnlyReads S.Site site.old site.new }
     ensures cause { HasCause (S.faults site.old) (S.faults site.new) result }

@@ -21,7 +21,7 @@ use channel_commands::{Command, Reply, SearchField, WriteKind};
 use ckd_plain::steps::{DoneCommand, cleared, finished, opened, refused};
 use ckd_plain::{HostState, Prior};
 use ckd_track::FORMAT_ITEMS;
-use mss_base::{BLOCK_BYTES, Site};
+use mss_base::{Block, Site};
 use std::alloc::Global;
 
 /// A search or a read.
@@ -60,13 +60,12 @@ fn carry_out<S: Site>(
     alloc: Global,
     site: &mut S,
     place: &CylinderPlace,
-    buffer: &mut [u8],
+    buffer: &mut Block,
     host: &HostState,
     left: Prior,
     command: Command,
     argument: &[u8],
 ) -> Result<DoneCommand, NotDone>
-    requires buffer { length buffer.old ≡ BLOCK_BYTES }
     requires long { least command ≤ length argument.now }
     requires permitted { IsTrue (is_prior_permitted left command) }
     requires data { is_data command ≡ true }
@@ -99,19 +98,18 @@ fn carry_out<S: Site>(
 
 /// A search, read or write that passed its checks, on the blocks of the host's cylinder.
 ///
-/// `buffer` is room for one block, which a write alone uses. After a fault the host is as it was. When the reply comes,
+/// `buffer` is room that a write alone uses. After a fault the host is as it was. When the reply comes,
 /// all that was written is firm. An update makes one write at most and a sync, and of no bytes nothing.
 pub fn run_command<S: Site>(
     alloc: Global,
     site: &mut S,
     place: &CylinderPlace,
-    buffer: &mut [u8],
+    buffer: &mut Block,
     command: &Command,
     argument: &[u8],
     chained: bool,
     host: &mut HostState,
 ) -> Result<Reply, EngineFault>
-    requires buffer { length buffer.old ≡ BLOCK_BYTES }
     requires passes { Passes (opened host.old) command.now argument.now }
     requires data { is_data command.now ≡ true }
     requires tracks { S.tells → AreTracksOn (S.told site.old) place.now }

@@ -26,7 +26,7 @@ use ckd_track::{
     FORMAT_ITEMS, TRACK_COST, UPDATE_ITEMS, cost_at, cost_of_front, format_record, record_length,
     update_record,
 };
-use mss_base::{BLOCK_BYTES, BlockPlace, Bytes, Failed, NoMemory, Site};
+use mss_base::{Block, BlockPlace, Bytes, Failed, NoMemory, Site};
 use std::alloc::Global;
 
 /// The first bytes of an argument, where it has so many.
@@ -60,12 +60,11 @@ fn padded_record(alloc: Global, argument: &[u8]) -> Result<Bytes, NoMemory>
 fn kept_record<S: Site>(
     site: &mut S,
     place: &CylinderPlace,
-    buffer: &mut [u8],
+    buffer: &mut Block,
     host: &HostState,
     left: Prior,
     argument: &[u8],
 ) -> Result<RecordPlace, NotDone>
-    requires buffer { length buffer.old ≡ BLOCK_BYTES }
     requires long { 8 ≤ length argument.now }
     ensures format { S.tells → GivesBut
         (formatted_behind (reading buffer.new).records (new_record argument.now)) result
@@ -80,7 +79,8 @@ fn kept_record<S: Site>(
     ensures site_ { ReadsDevices S.Site place.now.unit site.old site.new result }
 {
     copy_block(site, place, buffer, host.head)?;
-    let at = same_record(buffer, host, left.number())?;
+    let block = buffer.as_slice();
+    let at = same_record(block, host, left.number())?;
     let cost = cost_of_front(buffer, at.number) + cost_at(argument, 0);
     if cost > TRACK_COST {
         return Err(NotDone::Refused(Refusal {
@@ -97,11 +97,10 @@ fn format_behind<S: Site>(
     alloc: Global,
     site: &mut S,
     to: &BlockPlace,
-    block: &[u8],
+    block: &Block,
     at: &RecordPlace,
     bytes: &[u8],
 ) -> Result<DoneCommand, NotDone>
-    requires whole { length block.now ≡ BLOCK_BYTES }
     requires track { S.tells → IsTrackAt (content (S.told site.old)) to.now block.now }
     requires there { at.now.number ≤ length (reading block.now).records }
     requires record { IsRecord bytes.now }
@@ -118,7 +117,7 @@ fn format_behind<S: Site>(
         → IfErr result HasNotFailed }
 {
     let number = at.number + 1;
-    match format_record(site, to, block, number, bytes) {
+    match format_record(site, to, block.as_slice(), number, bytes) {
         Ok(()) => Ok(written(alloc, &at.host, DONE, number, Prior::Wrote(number))),
         Err(Failed) => Err(NotDone::Fault(EngineFault::WriteFailed {
             fault: site.faults(),
@@ -131,12 +130,11 @@ pub fn write_count_key_data<S: Site>(
     alloc: Global,
     site: &mut S,
     place: &CylinderPlace,
-    buffer: &mut [u8],
+    buffer: &mut Block,
     host: &HostState,
     left: Prior,
     argument: &[u8],
 ) -> Result<DoneCommand, NotDone>
-    requires buffer { length buffer.old ≡ BLOCK_BYTES }
     requires long { 8 ≤ length argument.now }
     requires tracks { S.tells → AreTracksOn (S.told site.old) place.now }
     requires room { FORMAT_ITEMS ≤ S.spare site.old }
@@ -177,12 +175,11 @@ fn update_at<S: Site>(
     alloc: Global,
     site: &mut S,
     to: &BlockPlace,
-    block: &[u8],
+    block: &Block,
     at: &RecordPlace,
     key_too: bool,
     bytes: &[u8],
 ) -> Result<DoneCommand, NotDone>
-    requires whole { length block.now ≡ BLOCK_BYTES }
     requires track { S.tells → IsTrackAt (content (S.told site.old)) to.now block.now }
     requires may { MayUpdate at.now.number at.now.begins_at key_too bytes.now block.now }
     requires room { UPDATE_ITEMS ≤ S.spare site.old }
@@ -196,6 +193,7 @@ fn update_at<S: Site>(
     ensures works { (but : UnitNo → Bool) → S.never_fails_but site.old but
         → IfErr result HasNotFailed }
 {
+    let block = block.as_slice();
     let status = found_in(block, at).status();
     match update_record(site, to, block, at.number, at.begins_at, key_too, bytes) {
         Ok(()) => Ok(written(alloc, &at.host, status, at.number, at.host.prior)),
@@ -210,13 +208,12 @@ pub fn write_data<S: Site>(
     alloc: Global,
     site: &mut S,
     place: &CylinderPlace,
-    buffer: &mut [u8],
+    buffer: &mut Block,
     host: &HostState,
     left: Prior,
     key_too: bool,
     argument: &[u8],
 ) -> Result<DoneCommand, NotDone>
-    requires buffer { length buffer.old ≡ BLOCK_BYTES }
     requires first { 0 < prior_number left }
     requires tracks { S.tells → AreTracksOn (S.told site.old) place.now }
     requires room { UPDATE_ITEMS ≤ S.spare site.old }
@@ -234,8 +231,9 @@ pub fn write_data<S: Site>(
 {
     let to = place.block_of(host.head);
     copy_block(site, place, buffer, host.head)?;
-    let at = same_record(buffer, host, left.number())?;
-    let length = updated_length(&found_in(buffer, &at), key_too);
+    let block = buffer.as_slice();
+    let at = same_record(block, host, left.number())?;
+    let length = updated_length(&found_in(block, &at), key_too);
     match first_bytes(argument, length) {
         Some(bytes) => update_at(alloc, site, &to, buffer, &at, key_too, bytes),
         None => {

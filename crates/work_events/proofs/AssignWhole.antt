@@ -205,20 +205,20 @@ module _ (S : Type 0) {C : Type 0} (tells : Type 0) (s : SiteLog) (v : CoreValue
         (subst (λ (k : ℕ). IsDueChange tells s v q.volume (Assign k old.frame)) (sym page_is)
         (record { r = may.r; there = may.there; allowed = give_allowed S tells s v whole open_ n old serves.at q serves.asked s v.site 0 may.free may.bare may.r may.there may.none may.low may.row; ready = give_ready S tells s v whole open_ n old serves.at q serves.asked s v.site 0 may.free may.bare may.r may.there may.none may.low may.row; firm = λ _. tt }))
 
-module _ (S : Type 0) {C : Type 0} (tells : Type 0) (s t : SiteLog) (writes faults later_writes later room : ℕ) (v : CoreValue S C) (kept : IsKept tells s writes faults room v) (open_ : v.stopped ≡ None) (n : ℕ) (old : Task) (q : Request) (serves : Serves v n old q)
+module _ (S : Type 0) {C : Type 0} (tells : Type 0) (s t : SiteLog) (writes faults later_writes later : ℕ) (v : CoreValue S C) (kept : IsKept tells s writes faults v) (open_ : v.stopped ≡ None) (n : ℕ) (old : Task) (q : Request) (serves : Serves v n old q)
     (x : S) (more : writes ≤ later_writes) (le : faults ≤ later)
   where
     kept_given : MayAssign v old q → IsDone tells s v q.volume (Assign (q.cylinder / 8) old.frame) t later_writes
-        → IsKept tells t later_writes later room (assigned v n old q.volume (q.cylinder / 8) x later_writes)
+        → IsKept tells t later_writes later (assigned v n old q.volume (q.cylinder / 8) x later_writes)
     kept_given may done_ =
-        kept_touched tells t later_writes later room _ old.frame ((kept.whole.kept open_).tasks_.each n old serves.at).low
-        (kept_changed S tells s t writes faults later_writes later room v kept open_ n x q.volume (Assign (q.cylinder / 8) old.frame) more le may.r may.there (slice_set v.owners old.frame (Some (q.volume, q.cylinder / 8))) v.moving v.requests v.tasks
+        kept_touched tells t later_writes later _ old.frame ((kept.whole.kept open_).tasks_.each n old serves.at).low
+        (kept_changed S tells s t writes faults later_writes later v kept open_ n x q.volume (Assign (q.cylinder / 8) old.frame) more le may.r may.there (slice_set v.owners old.frame (Some (q.volume, q.cylinder / 8))) v.moving v.requests v.tasks
         (whole_assigned S tells s v kept.whole open_ n old serves.at q serves.asked t x later_writes may.free may.bare may.r may.there may.none may.low may.row (λ tl. done_ tl may.r may.there))
         (counted_message writes faults later_writes later v.requests (data_of v) kept.counted more le (message_of later_writes q.volume (Assign (q.cylinder / 8) old.frame) (listed v.rows)) (omega arith)))
 
     pub kept_assigned : (volume page : ℕ) → MayAssignPage v volume page old q → IsDone tells s v volume (Assign page old.frame) t later_writes
-        → IsKept tells t later_writes later room (assigned v n old volume page x later_writes)
+        → IsKept tells t later_writes later (assigned v n old volume page x later_writes)
     kept_assigned volume page (volume_is, page_is, may) =
-        subst (λ (k : ℕ). IsDone tells s v k (Assign page old.frame) t later_writes → IsKept tells t later_writes later room (assigned v n old k page x later_writes)) (sym volume_is)
-        (subst (λ (k : ℕ). IsDone tells s v q.volume (Assign k old.frame) t later_writes → IsKept tells t later_writes later room (assigned v n old q.volume k x later_writes)) (sym page_is)
+        subst (λ (k : ℕ). IsDone tells s v k (Assign page old.frame) t later_writes → IsKept tells t later_writes later (assigned v n old k page x later_writes)) (sym volume_is)
+        (subst (λ (k : ℕ). IsDone tells s v q.volume (Assign k old.frame) t later_writes → IsKept tells t later_writes later (assigned v n old q.volume k x later_writes)) (sym page_is)
         (kept_given may))

@@ -37,30 +37,30 @@ module _ (frames count : ℕ) (recency : List ℕ) (recorders : List (Option ℕ
         absurd (none_some other (sym bare ∙ ap (held_at recorders) (sym same) ∙ there.2))
   ]
 
-module _ {S C : Type 0} (tells : Type 0) (site : SiteLog) (writes faults room : ℕ) (v : CoreValue S C) (kept : IsKept tells site writes faults room v) (recorder cartridge : ℕ) (known : cartridge < length v.store) (fits : recorder < v.config.recorders) (rail : RailData) where
+module _ {S C : Type 0} (tells : Type 0) (site : SiteLog) (writes faults : ℕ) (v : CoreValue S C) (kept : IsKept tells site writes faults v) (recorder cartridge : ℕ) (known : cartridge < length v.store) (fits : recorder < v.config.recorders) (rail : RailData) where
   within : recorder < length v.recorders
   within = let long = kept.whole.shaped.recorders_ in omega (arith, long, fits)
 
   pub kept_given_back : HoldsCartridge v recorder cartridge
-      → IsKept tells site writes faults room (record v {
+      → IsKept tells site writes faults (record v {
         recorders = slice_set v.recorders recorder None;
         store = with_place cartridge (home_of cartridge) v.store;
         rail = rail;
         events = v.events ++ Work recorder ∷ [];
       })
   kept_given_back holds =
-      kept_beside tells site writes faults room v v.recency (slice_set v.recorders recorder None) (with_place cartridge (home_of cartridge) v.store) rail (v.events ++ Work recorder ∷ []) kept
+      kept_beside tells site writes faults v v.recency (slice_set v.recorders recorder None) (with_place cartridge (home_of cartridge) v.store) rail (v.events ++ Work recorder ∷ []) kept
       (length-set v.recorders recorder None ∙ kept.whole.shaped.recorders_)
       (λ none. beside_given_back v.config.frames v.config.recorders v.recency v.recorders v.store (kept.whole.kept none).beside recorder cartridge known within holds.held)
 
   pub kept_fetched : MayFetch v recorder cartridge
-      → IsKept tells site writes faults room (record v {
+      → IsKept tells site writes faults (record v {
         recorders = slice_set v.recorders recorder (Some cartridge);
         store = with_place cartridge (Recorder recorder) v.store;
         rail = rail;
         events = v.events ++ Work recorder ∷ [];
       })
   kept_fetched may =
-      kept_beside tells site writes faults room v v.recency (slice_set v.recorders recorder (Some cartridge)) (with_place cartridge (Recorder recorder) v.store) rail (v.events ++ Work recorder ∷ []) kept
+      kept_beside tells site writes faults v v.recency (slice_set v.recorders recorder (Some cartridge)) (with_place cartridge (Recorder recorder) v.store) rail (v.events ++ Work recorder ∷ []) kept
       (length-set v.recorders recorder (Some cartridge) ∙ kept.whole.shaped.recorders_)
       (λ none. beside_fetched v.config.frames v.config.recorders v.recency v.recorders v.store (kept.whole.kept none).beside recorder cartridge known within may.empty may.in_cell)

@@ -94,23 +94,23 @@ may_now S tells s v whole open_ volume change r there allowed ready firm tl =
 pub rows_changed : (rows : List (Option RowValue)) (volume : ℕ) (change : Change) (r : RowValue) → listed rows volume ≡ Some r → with_changed volume change rows ≡ slice_set rows volume (Some (effect change r))
 rows_changed rows volume change r there = ap (λ (o : Option RowValue). slice_set rows volume (option_map (effect change) o)) there
 
-module _ (S : Type 0) {C : Type 0} (tells : Type 0) (s t : SiteLog) (writes faults later_writes later room : ℕ) (v : CoreValue S C) (kept : IsKept tells s writes faults room v) (open_ : v.stopped ≡ None)
+module _ (S : Type 0) {C : Type 0} (tells : Type 0) (s t : SiteLog) (writes faults later_writes later : ℕ) (v : CoreValue S C) (kept : IsKept tells s writes faults v) (open_ : v.stopped ≡ None)
     (n : ℕ) (x : S) (volume : ℕ) (change : Change) (more : writes ≤ later_writes) (le : faults ≤ later) where
   -- a write of it failed: the core stops
   pub kept_unchanged : IsDueChange tells s v volume change → (tells → ForSome (listed v.rows volume) (λ r. Rewrites volume (effect change r) s t)) → IsFaultSince faults later later
-      → IsKept tells t later_writes later room (with_row_stopped v n volume change x later)
+      → IsKept tells t later_writes later (with_row_stopped v n volume change x later)
   kept_unchanged due rewrites failed =
-      kept_noted tells t later_writes later room (record v { site = x; rows = with_changed volume change v.rows; stopped = Some later }) (v.events ++ Work n ∷ [])
+      kept_noted tells t later_writes later (record v { site = x; rows = with_changed volume change v.rows; stopped = Some later }) (v.events ++ Work n ∷ [])
       (whole_change_failed S tells s t v x later (with_changed volume change v.rows) kept.whole open_ (length-set v.rows volume (option_map (effect change) (listed v.rows volume)) ∙ (kept.whole.kept open_).places)
       (λ tl. row_moments v.config.frames volume (effect change due.r) s t (may_now S tells s v kept.whole open_ volume change due.r due.there due.allowed due.ready due.firm tl) (rewrites tl due.r due.there)))
-      (counted_stop writes faults later_writes later v.requests (data_of v) kept.counted more le open_ failed) kept.buffer
+      (counted_stop writes faults later_writes later v.requests (data_of v) kept.counted more le open_ failed)
 
   -- it is done: the message is told
   pub kept_changed : (r : RowValue) → listed v.rows volume ≡ Some r → (owners : List (Option (ℕ × ℕ))) (moving : List Bool) (requests : RequestsData) (tasks : List (Option Task))
       → IsWhole tells t (worked (with_slot volume v) x (slice_set v.rows volume (Some (effect change r))) (v.console ++ message_of later_writes volume change (listed v.rows) ∷ []) owners moving requests tasks)
       → IsCounted later_writes later requests (with_last_message (message_of later_writes volume change (listed v.rows)) (data_of v))
-      → IsKept tells t later_writes later room (record (worked (with_slot volume v) x (with_changed volume change v.rows) (v.console ++ message_of later_writes volume change (listed v.rows) ∷ []) owners moving requests tasks) { events = v.events ++ Work n ∷ [] })
+      → IsKept tells t later_writes later (record (worked (with_slot volume v) x (with_changed volume change v.rows) (v.console ++ message_of later_writes volume change (listed v.rows) ∷ []) owners moving requests tasks) { events = v.events ++ Work n ∷ [] })
   kept_changed r there owners moving requests tasks whole counted =
-      subst (λ (rows : List (Option RowValue)). IsKept tells t later_writes later room (record (worked (with_slot volume v) x rows (v.console ++ message_of later_writes volume change (listed v.rows) ∷ []) owners moving requests tasks) { events = v.events ++ Work n ∷ [] }))
+      subst (λ (rows : List (Option RowValue)). IsKept tells t later_writes later (record (worked (with_slot volume v) x rows (v.console ++ message_of later_writes volume change (listed v.rows) ∷ []) owners moving requests tasks) { events = v.events ++ Work n ∷ [] }))
       (sym (rows_changed v.rows volume change r there))
-      (kept_noted tells t later_writes later room (worked (with_slot volume v) x (slice_set v.rows volume (Some (effect change r))) (v.console ++ message_of later_writes volume change (listed v.rows) ∷ []) owners moving requests tasks) (v.events ++ Work n ∷ []) whole counted kept.buffer)
+      (kept_noted tells t later_writes later (worked (with_slot volume v) x (slice_set v.rows volume (Some (effect change r))) (v.console ++ message_of later_writes volume change (listed v.rows) ∷ []) owners moving requests tasks) (v.events ++ Work n ∷ []) whole counted)

@@ -24,7 +24,7 @@ use Rattle.work_events.proofs.DoesFacts.{copied, copied_does, uncopied_does}
 use Rattle.work_events.proofs.FailedWhole.{failed}
 use Rattle.work_events.proofs.RowSteps.{HasRoom, IsKeptOn, kept_as}
 
-module _ {S C : Type 0} (g : Ghosts S) {room : ℕ} {inside v : CoreValue S C} {site : S} {session : SessionData} (has : HasRoom g room inside v site session) (t : Transfer) (x : S) where
+module _ {S C : Type 0} (g : Ghosts S) {inside v : CoreValue S C} {site : S} {session : SessionData} (has : HasRoom g inside v site session) (t : Transfer) (x : S) where
   module _ {T E : Type 0} (result : Result T E) (copies : CopiesTrack g t site x result) where
     logged : g.tells → AddsAtMost (target t t.next) (g.told v.site) (g.told x)
     logged tl = subst (λ (z : SiteLog). AddsAtMost (target t t.next) z (g.told x)) (has.reserves.log tl) (copies.blocks tl).logged
@@ -46,10 +46,10 @@ module _ {S C : Type 0} (g : Ghosts S) {room : ℕ} {inside v : CoreValue S C} {
         let told_ = told_is ∙ ap (with_last_event (Work n)) has.same in
         λ i. of_parts (has.is i) x (has.is i).rows (has.is i).owners (has.is i).moving (has.is i).requests (tasks_ i) (has.is i).hosts (told_ i)
 
-    pub copy_kept : v.stopped ≡ None → (q : Request) → Serves v n old q → MayCopy v old q t → (w : CoreValue S C) → w ≡ copied v n old t x → IsKeptOn g room x w
+    pub copy_kept : v.stopped ≡ None → (q : Request) → Serves v n old q → MayCopy v old q t → (w : CoreValue S C) → w ≡ copied v n old t x → IsKeptOn g x w
     copy_kept open_ q serves may w path =
-        kept_as g room x (copied v n old t x) w
-        (kept_copied S g.tells (g.told v.site) (g.told x) (g.writes v.site) (g.faults v.site) (g.writes x) (g.faults x) room v has.kept open_ n old q serves x t may (logged (Ok done_) copies) (more (Ok done_) copies) (le (Ok done_) copies)
+        kept_as g x (copied v n old t x) w
+        (kept_copied S g.tells (g.told v.site) (g.told x) (g.writes v.site) (g.faults v.site) (g.writes x) (g.faults x) v has.kept open_ n old q serves x t may (logged (Ok done_) copies) (more (Ok done_) copies) (le (Ok done_) copies)
         (λ tl. (copies.blocks tl).copied ∙ ap (λ (z : SiteLog). source t t.next (content z)) (has.reserves.log tl)))
         path
 
@@ -71,10 +71,10 @@ module _ {S C : Type 0} (g : Ghosts S) {room : ℕ} {inside v : CoreValue S C} {
     rises : Rises (g.faults v.site) (g.faults x)
     rises = subst (λ (k : ℕ). Rises k (g.faults x)) has.reserves.same copies.cause.failed
 
-    pub copy_unkept : v.stopped ≡ None → (q : Request) → Serves v n old q → MayCopy v old q t → (w : CoreValue S C) → w ≡ failed v n old x (g.faults x) → IsKeptOn g room x w
+    pub copy_unkept : v.stopped ≡ None → (q : Request) → Serves v n old q → MayCopy v old q t → (w : CoreValue S C) → w ≡ failed v n old x (g.faults x) → IsKeptOn g x w
     copy_unkept open_ q serves may w path =
-        kept_as g room x (failed v n old x (g.faults x)) w
-        (kept_uncopied S g.tells (g.told v.site) (g.told x) (g.writes v.site) (g.faults v.site) (g.writes x) (g.faults x) room v has.kept open_ n old q serves x t may (logged (Err why) copies) (more (Err why) copies) (le (Err why) copies)
+        kept_as g x (failed v n old x (g.faults x)) w
+        (kept_uncopied S g.tells (g.told v.site) (g.told x) (g.writes v.site) (g.faults v.site) (g.writes x) (g.faults x) v has.kept open_ n old q serves x t may (logged (Err why) copies) (more (Err why) copies) (le (Err why) copies)
         (g.faults x) (record { count = refl; rises = rises }))
         path
 

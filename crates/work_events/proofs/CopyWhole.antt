@@ -130,16 +130,16 @@ module _ (S : Type 0) {C : Type 0} (tells : Type 0) (s t : SiteLog) (v : CoreVal
 
 -- ---- with the counts, and the event told
 
-module _ (S : Type 0) {C : Type 0} (tells : Type 0) (s t : SiteLog) (writes faults later_writes later room : ℕ) (v : CoreValue S C) (kept : IsKept tells s writes faults room v) (open_ : v.stopped ≡ None)
+module _ (S : Type 0) {C : Type 0} (tells : Type 0) (s t : SiteLog) (writes faults later_writes later : ℕ) (v : CoreValue S C) (kept : IsKept tells s writes faults v) (open_ : v.stopped ≡ None)
     (n : ℕ) (old : Task) (q : Request) (serves : Serves v n old q) (x : S) (transfer : Transfer) (may : MayCopy v old q transfer) (logged : tells → AddsAtMost (target transfer transfer.next) s t)
     (more : writes ≤ later_writes) (le : faults ≤ later) where
   pub kept_copied : (tells → block_at (content t) (target transfer transfer.next) ≡ source transfer transfer.next (content s))
-      → IsKept tells t later_writes later room (record v { site = x; tasks = slice_set v.tasks n (Some (record old { transfer = Some (moved_on transfer) })); events = v.events ++ Work n ∷ [] })
+      → IsKept tells t later_writes later (record v { site = x; tasks = slice_set v.tasks n (Some (record old { transfer = Some (moved_on transfer) })); events = v.events ++ Work n ∷ [] })
   kept_copied done_ =
-      kept_noted tells t later_writes later room (worked v x v.rows v.console v.owners v.moving v.requests (slice_set v.tasks n (Some (record old { transfer = Some (moved_on transfer) })))) (v.events ++ Work n ∷ [])
+      kept_noted tells t later_writes later (worked v x v.rows v.console v.owners v.moving v.requests (slice_set v.tasks n (Some (record old { transfer = Some (moved_on transfer) })))) (v.events ++ Work n ∷ [])
       (whole_copied S tells s t v kept.whole open_ n old q serves x transfer may logged done_)
-      (counted_later writes faults later_writes later v.requests (data_of v) kept.counted more le) kept.buffer
+      (counted_later writes faults later_writes later v.requests (data_of v) kept.counted more le)
 
   -- a copy that failed ends the task
-  pub kept_uncopied : (fault : ℕ) → IsFaultSince faults later fault → IsKept tells t later_writes later room (failed v n old x fault)
-  kept_uncopied = kept_failed S tells s t writes faults later_writes later room v kept open_ n old q serves x (uncopied_shows S tells s t v kept.whole open_ n old q serves x transfer may logged) more le
+  pub kept_uncopied : (fault : ℕ) → IsFaultSince faults later fault → IsKept tells t later_writes later (failed v n old x fault)
+  kept_uncopied = kept_failed S tells s t writes faults later_writes later v kept open_ n old q serves x (uncopied_shows S tells s t v kept.whole open_ n old q serves x transfer may logged) more le

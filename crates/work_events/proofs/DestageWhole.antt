@@ -200,15 +200,15 @@ module _ (S : Type 0) {C : Type 0} (tells : Type 0) (s : SiteLog) (v : CoreValue
     firm = destage_firm S tells s v whole open_ n old serves.at q serves.asked s v.site 0 transfer may.copies may.kind may.all_ may.untouched its_d.row its_d.there firm;
   }
 
-module _ (S : Type 0) {C : Type 0} (tells : Type 0) (s t : SiteLog) (writes faults later_writes later room : ℕ) (v : CoreValue S C) (kept : IsKept tells s writes faults room v) (open_ : v.stopped ≡ None) (n : ℕ) (old : Task) (q : Request) (serves : Serves v n old q)
+module _ (S : Type 0) {C : Type 0} (tells : Type 0) (s t : SiteLog) (writes faults later_writes later : ℕ) (v : CoreValue S C) (kept : IsKept tells s writes faults v) (open_ : v.stopped ≡ None) (n : ℕ) (old : Task) (q : Request) (serves : Serves v n old q)
     (x : S) (more : writes ≤ later_writes) (le : faults ≤ later)
     (transfer : Transfer) (may : MayEndDestage v old transfer) (firm : tells → AreFirm transfer s) where
   due : IsDueChange tells s v transfer.volume (Destaged transfer.cylinder)
   due = due_destaged S tells s v kept.whole open_ n old q serves transfer may firm
 
   pub kept_destaged : IsDone tells s v transfer.volume (Destaged transfer.cylinder) t later_writes
-      → IsKept tells t later_writes later room (destaged v n old transfer x later_writes)
+      → IsKept tells t later_writes later (destaged v n old transfer x later_writes)
   kept_destaged done_ =
-      kept_changed S tells s t writes faults later_writes later room v kept open_ n x transfer.volume (Destaged transfer.cylinder) more le due.r due.there v.owners v.moving v.requests (slice_set v.tasks n (Some (record old { transfer = None })))
+      kept_changed S tells s t writes faults later_writes later v kept open_ n x transfer.volume (Destaged transfer.cylinder) more le due.r due.there v.owners v.moving v.requests (slice_set v.tasks n (Some (record old { transfer = None })))
       (whole_destaged S tells s v kept.whole open_ n old serves.at q serves.asked t x later_writes transfer may.copies may.kind may.all_ may.untouched due.r due.there firm (λ tl. done_ tl due.r due.there))
       (counted_message writes faults later_writes later v.requests (data_of v) kept.counted more le (message_of later_writes transfer.volume (Destaged transfer.cylinder) (listed v.rows)) (omega arith))

@@ -30,7 +30,7 @@ use Rattle.work_events.proofs.FailedWhole.{LeavesShown, failed, kept_failed}
 use Rattle.work_events.proofs.OwnTask.{quiet_now, served_now, sound_now}
 use Rattle.work_events.proofs.RowSteps.{HasRoom, IsKeptOn}
 
-module _ {S C : Type 0} (g : Ghosts S) {room : ℕ} {inside v : CoreValue S C} {site : S} {session : SessionData} (has : HasRoom g room inside v site session) (open_ : v.stopped ≡ None) (t : Transfer) (x : S) where
+module _ {S C : Type 0} (g : Ghosts S) {inside v : CoreValue S C} {site : S} {session : SessionData} (has : HasRoom g inside v site session) (open_ : v.stopped ≡ None) (t : Transfer) (x : S) where
   later_ : g.writes site ≤ g.writes x → g.writes v.site ≤ g.writes x
   later_ later = let u = has.reserves.unwritten in omega (arith, u, later)
 
@@ -49,11 +49,11 @@ module _ {S C : Type 0} (g : Ghosts S) {room : ℕ} {inside v : CoreValue S C} {
     copies_firm tl = synced_copies t (g.told site) (g.told x) (sync.told tl)
 
     -- the core on that site, as if room had been made there
-    pub room_synced : HasRoom g room (record inside { site = x }) (record v { site = x }) x session
+    pub room_synced : HasRoom g (record inside { site = x }) (record v { site = x }) x session
     room_synced = record {
       is = ap (λ (z : CoreValue S C). record z { site = x }) has.is;
       kept =
-          kept_synced g.tells (g.told v.site) (g.told x) (target_unit t) (g.writes v.site) (g.faults v.site) (g.writes x) (g.faults x) room v x open_ (λ tl. inl (sync_since.told tl)) sync_since.later
+          kept_synced g.tells (g.told v.site) (g.told x) (target_unit t) (g.writes v.site) (g.faults v.site) (g.writes x) (g.faults x) v x open_ (λ tl. inl (sync_since.told tl)) sync_since.later
           (let f = sync_since.sound in omega (arith, f)) has.kept;
       same = has.same;
       reserves = record { log = λ _. refl; room = omega arith; unwritten = refl; same = refl; sound = λ but never. never };
@@ -82,9 +82,9 @@ module _ {S C : Type 0} (g : Ghosts S) {room : ℕ} {inside v : CoreValue S C} {
         }
 
     -- the task ends
-    pub kept_unsynced : {most : ℕ} → MayWrite g most site x → (n : ℕ) (old : Task) (q : Request) → Serves v n old q → IsKeptOn g room x (failed v n old x (g.faults x))
+    pub kept_unsynced : {most : ℕ} → MayWrite g most site x → (n : ℕ) (old : Task) (q : Request) → Serves v n old q → IsKeptOn g x (failed v n old x (g.faults x))
     kept_unsynced devices n old q serves =
-        kept_failed S g.tells (g.told v.site) (g.told x) (g.writes v.site) (g.faults v.site) (g.writes x) (g.faults x) room v has.kept open_ n old q serves x (unsynced_shows n)
+        kept_failed S g.tells (g.told v.site) (g.told x) (g.writes v.site) (g.faults v.site) (g.writes x) (g.faults x) v has.kept open_ n old q serves x (unsynced_shows n)
         loose_since.later (let f = devices.later in let u = has.reserves.same in omega (arith, f, u)) (g.faults x) (record { count = refl; rises = loose_since.failed })
 
 -- ---- a call that is done, or failed
@@ -110,15 +110,15 @@ stages_on v x task t may = record { copies = may.copies; kind = may.kind; all_ =
 
 -- ---- a task whose transfer may end, behind the sync of its copies
 
-pub record IsSynced {S C : Type 0} (g : Ghosts S) (room : ℕ) (inside v : CoreValue S C) (x : S) (session : SessionData) (n : ℕ) (task : Task) (q : Request) (t : Transfer) : Type 0 where
-  pub has : HasRoom g room (record inside { site = x }) (record v { site = x }) x session
+pub record IsSynced {S C : Type 0} (g : Ghosts S) (inside v : CoreValue S C) (x : S) (session : SessionData) (n : ℕ) (task : Task) (q : Request) (t : Transfer) : Type 0 where
+  pub has : HasRoom g (record inside { site = x }) (record v { site = x }) x session
   pub serves : Serves (record v { site = x }) n task q
   pub since : SyncUnit g.tells (target_unit t) (seen_site g v.site) (seen_site g x)
   pub firm : g.tells → AreFirm t (g.told x)
 
-pub is_synced : {S C : Type 0} (g : Ghosts S) {room : ℕ} {inside v : CoreValue S C} {site : S} {session : SessionData} → HasRoom g room inside v site session → v.stopped ≡ None
+pub is_synced : {S C : Type 0} (g : Ghosts S) {inside v : CoreValue S C} {site : S} {session : SessionData} → HasRoom g inside v site session → v.stopped ≡ None
     → (n : ℕ) (task : Task) (q : Request) → Serves v n task q → (t : Transfer) (x : S) {T E : Type 0} (result : Result T E) → is_err result ≡ false
-    → OnOk result (SyncUnit g.tells (target_unit t) (seen_site g site) (seen_site g x)) → IsSynced g room inside v x session n task q t
+    → OnOk result (SyncUnit g.tells (target_unit t) (seen_site g site) (seen_site g x)) → IsSynced g inside v x session n task q t
 is_synced g {v = v} has open_ n task q serves t x result ok firm =
     let sync = when_ok result ok firm in
     record { has = room_synced g has open_ t x sync; serves = serves_on v x n task q serves; since = sync_since g has open_ t x sync; firm = copies_firm g has open_ t x sync }

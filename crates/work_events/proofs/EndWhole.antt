@@ -57,8 +57,8 @@ blank_stages t is = λ other. let e : StageBlank ≡ Destage = sym is ∙ other 
 cartridge_stages : (t : Transfer) → t.kind ≡ StageCartridge → t.kind ≢ Destage
 cartridge_stages t is = λ other. let e : StageCartridge ≡ Destage = sym is ∙ other in absurd cc
 
-module _ {S C : Type 0} (g : Ghosts S) {room : ℕ} {inside v : CoreValue S C} {session : SessionData} (y : S) (n : ℕ) (old : Task) (q : Request) (t : Transfer)
-    (behind : IsSynced g room inside v y session n old q t) (open_ : v.stopped ≡ None) (may : MayEnd v t.kind old t) (change : Change) (is : change ≡ change_of t) where
+module _ {S C : Type 0} (g : Ghosts S) {inside v : CoreValue S C} {session : SessionData} (y : S) (n : ℕ) (old : Task) (q : Request) (t : Transfer)
+    (behind : IsSynced g inside v y session n old q t) (open_ : v.stopped ≡ None) (may : MayEnd v t.kind old t) (change : Change) (is : change ≡ change_of t) where
   due_by : (k : TransferKind) → MayEnd v k old t → IsDueChange g.tells (g.told y) (record v { site = y }) t.volume (change_by k t.cylinder)
   due_by StageBlank m = due_staged S g.tells (g.told y) (record v { site = y }) behind.has.kept.whole open_ n old q behind.serves t (stages_on v y old t m) behind.firm
   due_by StageCartridge m = due_staged S g.tells (g.told y) (record v { site = y }) behind.has.kept.whole open_ n old q behind.serves t (stages_on v y old t m) behind.firm
@@ -86,16 +86,16 @@ module _ {S C : Type 0} (g : Ghosts S) {room : ℕ} {inside v : CoreValue S C} {
         λ i. record (of_parts (behind.has.is i) x (changed.rows_ i) (parts_ i).frames.owners (parts_ i).frames.moving (parts_ i).requests (parts_ i).tasks (behind.has.is i).hosts (now_told i)) { used = changed.used_ i }
 
     kept_by : (k : TransferKind) → MayEnd v k old t → IsDone g.tells (g.told y) (record v { site = y }) t.volume (change_by k t.cylinder) (g.told x) (g.writes x)
-        → IsKeptOn g room x (ended v n old t k x (g.writes x))
+        → IsKeptOn g x (ended v n old t k x (g.writes x))
     kept_by StageBlank m done_ =
-        kept_staged S g.tells (g.told y) (g.told x) (g.writes y) (g.faults y) (g.writes x) (g.faults x) room (record v { site = y }) behind.has.kept open_ n old q behind.serves x changed.more changed.le t (stages_on v y old t m) behind.firm done_
+        kept_staged S g.tells (g.told y) (g.told x) (g.writes y) (g.faults y) (g.writes x) (g.faults x) (record v { site = y }) behind.has.kept open_ n old q behind.serves x changed.more changed.le t (stages_on v y old t m) behind.firm done_
     kept_by StageCartridge m done_ =
-        kept_staged S g.tells (g.told y) (g.told x) (g.writes y) (g.faults y) (g.writes x) (g.faults x) room (record v { site = y }) behind.has.kept open_ n old q behind.serves x changed.more changed.le t (stages_on v y old t m) behind.firm done_
+        kept_staged S g.tells (g.told y) (g.told x) (g.writes y) (g.faults y) (g.writes x) (g.faults x) (record v { site = y }) behind.has.kept open_ n old q behind.serves x changed.more changed.le t (stages_on v y old t m) behind.firm done_
     kept_by Destage m done_ =
-        kept_destaged S g.tells (g.told y) (g.told x) (g.writes y) (g.faults y) (g.writes x) (g.faults x) room (record v { site = y }) behind.has.kept open_ n old q behind.serves x changed.more changed.le t (destages_on v y old t m) behind.firm done_
+        kept_destaged S g.tells (g.told y) (g.told x) (g.writes y) (g.faults y) (g.writes x) (g.faults x) (record v { site = y }) behind.has.kept open_ n old q behind.serves x changed.more changed.le t (destages_on v y old t m) behind.firm done_
 
-    pub kept_end : IsKeptOn g room x left
-    kept_end = kept_as g room x (ended v n old t t.kind x (g.writes x)) left (kept_by t.kind may changed.done_) left_is
+    pub kept_end : IsKeptOn g x left
+    kept_end = kept_as g x (ended v n old t t.kind x (g.writes x)) left (kept_by t.kind may changed.done_) left_is
 
     does_by : (choices : List Candidate → ℕ → Type 0) (answer : WorkAnswer) → answer ≡ Did work.End → (k : TransferKind) → t.kind ≡ k → HaveChanged g (record v { site = y }) t.volume (change_by k t.cylinder) x
         → left ≡ ended v n old t k x (g.writes x) → WorkDoes g.tells choices (seen g v) n (Ends t) answer (seen g left)

@@ -12,7 +12,7 @@ use Rattle.core_state.specs.SessionData.{SessionData, of_parts, with_last_event}
 use Rattle.work_events.proofs.FailedWhole.{failed}
 use Rattle.work_events.proofs.RowSteps.{HasRoom}
 
-pub failed_is : {S C : Type 0} (g : Ghosts S) {room : ℕ} {inside v : CoreValue S C} {site : S} {session : SessionData} → HasRoom g room inside v site session
+pub failed_is : {S C : Type 0} (g : Ghosts S) {inside v : CoreValue S C} {site : S} {session : SessionData} → HasRoom g inside v site session
     → (x : S) (n : ℕ) (old : Task) {frames : FramesData} → frames ≡ with_moving old.frame false (record { owners = inside.owners; moving = inside.moving })
     → {fault : ℕ} → fault ≡ g.faults x → {requests : RequestsData} → requests ≡ with_state old.host (Failed fault) inside.requests
     → {tasks : List (Option Task)} → tasks ≡ slice_set inside.tasks n None → {told : SessionData} → told ≡ with_last_event (Work n) session

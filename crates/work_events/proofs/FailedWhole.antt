@@ -63,15 +63,14 @@ failed v n old x fault = record v {
   events = v.events ++ Work n ∷ [];
 }
 
-pub kept_failed : (S : Type 0) {C : Type 0} (tells : Type 0) (s t : SiteLog) (writes faults later_writes later room : ℕ) (v : CoreValue S C) (kept : IsKept tells s writes faults room v) (open_ : v.stopped ≡ None)
+pub kept_failed : (S : Type 0) {C : Type 0} (tells : Type 0) (s t : SiteLog) (writes faults later_writes later : ℕ) (v : CoreValue S C) (kept : IsKept tells s writes faults v) (open_ : v.stopped ≡ None)
     (n : ℕ) (old : Task) (q : Request) (serves : Serves v n old q) (x : S) → (tells → LeavesShown s t v n) → writes ≤ later_writes → faults ≤ later
-    → (fault : ℕ) → IsFaultSince faults later fault → IsKept tells t later_writes later room (failed v n old x fault)
-kept_failed S tells s t writes faults later_writes later room v kept open_ n old q serves x leaves more le fault since =
+    → (fault : ℕ) → IsFaultSince faults later fault → IsKept tells t later_writes later (failed v n old x fault)
+kept_failed S tells s t writes faults later_writes later v kept open_ n old q serves x leaves more le fault since =
     let put : with_state old.host (Failed fault) v.requests ≡ put_request v.requests old.host (Some (record q { state = Failed fault })) = with_state_is v.requests old.host q (Failed fault) serves.asked in
-    kept_noted tells t later_writes later room (worked v x v.rows v.console v.owners (slice_set v.moving old.frame false) (with_state old.host (Failed fault) v.requests) (slice_set v.tasks n None)) (v.events ++ Work n ∷ [])
+    kept_noted tells t later_writes later (worked v x v.rows v.console v.owners (slice_set v.moving old.frame false) (with_state old.host (Failed fault) v.requests) (slice_set v.tasks n None)) (v.events ++ Work n ∷ [])
     (subst (λ (z : RequestsData). IsWhole tells t (worked v x v.rows v.console v.owners (slice_set v.moving old.frame false) z (slice_set v.tasks n None))) (sym put)
     (whole_failed S tells s t v kept.whole open_ n old q serves x leaves fault))
     (subst (λ (z : RequestsData). IsCounted later_writes later z (data_of v)) (sym put)
     (counted_request writes faults later_writes later v.requests (data_of v) kept.counted more le old.host (Some (record q { state = Failed fault })) (kept.whole.kept open_).requests_
     (λ other e. subst (IsFaultSince faults later) (some_is fault other e) since)))
-    kept.buffer

@@ -179,12 +179,12 @@ module _ (S : Type 0) {C : Type 0} (tells : Type 0) (s : SiteLog) (v : CoreValue
   pub due_freed : IsDueChange tells s v volume (Free page)
   due_freed = record { r = may.r; there = may.there; allowed = free_allowed S tells s v whole open_ n old serves.at q serves.asked s v.site 0 (volume, page) may.takes_ may.bare may.r may.there may.unchanged may.untouched; ready = λ _. tt; firm = λ _. tt }
 
-module _ (S : Type 0) {C : Type 0} (tells : Type 0) (s t : SiteLog) (writes faults later_writes later room : ℕ) (v : CoreValue S C) (kept : IsKept tells s writes faults room v) (open_ : v.stopped ≡ None) (n : ℕ) (old : Task) (q : Request) (serves : Serves v n old q)
+module _ (S : Type 0) {C : Type 0} (tells : Type 0) (s t : SiteLog) (writes faults later_writes later : ℕ) (v : CoreValue S C) (kept : IsKept tells s writes faults v) (open_ : v.stopped ≡ None) (n : ℕ) (old : Task) (q : Request) (serves : Serves v n old q)
     (x : S) (more : writes ≤ later_writes) (le : faults ≤ later)
     (volume page : ℕ) (may : MayFree v old volume page) where
   pub kept_freed : IsDone tells s v volume (Free page) t later_writes
-      → IsKept tells t later_writes later room (freed v n old volume page x later_writes)
+      → IsKept tells t later_writes later (freed v n old volume page x later_writes)
   kept_freed done_ =
-      kept_changed S tells s t writes faults later_writes later room v kept open_ n x volume (Free page) more le may.r may.there (slice_set v.owners old.frame None) v.moving v.requests (slice_set v.tasks n (Some (record old { victim = None })))
+      kept_changed S tells s t writes faults later_writes later v kept open_ n x volume (Free page) more le may.r may.there (slice_set v.owners old.frame None) v.moving v.requests (slice_set v.tasks n (Some (record old { victim = None })))
       (whole_freed S tells s v kept.whole open_ n old serves.at q serves.asked t x later_writes (volume, page) may.takes_ may.bare may.r may.there may.unchanged may.untouched (λ tl. done_ tl may.r may.there))
       (counted_message writes faults later_writes later v.requests (data_of v) kept.counted more le (message_of later_writes volume (Free page) (listed v.rows)) (omega arith))

@@ -79,8 +79,8 @@ module _ (S : Type 0) {C : Type 0} (tells : Type 0) (s : SiteLog) (v : CoreValue
       (λ q is ready. absurd (let a : Moving ≡ q.state = ap (λ (z : Request). z.state) (some_is (record request { state = Moving }) q is) in let b : Moving ≡ Ready = a ∙ ready in cc))))
       (λ tl. told_same S s v v.site v.owners _ _ _ (whole.told tl) (λ going_. served_p ((whole.told tl).going going_).served))
 
-module _ (S : Type 0) {C : Type 0} (tells : Type 0) (s : SiteLog) (writes faults room : ℕ) (v : CoreValue S C) (kept : IsKept tells s writes faults room v) (open_ : v.stopped ≡ None) (n : ℕ) (new : Task) (q : Request) (may : MayPick v n new q) where
-  pub kept_picked : IsKept tells s writes faults room (record v {
+module _ (S : Type 0) {C : Type 0} (tells : Type 0) (s : SiteLog) (writes faults : ℕ) (v : CoreValue S C) (kept : IsKept tells s writes faults v) (open_ : v.stopped ≡ None) (n : ℕ) (new : Task) (q : Request) (may : MayPick v n new q) where
+  pub kept_picked : IsKept tells s writes faults (record v {
     moving = slice_set v.moving new.frame true;
     requests = put_state new.host Moving v.requests;
     tasks = slice_set v.tasks n (Some new);
@@ -88,11 +88,10 @@ module _ (S : Type 0) {C : Type 0} (tells : Type 0) (s : SiteLog) (writes faults
   })
   kept_picked =
       let put : put_state new.host Moving v.requests ≡ put_request v.requests new.host (Some (record q { state = Moving })) = with_state_is v.requests new.host q Moving may.asked in
-      subst (λ (z : RequestsData). IsKept tells s writes faults room (record v { moving = slice_set v.moving new.frame true; requests = z; tasks = slice_set v.tasks n (Some new); events = v.events ++ Work n ∷ [] })) (sym put)
-      (kept_noted tells s writes faults room (worked v v.site v.rows v.console v.owners (slice_set v.moving new.frame true) (put_request v.requests new.host (Some (record q { state = Moving }))) (slice_set v.tasks n (Some new))) (v.events ++ Work n ∷ [])
+      subst (λ (z : RequestsData). IsKept tells s writes faults (record v { moving = slice_set v.moving new.frame true; requests = z; tasks = slice_set v.tasks n (Some new); events = v.events ++ Work n ∷ [] })) (sym put)
+      (kept_noted tells s writes faults (worked v v.site v.rows v.console v.owners (slice_set v.moving new.frame true) (put_request v.requests new.host (Some (record q { state = Moving }))) (slice_set v.tasks n (Some new))) (v.events ++ Work n ∷ [])
       (whole_picked S tells s v kept.whole open_ n may.fits may.idle new may.bare may.rests may.known q may.asked may.queued may.has may.unbound may.unheld)
-      (counted_request writes faults writes faults v.requests (data_of v) kept.counted (omega arith) (omega arith) new.host (Some (record q { state = Moving })) (kept.whole.kept open_).requests_ (λ fault e. absurd (none_some fault e)))
-      kept.buffer)
+      (counted_request writes faults writes faults v.requests (data_of v) kept.counted (omega arith) (omega arith) new.host (Some (record q { state = Moving })) (kept.whole.kept open_).requests_ (λ fault e. absurd (none_some fault e))))
 
 -- ---- a task is given up
 
@@ -111,8 +110,8 @@ module _ (S : Type 0) {C : Type 0} (tells : Type 0) (s : SiteLog) (v : CoreValue
       (λ tl. told_same S s v v.site v.owners _ _ _ (whole.told tl)
       (λ _. served_put S v core n old at wanted wants (content s) (listed v.rows) None (λ task e. absurd (none_some task e)) (λ m task other is. served_now S tells s v whole open_ tl m task is)))
 
-module _ (S : Type 0) {C : Type 0} (tells : Type 0) (s : SiteLog) (writes faults room : ℕ) (v : CoreValue S C) (kept : IsKept tells s writes faults room v) (open_ : v.stopped ≡ None) (n : ℕ) (old : Task) (q : Request) (serves : Serves v n old q) where
-  pub kept_abandoned : IsKept tells s writes faults room (record v {
+module _ (S : Type 0) {C : Type 0} (tells : Type 0) (s : SiteLog) (writes faults : ℕ) (v : CoreValue S C) (kept : IsKept tells s writes faults v) (open_ : v.stopped ≡ None) (n : ℕ) (old : Task) (q : Request) (serves : Serves v n old q) where
+  pub kept_abandoned : IsKept tells s writes faults (record v {
     moving = slice_set v.moving old.frame false;
     requests = put_state old.host Queued v.requests;
     tasks = slice_set v.tasks n None;
@@ -120,8 +119,7 @@ module _ (S : Type 0) {C : Type 0} (tells : Type 0) (s : SiteLog) (writes faults
   })
   kept_abandoned =
       let put : put_state old.host Queued v.requests ≡ put_request v.requests old.host (Some (record q { state = Queued })) = with_state_is v.requests old.host q Queued serves.asked in
-      subst (λ (z : RequestsData). IsKept tells s writes faults room (record v { moving = slice_set v.moving old.frame false; requests = z; tasks = slice_set v.tasks n None; events = v.events ++ Work n ∷ [] })) (sym put)
-      (kept_noted tells s writes faults room (worked v v.site v.rows v.console v.owners (slice_set v.moving old.frame false) (put_request v.requests old.host (Some (record q { state = Queued }))) (slice_set v.tasks n None)) (v.events ++ Work n ∷ [])
+      subst (λ (z : RequestsData). IsKept tells s writes faults (record v { moving = slice_set v.moving old.frame false; requests = z; tasks = slice_set v.tasks n None; events = v.events ++ Work n ∷ [] })) (sym put)
+      (kept_noted tells s writes faults (worked v v.site v.rows v.console v.owners (slice_set v.moving old.frame false) (put_request v.requests old.host (Some (record q { state = Queued }))) (slice_set v.tasks n None)) (v.events ++ Work n ∷ [])
       (whole_abandoned S tells s v kept.whole open_ n old serves.at q serves.asked)
-      (counted_request writes faults writes faults v.requests (data_of v) kept.counted (omega arith) (omega arith) old.host (Some (record q { state = Queued })) (kept.whole.kept open_).requests_ (λ fault e. absurd (none_some fault e)))
-      kept.buffer)
+      (counted_request writes faults writes faults v.requests (data_of v) kept.counted (omega arith) (omega arith) old.host (Some (record q { state = Queued })) (kept.whole.kept open_).requests_ (λ fault e. absurd (none_some fault e))))

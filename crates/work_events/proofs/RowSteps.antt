@@ -24,25 +24,25 @@ use Rattle.work_events.proofs.KeptFacts.{kept_at}
 use Rattle.work_events.proofs.ChangedRows.{FailsChange, HaveChanged, IsDone, IsDueChange, with_row_stopped, kept_unchanged}
 
 -- what a core keeps, with this site
-abbrev pub IsKeptOn : {S C : Type 0} → Ghosts S → ℕ → S → CoreValue S C → Type 0
-IsKeptOn g room site v = IsKept g.tells (g.told site) (g.writes site) (g.faults site) room v
+abbrev pub IsKeptOn : {S C : Type 0} → Ghosts S → S → CoreValue S C → Type 0
+IsKeptOn g site v = IsKept g.tells (g.told site) (g.writes site) (g.faults site) v
 
 -- of a core that is this one
-pub kept_as : {S C : Type 0} (g : Ghosts S) (room : ℕ) (x : S) (v w : CoreValue S C) → IsKeptOn g room x v → w ≡ v → IsKeptOn g room x w
-kept_as {S} {C} g room x v w kept same = subst (λ (z : CoreValue S C). IsKeptOn g room x z) (sym same) kept
+pub kept_as : {S C : Type 0} (g : Ghosts S) (x : S) (v w : CoreValue S C) → IsKeptOn g x v → w ≡ v → IsKeptOn g x w
+kept_as {S} {C} g x v w kept same = subst (λ (z : CoreValue S C). IsKeptOn g x z) (sym same) kept
 
 -- a core, by what stands in it and by its value; and its site and session, where no more than room was made
-pub record HasRoom {S C : Type 0} (g : Ghosts S) (room : ℕ) (inside v : CoreValue S C) (site : S) (session : SessionData) : Type 0 where
+pub record HasRoom {S C : Type 0} (g : Ghosts S) (inside v : CoreValue S C) (site : S) (session : SessionData) : Type 0 where
   pub is : inside ≡ v
-  pub kept : IsKeptOn g room v.site v
+  pub kept : IsKeptOn g v.site v
   pub same : session ≡ data_of v
   pub reserves : Reserves g v.site site
 
-pub has_room : {S C : Type 0} (g : Ghosts S) (room : ℕ) {inside : CoreValue S C} (v : CoreValue S C) → inside ≡ v → IsKeptOn g room inside.site inside → (site : S) (session : SessionData) → session ≡ data_of inside → Reserves g inside.site site
-    → HasRoom g room inside v site session
-has_room {S} {C} g room {inside} v is kept site session same reserves = record {
+pub has_room : {S C : Type 0} (g : Ghosts S) {inside : CoreValue S C} (v : CoreValue S C) → inside ≡ v → IsKeptOn g inside.site inside → (site : S) (session : SessionData) → session ≡ data_of inside → Reserves g inside.site site
+    → HasRoom g inside v site session
+has_room {S} {C} g {inside} v is kept site session same reserves = record {
   is = is;
-  kept = kept_at g room inside v is kept;
+  kept = kept_at g inside v is kept;
   same = same ∙ ap (λ (z : CoreValue S C). data_of z) is;
   reserves = subst (λ (z : CoreValue S C). Reserves g z.site site) is reserves;
 }
@@ -57,12 +57,12 @@ pub record Changes {S C : Type 0} (g : Ghosts S) (v : CoreValue S C) (volume : �
   pub done_ : IsDone g.tells (g.told v.site) v volume change (g.told x) (g.writes x)
   pub have : HaveChanged g v volume change x
 
-module _ {S C : Type 0} (g : Ghosts S) {room : ℕ} {inside v : CoreValue S C} {site : S} {session : SessionData} (has : HasRoom g room inside v site session) where
+module _ {S C : Type 0} (g : Ghosts S) {inside v : CoreValue S C} {site : S} {session : SessionData} (has : HasRoom g inside v site session) where
   -- a core that did no more is kept
-  pub kept_room : IsKeptOn g room site (of_parts inside site inside.rows inside.owners inside.moving inside.requests inside.tasks inside.hosts session)
+  pub kept_room : IsKeptOn g site (of_parts inside site inside.rows inside.owners inside.moving inside.requests inside.tasks inside.hosts session)
   kept_room =
-      kept_as g room site (record v { site = site }) _
-      (kept_moved S g.tells (g.told v.site) (g.told site) (g.writes v.site) (g.faults v.site) (g.writes site) (g.faults site) room v site has.reserves.log has.reserves.unwritten has.reserves.same has.kept)
+      kept_as g site (record v { site = site }) _
+      (kept_moved S g.tells (g.told v.site) (g.told site) (g.writes v.site) (g.faults v.site) (g.writes site) (g.faults site) v site has.reserves.log has.reserves.unwritten has.reserves.same has.kept)
       (λ i. of_parts (has.is i) site (has.is i).rows (has.is i).owners (has.is i).moving (has.is i).requests (has.is i).tasks (has.is i).hosts (has.same i))
 
   -- each row has its count of slots
@@ -145,9 +145,9 @@ module _ {S C : Type 0} (g : Ghosts S) {room : ℕ} {inside v : CoreValue S C} {
     -- it is kept
     pub row_stopped : IsDueChange g.tells (g.told v.site) v volume change → v.stopped ≡ None → (n : ℕ) → Rises (g.faults site) (g.faults x) → {used : List SlotsUsed} → used ≡ inside.used
         → {stop : SessionData} → stop ≡ with_stop (g.faults x) session → {told : SessionData} → told ≡ with_last_event (Work n) stop
-        → IsKeptOn g room x (record (of_parts inside x rows inside.owners inside.moving inside.requests inside.tasks inside.hosts told) { used = used })
+        → IsKeptOn g x (record (of_parts inside x rows inside.owners inside.moving inside.requests inside.tasks inside.hosts told) { used = used })
     row_stopped due open_ n rises used_is stop_is told_is =
-        kept_as g room x (with_row_stopped v n volume change x (g.faults x)) _
-        (kept_unchanged S g.tells (g.told v.site) (g.told x) (g.writes v.site) (g.faults v.site) (g.writes x) (g.faults x) room v has.kept open_ n x volume change more_ le_ due (λ tl r at. (written tl r at).moments)
+        kept_as g x (with_row_stopped v n volume change x (g.faults x)) _
+        (kept_unchanged S g.tells (g.told v.site) (g.told x) (g.writes v.site) (g.faults v.site) (g.writes x) (g.faults x) v has.kept open_ n x volume change more_ le_ due (λ tl r at. (written tl r at).moments)
         (record { count = refl; rises = subst (λ (k : ℕ). Rises k (g.faults x)) has.reserves.same rises }))
         (stopped_is n used_is stop_is told_is)

@@ -261,19 +261,19 @@ module _ (S : Type 0) {C : Type 0} (tells : Type 0) (s : SiteLog) (v : CoreValue
     firm = stage_firm S tells s v whole open_ n old serves.at q serves.asked s v.site 0 transfer may.copies may.kind may.all_ its_k.row its_k.there firm;
   }
 
-module _ (S : Type 0) {C : Type 0} (tells : Type 0) (s t : SiteLog) (writes faults later_writes later room : ℕ) (v : CoreValue S C) (kept : IsKept tells s writes faults room v) (open_ : v.stopped ≡ None) (n : ℕ) (old : Task) (q : Request) (serves : Serves v n old q)
+module _ (S : Type 0) {C : Type 0} (tells : Type 0) (s t : SiteLog) (writes faults later_writes later : ℕ) (v : CoreValue S C) (kept : IsKept tells s writes faults v) (open_ : v.stopped ≡ None) (n : ℕ) (old : Task) (q : Request) (serves : Serves v n old q)
     (x : S) (more : writes ≤ later_writes) (le : faults ≤ later)
     (transfer : Transfer) (may : MayEndStage v old transfer) (firm : tells → AreFirm transfer s) where
   due : IsDueChange tells s v transfer.volume (Staged transfer.cylinder)
   due = due_staged S tells s v kept.whole open_ n old q serves transfer may firm
 
   pub kept_staged : IsDone tells s v transfer.volume (Staged transfer.cylinder) t later_writes
-      → IsKept tells t later_writes later room (staged v n old transfer x later_writes)
+      → IsKept tells t later_writes later (staged v n old transfer x later_writes)
   kept_staged done_ =
       let put : put_state old.host Ready v.requests ≡ put_request v.requests old.host (Some (record q { state = Ready })) = with_state_is v.requests old.host q Ready serves.asked in
       let message = message_of later_writes transfer.volume (Staged transfer.cylinder) (listed v.rows) in
-      subst (λ (z : RequestsData). IsKept tells t later_writes later room (record (worked (with_slot transfer.volume v) x (with_changed transfer.volume (Staged transfer.cylinder) v.rows) (v.console ++ message ∷ []) v.owners (slice_set v.moving old.frame false) z (slice_set v.tasks n None)) { events = v.events ++ Work n ∷ [] })) (sym put)
-      (kept_changed S tells s t writes faults later_writes later room v kept open_ n x transfer.volume (Staged transfer.cylinder) more le due.r due.there v.owners (slice_set v.moving old.frame false) (put_request v.requests old.host (Some (record q { state = Ready }))) (slice_set v.tasks n None)
+      subst (λ (z : RequestsData). IsKept tells t later_writes later (record (worked (with_slot transfer.volume v) x (with_changed transfer.volume (Staged transfer.cylinder) v.rows) (v.console ++ message ∷ []) v.owners (slice_set v.moving old.frame false) z (slice_set v.tasks n None)) { events = v.events ++ Work n ∷ [] })) (sym put)
+      (kept_changed S tells s t writes faults later_writes later v kept open_ n x transfer.volume (Staged transfer.cylinder) more le due.r due.there v.owners (slice_set v.moving old.frame false) (put_request v.requests old.host (Some (record q { state = Ready }))) (slice_set v.tasks n None)
       (whole_staged S tells s v kept.whole open_ n old serves.at q serves.asked t x later_writes transfer may.copies may.kind may.all_ due.r due.there firm (λ tl. done_ tl due.r due.there))
       (counted_request later_writes later later_writes later v.requests (with_last_message message (data_of v))
       (counted_message writes faults later_writes later v.requests (data_of v) kept.counted more le message (omega arith)) (omega arith) (omega arith)

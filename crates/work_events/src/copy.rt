@@ -38,7 +38,7 @@ pub fn copy<S: Site, C: Choose>(
         return WorkAnswer::Memory;
     }
     let mut next = transfer;
-    match copy_track(&mut core.site, &mut next, &mut core.buffer) {
+    match copy_track(&mut core.site, &mut next, core.buffer.as_mut_slice()) {
         Ok(()) => {
             let goes_on = Task {
                 transfer: Some(next),

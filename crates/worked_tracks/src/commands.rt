@@ -1,7 +1,7 @@
 //! Commands on blocks as text, by the steps of a session. A line is a command's code, its argument, and the status
 //! and the data that come back, where `-` is no bytes. Behind ` ! ` stands which read or write of the command
 //! fails, and what the command tells: that a read (`R`) or a write (`W`) failed, and the count of faults.
-ghost use Rattle.std.specs.Prelude.{◌≡◌, length, true};
+ghost use Rattle.std.specs.Prelude.{◌≡◌, true};
 ghost use Rattle.ckd_plain.specs.Checks.{Passes};
 ghost use Rattle.ckd_plain.specs.Effects.{is_data};
 ghost use Rattle.ckd_plain.specs.Plain.{opened};
@@ -13,7 +13,7 @@ use ckd_plain::steps::{is_data, opened, run_control};
 use ckd_plain::{HostState, admitted};
 use ckd_track::FORMAT_ITEMS;
 use memory_devices::SiteFault;
-use mss_base::{Cylinder, Site, UnitNo};
+use mss_base::{Block, Cylinder, Site, UnitNo};
 use std::alloc::Global;
 use track_engine::{CylinderPlace, EngineFault, run_command};
 
@@ -32,12 +32,11 @@ fn place_of(cylinder: Cylinder) -> CylinderPlace {
 fn run_on_tracks(
     alloc: Global,
     bench: &mut Bench,
-    buffer: &mut [u8],
+    buffer: &mut Block,
     host: &mut HostState,
     command: &Command,
     argument: &[u8],
 ) -> Answer
-    requires buffer { length buffer.old ≡ 16384 }
     requires passes { Passes (opened host.old) command.now argument.now }
     requires data { is_data command.now ≡ true }
 {
@@ -50,13 +49,11 @@ fn run_on_tracks(
 fn run(
     alloc: Global,
     bench: &mut Bench,
-    buffer: &mut [u8],
+    buffer: &mut Block,
     host: &mut HostState,
     code: u8,
     argument: &[u8],
-) -> Answer
-    requires { length buffer.old ≡ 16384 }
-{
+) -> Answer {
     match admitted(&opened(host), code, argument) {
         Err(_) => None,
         Ok(command) => {
@@ -73,13 +70,10 @@ fn run(
 fn answer(
     alloc: Global,
     bench: &mut Bench,
-    buffer: &mut [u8],
+    buffer: &mut Block,
     host: &mut HostState,
     line: &str,
 ) -> Answer {
-    if buffer.len() != 16384 {
-        return None;
-    }
     let code = byte_at(line, 0)?;
     let argument = bytes_at(alloc, line, 1)?;
     run(alloc, bench, buffer, host, code, &argument)
@@ -129,7 +123,7 @@ fn is_fault(answer: &Answer, due: EngineFault) -> bool {
 fn is_failed(
     alloc: Global,
     bench: &mut Bench,
-    buffer: &mut [u8],
+    buffer: &mut Block,
     host: &mut HostState,
     line: &str,
     fault: &str,
@@ -144,7 +138,7 @@ fn is_failed(
 fn is_answered(
     alloc: Global,
     bench: &mut Bench,
-    buffer: &mut [u8],
+    buffer: &mut Block,
     host: &mut HostState,
     line: &str,
 ) -> bool {
@@ -156,7 +150,7 @@ fn is_answered(
 pub fn is_run(
     alloc: Global,
     bench: &mut Bench,
-    buffer: &mut [u8],
+    buffer: &mut Block,
     host: &mut HostState,
     line: &str,
 ) -> Option<bool> {

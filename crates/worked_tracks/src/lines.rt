@@ -12,7 +12,7 @@ use crate::words::{byte, bytes, number};
 use ckd_plain::steps::sense_of;
 use ckd_plain::{HostState, UnitCheck};
 use memory_devices::{ImageFault, SiteFault, Tear};
-use mss_base::{Bytes, VolumeNo};
+use mss_base::{Block, Bytes, VolumeNo};
 use std::alloc::Global;
 use std::process::Abort;
 
@@ -38,7 +38,7 @@ fn is_call(line: &str) -> bool {
 fn line_is_so(
     alloc: Global,
     bench: &mut Bench,
-    buffer: &mut [u8],
+    buffer: &mut Block,
     host: &mut HostState,
     line: &str,
 ) -> Option<bool> {
@@ -58,7 +58,7 @@ fn line_is_so(
 fn lines_are_so(
     alloc: Global,
     bench: &mut Bench,
-    buffer: &mut [u8],
+    buffer: &mut Block,
     host: &mut HostState,
     text: &str,
 ) -> bool {
@@ -140,7 +140,7 @@ fn run_stops(rt: &impl Abort, alloc: Global, bench: &Bench, stops: &str) {
 fn part_is_so(
     alloc: Global,
     bench: &mut Bench,
-    buffer: &mut [u8],
+    buffer: &mut Block,
     before: &str,
     part: &str,
 ) -> Option<bool> {
@@ -150,7 +150,7 @@ fn part_is_so(
 }
 
 fn run_on(alloc: Global, bench: &mut Bench, before: &str, part: &str) -> Option<bool> {
-    let mut buffer = vec![in alloc; 0u8; 16384].ok()?;
+    let mut buffer = Block::zeros(alloc).ok()?;
     part_is_so(alloc, bench, &mut buffer, before, part)
 }
 

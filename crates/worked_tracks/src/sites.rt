@@ -3,11 +3,11 @@
 //! the counts of items (writes and syncs) and of faults, in place of block and offset; `t` how many records the
 //! block's track has, in place of the offset, and their data; `l` how many slots are in use, in place of the
 //! offset, and the body of the last. `p` appends a slot with these bytes behind so many, as the offset says.
-ghost use Rattle.std.specs.Prelude.{◌≡◌, length, vec_len, IfSome};
+ghost use Rattle.std.specs.Prelude.{◌≡◌, vec_len, IfSome};
 
 use crate::words::{bytes_at, number_at, word};
 use ckd_track::{check_track, record_count, stored_records};
-use mss_base::{BlockPlace, CartridgeNo, Site, UnitNo};
+use mss_base::{Block, BlockPlace, CartridgeNo, Site, UnitNo};
 use std::alloc::Global;
 use table_journal::{SLOT_BODY_BYTES, SLOT_ITEMS, SLOTS, append_slot, read_slots, slot};
 
@@ -116,28 +116,28 @@ fn has_counted<S: Site>(site: &S, row: &Row) -> bool {
 }
 
 /// The data of a block's records together.
-fn push_bodies(bodies: &mut Vec<u8>, block: &[u8]) -> Option<()>
-    requires { length block.now ≡ 16384 }
-{
-    for stored in stored_records(block) {
+fn push_bodies(bodies: &mut Vec<u8>, block: &Block) -> Option<()> {
+    for stored in stored_records(block.as_slice()) {
         bodies.extend_from_slice(stored.body).ok()?;
     }
     Some(())
 }
 
-fn has_bodies(alloc: Global, block: &[u8], due: &[u8]) -> bool
-    requires { length block.now ≡ 16384 }
-{
+fn has_bodies(alloc: Global, block: &Block, due: &[u8]) -> bool {
     let mut bodies = Vec::new(alloc);
     push_bodies(&mut bodies, block).is_some() && bodies.as_slice() == due
 }
 
 /// Whether a track's records, as many as the offset says, have these data together.
 fn has_records<S: Site>(alloc: Global, site: &mut S, row: &Row, bytes: &[u8]) -> Option<bool> {
-    site.bring(row.unit, row.block).ok()?;
-    let block = site.brought();
-    check_track(block).ok()?;
-    Some(u16::from(record_count(block)) == row.offset && has_bodies(alloc, block, bytes))
+    let at = BlockPlace {
+        unit: row.unit,
+        block: row.block,
+    };
+    let mut block = Block::zeros(alloc).ok()?;
+    block.read(site, &at).ok()?;
+    check_track(&block).ok()?;
+    Some(u16::from(record_count(&block)) == row.offset && has_bodies(alloc, &block, bytes))
 }
 
 /// Whether so many slots are in use as the offset says, the last of them with these bytes.

@@ -1,18 +1,15 @@
 // Blocks made by hand.
-ghost use Rattle.std.specs.Prelude.{◌≡◌, length, vec_len, IfOk};
-
 use ckd_track::*;
+use mss_base::Block;
 use std::alloc::Global;
 use std::process::Abort;
 use std::test::Fail;
 
 /// A block of zeros but for the open gate of R1 and the first bytes of R1: its count, and data.
-fn block_of(alloc: Global, record: &[u8; 11]) -> Result<Vec<u8>, Fail>
-    ensures { IfOk result (λ block. vec_len block ≡ 16384) }
-{
-    let mut block = vec![in alloc; 0u8; 16384]?;
-    block[129] = 0xC1;
-    block[256..267].copy_from_slice(record);
+fn block_of(alloc: Global, record: &[u8; 11]) -> Result<Block, Fail> {
+    let mut block = Block::zeros(alloc)?;
+    block.write(129, &[0xC1]);
+    block.write(256, record);
     Ok(block)
 }
 
@@ -22,9 +19,8 @@ const ID: [u8; 5] = [0, 5, 0, 3, 1];
 const COUNT_DATA: [u8; 11] = [0, 5, 0, 3, 1, 0, 0, 3, 0x41, 0x42, 0x43];
 
 /// Whether the record lies at byte 256.
-fn lies_there(block: &[u8]) -> bool
-    requires { length block.now ≡ 16384 }
-{
+fn lies_there(block: &Block) -> bool {
+    let block = block.as_slice();
     let Some(place) = find_place(block, 1) else {
         return false;
     };
@@ -33,13 +29,11 @@ fn lies_there(block: &[u8]) -> bool
 }
 
 /// Whether the record is the block's only one.
-fn stands_alone(block: &[u8]) -> bool
-    requires { length block.now ≡ 16384 }
-{
+fn stands_alone(block: &Block) -> bool {
     !is_blank(block)
         && record_count(block) == 1
         && cost_of_front(block, 1) == 138
-        && find_place(block, 2).is_none()
+        && find_place(block.as_slice(), 2).is_none()
 }
 
 /// Whether it is the track's only one.
@@ -56,14 +50,14 @@ fn is_track_of_it(track: &Track) -> bool {
 fn reads_a_record_made_by_hand(rt: HostRuntime) -> Result<(), Fail> {
     let block = block_of(rt.alloc(), &COUNT_DATA)?;
     assert!(rt; check_track(&block).is_ok() && lies_there(&block) && stands_alone(&block));
-    assert!(rt; is_track_of_it(&read_track(rt.alloc(), &block)?));
-    assert!(rt; is_track_of_it(&read_front(rt.alloc(), &block)?));
+    assert!(rt; is_track_of_it(&read_track(rt.alloc(), block.as_slice())?));
+    assert!(rt; is_track_of_it(&read_front(rt.alloc(), block.as_slice())?));
     Ok(())
 }
 
 #[test]
 fn a_block_of_zeros_is_blank(rt: HostRuntime) -> Result<(), Fail> {
-    assert!(rt; is_blank(&vec![in rt.alloc(); 0u8; 16384]?));
+    assert!(rt; is_blank(&Block::zeros(rt.alloc())?));
     Ok(())
 }
 
@@ -76,7 +70,7 @@ fn is_bad_for(
 ) -> Result<(), Fail> {
     let block = block_of(alloc, &[0, 0, 0, 0, 0, 0, high, low, 0, 0, 0])?;
     let checked = check_track(&block).err();
-    let read = read_track(alloc, &block).err();
+    let read = read_track(alloc, block.as_slice()).err();
     match cause {
         Some(cause) => {
             assert!(rt; checked == Some(BadRecord { number: 1, cause }));

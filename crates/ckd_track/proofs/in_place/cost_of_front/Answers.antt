@@ -1,4 +1,4 @@
-use Rattle.std.proofs.Common.{◌≡◌, ℕ, suc, ◌-◌, take, refl, ap, arith, List}
+use Rattle.std.proofs.Common.{◌≡◌, ℕ, suc, ◌-◌, take, refl, ap, ◌∙◌, arith, List}
 use Rattle.ckd_track.specs.Data.{RecordData, cost}
 use Rattle.ckd_track.specs.Track.{reading}
 use Rattle.ckd_track.proofs.TrackFacts.{front_cost, cost-take-cons, cost-take-nil}
@@ -7,8 +7,9 @@ use Rattle.ckd_track.proofs.in_place.cost_of_front.Goals as goal
 pub loop-init : goal.loop-init
 loop-init c = λ left is.
     let all : left ≡ c.args.count = omega arith in
+    let told : c.stored_records-stored.result ≡ reading c.args.block.now = c.stored_records-stored.ensures.all ∙ ap reading c.as_slice.ensures.bytes in
     let same : cost (take left c.stored_records-stored.result.records) ≡ cost (take c.args.count (reading c.args.block.now).records) =
-    (λ i. cost (take (all i) (c.stored_records-stored.ensures.all i).records)) in
+    (λ i. cost (take (all i) (told i).records)) in
     omega (arith, same)
 
 pub returns-in_default-clause-cost : goal.returns-in_default-clause-cost

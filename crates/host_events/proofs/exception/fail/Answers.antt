@@ -15,13 +15,13 @@ use Rattle.host_events.proofs.exception.fail.Goals as goal
 pub reply-requires-clause-few : goal.reply-requires-clause-few
 reply-requires-clause-few g c =
     let now = c.args.core.now in
-    let is = upheld_of g.S.Site _ _ now c.core.view_is c.core.invariant in
+    let is = upheld_of g.S.Site _ now c.core.view_is c.core.invariant in
     (rule_failed now c.args.host (call_of c.args.call.now) is.whole.kept c.args.fault c.requires.rule).goes.few
 
 pub reply-requires-clause-upheld : goal.reply-requires-clause-upheld
 reply-requires-clause-upheld g c =
     let now = c.args.core.now in
-    let is = upheld_of g.S.Site _ _ now c.core.view_is c.core.invariant in
+    let is = upheld_of g.S.Site _ now c.core.view_is c.core.invariant in
     let low : (1 ≤ c.args.host) × (c.args.host ≤ 8) = search rules in
     let state : c.host_at.result ≡ host_at now.hosts c.args.host =
     c.host_at.ensures ∙ ap (λ (l : List HostState). host_at l c.args.host) (c.as_slice.ensures ∙ ap (λ (x : CoreValue g.row.S.Denot g.row.C.Denot). x.hosts) c.core.view_is) in

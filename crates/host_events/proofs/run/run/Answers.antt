@@ -1,7 +1,6 @@
 -- What comes of the command is the event, and keeps the core.
 use Rattle.std.proofs.Common.{rules, ◌≡◌, length, refl, None, Some, ◌∙◌, ap, subst}
 use Rattle.std.specs.Prelude.{◌-◌, slice_set, Err}
-use Rattle.std.specs.Vec.{vec_len}
 use Rattle.volume_table.specs.Listed.{listed}
 use Rattle.channel_commands.specs.Data.{equipment_check, stopped}
 use Rattle.channel_commands.specs.Views.{call_of, reply_of}
@@ -22,7 +21,7 @@ use Rattle.core_state.specs.CoreValue.{seen_site}
 pub invariant_of-core : goal.invariant_of-core
 invariant_of-core g c =
     let S = g.S.Site in
-    prepared_kept g.row.S.Denot S c.args.core.now c.core.view_is (vec_len c.core.inside.buffer) c.core.invariant c.prepare.new.site c.prepare.ensures.site
+    prepared_kept g.row.S.Denot S c.args.core.now c.core.view_is c.core.invariant c.prepare.new.site c.prepare.ensures.site
     c.core.inside.requests refl (session_data c.prepare.new.session) c.prepare.ensures.session
 
 pub run_in-requires-clause-may : goal.run_in-requires-clause-may
@@ -30,33 +29,33 @@ run_in-requires-clause-may g c =
     let S = g.S.Site in
     record {
       asks =
-          is_asked g.row.S.Denot S c.args.core.now c.core.view_is (vec_len c.core.inside.buffer) c.core.invariant c.args.host (call_of c.args.call.now) c.args.command.now
+          is_asked g.row.S.Denot S c.args.core.now c.core.view_is c.core.invariant c.args.host (call_of c.args.call.now) c.args.command.now
           c.args.volume c.args.frame c.requires.rule c.standing-old.result (c.standing-old.ensures.state ∙ ap (λ l. host_at l c.args.host) c.as_slice.ensures) c.standing-old.ensures.cylinder c.standing-old.ensures.head;
       passes =
-          passes_ g.row.S.Denot S c.args.core.now c.core.view_is (vec_len c.core.inside.buffer) c.core.invariant c.args.host (call_of c.args.call.now) c.args.command.now
+          passes_ g.row.S.Denot S c.args.core.now c.core.view_is c.core.invariant c.args.host (call_of c.args.call.now) c.args.command.now
           c.args.volume c.args.frame c.requires.rule c.standing-old.result (c.standing-old.ensures.state ∙ ap (λ l. host_at l c.args.host) c.as_slice.ensures) c.standing-old.ensures.cylinder c.standing-old.ensures.head;
       data_ =
-          is_data_ g.row.S.Denot S c.args.core.now c.core.view_is (vec_len c.core.inside.buffer) c.core.invariant c.args.host (call_of c.args.call.now) c.args.command.now
+          is_data_ g.row.S.Denot S c.args.core.now c.core.view_is c.core.invariant c.args.host (call_of c.args.call.now) c.args.command.now
           c.args.volume c.args.frame c.requires.rule c.standing-old.result (c.standing-old.ensures.state ∙ ap (λ l. host_at l c.args.host) c.as_slice.ensures) c.standing-old.ensures.cylinder c.standing-old.ensures.head;
     }
 
 pub run_in-requires-clause-tracks : goal.run_in-requires-clause-tracks
 run_in-requires-clause-tracks g c =
     let S = g.S.Site in
-    tracks_ g.row.S.Denot S c.args.core.now c.core.view_is (vec_len c.core.inside.buffer) c.core.invariant c.args.host (call_of c.args.call.now) c.args.command.now
+    tracks_ g.row.S.Denot S c.args.core.now c.core.view_is c.core.invariant c.args.host (call_of c.args.call.now) c.args.command.now
     c.args.volume c.args.frame c.requires.rule c.standing-old.result (c.standing-old.ensures.state ∙ ap (λ l. host_at l c.args.host) c.as_slice.ensures) c.standing-old.ensures.cylinder c.standing-old.ensures.head
     c.prepare.new.site c.prepare.ensures.site
 
 pub touch-requires : goal.touch-requires
 touch-requires g c =
     let S = g.S.Site in
-    touches g.row.S.Denot S c.args.core.now c.core.view_is (vec_len c.core.inside.buffer) c.core.invariant c.args.host (call_of c.args.call.now) c.args.command.now
+    touches g.row.S.Denot S c.args.core.now c.core.view_is c.core.invariant c.args.host (call_of c.args.call.now) c.args.command.now
     c.args.volume c.args.frame c.requires.rule c.standing-old.result (c.standing-old.ensures.state ∙ ap (λ l. host_at l c.args.host) c.as_slice.ensures) c.standing-old.ensures.cylinder c.standing-old.ensures.head
 
 pub invariant_of-core-in-Ok-run_in : goal.invariant_of-core-in-Ok-run_in
 invariant_of-core-in-Ok-run_in g c =
     let S = g.S.Site in
-    run_kept g.row.S.Denot S c.args.core.now c.core.view_is (vec_len c.core.inside.buffer) c.core.invariant c.args.host (call_of c.args.call.now) c.args.command.now
+    run_kept g.row.S.Denot S c.args.core.now c.core.view_is c.core.invariant c.args.host (call_of c.args.call.now) c.args.command.now
     c.args.volume c.args.frame c.requires.rule c.standing-old.result (c.standing-old.ensures.state ∙ ap (λ l. host_at l c.args.host) c.as_slice.ensures) c.standing-old.ensures.cylinder c.standing-old.ensures.head
     c.prepare.new.site c.prepare.ensures.site c.run_in.new.site c.run_in.ensures.site_ (λ tl. g.met.S.Site.counted c.run_in.new.site tl)
     (reply_of c.in-Ok-run_in.reply) c.run_in.new.host c.in-Ok-run_in.ensures.comes.0
@@ -71,7 +70,7 @@ invariant_of-core-in-Err-ReadFailed g c =
     (seen_site S c.prepare.new.site) (seen_site S c.run_in.new.site) c.run_in.new.host (Err (ReadFailed c.in-Err-ReadFailed.fault)) =
     subst (λ (e : EngineFault). Comes S.tells (run_by c.standing-old.result (frame_block c.args.frame c.standing-old.result.cylinder 0) c.args.command.now (call_of c.args.call.now))
     (seen_site S c.prepare.new.site) (seen_site S c.run_in.new.site) c.run_in.new.host (Err e)) c.in-Err-ReadFailed.field-0-is c.in-Err-ReadFailed.ensures.comes in
-    check_kept g.row.S.Denot S c.args.core.now c.core.view_is (vec_len c.core.inside.buffer) c.core.invariant c.args.host (call_of c.args.call.now) c.args.command.now
+    check_kept g.row.S.Denot S c.args.core.now c.core.view_is c.core.invariant c.args.host (call_of c.args.call.now) c.args.command.now
     c.args.volume c.args.frame c.requires.rule c.standing-old.result (c.standing-old.ensures.state ∙ ap (λ l. host_at l c.args.host) c.as_slice.ensures) c.standing-old.ensures.cylinder c.standing-old.ensures.head
     c.prepare.new.site c.prepare.ensures.site c.run_in.new.site c.run_in.ensures.site_ (λ tl. g.met.S.Site.counted c.run_in.new.site tl)
     comes.0 c.end.new.self c.end.ensures c.set-in-Err-ReadFailed.new.self.items (c.set-in-Err-ReadFailed.ensures.items ∙ (λ i. slice_set c.core.inside.hosts.items ((c.from-at.ensures ∙ c.get.ensures.value) i - 1) (c.checked.ensures i)))
@@ -84,7 +83,7 @@ invariant_of-core-in-Err-WriteFailed g c =
     (seen_site S c.prepare.new.site) (seen_site S c.run_in.new.site) c.run_in.new.host (Err (WriteFailed c.in-Err-WriteFailed.fault)) =
     subst (λ (e : EngineFault). Comes S.tells (run_by c.standing-old.result (frame_block c.args.frame c.standing-old.result.cylinder 0) c.args.command.now (call_of c.args.call.now))
     (seen_site S c.prepare.new.site) (seen_site S c.run_in.new.site) c.run_in.new.host (Err e)) c.in-Err-WriteFailed.field-0-is c.in-Err-WriteFailed.ensures.comes in
-    stop_kept g.row.S.Denot S c.args.core.now c.core.view_is (vec_len c.core.inside.buffer) c.core.invariant c.args.host (call_of c.args.call.now) c.args.command.now
+    stop_kept g.row.S.Denot S c.args.core.now c.core.view_is c.core.invariant c.args.host (call_of c.args.call.now) c.args.command.now
     c.args.volume c.args.frame c.requires.rule c.standing-old.result (c.standing-old.ensures.state ∙ ap (λ l. host_at l c.args.host) c.as_slice.ensures) c.standing-old.ensures.cylinder c.standing-old.ensures.head
     c.prepare.new.site c.prepare.ensures.site c.run_in.new.site c.run_in.ensures.site_ (λ tl. g.met.S.Site.counted c.run_in.new.site tl)
     c.in-Err-WriteFailed.fault comes (with_stop _ (session_data c.enter-in-Err-WriteFailed.new.session)) (λ i. with_stop (c.in-Err-WriteFailed.fault-is i) ((c.enter-in-Err-WriteFailed.ensures ∙ (λ i. with_reply c.args.host (c.in-Ok.ensures.copy i) stopped (Some (c.in-Err-WriteFailed.fault-is i)) (c.writes-mark-in-Err-WriteFailed.ensures i) (c.prepare.ensures.session i))) i))
@@ -92,7 +91,7 @@ invariant_of-core-in-Err-WriteFailed g c =
 pub invariant_of-core-in-Err-Memory : goal.invariant_of-core-in-Err-Memory
 invariant_of-core-in-Err-Memory g c =
     let S = g.S.Site in
-    still_kept g.row.S.Denot S c.args.core.now c.core.view_is (vec_len c.core.inside.buffer) c.core.invariant c.args.host (call_of c.args.call.now) c.args.command.now
+    still_kept g.row.S.Denot S c.args.core.now c.core.view_is c.core.invariant c.args.host (call_of c.args.call.now) c.args.command.now
     c.args.volume c.args.frame c.requires.rule c.standing-old.result (c.standing-old.ensures.state ∙ ap (λ l. host_at l c.args.host) c.as_slice.ensures) c.standing-old.ensures.cylinder c.standing-old.ensures.head
     c.prepare.new.site c.prepare.ensures.site c.run_in.new.site c.run_in.ensures.site_ (λ tl. g.met.S.Site.counted c.run_in.new.site tl)
     (subst (λ (e : EngineFault). Comes S.tells (run_by c.standing-old.result (frame_block c.args.frame c.standing-old.result.cylinder 0) c.args.command.now (call_of c.args.call.now))
@@ -102,7 +101,7 @@ invariant_of-core-in-Err-Memory g c =
 pub returns-in-Ok-run_in-clause-event : goal.returns-in-Ok-run_in-clause-event
 returns-in-Ok-run_in-clause-event g c =
     let S = g.S.Site in
-    run_event g.row.S.Denot S c.args.core.now c.core.view_is (vec_len c.core.inside.buffer) c.core.invariant c.args.host (call_of c.args.call.now) c.args.command.now
+    run_event g.row.S.Denot S c.args.core.now c.core.view_is c.core.invariant c.args.host (call_of c.args.call.now) c.args.command.now
     c.args.volume c.args.frame c.requires.rule c.standing-old.result (c.standing-old.ensures.state ∙ ap (λ l. host_at l c.args.host) c.as_slice.ensures) c.standing-old.ensures.cylinder c.standing-old.ensures.head
     c.prepare.new.site c.prepare.ensures.site c.run_in.new.site c.run_in.ensures.site_ (λ tl. g.met.S.Site.counted c.run_in.new.site tl)
     (reply_of c.in-Ok-run_in.reply) c.run_in.new.host c.in-Ok-run_in.ensures.comes.0
@@ -118,7 +117,7 @@ returns-in-Err-WriteFailed-clause-event g c =
     (seen_site S c.prepare.new.site) (seen_site S c.run_in.new.site) c.run_in.new.host (Err (WriteFailed c.in-Err-WriteFailed.fault)) =
     subst (λ (e : EngineFault). Comes S.tells (run_by c.standing-old.result (frame_block c.args.frame c.standing-old.result.cylinder 0) c.args.command.now (call_of c.args.call.now))
     (seen_site S c.prepare.new.site) (seen_site S c.run_in.new.site) c.run_in.new.host (Err e)) c.in-Err-WriteFailed.field-0-is c.in-Err-WriteFailed.ensures.comes in
-    stop_event g.row.S.Denot S c.args.core.now c.core.view_is (vec_len c.core.inside.buffer) c.core.invariant c.args.host (call_of c.args.call.now) c.args.command.now
+    stop_event g.row.S.Denot S c.args.core.now c.core.view_is c.core.invariant c.args.host (call_of c.args.call.now) c.args.command.now
     c.args.volume c.args.frame c.requires.rule c.standing-old.result (c.standing-old.ensures.state ∙ ap (λ l. host_at l c.args.host) c.as_slice.ensures) c.standing-old.ensures.cylinder c.standing-old.ensures.head
     c.prepare.new.site c.prepare.ensures.site c.run_in.new.site c.run_in.ensures.site_ (λ tl. g.met.S.Site.counted c.run_in.new.site tl)
     c.in-Err-WriteFailed.fault comes (with_stop _ (session_data c.enter-in-Err-WriteFailed.new.session)) (λ i. with_stop (c.in-Err-WriteFailed.fault-is i) ((c.enter-in-Err-WriteFailed.ensures ∙ (λ i. with_reply c.args.host (c.in-Ok.ensures.copy i) stopped (Some (c.in-Err-WriteFailed.fault-is i)) (c.writes-mark-in-Err-WriteFailed.ensures i) (c.prepare.ensures.session i))) i))
@@ -127,7 +126,7 @@ returns-in-Err-WriteFailed-clause-event g c =
 pub invariant_of-core-in-Err-Memory-2 : goal.invariant_of-core-in-Err-Memory-2
 invariant_of-core-in-Err-Memory-2 g c =
     let S = g.S.Site in
-    still_kept g.row.S.Denot S c.args.core.now c.core.view_is (vec_len c.core.inside.buffer) c.core.invariant c.args.host (call_of c.args.call.now) c.args.command.now
+    still_kept g.row.S.Denot S c.args.core.now c.core.view_is c.core.invariant c.args.host (call_of c.args.call.now) c.args.command.now
     c.args.volume c.args.frame c.requires.rule c.standing-old.result (c.standing-old.ensures.state ∙ ap (λ l. host_at l c.args.host) c.as_slice.ensures) c.standing-old.ensures.cylinder c.standing-old.ensures.head
     c.prepare.new.site c.prepare.ensures.site c.run_in.new.site c.run_in.ensures.site_ (λ tl. g.met.S.Site.counted c.run_in.new.site tl)
     (subst (λ (e : EngineFault). Comes S.tells (run_by c.standing-old.result (frame_block c.args.frame c.standing-old.result.cylinder 0) c.args.command.now (call_of c.args.call.now))
@@ -138,7 +137,7 @@ pub row_of-row-requires : goal.row_of-row-requires
 row_of-row-requires g c =
     let S = g.S.Site in
     record {
-      there = has_row g.row.S.Denot S c.args.core.now c.core.view_is (vec_len c.core.inside.buffer) c.core.invariant c.args.host (call_of c.args.call.now) c.args.command.now
+      there = has_row g.row.S.Denot S c.args.core.now c.core.view_is c.core.invariant c.args.host (call_of c.args.call.now) c.args.command.now
           c.args.volume c.args.frame c.requires.rule c.standing-old.result (c.standing-old.ensures.state ∙ ap (λ l. host_at l c.args.host) c.as_slice.ensures) c.standing-old.ensures.cylinder c.standing-old.ensures.head;
     }
 
@@ -148,11 +147,11 @@ run_in-requires-clause-staged g c =
     let row : listed c.core.inside.rows c.args.volume ≡ Some c.row_of-row.result.now = search rules in
     record {
       frame_ =
-          in_frame g.row.S.Denot S c.args.core.now c.core.view_is (vec_len c.core.inside.buffer) c.core.invariant c.args.host (call_of c.args.call.now) c.args.command.now
+          in_frame g.row.S.Denot S c.args.core.now c.core.view_is c.core.invariant c.args.host (call_of c.args.call.now) c.args.command.now
           c.args.volume c.args.frame c.requires.rule c.standing-old.result (c.standing-old.ensures.state ∙ ap (λ l. host_at l c.args.host) c.as_slice.ensures) c.standing-old.ensures.cylinder c.standing-old.ensures.head
           c.row_of-row.result.now row;
       staged =
-          is_staged g.row.S.Denot S c.args.core.now c.core.view_is (vec_len c.core.inside.buffer) c.core.invariant c.args.host (call_of c.args.call.now) c.args.command.now
+          is_staged g.row.S.Denot S c.args.core.now c.core.view_is c.core.invariant c.args.host (call_of c.args.call.now) c.args.command.now
           c.args.volume c.args.frame c.requires.rule c.standing-old.result (c.standing-old.ensures.state ∙ ap (λ l. host_at l c.args.host) c.as_slice.ensures) c.standing-old.ensures.cylinder c.standing-old.ensures.head
           c.row_of-row.result.now row;
     }

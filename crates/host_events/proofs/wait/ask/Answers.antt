@@ -10,7 +10,7 @@ use Rattle.host_events.proofs.wait.ask.Goals as goal
 pub returns-then-is_some-clause-event : goal.returns-then-is_some-clause-event
 returns-then-is_some-clause-event g c = λ call rule.
     let now = c.args.core.now in
-    let is = upheld_of g.S.Site _ _ now c.core.view_is c.core.invariant in
+    let is = upheld_of g.S.Site _ now c.core.view_is c.core.invariant in
     let asks = asks_old g.S.Site.tells (seen g.S.Site now) c.args.host call c.args.volume c.args.cylinder
     (rule_faults now c.args.host call is.whole.kept c.args.volume c.args.cylinder rule).asks.mine
     (one_asked now _ c.args.host _ _ c.core.view_is c.of.ensures c.is_some.ensures c.if-is_some.true) in
@@ -22,7 +22,7 @@ queue-requires-clause-none g c = none_asked c.args.core.now _ c.args.host _ _ c.
 pub queue-requires-clause-upheld : goal.queue-requires-clause-upheld
 queue-requires-clause-upheld g c =
     let now = c.args.core.now in
-    let is = upheld_of g.S.Site _ _ now c.core.view_is c.core.invariant in
+    let is = upheld_of g.S.Site _ now c.core.view_is c.core.invariant in
     let low : (1 ≤ c.args.host) × (c.args.host ≤ 8) = search rules in
     upheld_asking g.S.Site.tells (g.S.Site.told now.site) (g.S.Site.writes now.site) (g.S.Site.faults now.site) now is c.args.host (low.0, omega (arith, low.1)) c.requires.rule.0 c.args.volume c.args.cylinder
     (rule_faults now c.args.host c.requires.rule.0 is.whole.kept c.args.volume c.args.cylinder c.requires.rule.1)

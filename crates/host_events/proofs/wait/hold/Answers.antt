@@ -12,7 +12,7 @@ pub prove-unreachable-requires : goal.prove-unreachable-requires
 prove-unreachable-requires g c =
     let now = c.args.core.now in
     let call = c.requires.rule.0 in
-    let is = upheld_of g.S.Site _ _ now c.core.view_is c.core.invariant in
+    let is = upheld_of g.S.Site _ now c.core.view_is c.core.invariant in
     let on = rule_held now c.args.host call is.whole.kept c.args.frame c.requires.rule.1 in
     let none = held_bare now (is.whole.kept on.goes.going) c.args.host call c.args.frame on in
     false≢true

@@ -8,43 +8,43 @@ use Rattle.track_engine.proofs.write.write_data.Goals as goal
 pub returns-in_err-at-clause-done : goal.returns-in_err-at-clause-done
 returns-in_err-at-clause-done g c = λ tells.
     let p = err_from_is_err_and c.from_residual-in_err-at.result c.from_residual-in_err-at.ensures.1 in
-    let there = (c.in_ok-copy_block.ensures.block tells).records in
+    let there = rw (sym c.as_slice-block.ensures.bytes) at (c.in_ok-copy_block.ensures.block tells).records in
     rw (p.1, p.2) (refused_write _ _ _ _ _ c.in_err-at.field-0.0
-    (update_refused c.args.key_too c.copy_block.new.buffer c.args.host.now c.args.left c.args.argument.now c.number.result c.number.ensures _ there c.in_err-at.field-0.0 c.in_err-at.ensures.found)
+    (update_refused c.args.key_too c.as_slice-block.result.now c.args.host.now c.args.left c.args.argument.now c.number.result c.number.ensures _ there c.in_err-at.field-0.0 c.in_err-at.ensures.found)
     (c.copy_block.ensures.reads.log tells))
 
 pub returns-in-Some-clause-done : goal.returns-in-Some-clause-done
 returns-in-Some-clause-done g c = λ tells.
-    let there = (c.in_ok-copy_block.ensures.block tells).records in
+    let there = rw (sym c.as_slice-block.ensures.bytes) at (c.in_ok-copy_block.ensures.block tells).records in
     carried_over _ _ _ _ _ _ _ _ c.update_at.result
-    (update_given c.args.key_too c.copy_block.new.buffer c.args.host.now c.args.left c.args.argument.now c.number.result c.number.ensures _ there
+    (update_given c.args.key_too c.as_slice-block.result.now c.args.host.now c.args.left c.args.argument.now c.number.result c.number.ensures _ there
     c.in_ok-at.at c.in_ok-at.ensures.itself c.requires.first c.in_ok-at.ensures.found c.found_in.result c.in-Some.bytes.now c.updated_length-length.result c.found_in.ensures.found c.updated_length-length.ensures c.in-Some.ensures)
-    (number_at_hand c.args.key_too c.copy_block.new.buffer c.args.host.now c.args.left c.args.argument.now c.number.result c.number.ensures _ there c.in_ok-at.at c.in_ok-at.ensures.itself c.requires.first c.in_ok-at.ensures.found)
-    there c.block_of-to.ensures.value (c.copy_block.ensures.reads.log tells) (c.update_at.ensures.done tells)
+    (number_at_hand c.args.key_too c.as_slice-block.result.now c.args.host.now c.args.left c.args.argument.now c.number.result c.number.ensures _ there c.in_ok-at.at c.in_ok-at.ensures.itself c.requires.first c.in_ok-at.ensures.found)
+    there c.block_of-to.ensures.value (c.copy_block.ensures.reads.log tells) (rw (sym c.as_slice-block.ensures.bytes) at (c.update_at.ensures.done tells))
 
 pub returns-in_ok-bytes-in-None-clause-done : goal.returns-in_ok-bytes-in-None-clause-done
 returns-in_ok-bytes-in-None-clause-done g c = λ tells.
-    let there = (c.in_ok-copy_block.ensures.block tells).records in
+    let there = rw (sym c.as_slice-block.ensures.bytes) at (c.in_ok-copy_block.ensures.block tells).records in
     carried_over _ _ _ _ _ _ _ _ c.update_at-in-None.result
-    (update_given c.args.key_too c.copy_block.new.buffer c.args.host.now c.args.left c.args.argument.now c.number.result c.number.ensures _ there
+    (update_given c.args.key_too c.as_slice-block.result.now c.args.host.now c.args.left c.args.argument.now c.number.result c.number.ensures _ there
     c.in_ok-at.at c.in_ok-at.ensures.itself c.requires.first c.in_ok-at.ensures.found c.found_in.result c.as_slice.result.now c.updated_length-length.result c.found_in.ensures.found c.updated_length-length.ensures
     (c.as_slice.ensures ∙ c.in_ok-bytes-in-None.ensures))
-    (number_at_hand c.args.key_too c.copy_block.new.buffer c.args.host.now c.args.left c.args.argument.now c.number.result c.number.ensures _ there c.in_ok-at.at c.in_ok-at.ensures.itself c.requires.first c.in_ok-at.ensures.found)
-    there c.block_of-to.ensures.value (c.copy_block.ensures.reads.log tells) (c.update_at-in-None.ensures.done tells)
+    (number_at_hand c.args.key_too c.as_slice-block.result.now c.args.host.now c.args.left c.args.argument.now c.number.result c.number.ensures _ there c.in_ok-at.at c.in_ok-at.ensures.itself c.requires.first c.in_ok-at.ensures.found)
+    there c.block_of-to.ensures.value (c.copy_block.ensures.reads.log tells) (rw (sym c.as_slice-block.ensures.bytes) at (c.update_at-in-None.ensures.done tells))
 
 pub returns-in-Some-clause-untouched : goal.returns-in-Some-clause-untouched
 returns-in-Some-clause-untouched g c = λ tells none.
-    let there = (c.in_ok-copy_block.ensures.block tells).records in
+    let there = rw (sym c.as_slice-block.ensures.bytes) at (c.in_ok-copy_block.ensures.block tells).records in
     let nothing : c.in-Some.bytes.now ≡ [] =
-    update_of_nothing c.args.key_too c.copy_block.new.buffer c.args.host.now c.args.left c.args.argument.now c.number.result c.number.ensures _ there
+    update_of_nothing c.args.key_too c.as_slice-block.result.now c.args.host.now c.args.left c.args.argument.now c.number.result c.number.ensures _ there
     c.in_ok-at.at c.in_ok-at.ensures.itself c.requires.first c.in_ok-at.ensures.found c.found_in.result c.in-Some.bytes.now c.updated_length-length.result c.found_in.ensures.found c.updated_length-length.ensures c.in-Some.ensures none in
     subst (λ s. OnlyReads g.S.Site c.args.site.now s) (sym (c.update_at.ensures.untouched nothing)) c.copy_block.ensures.reads
 
 pub returns-in_ok-bytes-in-None-clause-untouched : goal.returns-in_ok-bytes-in-None-clause-untouched
 returns-in_ok-bytes-in-None-clause-untouched g c = λ tells none.
-    let there = (c.in_ok-copy_block.ensures.block tells).records in
+    let there = rw (sym c.as_slice-block.ensures.bytes) at (c.in_ok-copy_block.ensures.block tells).records in
     let nothing : c.as_slice.result.now ≡ [] =
-    update_of_nothing c.args.key_too c.copy_block.new.buffer c.args.host.now c.args.left c.args.argument.now c.number.result c.number.ensures _ there
+    update_of_nothing c.args.key_too c.as_slice-block.result.now c.args.host.now c.args.left c.args.argument.now c.number.result c.number.ensures _ there
     c.in_ok-at.at c.in_ok-at.ensures.itself c.requires.first c.in_ok-at.ensures.found c.found_in.result c.as_slice.result.now c.updated_length-length.result c.found_in.ensures.found c.updated_length-length.ensures
     (c.as_slice.ensures ∙ c.in_ok-bytes-in-None.ensures) none in
     subst (λ s. OnlyReads g.S.Site c.args.site.now s) (sym (c.update_at-in-None.ensures.untouched nothing)) c.copy_block.ensures.reads
@@ -64,27 +64,28 @@ returns-in_err-bytes-in-None-clause-done g c = λ tells.
 pub update_at-requires-clause-may : goal.update_at-requires-clause-may
 update_at-requires-clause-may g c =
     let itself = c.in_ok-at.ensures.itself in
-    let number = number_at_hand c.args.key_too c.copy_block.new.buffer c.args.host.now c.args.left c.args.argument.now c.number.result c.number.ensures _ refl c.in_ok-at.at itself c.requires.first c.in_ok-at.ensures.found in
+    let number = number_at_hand c.args.key_too c.as_slice-block.result.now c.args.host.now c.args.left c.args.argument.now c.number.result c.number.ensures _ refl c.in_ok-at.at itself c.requires.first c.in_ok-at.ensures.found in
     let first : 1 ≤ c.in_ok-at.at.number = omega (arith, number, c.requires.first) in
-    record {
+    rw (sym c.as_slice-block.ensures.bytes) (record {
       first = first;
       there = itself.stands.there;
       found = itself.stands.begins first;
       long =
-          update_long c.args.key_too c.copy_block.new.buffer c.args.host.now c.args.left c.args.argument.now c.number.result c.number.ensures _ refl
+          update_long c.args.key_too c.as_slice-block.result.now c.args.host.now c.args.left c.args.argument.now c.number.result c.number.ensures _ refl
           c.in_ok-at.at c.in_ok-at.ensures.itself c.requires.first c.in_ok-at.ensures.found c.found_in.result c.in-Some.bytes.now c.updated_length-length.result c.found_in.ensures.found c.updated_length-length.ensures c.in-Some.ensures;
-    }
+    })
 
 pub update_at-requires-in-None-clause-may : goal.update_at-requires-in-None-clause-may
 update_at-requires-in-None-clause-may g c =
     let itself = c.in_ok-at.ensures.itself in
-    let number = number_at_hand c.args.key_too c.copy_block.new.buffer c.args.host.now c.args.left c.args.argument.now c.number.result c.number.ensures _ refl c.in_ok-at.at itself c.requires.first c.in_ok-at.ensures.found in
+    let number = number_at_hand c.args.key_too c.as_slice-block.result.now c.args.host.now c.args.left c.args.argument.now c.number.result c.number.ensures _ refl c.in_ok-at.at itself c.requires.first c.in_ok-at.ensures.found in
     let first : 1 ≤ c.in_ok-at.at.number = omega (arith, number, c.requires.first) in
-    record {
+    let bytes = c.as_slice.ensures ∙ c.in_ok-bytes-in-None.ensures in
+    rw (sym c.as_slice-block.ensures.bytes) (record {
       first = first;
       there = itself.stands.there;
       found = itself.stands.begins first;
       long =
-          update_long c.args.key_too c.copy_block.new.buffer c.args.host.now c.args.left c.args.argument.now c.number.result c.number.ensures _ refl
-          c.in_ok-at.at c.in_ok-at.ensures.itself c.requires.first c.in_ok-at.ensures.found c.found_in.result c.as_slice.result.now c.updated_length-length.result c.found_in.ensures.found c.updated_length-length.ensures (c.as_slice.ensures ∙ c.in_ok-bytes-in-None.ensures);
-    }
+          update_long c.args.key_too c.as_slice-block.result.now c.args.host.now c.args.left c.args.argument.now c.number.result c.number.ensures _ refl
+          c.in_ok-at.at c.in_ok-at.ensures.itself c.requires.first c.in_ok-at.ensures.found c.found_in.result c.as_slice.result.now c.updated_length-length.result c.found_in.ensures.found c.updated_length-length.ensures bytes;
+    })

@@ -1,5 +1,5 @@
 use Rattle.std.proofs.Common.{◌≡◌, ◌<◌, [], ◌∷◌, ◌++◌, length, Some, sym, ◌∙◌, ap, subst}
-use Rattle.std.specs.Prelude.{slice_set, vec_len}
+use Rattle.std.specs.Prelude.{slice_set}
 use Rattle.accessors.specs.Moves.{moved_from_to}
 use Rattle.accessors.specs.Rails.{cell_place, recorder_place}
 use Rattle.cartridge_store.specs.declared.store.Place.TheVariants.{Cell, Recorder}
@@ -19,7 +19,7 @@ pub put-requires-clause-lies : goal.put-requires-clause-lies
 put-requires-clause-lies g c =
     let now = c.args.core.now in
     let is = c.core.view_is in
-    let kept = kept_at g.S.Site (vec_len c.core.inside.buffer) _ now is c.core.invariant in
+    let kept = kept_at g.S.Site _ now is c.core.invariant in
     let says = rule_fetches now c.args.recorder c.requires.fits kept.whole.kept c.args.cartridge c.requires.rule in
     ap (λ (z : CoreValue g.row.S.Denot g.row.C.Denot). place_of z.store c.args.cartridge) is ∙ says.lies ∙ ap Cell (sym c.get.ensures.value)
 
@@ -27,7 +27,7 @@ pub put-requires-clause-free : goal.put-requires-clause-free
 put-requires-clause-free g c =
     let now = c.args.core.now in
     let is = c.core.view_is in
-    let kept = kept_at g.S.Site (vec_len c.core.inside.buffer) _ now is c.core.invariant in
+    let kept = kept_at g.S.Site _ now is c.core.invariant in
     let says = rule_fetches now c.args.recorder c.requires.fits kept.whole.kept c.args.cartridge c.requires.rule in
     let beside = (kept.whole.kept says.going).beside in
     λ other low at. recorder_is_free now.config.frames now.config.recorders now.recency now.recorders now.store beside c.args.cartridge c.args.recorder says.empty other low (sym (ap (λ (z : CoreValue g.row.S.Denot g.row.C.Denot). place_of z.store other) is) ∙ at)
@@ -36,7 +36,7 @@ pub invariant_of-core-2 : goal.invariant_of-core-2
 invariant_of-core-2 g c =
     let now = c.args.core.now in
     let is = c.core.view_is in
-    let kept = kept_at g.S.Site (vec_len c.core.inside.buffer) _ now is c.core.invariant in
+    let kept = kept_at g.S.Site _ now is c.core.invariant in
     let says = rule_fetches now c.args.recorder c.requires.fits kept.whole.kept c.args.cartridge c.requires.rule in
     let known : c.args.cartridge < length now.store = subst (λ (z : CoreValue g.row.S.Denot g.row.C.Denot). c.args.cartridge < length z.store) is c.put.ensures.known in
     let number : c.from.result ≡ c.args.recorder = c.from.ensures ∙ c.get-3.ensures.value in
@@ -45,8 +45,8 @@ invariant_of-core-2 g c =
     let store : c.put.new.store ≡ with_place c.args.cartridge (Recorder c.args.recorder) now.store = c.put.ensures.there ∙ (λ i. with_place c.args.cartridge (Recorder c.args.recorder) (is i).store) in
     let path : ◌≡◌ {A = CoreValue g.row.S.Denot g.row.C.Denot} _ (record now { recorders = slice_set now.recorders c.args.recorder (Some c.args.cartridge); store = with_place c.args.cartridge (Recorder c.args.recorder) now.store; rail = c.carry.new.rail; events = now.events ++ Work c.args.recorder ∷ [] }) =
     λ i. record (of_parts (is i) (is i).site (is i).rows (is i).owners (is i).moving (is i).requests (is i).tasks (is i).hosts (told i)) { recorders = recorders i; store = store i; rail = c.carry.new.rail } in
-    subst (λ (z : CoreValue g.row.S.Denot g.row.C.Denot). IsKept g.S.Site.tells (g.S.Site.told z.site) (g.S.Site.writes z.site) (g.S.Site.faults z.site) (vec_len c.core.inside.buffer) z) (sym path)
-    (kept_fetched g.S.Site.tells (g.S.Site.told now.site) (g.S.Site.writes now.site) (g.S.Site.faults now.site) (vec_len c.core.inside.buffer) now kept c.args.recorder c.args.cartridge known c.requires.fits c.carry.new.rail says)
+    subst (λ (z : CoreValue g.row.S.Denot g.row.C.Denot). IsKept g.S.Site.tells (g.S.Site.told z.site) (g.S.Site.writes z.site) (g.S.Site.faults z.site) z) (sym path)
+    (kept_fetched g.S.Site.tells (g.S.Site.told now.site) (g.S.Site.writes now.site) (g.S.Site.faults now.site) now kept c.args.recorder c.args.cartridge known c.requires.fits c.carry.new.rail says)
 
 pub returns-clause-event : goal.returns-clause-event
 returns-clause-event g c =

@@ -1,5 +1,4 @@
 use Rattle.std.proofs.Common.{◌≡◌, inl, inr, ℕ, length, refl, ◌∙◌, ap, sym, subst, arith}
-use Rattle.std.specs.Prelude.{vec_len}
 use Rattle.mss_base.specs.Counts.{Rises}
 use Rattle.core_state.specs.CoreValue.{CoreValue}
 use Rattle.work_events.proofs.KeptFacts.{kept_at}
@@ -13,20 +12,20 @@ pub served-task-requires : goal.served-task-requires
 served-task-requires g c =
     let now = c.args.core.now in
     let is = c.core.view_is in
-    let kept = kept_at g.S.Site (vec_len c.core.inside.buffer) _ now is c.core.invariant in
+    let kept = kept_at g.S.Site _ now is c.core.invariant in
     let says = rule_copies now c.args.recorder c.requires.fits kept.whole.kept c.args.transfer c.requires.rule in
     (says.task, says.request, says.serves)
 
 pub invariant_of-core : goal.invariant_of-core
 invariant_of-core g c =
     let now = c.args.core.now in
-    kept_room g.S.Site (has_room g.S.Site _ now c.core.view_is c.core.invariant c.make_room.new.site _ c.make_room.ensures.session c.make_room.ensures.site)
+    kept_room g.S.Site (has_room g.S.Site now c.core.view_is c.core.invariant c.make_room.new.site _ c.make_room.ensures.session c.make_room.ensures.site)
 
 pub copy_track-requires-clause-more : goal.copy_track-requires-clause-more
 copy_track-requires-clause-more g c =
     let now = c.args.core.now in
     let is = c.core.view_is in
-    let kept = kept_at g.S.Site (vec_len c.core.inside.buffer) _ now is c.core.invariant in
+    let kept = kept_at g.S.Site _ now is c.core.invariant in
     let says = rule_copies now c.args.recorder c.requires.fits kept.whole.kept c.args.transfer c.requires.rule in
     let may = says.may c.served-task.result.0 c.served-task.result.1 c.served-task.ensures.serves c.served-task.ensures.low in
     may.more
@@ -34,7 +33,7 @@ copy_track-requires-clause-more g c =
 pub end_failed-requires-clause-frame : goal.end_failed-requires-clause-frame
 end_failed-requires-clause-frame g c =
     let now = c.args.core.now in
-    let has = has_room g.S.Site _ now c.core.view_is c.core.invariant c.make_room.new.site _ c.make_room.ensures.session c.make_room.ensures.site in
+    let has = has_room g.S.Site now c.core.view_is c.core.invariant c.make_room.new.site _ c.make_room.ensures.session c.make_room.ensures.site in
     let says = rule_copies now c.args.recorder c.requires.fits has.kept.whole.kept c.args.transfer c.requires.rule in
     let low = (has.kept.whole.kept says.going).tasks_.each c.args.recorder c.served-task.result.0 c.served-task.ensures.serves.at in
     let size : length c.core.inside.frames.owners ≡ now.config.frames = ap (λ (z : CoreValue g.row.S.Denot g.row.C.Denot). length z.owners) has.is ∙ has.kept.whole.shaped.owners_ in
@@ -44,7 +43,7 @@ end_failed-requires-clause-frame g c =
 pub invariant_of-core-in-Ok : goal.invariant_of-core-in-Ok
 invariant_of-core-in-Ok g c =
     let now = c.args.core.now in
-    let has = has_room g.S.Site _ now c.core.view_is c.core.invariant c.make_room.new.site _ c.make_room.ensures.session c.make_room.ensures.site in
+    let has = has_room g.S.Site now c.core.view_is c.core.invariant c.make_room.new.site _ c.make_room.ensures.session c.make_room.ensures.site in
     let says = rule_copies now c.args.recorder c.requires.fits has.kept.whole.kept c.args.transfer c.requires.rule in
     let task = c.served-task.result.0 in
     let asked = c.served-task.result.1 in
@@ -56,7 +55,7 @@ invariant_of-core-in-Ok g c =
 pub returns-in-Ok-clause-event : goal.returns-in-Ok-clause-event
 returns-in-Ok-clause-event g c =
     let now = c.args.core.now in
-    let has = has_room g.S.Site _ now c.core.view_is c.core.invariant c.make_room.new.site _ c.make_room.ensures.session c.make_room.ensures.site in
+    let has = has_room g.S.Site now c.core.view_is c.core.invariant c.make_room.new.site _ c.make_room.ensures.session c.make_room.ensures.site in
     let says = rule_copies now c.args.recorder c.requires.fits has.kept.whole.kept c.args.transfer c.requires.rule in
     let task = c.served-task.result.0 in
     let asked = c.served-task.result.1 in
@@ -67,7 +66,7 @@ returns-in-Ok-clause-event g c =
 pub invariant_of-core-in-Err : goal.invariant_of-core-in-Err
 invariant_of-core-in-Err g c =
     let now = c.args.core.now in
-    let has = has_room g.S.Site _ now c.core.view_is c.core.invariant c.make_room.new.site _ c.make_room.ensures.session c.make_room.ensures.site in
+    let has = has_room g.S.Site now c.core.view_is c.core.invariant c.make_room.new.site _ c.make_room.ensures.session c.make_room.ensures.site in
     let says = rule_copies now c.args.recorder c.requires.fits has.kept.whole.kept c.args.transfer c.requires.rule in
     let task = c.served-task.result.0 in
     let asked = c.served-task.result.1 in
@@ -79,7 +78,7 @@ invariant_of-core-in-Err g c =
 pub returns-in-Err-clause-event : goal.returns-in-Err-clause-event
 returns-in-Err-clause-event g c =
     let now = c.args.core.now in
-    let has = has_room g.S.Site _ now c.core.view_is c.core.invariant c.make_room.new.site _ c.make_room.ensures.session c.make_room.ensures.site in
+    let has = has_room g.S.Site now c.core.view_is c.core.invariant c.make_room.new.site _ c.make_room.ensures.session c.make_room.ensures.site in
     let says = rule_copies now c.args.recorder c.requires.fits has.kept.whole.kept c.args.transfer c.requires.rule in
     let task = c.served-task.result.0 in
     let asked = c.served-task.result.1 in

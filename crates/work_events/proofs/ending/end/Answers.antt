@@ -1,5 +1,4 @@
 use Rattle.std.proofs.Common.{◌≡◌, length, refl, sym, ◌∙◌, ap, arith}
-use Rattle.std.specs.Prelude.{vec_len}
 use Rattle.core_state.specs.declared.rule.WorkAnswer.TheVariants.{Stopped}
 use Rattle.core_state.specs.CoreValue.{CoreValue}
 use Rattle.work_events.specs.Leaving.{TaskParts}
@@ -14,21 +13,21 @@ use Rattle.work_events.proofs.ending.end.Goals as goal
 pub served-requires : goal.served-requires
 served-requires g c =
     let now = c.args.core.now in
-    let kept = kept_at g.S.Site (vec_len c.core.inside.buffer) _ now c.core.view_is c.core.invariant in
+    let kept = kept_at g.S.Site _ now c.core.view_is c.core.invariant in
     let says = rule_ends now c.args.recorder c.requires.fits kept.whole.kept c.args.transfer c.requires.rule in
     (says.task, says.request, says.serves)
 
 pub invariant_of-core : goal.invariant_of-core
 invariant_of-core g c =
     let now = c.args.core.now in
-    kept_room g.S.Site (has_room g.S.Site _ now c.core.view_is c.core.invariant c.make_room.new.site _ c.make_room.ensures.session c.make_room.ensures.site)
+    kept_room g.S.Site (has_room g.S.Site now c.core.view_is c.core.invariant c.make_room.new.site _ c.make_room.ensures.session c.make_room.ensures.site)
 
 -- ---- the sync fails
 
 pub end_failed-requires-clause-frame : goal.end_failed-requires-clause-frame
 end_failed-requires-clause-frame g c =
     let now = c.args.core.now in
-    let has = has_room g.S.Site _ now c.core.view_is c.core.invariant c.make_room.new.site _ c.make_room.ensures.session c.make_room.ensures.site in
+    let has = has_room g.S.Site now c.core.view_is c.core.invariant c.make_room.new.site _ c.make_room.ensures.session c.make_room.ensures.site in
     let says = rule_ends now c.args.recorder c.requires.fits has.kept.whole.kept c.args.transfer c.requires.rule in
     let its = (has.kept.whole.kept says.going).tasks_.each c.args.recorder c.served.result.0 c.served.ensures.serves.at in
     let size : length c.core.inside.frames.owners ≡ now.config.frames = ap (λ (z : CoreValue g.row.S.Denot g.row.C.Denot). length z.owners) has.is ∙ has.kept.whole.shaped.owners_ in
@@ -38,20 +37,20 @@ end_failed-requires-clause-frame g c =
 pub invariant_of-core-then-is_err-2 : goal.invariant_of-core-then-is_err-2
 invariant_of-core-then-is_err-2 g c =
     let now = c.args.core.now in
-    let has = has_room g.S.Site _ now c.core.view_is c.core.invariant c.make_room.new.site _ c.make_room.ensures.session c.make_room.ensures.site in
+    let has = has_room g.S.Site now c.core.view_is c.core.invariant c.make_room.new.site _ c.make_room.ensures.session c.make_room.ensures.site in
     let says = rule_ends now c.args.recorder c.requires.fits has.kept.whole.kept c.args.transfer c.requires.rule in
     let task = c.served.result.0 in
     let y = c.sync_copies.new.site in
     let loose = when_err c.sync_copies.result (sym c.is_err-2.ensures.value ∙ c.if-is_err-2.true) c.sync_copies.ensures.loose in
     let path = failed_is g.S.Site has y c.args.recorder task c.end_failed.ensures.frames c.faults-fault.ensures c.end_failed.ensures.requests c.end_failed.ensures.tasks c.end_failed.ensures.told in
-    kept_as g.S.Site _ y _ _
+    kept_as g.S.Site y _ _
     (kept_unsynced g.S.Site has says.going c.args.transfer y loose c.sync_copies.ensures.devices c.args.recorder task c.served.result.1 c.served.ensures.serves)
     path
 
 pub returns-then-is_err-2-clause-event : goal.returns-then-is_err-2-clause-event
 returns-then-is_err-2-clause-event g c =
     let now = c.args.core.now in
-    let has = has_room g.S.Site _ now c.core.view_is c.core.invariant c.make_room.new.site _ c.make_room.ensures.session c.make_room.ensures.site in
+    let has = has_room g.S.Site now c.core.view_is c.core.invariant c.make_room.new.site _ c.make_room.ensures.session c.make_room.ensures.site in
     let says = rule_ends now c.args.recorder c.requires.fits has.kept.whole.kept c.args.transfer c.requires.rule in
     let task = c.served.result.0 in
     let y = c.sync_copies.new.site in
@@ -64,7 +63,7 @@ returns-then-is_err-2-clause-event g c =
 pub write_change-requires-clause-there : goal.write_change-requires-clause-there
 write_change-requires-clause-there g c =
     let now = c.args.core.now in
-    let has = has_room g.S.Site _ now c.core.view_is c.core.invariant c.make_room.new.site _ c.make_room.ensures.session c.make_room.ensures.site in
+    let has = has_room g.S.Site now c.core.view_is c.core.invariant c.make_room.new.site _ c.make_room.ensures.session c.make_room.ensures.site in
     let says = rule_ends now c.args.recorder c.requires.fits has.kept.whole.kept c.args.transfer c.requires.rule in
     let task = c.served.result.0 in
     let y = c.sync_copies.new.site in
@@ -75,12 +74,12 @@ write_change-requires-clause-there g c =
 pub write_change-requires-clause-places : goal.write_change-requires-clause-places
 write_change-requires-clause-places g c =
     let now = c.args.core.now in
-    slots_counted g.S.Site (has_room g.S.Site _ now c.core.view_is c.core.invariant c.make_room.new.site _ c.make_room.ensures.session c.make_room.ensures.site)
+    slots_counted g.S.Site (has_room g.S.Site now c.core.view_is c.core.invariant c.make_room.new.site _ c.make_room.ensures.session c.make_room.ensures.site)
 
 pub write_change-requires-clause-held : goal.write_change-requires-clause-held
 write_change-requires-clause-held g c =
     let now = c.args.core.now in
-    let has = has_room g.S.Site _ now c.core.view_is c.core.invariant c.make_room.new.site _ c.make_room.ensures.session c.make_room.ensures.site in
+    let has = has_room g.S.Site now c.core.view_is c.core.invariant c.make_room.new.site _ c.make_room.ensures.session c.make_room.ensures.site in
     let says = rule_ends now c.args.recorder c.requires.fits has.kept.whole.kept c.args.transfer c.requires.rule in
     let task = c.served.result.0 in
     let y = c.sync_copies.new.site in
@@ -91,7 +90,7 @@ write_change-requires-clause-held g c =
 pub leave_task-requires-clause-frame : goal.leave_task-requires-clause-frame
 leave_task-requires-clause-frame g c =
     let now = c.args.core.now in
-    let has = has_room g.S.Site _ now c.core.view_is c.core.invariant c.make_room.new.site _ c.make_room.ensures.session c.make_room.ensures.site in
+    let has = has_room g.S.Site now c.core.view_is c.core.invariant c.make_room.new.site _ c.make_room.ensures.session c.make_room.ensures.site in
     let says = rule_ends now c.args.recorder c.requires.fits has.kept.whole.kept c.args.transfer c.requires.rule in
     let its = (has.kept.whole.kept says.going).tasks_.each c.args.recorder c.served.result.0 c.served.ensures.serves.at in
     let size : length c.core.inside.frames.owners ≡ now.config.frames = ap (λ (z : CoreValue g.row.S.Denot g.row.C.Denot). length z.owners) has.is ∙ has.kept.whole.shaped.owners_ in
@@ -101,7 +100,7 @@ leave_task-requires-clause-frame g c =
 pub invariant_of-core-in-Ok : goal.invariant_of-core-in-Ok
 invariant_of-core-in-Ok g c =
     let now = c.args.core.now in
-    let has = has_room g.S.Site _ now c.core.view_is c.core.invariant c.make_room.new.site _ c.make_room.ensures.session c.make_room.ensures.site in
+    let has = has_room g.S.Site now c.core.view_is c.core.invariant c.make_room.new.site _ c.make_room.ensures.session c.make_room.ensures.site in
     let says = rule_ends now c.args.recorder c.requires.fits has.kept.whole.kept c.args.transfer c.requires.rule in
     let task = c.served.result.0 in
     let y = c.sync_copies.new.site in
@@ -115,7 +114,7 @@ invariant_of-core-in-Ok g c =
 pub returns-in-Ok-clause-event : goal.returns-in-Ok-clause-event
 returns-in-Ok-clause-event g c =
     let now = c.args.core.now in
-    let has = has_room g.S.Site _ now c.core.view_is c.core.invariant c.make_room.new.site _ c.make_room.ensures.session c.make_room.ensures.site in
+    let has = has_room g.S.Site now c.core.view_is c.core.invariant c.make_room.new.site _ c.make_room.ensures.session c.make_room.ensures.site in
     let says = rule_ends now c.args.recorder c.requires.fits has.kept.whole.kept c.args.transfer c.requires.rule in
     let task = c.served.result.0 in
     let y = c.sync_copies.new.site in
@@ -129,7 +128,7 @@ returns-in-Ok-clause-event g c =
 pub returns-in-Ok-clause-none_fails : goal.returns-in-Ok-clause-none_fails
 returns-in-Ok-clause-none_fails g c =
     let now = c.args.core.now in
-    let has = has_room g.S.Site _ now c.core.view_is c.core.invariant c.make_room.new.site _ c.make_room.ensures.session c.make_room.ensures.site in
+    let has = has_room g.S.Site now c.core.view_is c.core.invariant c.make_room.new.site _ c.make_room.ensures.session c.make_room.ensures.site in
     let says = rule_ends now c.args.recorder c.requires.fits has.kept.whole.kept c.args.transfer c.requires.rule in
     let task = c.served.result.0 in
     let y = c.sync_copies.new.site in
@@ -145,7 +144,7 @@ returns-in-Ok-clause-none_fails g c =
 pub invariant_of-core-in-Err : goal.invariant_of-core-in-Err
 invariant_of-core-in-Err g c =
     let now = c.args.core.now in
-    let has = has_room g.S.Site _ now c.core.view_is c.core.invariant c.make_room.new.site _ c.make_room.ensures.session c.make_room.ensures.site in
+    let has = has_room g.S.Site now c.core.view_is c.core.invariant c.make_room.new.site _ c.make_room.ensures.session c.make_room.ensures.site in
     let says = rule_ends now c.args.recorder c.requires.fits has.kept.whole.kept c.args.transfer c.requires.rule in
     let task = c.served.result.0 in
     let y = c.sync_copies.new.site in
@@ -156,7 +155,7 @@ invariant_of-core-in-Err g c =
 pub returns-in-Err-clause-event : goal.returns-in-Err-clause-event
 returns-in-Err-clause-event g c =
     let now = c.args.core.now in
-    let has = has_room g.S.Site _ now c.core.view_is c.core.invariant c.make_room.new.site _ c.make_room.ensures.session c.make_room.ensures.site in
+    let has = has_room g.S.Site now c.core.view_is c.core.invariant c.make_room.new.site _ c.make_room.ensures.session c.make_room.ensures.site in
     let says = rule_ends now c.args.recorder c.requires.fits has.kept.whole.kept c.args.transfer c.requires.rule in
     let task = c.served.result.0 in
     let y = c.sync_copies.new.site in

@@ -1,5 +1,5 @@
 use Rattle.std.proofs.Common.{◌≡◌, length, Some, refl, ◌∙◌, ap, arith}
-use Rattle.std.specs.Prelude.{slice_set, vec_len}
+use Rattle.std.specs.Prelude.{slice_set}
 use Rattle.volume_table.specs.declared.changes.Change.TheVariants.{Assign}
 use Rattle.victim_choice.specs.Order.{touched}
 use Rattle.core_state.specs.declared.session.Event.TheVariants.{Work}
@@ -17,19 +17,19 @@ use Rattle.work_events.proofs.frames.assign.Goals as goal
 pub served-task-requires : goal.served-task-requires
 served-task-requires g c =
     let now = c.args.core.now in
-    let kept = kept_at g.S.Site (vec_len c.core.inside.buffer) _ now c.core.view_is c.core.invariant in
+    let kept = kept_at g.S.Site _ now c.core.view_is c.core.invariant in
     let says = rule_assigns now c.args.recorder c.requires.fits kept.whole.kept c.args.volume c.args.page c.requires.rule in
     (says.task, says.request, says.serves)
 
 pub invariant_of-core : goal.invariant_of-core
 invariant_of-core g c =
     let now = c.args.core.now in
-    kept_room g.S.Site (has_room g.S.Site _ now c.core.view_is c.core.invariant c.make_room.new.site _ c.make_room.ensures.session c.make_room.ensures.site)
+    kept_room g.S.Site (has_room g.S.Site now c.core.view_is c.core.invariant c.make_room.new.site _ c.make_room.ensures.session c.make_room.ensures.site)
 
 pub write_change-requires-clause-there : goal.write_change-requires-clause-there
 write_change-requires-clause-there g c =
     let now = c.args.core.now in
-    let has = has_room g.S.Site _ now c.core.view_is c.core.invariant c.make_room.new.site _ c.make_room.ensures.session c.make_room.ensures.site in
+    let has = has_room g.S.Site now c.core.view_is c.core.invariant c.make_room.new.site _ c.make_room.ensures.session c.make_room.ensures.site in
     let says = rule_assigns now c.args.recorder c.requires.fits has.kept.whole.kept c.args.volume c.args.page c.requires.rule in
     let may : MayAssignPage now c.args.volume c.args.page c.served-task.result.0 c.served-task.result.1 = says.may c.served-task.result.0 c.served-task.result.1 c.served-task.ensures.serves c.served-task.ensures.low c.served-task.ensures.known in
     let due = due_assigned g.row.S.Denot g.S.Site.tells (g.S.Site.told now.site) now has.kept.whole says.going c.args.recorder c.served-task.result.0 c.served-task.result.1 c.served-task.ensures.serves c.args.volume c.args.page may in
@@ -38,12 +38,12 @@ write_change-requires-clause-there g c =
 pub write_change-requires-clause-places : goal.write_change-requires-clause-places
 write_change-requires-clause-places g c =
     let now = c.args.core.now in
-    slots_counted g.S.Site (has_room g.S.Site _ now c.core.view_is c.core.invariant c.make_room.new.site _ c.make_room.ensures.session c.make_room.ensures.site)
+    slots_counted g.S.Site (has_room g.S.Site now c.core.view_is c.core.invariant c.make_room.new.site _ c.make_room.ensures.session c.make_room.ensures.site)
 
 pub write_change-requires-clause-held : goal.write_change-requires-clause-held
 write_change-requires-clause-held g c =
     let now = c.args.core.now in
-    let has = has_room g.S.Site _ now c.core.view_is c.core.invariant c.make_room.new.site _ c.make_room.ensures.session c.make_room.ensures.site in
+    let has = has_room g.S.Site now c.core.view_is c.core.invariant c.make_room.new.site _ c.make_room.ensures.session c.make_room.ensures.site in
     let says = rule_assigns now c.args.recorder c.requires.fits has.kept.whole.kept c.args.volume c.args.page c.requires.rule in
     let may : MayAssignPage now c.args.volume c.args.page c.served-task.result.0 c.served-task.result.1 = says.may c.served-task.result.0 c.served-task.result.1 c.served-task.ensures.serves c.served-task.ensures.low c.served-task.ensures.known in
     let due = due_assigned g.row.S.Denot g.S.Site.tells (g.S.Site.told now.site) now has.kept.whole says.going c.args.recorder c.served-task.result.0 c.served-task.result.1 c.served-task.ensures.serves c.args.volume c.args.page may in
@@ -52,7 +52,7 @@ write_change-requires-clause-held g c =
 pub give_frame-requires-clause-known : goal.give_frame-requires-clause-known
 give_frame-requires-clause-known g c =
     let now = c.args.core.now in
-    let has = has_room g.S.Site _ now c.core.view_is c.core.invariant c.make_room.new.site _ c.make_room.ensures.session c.make_room.ensures.site in
+    let has = has_room g.S.Site now c.core.view_is c.core.invariant c.make_room.new.site _ c.make_room.ensures.session c.make_room.ensures.site in
     let says = rule_assigns now c.args.recorder c.requires.fits has.kept.whole.kept c.args.volume c.args.page c.requires.rule in
     let its = (has.kept.whole.kept says.going).tasks_.each c.args.recorder c.served-task.result.0 c.served-task.ensures.serves.at in
     let size : length c.core.inside.frames.owners ≡ now.config.frames = ap (λ (z : CoreValue g.row.S.Denot g.row.C.Denot). length z.owners) has.is ∙ has.kept.whole.shaped.owners_ in
@@ -62,7 +62,7 @@ give_frame-requires-clause-known g c =
 pub give_frame-requires-clause-ordered : goal.give_frame-requires-clause-ordered
 give_frame-requires-clause-ordered g c =
     let now = c.args.core.now in
-    let has = has_room g.S.Site _ now c.core.view_is c.core.invariant c.make_room.new.site _ c.make_room.ensures.session c.make_room.ensures.site in
+    let has = has_room g.S.Site now c.core.view_is c.core.invariant c.make_room.new.site _ c.make_room.ensures.session c.make_room.ensures.site in
     let says = rule_assigns now c.args.recorder c.requires.fits has.kept.whole.kept c.args.volume c.args.page c.requires.rule in
     let core = has.kept.whole.kept says.going in
     let low = in_order now.config.frames c.served-task.result.0.frame now.recency core.beside.order (core.tasks_.each c.args.recorder c.served-task.result.0 c.served-task.ensures.serves.at).low in
@@ -72,7 +72,7 @@ give_frame-requires-clause-ordered g c =
 pub invariant_of-core-in-Ok : goal.invariant_of-core-in-Ok
 invariant_of-core-in-Ok g c =
     let now = c.args.core.now in
-    let has = has_room g.S.Site _ now c.core.view_is c.core.invariant c.make_room.new.site _ c.make_room.ensures.session c.make_room.ensures.site in
+    let has = has_room g.S.Site now c.core.view_is c.core.invariant c.make_room.new.site _ c.make_room.ensures.session c.make_room.ensures.site in
     let says = rule_assigns now c.args.recorder c.requires.fits has.kept.whole.kept c.args.volume c.args.page c.requires.rule in
     let may : MayAssignPage now c.args.volume c.args.page c.served-task.result.0 c.served-task.result.1 = says.may c.served-task.result.0 c.served-task.result.1 c.served-task.ensures.serves c.served-task.ensures.low c.served-task.ensures.known in
     let is = c.core.view_is in
@@ -82,14 +82,14 @@ invariant_of-core-in-Ok g c =
     let owners : c.give_frame.new.frames.owners ≡ slice_set now.owners c.served-task.result.0.frame (Some (c.args.volume, c.args.page)) = ap (λ f. f.owners) c.give_frame.ensures.frames ∙ (λ i. slice_set (is i).owners c.served-task.result.0.frame (Some (c.args.volume, c.args.page))) in
     let moving : c.give_frame.new.frames.moving ≡ now.moving = ap (λ f. f.moving) c.give_frame.ensures.frames ∙ ap (λ (z : CoreValue g.row.S.Denot g.row.C.Denot). z.moving) is in
     let recency : c.give_frame.new.recency ≡ touched c.served-task.result.0.frame now.recency = c.give_frame.ensures.recency ∙ ap (λ (z : CoreValue g.row.S.Denot g.row.C.Denot). touched c.served-task.result.0.frame z.recency) is in
-    kept_as g.S.Site _ x _ _
-    (kept_assigned g.row.S.Denot g.S.Site.tells (g.S.Site.told now.site) (g.S.Site.told x) (g.S.Site.writes now.site) (g.S.Site.faults now.site) (g.S.Site.writes x) (g.S.Site.faults x) (vec_len c.core.inside.buffer) now has.kept says.going c.args.recorder c.served-task.result.0 c.served-task.result.1 c.served-task.ensures.serves x done_.more done_.le c.args.volume c.args.page may done_.done_)
+    kept_as g.S.Site x _ _
+    (kept_assigned g.row.S.Denot g.S.Site.tells (g.S.Site.told now.site) (g.S.Site.told x) (g.S.Site.writes now.site) (g.S.Site.faults now.site) (g.S.Site.writes x) (g.S.Site.faults x) now has.kept says.going c.args.recorder c.served-task.result.0 c.served-task.result.1 c.served-task.ensures.serves x done_.more done_.le c.args.volume c.args.page may done_.done_)
     (λ i. record (of_parts (is i) x (done_.rows_ i) (owners i) (moving i) (is i).requests (is i).tasks (is i).hosts (told i)) { used = done_.used_ i; recency = recency i })
 
 pub returns-in-Ok-clause-event : goal.returns-in-Ok-clause-event
 returns-in-Ok-clause-event g c =
     let now = c.args.core.now in
-    let has = has_room g.S.Site _ now c.core.view_is c.core.invariant c.make_room.new.site _ c.make_room.ensures.session c.make_room.ensures.site in
+    let has = has_room g.S.Site now c.core.view_is c.core.invariant c.make_room.new.site _ c.make_room.ensures.session c.make_room.ensures.site in
     let is = c.core.view_is in
     let x = c.write_change.new.site in
     let done_ = row_changed g.S.Site has c.args.volume (Assign c.args.page c.served-task.result.0.frame) x c.write_change.ensures.rows c.write_change.ensures.site_.devices _ c.in-Ok.ensures.copies _ refl c.in-Ok.ensures.used.done c.in-Ok.ensures.session.told (g.met.S.Site.counted x) c.in-Ok.ensures.site_.cause.same in
@@ -103,7 +103,7 @@ returns-in-Ok-clause-event g c =
 pub invariant_of-core-in-Err : goal.invariant_of-core-in-Err
 invariant_of-core-in-Err g c =
     let now = c.args.core.now in
-    let has = has_room g.S.Site _ now c.core.view_is c.core.invariant c.make_room.new.site _ c.make_room.ensures.session c.make_room.ensures.site in
+    let has = has_room g.S.Site now c.core.view_is c.core.invariant c.make_room.new.site _ c.make_room.ensures.session c.make_room.ensures.site in
     let says = rule_assigns now c.args.recorder c.requires.fits has.kept.whole.kept c.args.volume c.args.page c.requires.rule in
     let may : MayAssignPage now c.args.volume c.args.page c.served-task.result.0 c.served-task.result.1 = says.may c.served-task.result.0 c.served-task.result.1 c.served-task.ensures.serves c.served-task.ensures.low c.served-task.ensures.known in
     let due = due_assigned g.row.S.Denot g.S.Site.tells (g.S.Site.told now.site) now has.kept.whole says.going c.args.recorder c.served-task.result.0 c.served-task.result.1 c.served-task.ensures.serves c.args.volume c.args.page may in

@@ -1,5 +1,5 @@
 use Rattle.std.proofs.Common.{◌≡◌, length, None, Some, refl, ◌∙◌, ap, arith}
-use Rattle.std.specs.Prelude.{slice_set, vec_len}
+use Rattle.std.specs.Prelude.{slice_set}
 use Rattle.volume_table.specs.declared.changes.Change.TheVariants.{Free}
 use Rattle.core_state.specs.declared.session.Event.TheVariants.{Work}
 use Rattle.core_state.specs.CoreValue.{CoreValue}
@@ -17,19 +17,19 @@ use Rattle.work_events.proofs.frames.free.Goals as goal
 pub served-requires : goal.served-requires
 served-requires g c =
     let now = c.args.core.now in
-    let kept = kept_at g.S.Site (vec_len c.core.inside.buffer) _ now c.core.view_is c.core.invariant in
+    let kept = kept_at g.S.Site _ now c.core.view_is c.core.invariant in
     let says = rule_frees now c.args.recorder c.requires.fits kept.whole.kept c.args.volume c.args.page c.requires.rule in
     (says.task, says.request, says.serves)
 
 pub invariant_of-core : goal.invariant_of-core
 invariant_of-core g c =
     let now = c.args.core.now in
-    kept_room g.S.Site (has_room g.S.Site _ now c.core.view_is c.core.invariant c.make_room.new.site _ c.make_room.ensures.session c.make_room.ensures.site)
+    kept_room g.S.Site (has_room g.S.Site now c.core.view_is c.core.invariant c.make_room.new.site _ c.make_room.ensures.session c.make_room.ensures.site)
 
 pub write_change-requires-clause-there : goal.write_change-requires-clause-there
 write_change-requires-clause-there g c =
     let now = c.args.core.now in
-    let has = has_room g.S.Site _ now c.core.view_is c.core.invariant c.make_room.new.site _ c.make_room.ensures.session c.make_room.ensures.site in
+    let has = has_room g.S.Site now c.core.view_is c.core.invariant c.make_room.new.site _ c.make_room.ensures.session c.make_room.ensures.site in
     let says = rule_frees now c.args.recorder c.requires.fits has.kept.whole.kept c.args.volume c.args.page c.requires.rule in
     let may : MayFree now c.served.result.0 c.args.volume c.args.page = says.may c.served.result.0 c.served.result.1 c.served.ensures.serves in
     let due = due_freed g.row.S.Denot g.S.Site.tells (g.S.Site.told now.site) now has.kept.whole says.going c.args.recorder c.served.result.0 c.served.result.1 c.served.ensures.serves c.args.volume c.args.page may in
@@ -38,12 +38,12 @@ write_change-requires-clause-there g c =
 pub write_change-requires-clause-places : goal.write_change-requires-clause-places
 write_change-requires-clause-places g c =
     let now = c.args.core.now in
-    slots_counted g.S.Site (has_room g.S.Site _ now c.core.view_is c.core.invariant c.make_room.new.site _ c.make_room.ensures.session c.make_room.ensures.site)
+    slots_counted g.S.Site (has_room g.S.Site now c.core.view_is c.core.invariant c.make_room.new.site _ c.make_room.ensures.session c.make_room.ensures.site)
 
 pub write_change-requires-clause-held : goal.write_change-requires-clause-held
 write_change-requires-clause-held g c =
     let now = c.args.core.now in
-    let has = has_room g.S.Site _ now c.core.view_is c.core.invariant c.make_room.new.site _ c.make_room.ensures.session c.make_room.ensures.site in
+    let has = has_room g.S.Site now c.core.view_is c.core.invariant c.make_room.new.site _ c.make_room.ensures.session c.make_room.ensures.site in
     let says = rule_frees now c.args.recorder c.requires.fits has.kept.whole.kept c.args.volume c.args.page c.requires.rule in
     let may : MayFree now c.served.result.0 c.args.volume c.args.page = says.may c.served.result.0 c.served.result.1 c.served.ensures.serves in
     let due = due_freed g.row.S.Denot g.S.Site.tells (g.S.Site.told now.site) now has.kept.whole says.going c.args.recorder c.served.result.0 c.served.result.1 c.served.ensures.serves c.args.volume c.args.page may in
@@ -52,7 +52,7 @@ write_change-requires-clause-held g c =
 pub set_owner-requires : goal.set_owner-requires
 set_owner-requires g c =
     let now = c.args.core.now in
-    let has = has_room g.S.Site _ now c.core.view_is c.core.invariant c.make_room.new.site _ c.make_room.ensures.session c.make_room.ensures.site in
+    let has = has_room g.S.Site now c.core.view_is c.core.invariant c.make_room.new.site _ c.make_room.ensures.session c.make_room.ensures.site in
     let says = rule_frees now c.args.recorder c.requires.fits has.kept.whole.kept c.args.volume c.args.page c.requires.rule in
     let its = (has.kept.whole.kept says.going).tasks_.each c.args.recorder c.served.result.0 c.served.ensures.serves.at in
     let size : length c.core.inside.frames.owners ≡ now.config.frames = ap (λ (z : CoreValue g.row.S.Denot g.row.C.Denot). length z.owners) has.is ∙ has.kept.whole.shaped.owners_ in
@@ -62,7 +62,7 @@ set_owner-requires g c =
 pub invariant_of-core-in-Ok : goal.invariant_of-core-in-Ok
 invariant_of-core-in-Ok g c =
     let now = c.args.core.now in
-    let has = has_room g.S.Site _ now c.core.view_is c.core.invariant c.make_room.new.site _ c.make_room.ensures.session c.make_room.ensures.site in
+    let has = has_room g.S.Site now c.core.view_is c.core.invariant c.make_room.new.site _ c.make_room.ensures.session c.make_room.ensures.site in
     let says = rule_frees now c.args.recorder c.requires.fits has.kept.whole.kept c.args.volume c.args.page c.requires.rule in
     let may : MayFree now c.served.result.0 c.args.volume c.args.page = says.may c.served.result.0 c.served.result.1 c.served.ensures.serves in
     let is = c.core.view_is in
@@ -72,14 +72,14 @@ invariant_of-core-in-Ok g c =
     let owners : c.set_owner.new.self.owners ≡ slice_set now.owners c.served.result.0.frame None = ap (λ f. f.owners) c.set_owner.ensures ∙ (λ i. slice_set (is i).owners c.served.result.0.frame None) in
     let moving : c.set_owner.new.self.moving ≡ now.moving = ap (λ f. f.moving) c.set_owner.ensures ∙ ap (λ (z : CoreValue g.row.S.Denot g.row.C.Denot). z.moving) is in
     let tasks : c.put_task.new.tasks.items ≡ slice_set now.tasks c.args.recorder (Some (record c.served.result.0 { victim = None })) = c.put_task.ensures ∙ (λ i. slice_set (is i).tasks c.args.recorder (Some (record c.served.result.0 { victim = None }))) in
-    kept_as g.S.Site _ x _ _
-    (kept_freed g.row.S.Denot g.S.Site.tells (g.S.Site.told now.site) (g.S.Site.told x) (g.S.Site.writes now.site) (g.S.Site.faults now.site) (g.S.Site.writes x) (g.S.Site.faults x) (vec_len c.core.inside.buffer) now has.kept says.going c.args.recorder c.served.result.0 c.served.result.1 c.served.ensures.serves x done_.more done_.le c.args.volume c.args.page may done_.done_)
+    kept_as g.S.Site x _ _
+    (kept_freed g.row.S.Denot g.S.Site.tells (g.S.Site.told now.site) (g.S.Site.told x) (g.S.Site.writes now.site) (g.S.Site.faults now.site) (g.S.Site.writes x) (g.S.Site.faults x) now has.kept says.going c.args.recorder c.served.result.0 c.served.result.1 c.served.ensures.serves x done_.more done_.le c.args.volume c.args.page may done_.done_)
     (λ i. record (of_parts (is i) x (done_.rows_ i) (owners i) (moving i) (is i).requests (tasks i) (is i).hosts (told i)) { used = done_.used_ i })
 
 pub returns-in-Ok-clause-event : goal.returns-in-Ok-clause-event
 returns-in-Ok-clause-event g c =
     let now = c.args.core.now in
-    let has = has_room g.S.Site _ now c.core.view_is c.core.invariant c.make_room.new.site _ c.make_room.ensures.session c.make_room.ensures.site in
+    let has = has_room g.S.Site now c.core.view_is c.core.invariant c.make_room.new.site _ c.make_room.ensures.session c.make_room.ensures.site in
     let is = c.core.view_is in
     let x = c.write_change.new.site in
     let done_ = row_changed g.S.Site has c.args.volume (Free c.args.page) x c.write_change.ensures.rows c.write_change.ensures.site_.devices _ c.in-Ok.ensures.copies _ refl c.in-Ok.ensures.used.done c.in-Ok.ensures.session.told (g.met.S.Site.counted x) c.in-Ok.ensures.site_.cause.same in
@@ -93,7 +93,7 @@ returns-in-Ok-clause-event g c =
 pub invariant_of-core-in-Err : goal.invariant_of-core-in-Err
 invariant_of-core-in-Err g c =
     let now = c.args.core.now in
-    let has = has_room g.S.Site _ now c.core.view_is c.core.invariant c.make_room.new.site _ c.make_room.ensures.session c.make_room.ensures.site in
+    let has = has_room g.S.Site now c.core.view_is c.core.invariant c.make_room.new.site _ c.make_room.ensures.session c.make_room.ensures.site in
     let says = rule_frees now c.args.recorder c.requires.fits has.kept.whole.kept c.args.volume c.args.page c.requires.rule in
     let may : MayFree now c.served.result.0 c.args.volume c.args.page = says.may c.served.result.0 c.served.result.1 c.served.ensures.serves in
     let due = due_freed g.row.S.Denot g.S.Site.tells (g.S.Site.told now.site) now has.kept.whole says.going c.args.recorder c.served.result.0 c.served.result.1 c.served.ensures.serves c.args.volume c.args.page may in

@@ -1,5 +1,5 @@
 use Rattle.std.proofs.Common.{◌≡◌, [], ◌∷◌, ◌++◌, length, false, None, sym, ◌∙◌, ap, subst, arith}
-use Rattle.std.specs.Prelude.{slice_set, vec_len}
+use Rattle.std.specs.Prelude.{slice_set}
 use Rattle.fault_queue.specs.declared.queue.RequestState.TheVariants.{Queued}
 use Rattle.fault_queue.specs.Requests.{with_state}
 use Rattle.core_state.specs.declared.session.Event.TheVariants.{Work}
@@ -17,7 +17,7 @@ pub served-task-requires : goal.served-task-requires
 served-task-requires g c =
     let now = c.args.core.now in
     let is = c.core.view_is in
-    let kept = kept_at g.S.Site (vec_len c.core.inside.buffer) _ now is c.core.invariant in
+    let kept = kept_at g.S.Site _ now is c.core.invariant in
     let says = rule_abandons now c.args.recorder c.requires.fits kept.whole.kept c.requires.rule in
     (says.task, says.request, says.serves)
 
@@ -25,7 +25,7 @@ pub end_task-requires-clause-frame : goal.end_task-requires-clause-frame
 end_task-requires-clause-frame g c =
     let now = c.args.core.now in
     let is = c.core.view_is in
-    let kept = kept_at g.S.Site (vec_len c.core.inside.buffer) _ now is c.core.invariant in
+    let kept = kept_at g.S.Site _ now is c.core.invariant in
     let says = rule_abandons now c.args.recorder c.requires.fits kept.whole.kept c.requires.rule in
     let size : length c.core.inside.frames.owners ≡ now.config.frames = ap (λ (z : CoreValue g.row.S.Denot g.row.C.Denot). length z.owners) is ∙ kept.whole.shaped.owners_ in
     let low = ((kept.whole.kept says.going).tasks_.each c.args.recorder c.served-task.result.0 c.served-task.ensures.serves.at).low in
@@ -35,7 +35,7 @@ pub invariant_of-core-2 : goal.invariant_of-core-2
 invariant_of-core-2 g c =
     let now = c.args.core.now in
     let is = c.core.view_is in
-    let kept = kept_at g.S.Site (vec_len c.core.inside.buffer) _ now is c.core.invariant in
+    let kept = kept_at g.S.Site _ now is c.core.invariant in
     let says = rule_abandons now c.args.recorder c.requires.fits kept.whole.kept c.requires.rule in
     let told : session_data c.did.new.session ≡ with_last_event (Work c.args.recorder) (data_of now) = c.did.ensures.told ∙ ap (with_last_event (Work c.args.recorder)) (c.reserve.ensures.same.told ∙ ap (λ (z : CoreValue g.row.S.Denot g.row.C.Denot). data_of z) is) in
     let tasks : c.end_task.new.tasks.items ≡ slice_set now.tasks c.args.recorder None = c.end_task.ensures.tasks ∙ (λ i. slice_set (is i).tasks c.args.recorder None) in
@@ -44,8 +44,8 @@ invariant_of-core-2 g c =
     let requests : c.end_task.new.requests ≡ with_state c.served-task.result.0.host Queued now.requests = c.end_task.ensures.requests ∙ (λ i. with_state c.served-task.result.0.host Queued (is i).requests) in
     let path : ◌≡◌ {A = CoreValue g.row.S.Denot g.row.C.Denot} _ (record now { moving = slice_set now.moving c.served-task.result.0.frame false; requests = with_state c.served-task.result.0.host Queued now.requests; tasks = slice_set now.tasks c.args.recorder None; events = now.events ++ Work c.args.recorder ∷ [] }) =
     λ i. of_parts (is i) (is i).site (is i).rows (owners i) (moving i) (requests i) (tasks i) (is i).hosts (told i) in
-    subst (λ (z : CoreValue g.row.S.Denot g.row.C.Denot). IsKept g.S.Site.tells (g.S.Site.told z.site) (g.S.Site.writes z.site) (g.S.Site.faults z.site) (vec_len c.core.inside.buffer) z) (sym path)
-    (kept_abandoned g.row.S.Denot g.S.Site.tells (g.S.Site.told now.site) (g.S.Site.writes now.site) (g.S.Site.faults now.site) (vec_len c.core.inside.buffer) now kept says.going c.args.recorder c.served-task.result.0 c.served-task.result.1 c.served-task.ensures.serves)
+    subst (λ (z : CoreValue g.row.S.Denot g.row.C.Denot). IsKept g.S.Site.tells (g.S.Site.told z.site) (g.S.Site.writes z.site) (g.S.Site.faults z.site) z) (sym path)
+    (kept_abandoned g.row.S.Denot g.S.Site.tells (g.S.Site.told now.site) (g.S.Site.writes now.site) (g.S.Site.faults now.site) now kept says.going c.args.recorder c.served-task.result.0 c.served-task.result.1 c.served-task.ensures.serves)
 
 pub returns-clause-event : goal.returns-clause-event
 returns-clause-event g c =

@@ -1,5 +1,5 @@
 use Rattle.std.proofs.Common.{◌≡◌, ℕ, List, [], ◌∷◌, ◌++◌, length, true, Some, sym, ◌∙◌, ap, subst, arith}
-use Rattle.std.specs.Prelude.{slice_get, slice_set, vec_len, is_some}
+use Rattle.std.specs.Prelude.{slice_get, slice_set, is_some}
 use Rattle.fault_queue.specs.declared.queue.RequestState.TheVariants.{Moving}
 use Rattle.fault_queue.specs.Requests.{request_of, with_state}
 use Rattle.victim_choice.specs.declared.choose.Candidate.{Candidate}
@@ -19,7 +19,7 @@ pub candidates-requires : goal.candidates-requires
 candidates-requires g c =
     let now = c.args.core.now in
     let is = c.core.view_is in
-    let kept = kept_at g.S.Site (vec_len c.core.inside.buffer) _ now is c.core.invariant in
+    let kept = kept_at g.S.Site _ now is c.core.invariant in
     let says = rule_picks_victim now c.args.recorder c.requires.fits kept.whole.kept c.args.host c.requires.rule in
     record { going = says.going }
 
@@ -27,7 +27,7 @@ pub chosen-choice-requires : goal.chosen-choice-requires
 chosen-choice-requires g c =
     let now = c.args.core.now in
     let is = c.core.view_is in
-    let kept = kept_at g.S.Site (vec_len c.core.inside.buffer) _ now is c.core.invariant in
+    let kept = kept_at g.S.Site _ now is c.core.invariant in
     let says = rule_picks_victim now c.args.recorder c.requires.fits kept.whole.kept c.args.host c.requires.rule in
     let list : c.as_slice.result.now ≡ candidates now = c.as_slice.ensures ∙ c.in-Ok.ensures in
     let long = ap length list in
@@ -38,7 +38,7 @@ pub begin_task-requires-clause-frame : goal.begin_task-requires-clause-frame
 begin_task-requires-clause-frame g c =
     let now = c.args.core.now in
     let is = c.core.view_is in
-    let kept = kept_at g.S.Site (vec_len c.core.inside.buffer) _ now is c.core.invariant in
+    let kept = kept_at g.S.Site _ now is c.core.invariant in
     let says = rule_picks_victim now c.args.recorder c.requires.fits kept.whole.kept c.args.host c.requires.rule in
     let list : c.as_slice.result.now ≡ candidates now = c.as_slice.ensures ∙ c.in-Ok.ensures in
     let answer = c.chosen-choice.ensures in
@@ -51,7 +51,7 @@ pub begin_task-requires-clause-asked : goal.begin_task-requires-clause-asked
 begin_task-requires-clause-asked g c =
     let now = c.args.core.now in
     let is = c.core.view_is in
-    let kept = kept_at g.S.Site (vec_len c.core.inside.buffer) _ now is c.core.invariant in
+    let kept = kept_at g.S.Site _ now is c.core.invariant in
     let says = rule_picks_victim now c.args.recorder c.requires.fits kept.whole.kept c.args.host c.requires.rule in
     let list : c.as_slice.result.now ≡ candidates now = c.as_slice.ensures ∙ c.in-Ok.ensures in
     let answer = c.chosen-choice.ensures in
@@ -62,7 +62,7 @@ pub invariant_of-core-2 : goal.invariant_of-core-2
 invariant_of-core-2 g c =
     let now = c.args.core.now in
     let is = c.core.view_is in
-    let kept = kept_at g.S.Site (vec_len c.core.inside.buffer) _ now is c.core.invariant in
+    let kept = kept_at g.S.Site _ now is c.core.invariant in
     let says = rule_picks_victim now c.args.recorder c.requires.fits kept.whole.kept c.args.host c.requires.rule in
     let list : c.as_slice.result.now ≡ candidates now = c.as_slice.ensures ∙ c.in-Ok.ensures in
     let answer = c.chosen-choice.ensures in
@@ -74,8 +74,8 @@ invariant_of-core-2 g c =
     let requests : c.begin_task.new.requests ≡ with_state c.args.host Moving now.requests = c.begin_task.ensures.requests ∙ (λ i. with_state c.args.host Moving (is i).requests) in
     let path : ◌≡◌ {A = CoreValue g.row.S.Denot g.row.C.Denot} _ (record now { moving = slice_set now.moving c.chosen-choice.result.frame true; requests = with_state c.args.host Moving now.requests; tasks = slice_set now.tasks c.args.recorder (Some (task_for c.args.host c.chosen-choice.result.frame (Some (c.chosen-choice.result.volume, c.chosen-choice.result.page)))); events = now.events ++ Work c.args.recorder ∷ [] }) =
     λ i. of_parts (is i) (is i).site (is i).rows (owners i) (moving i) (requests i) (tasks i) (is i).hosts (told i) in
-    subst (λ (z : CoreValue g.row.S.Denot g.row.C.Denot). IsKept g.S.Site.tells (g.S.Site.told z.site) (g.S.Site.writes z.site) (g.S.Site.faults z.site) (vec_len c.core.inside.buffer) z) (sym path)
-    (kept_picked g.row.S.Denot g.S.Site.tells (g.S.Site.told now.site) (g.S.Site.writes now.site) (g.S.Site.faults now.site) (vec_len c.core.inside.buffer) now kept says.going c.args.recorder (task_for c.args.host c.chosen-choice.result.frame (Some (c.chosen-choice.result.volume, c.chosen-choice.result.page))) says.request may)
+    subst (λ (z : CoreValue g.row.S.Denot g.row.C.Denot). IsKept g.S.Site.tells (g.S.Site.told z.site) (g.S.Site.writes z.site) (g.S.Site.faults z.site) z) (sym path)
+    (kept_picked g.row.S.Denot g.S.Site.tells (g.S.Site.told now.site) (g.S.Site.writes now.site) (g.S.Site.faults now.site) now kept says.going c.args.recorder (task_for c.args.host c.chosen-choice.result.frame (Some (c.chosen-choice.result.volume, c.chosen-choice.result.page))) says.request may)
 
 pub returns-clause-event : goal.returns-clause-event
 returns-clause-event g c =

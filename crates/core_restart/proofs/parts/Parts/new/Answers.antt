@@ -5,7 +5,6 @@ use Rattle.core_restart.proofs.parts.Parts.new.Goals as goal
 pub returns : goal.returns
 returns c = record {
   config_ = search rules;
-  buffer_ = search rules;
   frames_ = search rules;
   recency_ = search rules;
   requests_ = search rules;
