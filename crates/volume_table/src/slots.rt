@@ -1,5 +1,5 @@
 // Changes of a row as slots, which stand behind its body.
-ghost use Rattle.std.specs.Prelude.{◌≡◌, ◌≤◌, ◌<◌, ◌*◌, None, Some, Ok, Err, length, IfErr, OnOk, OnErr, slice_index};
+ghost use Rattle.std.specs.Prelude.{◌≡◌, ◌≤◌, ◌<◌, ◌*◌, ◌==◌, ◌&&◌, None, Some, Ok, Err, length, IfErr, OnOk, OnErr, slice_index};
 ghost use Rattle.volume_table.specs.Changes.{IsInRange};
 ghost use Rattle.volume_table.specs.Grammar.{body, Gives};
 ghost use Rattle.volume_table.specs.Slots.{after_slot, assignment, change_by, change_of, changed_by, cylinder_change, frameless_change, mark_change, number_below, slot_fault, slot_of, slots_from, spelled_slot, told_by};
@@ -115,17 +115,25 @@ fn change_by(kind: u8, number: u16, frame: u8) -> Option<Change>
     }
 }
 
+/// Whether the last three bytes of a slot are zeros.
+fn ends_in_zeros(bytes: &[u8]) -> bool
+    requires { length bytes.now ≡ CHANGE_BYTES }
+    ensures { result ≡ (slice_index bytes.now 4 == 0 && slice_index bytes.now 5 == 0
+        && slice_index bytes.now 6 == 0) }
+{
+    bytes[4] == 0 && bytes[5] == 0 && bytes[6] == 0
+}
+
 /// The change that the seven bytes of a slot spell. None where they spell none.
 pub fn decode_slot(bytes: &[u8]) -> Option<Change>
     requires { length bytes.now ≡ CHANGE_BYTES }
     ensures { result ≡ change_of bytes.now }
 {
-    let number = u16::from_be_bytes([bytes[1], bytes[2]]);
-    if bytes[4] == 0 && bytes[5] == 0 && bytes[6] == 0 {
-        change_by(bytes[0], number, bytes[3])
-    } else {
-        None
+    if !ends_in_zeros(bytes) {
+        return None;
     }
+    let number = u16::from_be_bytes([bytes[1], bytes[2]]);
+    change_by(bytes[0], number, bytes[3])
 }
 
 /// Changes a row as the slot with this number says. Where it spells no change, or one that isn't allowed, the slot is at
