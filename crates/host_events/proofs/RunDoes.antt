@@ -15,6 +15,7 @@ use Rattle.track_engine.specs.Writing.{WritesTrack, HoldsWritten, most_writes}
 use Rattle.core_state.specs.CoreValue.{CoreData, DevicesSeen}
 use Rattle.core_state.specs.Devices.{StillHold, FailRead, Run, RunOn, FailOn, WritesFor, UpdatesNothing, answer_on, track_under}
 use Rattle.core_state.specs.HostEvents.{run_of, page_under, replied, halts, FrameUse, RunsIt}
+use Rattle.host_events.specs.Parts.{IsUnfailed}
 use Rattle.core_state.specs.Steps.{after_reply, after_stop, used}
 
 -- ---- the devices before room was made on them
@@ -106,3 +107,8 @@ module _ (tells : Type 0) (core core' : CoreData) (h : ℕ) (call : CallData) (c
   pub stop_does : (fault : ℕ) → FailOn tells (run_of core h frame c argument chained) fault core.site core'.site → core' ≡ after_stop core'.site h call core → RunsIt tells core h call at (halts fault) core'
   stop_does fault failed after =
       subst (λ (k : CallData). RunsIt tells core h k at (halts fault) core') (sym is) (failed, subst (λ (k : CallData). core' ≡ after_stop core'.site h k core) is after)
+
+-- a reply of a command that was done is none of a failed call
+pub done_is_unfailed : (index : ℕ) (reply : ReplyData) → IsDone reply → IsUnfailed (replied index reply)
+done_is_unfailed index equipment_check is_done = absurd is_done
+done_is_unfailed index reply is_done = tt

@@ -98,6 +98,12 @@ module _ (S : Type 0) {C : Type 0} (g : Ghosts S) {u : CoreValue S C} (v : CoreV
     tracks_ tl = subst (λ (p : SiteLog × HostState). AreTracks (content p.0) (frame_block frame p.1.cylinder 0).unit (frame_block frame p.1.cylinder 0).block) (λ i. (sym (reserves.log tl) i, sym is i))
         (runs_on_tracks S g.tells (g.told u.site) u kept.whole h low_host call c volume frame on tl)
 
+    -- memory was refused before the command was run
+    pub room_event : (d : SessionData) → d ≡ data_of u → HostDoes g.tells (seen g v) h call (Runs c volume frame) no_memory (seen g (of_parts u mid u.rows u.owners u.moving u.requests u.tasks u.hosts d))
+    room_event d d_is = subst (λ (z : CoreValue S C). HostDoes g.tells (seen g z) h call (Runs c volume frame) no_memory
+        (seen g (of_parts u mid u.rows u.owners u.moving u.requests u.tasks u.hosts d))) view
+        (record { told = reserves.log; unwritten = reserves.unwritten; sound = reserves.same }, λ i. seen g (of_parts u mid u.rows u.owners u.moving u.requests u.tasks u.hosts (d_is i)))
+
     abbrev old : DevicesSeen
     old = seen_site g u.site
 
@@ -185,6 +191,13 @@ module _ (S : Type 0) {C : Type 0} (g : Ghosts S) {u : CoreValue S C} (v : CoreV
             let k = upheld_check S g.tells u old new up h low_host call c volume frame on x more later counts
             (read_from g.tells old (seen_site g mid) new reserves.log reserves.unwritten reserves.same failed) in
             subst (IsKept g.tells (g.told x) (g.writes x) (g.faults x)) (sym check_path) (record { whole = k.whole; counted = k.counted })
+
+        pub check_event : (index : ℕ) → index ≡ length u.history → HostDoes g.tells (seen g v) h call (Runs c volume frame) (replied index equipment_check)
+            (seen g (of_parts u x u.rows u.owners u.moving requests u.tasks hosts d))
+        check_event index place =
+            subst (λ (z : CoreValue S C). HostDoes g.tells (seen g z) h call (Runs c volume frame) (replied index equipment_check)
+            (seen g (of_parts u x u.rows u.owners u.moving requests u.tasks hosts d))) view
+            (read_from g.tells old (seen_site g mid) new reserves.log reserves.unwritten reserves.same failed, place, ap (λ (z : CoreValue S C). seen g z) check_path)
 
       -- ---- a failed write
 

@@ -9,13 +9,18 @@ ghost use Rattle.channel_commands.specs.Views.{call_of, reply_of};
 ghost use Rattle.ckd_plain.specs.Plain.{IsDone};
 ghost use Rattle.track_engine.specs.Faults.{IsNoFailure, IsNoFailedWrite};
 ghost use Rattle.track_engine.specs.Tracks.{AreTracks};
+ghost use Rattle.fault_queue.specs.Requests.{without_request};
 ghost use Rattle.core_state.specs.CoreValue.{seen_site};
 ghost use Rattle.core_state.specs.HostRules.{host_rule};
-ghost use Rattle.core_state.specs.Pins.{host_at};
+ghost use Rattle.core_state.specs.Counted.{AreEntries};
+ghost use Rattle.core_state.specs.Pins.{host_at, put_host};
+ghost use Rattle.core_state.specs.Sessions.{session_data};
 ghost use Rattle.core_state.specs.Tasks.{tasks_after};
+ghost use Rattle.core_state.specs.declared.session.TheConstants.{ENTRY_LIMIT};
 ghost use Rattle.core_state.specs.declared.rule.HostRule.TheVariants.{Runs};
 ghost use Rattle.host_events.specs.Answers.{HostStep, told_of};
 ghost use Rattle.host_events.specs.Parts.{GoesOn, IsUnfailed, IsUntold};
+ghost use Rattle.host_events.specs.Replies.{with_reply};
 ghost use Rattle.host_events.specs.Runs.{run_by, bare_write, Comes, IsStagedIn, MayRun};
 
 use crate::answer::HostAnswer;
@@ -28,7 +33,8 @@ use ckd_plain::steps::checked;
 use ckd_plain::{HostState, UnitCheck};
 use ckd_track::FORMAT_ITEMS;
 use core_state::looks::host_at;
-use core_state::{Core, TaskList, touch_all};
+use core_state::{Core, HostStateList, Session, TaskList, touch_all};
+use fault_queue::Queue;
 use mss_base::{Block, Bytes, CYLINDERS, FrameNo, HEADS, Head, HostNo, Page, Site, VolumeNo};
 use staging_adapter::{Translated, translate};
 use std::alloc::Global;
@@ -146,6 +152,35 @@ fn touch_after(command: &Command, tasks: &mut TaskList, volume: VolumeNo, page: 
     }
 }
 
+/// Closes a call that has its reply: its entry is put last, the host is now this one, and its
+/// request ends.
+fn close(
+    session: &mut Session,
+    hosts: &mut HostStateList,
+    requests: &mut Queue,
+    host: HostNo,
+    call: Call,
+    reply: Reply,
+    fault: Option<u64>,
+    mark: u64,
+    now: HostState,
+)
+    requires few { length session.old.history.items ≤ ENTRY_LIMIT }
+    requires entries { AreEntries session.old.history.items }
+    requires room { 1 ≤ session.old.history.spare }
+    requires room_marks { 1 ≤ session.old.marks.spare }
+    requires room_events { 1 ≤ session.old.events.spare }
+    requires hosts { length hosts.old.items ≡ 8 }
+    ensures session { session_data session.new
+        ≡ with_reply host (call_of call) (reply_of reply) fault mark (session_data session.old) }
+    ensures hosts { hosts.new.items ≡ put_host hosts.old.items host now }
+    ensures requests { requests.new ≡ without_request host requests.old }
+{
+    enter(session, host, call, reply, fault, mark);
+    hosts.set(usize::from(host.get()) - 1, now);
+    end_request(requests, host);
+}
+
 /// Runs a command on the frame of the host's cylinder.
 pub fn run<S: Site, C: Choose>(
     core: &mut Core<S, C>,
@@ -167,7 +202,6 @@ pub fn run<S: Site, C: Choose>(
     ensures only_reads_fail { (but : UnitNo → Bool) → S.never_fails_but core.old.site but
         → GoesOn (told_of result) }
 {
-    let at = usize::from(host.get()) - 1;
     let old = standing(core.hosts.as_slice(), host);
     let alloc = core.alloc;
     let Ok(copy) = prepare(alloc, &mut core.session, &mut core.site, call, FORMAT_ITEMS) else {
@@ -181,9 +215,10 @@ pub fn run<S: Site, C: Choose>(
     match run_in(alloc, site, buffer, row, frame, call, command, &mut now) {
         Ok((reply, told)) => {
             let mark = core.site.writes();
-            enter(&mut core.session, host, copy, reply, None, mark);
-            core.hosts.set(at, now);
-            end_request(&mut core.requests, host);
+            let session = &mut core.session;
+            let hosts = &mut core.hosts;
+            let requests = &mut core.requests;
+            close(session, hosts, requests, host, copy, reply, None, mark, now);
             touch_after(command, &mut core.tasks, volume, old.cylinder.page());
             core.recency.touch(frame);
             HostAnswer::Replied { index, reply: told }
@@ -191,9 +226,21 @@ pub fn run<S: Site, C: Choose>(
         Err(EngineFault::ReadFailed { fault }) => {
             let mark = core.site.writes();
             let reply = Reply::EquipmentCheck;
-            enter(&mut core.session, host, copy, reply, Some(fault), mark);
-            core.hosts.set(at, checked(UnitCheck::EquipmentCheck, &old));
-            core.requests.end(host);
+            let now = checked(UnitCheck::EquipmentCheck, &old);
+            let session = &mut core.session;
+            let hosts = &mut core.hosts;
+            let requests = &mut core.requests;
+            close(
+                session,
+                hosts,
+                requests,
+                host,
+                copy,
+                reply,
+                Some(fault),
+                mark,
+                now,
+            );
             let reply = Reply::EquipmentCheck;
             HostAnswer::Replied { index, reply }
         }
@@ -204,6 +251,9 @@ pub fn run<S: Site, C: Choose>(
             core.session.stopped = Some(fault);
             HostAnswer::Stopped { fault }
         }
-        Err(EngineFault::Memory) => HostAnswer::Memory,
+        Err(EngineFault::Memory) => {
+            drop(copy);
+            HostAnswer::Memory
+        }
     }
 }

@@ -23,7 +23,7 @@ use Rattle.core_state.specs.Agrees.{message_of}
 use Rattle.mss_base.specs.declared.site.Site.{Ghosts}
 use Rattle.victim_choice.specs.declared.choose.Candidate.{Candidate}
 use Rattle.core_state.specs.declared.rule.WorkAnswer.{WorkAnswer}
-use Rattle.core_state.specs.declared.rule.WorkAnswer.TheVariants.{Did}
+use Rattle.core_state.specs.declared.rule.WorkAnswer.TheVariants.{Did, Stopped}
 use Rattle.core_state.specs.declared.rule.WorkKind.TheVariants as work
 use Rattle.core_state.specs.declared.rule.WorkRule.TheVariants.{Assigns}
 use Rattle.core_state.specs.CoreValue.{CoreValue, seen}
@@ -45,7 +45,7 @@ use Rattle.core_state.proofs.Others.{given_waits, given_waiting, frames_apart, r
 use Rattle.core_state.proofs.Fitting.{ready_row, row_still, fit_same}
 use Rattle.work_events.proofs.OwnTask.{own_moving, own_waits, own_frame, place_in, rows_now, served_now}
 use Rattle.work_events.proofs.RuleFacts.{MayAssignPage}
-use Rattle.work_events.proofs.ChangedRows.{HasRewritten, HaveChanged, IsDueChange, IsDone, with_slot, core_slot, may_now, kept_changed}
+use Rattle.work_events.proofs.ChangedRows.{FailsChange, HasRewritten, HaveChanged, IsDueChange, IsDone, with_row_stopped, with_slot, core_slot, may_now, kept_changed}
 use Rattle.victim_choice.specs.Order.{touched}
 use Rattle.work_events.proofs.KeptFacts.{kept_touched}
 
@@ -194,6 +194,15 @@ assigned_does {S} {C} g may v w n old volume page answer is at have path =
     subst (λ (a : WorkAnswer). WorkDoes g.tells may (seen g v) n (Assigns volume page) a (seen g w)) (sym is)
     (subst (λ (o : Option Task). WithTask o (λ task. TaskDoes g.tells (seen g v) n (Assigns volume page) task (Did work.Assign) (seen g w))) (sym at)
     (have, refl, ap (λ (z : CoreValue S C). seen g z) path))
+
+-- a write of it failed
+pub unassigned_does : {S C : Type 0} (g : Ghosts S) (may : List Candidate → ℕ → Type 0) (v w : CoreValue S C) (n : ℕ) (old : Task) (volume page : ℕ) (answer : WorkAnswer)
+    → answer ≡ Stopped (g.faults w.site) → task_at v.tasks n ≡ Some old → FailsChange g v volume (Assign page old.frame) w.site → w ≡ with_row_stopped v n volume (Assign page old.frame) w.site (g.faults w.site)
+    → WorkDoes g.tells may (seen g v) n (Assigns volume page) answer (seen g w)
+unassigned_does {S} {C} g may v w n old volume page answer is at fails path =
+    subst (λ (a : WorkAnswer). WorkDoes g.tells may (seen g v) n (Assigns volume page) a (seen g w)) (sym is)
+    (subst (λ (o : Option Task). WithTask o (λ task. TaskDoes g.tells (seen g v) n (Assigns volume page) task (Stopped (g.faults w.site)) (seen g w))) (sym at)
+    (fails, ap (λ (z : CoreValue S C). seen g z) path))
 
 -- ---- the change is due, and with it the core is kept
 

@@ -1,7 +1,6 @@
 -- The end of a transfer: the core behind the sync of its copies, and what comes of a sync that fails.
-use Rattle.std.proofs.Common.{◌≡◌, inl, inr, ℕ, ◌≤◌, true, false, List, [], ◌∷◌, Option, Some, None, Result, Ok, Err, refl, sym, ◌∙◌, ap, subst, arith}
-use Rattle.std.specs.Prelude.{is_err, OnErr, OnOk}
-use Rattle.std.proofs.lemmas.Bool.{false≢true}
+use Rattle.std.proofs.Common.{◌≡◌, inl, inr, ℕ, ◌≤◌, false, List, [], ◌∷◌, Option, Some, None, Result, refl, sym, ◌∙◌, ap, subst, arith}
+use Rattle.std.specs.Prelude.{is_err, OnOk}
 use Rattle.mss_base.specs.Content.{Content, SiteLog, Got, content, synced, unsynced}
 use Rattle.mss_base.specs.Counts.{Rises}
 use Rattle.mss_base.specs.Sites.{MayWrite}
@@ -28,6 +27,7 @@ use Rattle.core_state.specs.Working.{Serves, MayEndDestage, MayEndStage}
 use Rattle.core_state.proofs.Synced.{kept_synced}
 use Rattle.work_events.proofs.FailedWhole.{LeavesShown, failed, kept_failed}
 use Rattle.work_events.proofs.OwnTask.{quiet_now, served_now, sound_now}
+use Rattle.work_events.proofs.RoomFacts.{when_ok}
 use Rattle.work_events.proofs.RowSteps.{HasRoom, IsKeptOn}
 
 module _ {S C : Type 0} (g : Ghosts S) {inside v : CoreValue S C} {site : S} {session : SessionData} (has : HasRoom g inside v site session) (open_ : v.stopped ≡ None) (t : Transfer) (x : S) where
@@ -86,16 +86,6 @@ module _ {S C : Type 0} (g : Ghosts S) {inside v : CoreValue S C} {site : S} {se
     kept_unsynced devices n old q serves =
         kept_failed S g.tells (g.told v.site) (g.told x) (g.writes v.site) (g.faults v.site) (g.writes x) (g.faults x) v has.kept open_ n old q serves x (unsynced_shows n)
         loose_since.later (let f = devices.later in let u = has.reserves.same in omega (arith, f, u)) (g.faults x) (record { count = refl; rises = loose_since.failed })
-
--- ---- a call that is done, or failed
-
-pub when_ok : {T E : Type 0} {P : Type 0} (result : Result T E) → is_err result ≡ false → OnOk result P → P
-when_ok (Ok x) ok holds = holds
-when_ok (Err e) ok holds = absurd (false≢true (sym ok))
-
-pub when_err : {T E : Type 0} {P : Type 0} (result : Result T E) → is_err result ≡ true → OnErr result P → P
-when_err (Ok x) err holds = absurd (false≢true err)
-when_err (Err e) err holds = holds
 
 -- ---- a task on another site
 

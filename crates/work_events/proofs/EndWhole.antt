@@ -1,5 +1,5 @@
 -- The end of a transfer, whatever it copied: the change of the row that is due, and the core that is left.
-use Rattle.std.proofs.Common.{◌≡◌, ◌≢◌, ℕ, List, [], ◌∷◌, ◌++◌, Option, Some, None, refl, sym, ◌∙◌, ap, subst}
+use Rattle.std.proofs.Common.{◌≡◌, ◌≢◌, ℕ, List, [], ◌∷◌, ◌++◌, Option, None, refl, sym, ◌∙◌, ap, subst}
 use Rattle.mss_base.specs.declared.site.Site.{Ghosts}
 use Rattle.volume_table.specs.Row.{RowValue}
 use Rattle.volume_table.specs.Listed.{listed, with_changed}
@@ -7,7 +7,7 @@ use Rattle.volume_table.specs.declared.changes.Change.{Change}
 use Rattle.table_pair.specs.declared.copy.SlotsUsed.{SlotsUsed}
 use Rattle.table_pair.specs.Slots.{with_used_after}
 use Rattle.fault_queue.specs.declared.queue.Request.{Request}
-use Rattle.fault_queue.specs.Requests.{RequestsData, IsOnce, request_of}
+use Rattle.fault_queue.specs.Requests.{RequestsData, request_of}
 use Rattle.transfers.specs.declared.transfer.Transfer.{Transfer}
 use Rattle.transfers.specs.declared.transfer.TransferKind.{TransferKind}
 use Rattle.transfers.specs.declared.transfer.TransferKind.TheVariants.{StageBlank, StageCartridge, Destage}
@@ -29,7 +29,7 @@ use Rattle.work_events.proofs.ChangedRows.{FailsChange, HaveChanged, IsDone, IsD
 use Rattle.work_events.proofs.DestageWhole.{destaged_does, due_destaged, kept_destaged, undestaged_does}
 use Rattle.work_events.proofs.EndSteps.{IsSynced, destages_on, stages_on}
 use Rattle.work_events.proofs.RestatedFacts.{ready_fails_none}
-use Rattle.work_events.proofs.RowSteps.{Changes, IsKeptOn, kept_as}
+use Rattle.work_events.proofs.RowSteps.{Changes, HasRoom, IsKeptOn, kept_as}
 use Rattle.work_events.proofs.RuleFacts.{MayEnd}
 use Rattle.work_events.proofs.StageWhole.{due_staged, kept_staged, staged_does, unstaged_does}
 
@@ -49,6 +49,16 @@ ended v n old t kind x mark = record v {
   tasks = (left_by kind n old (parts_of v)).tasks;
   events = v.events ++ Work n ∷ [];
 }
+
+-- where it leaves its task no request fails that hadn't
+pub left_fails_none : {S C : Type 0} (g : Ghosts S) {inside v : CoreValue S C} {site : S} {session : SessionData} → HasRoom g inside v site session → v.stopped ≡ None
+    → (n : ℕ) (old : Task) (kind : TransferKind) (parts : TaskParts) → left_by kind n old (parts_of inside) ≡ parts → FailsNone v.requests parts.requests
+left_fails_none {S} {C} g {inside} {v} has open_ n old kind parts leaves = fails_none kind (ap (λ (p : TaskParts). p.requests) (sym leaves) ∙ ap (λ (z : CoreValue S C). (left_by kind n old (parts_of z)).requests) has.is)
+  where
+    fails_none : (k : TransferKind) → parts.requests ≡ (left_by k n old (parts_of v)).requests → FailsNone v.requests parts.requests
+    fails_none StageBlank same = ready_fails_none v.requests parts.requests old.host (has.kept.whole.kept open_).requests_ same
+    fails_none StageCartridge same = ready_fails_none v.requests parts.requests old.host (has.kept.whole.kept open_).requests_ same
+    fails_none Destage same = λ h fault asked at failed. sym (ap (λ (r : RequestsData). request_of r h) same) ∙ at
 
 -- what stages doesn't destage
 blank_stages : (t : Transfer) → t.kind ≡ StageBlank → t.kind ≢ Destage
@@ -105,15 +115,6 @@ module _ {S C : Type 0} (g : Ghosts S) {inside v : CoreValue S C} {session : Ses
 
     pub end_does : (choices : List Candidate → ℕ → Type 0) (answer : WorkAnswer) → answer ≡ Did work.End → WorkDoes g.tells choices (seen g v) n (Ends t) answer (seen g left)
     end_does choices answer told_ = does_by choices answer told_ t.kind refl changed.have left_is
-
-    -- no request fails that hadn't
-    fails_none_by : (k : TransferKind) → parts.requests ≡ (left_by k n old (parts_of v)).requests → FailsNone v.requests parts.requests
-    fails_none_by StageBlank same = ready_fails_none v.requests parts.requests old.host (behind.has.kept.whole.kept open_).requests_ same
-    fails_none_by StageCartridge same = ready_fails_none v.requests parts.requests old.host (behind.has.kept.whole.kept open_).requests_ same
-    fails_none_by Destage same = λ h fault asked at failed. sym (ap (λ (r : RequestsData). request_of r h) same) ∙ at
-
-    pub end_fails_none : FailsNone v.requests parts.requests
-    end_fails_none = fails_none_by t.kind (ap (λ (p : TaskParts). p.requests) parts_)
 
   -- ---- the row isn't written
 

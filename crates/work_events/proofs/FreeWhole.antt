@@ -22,7 +22,7 @@ use Rattle.core_state.specs.Agrees.{message_of}
 use Rattle.mss_base.specs.declared.site.Site.{Ghosts}
 use Rattle.victim_choice.specs.declared.choose.Candidate.{Candidate}
 use Rattle.core_state.specs.declared.rule.WorkAnswer.{WorkAnswer}
-use Rattle.core_state.specs.declared.rule.WorkAnswer.TheVariants.{Did}
+use Rattle.core_state.specs.declared.rule.WorkAnswer.TheVariants.{Did, Stopped}
 use Rattle.core_state.specs.declared.rule.WorkKind.TheVariants as work
 use Rattle.core_state.specs.declared.rule.WorkRule.TheVariants.{Frees}
 use Rattle.core_state.specs.CoreValue.{CoreValue, seen}
@@ -45,7 +45,7 @@ use Rattle.core_state.proofs.CountedFacts.{counted_message}
 use Rattle.core_state.proofs.Others.{freed_waits, freed_waiting, frames_apart, freed_none, freed_other, freed_from, freed_keeps, freed_task, freed_served}
 use Rattle.core_state.proofs.Fitting.{ready_row, row_still, staged_left}
 use Rattle.work_events.proofs.OwnTask.{own_moving, own_waits, own_frame, fit_on, served_put, place_in, served_now}
-use Rattle.work_events.proofs.ChangedRows.{HasRewritten, HaveChanged, IsDueChange, IsDone, with_slot, core_slot, may_now, kept_changed}
+use Rattle.work_events.proofs.ChangedRows.{FailsChange, HasRewritten, HaveChanged, IsDueChange, IsDone, with_row_stopped, with_slot, core_slot, may_now, kept_changed}
 
 module _ (S : Type 0) {C : Type 0} (tells : Type 0) (s : SiteLog) (v : CoreValue S C) (whole : IsWhole tells s v) (open_ : v.stopped ≡ None) (n : ℕ) (old : Task) (at : task_at v.tasks n ≡ Some old) (wanted : Request) (wants : request_of v.requests old.host ≡ Some wanted) where
   core : IsCore v
@@ -171,6 +171,15 @@ freed_does {S} {C} g may v w n old volume page answer is at have path =
     subst (λ (a : WorkAnswer). WorkDoes g.tells may (seen g v) n (Frees volume page) a (seen g w)) (sym is)
     (subst (λ (o : Option Task). WithTask o (λ task. TaskDoes g.tells (seen g v) n (Frees volume page) task (Did work.Free) (seen g w))) (sym at)
     (have, refl, ap (λ (z : CoreValue S C). seen g z) path))
+
+-- a write of it failed
+pub unfreed_does : {S C : Type 0} (g : Ghosts S) (may : List Candidate → ℕ → Type 0) (v w : CoreValue S C) (n : ℕ) (old : Task) (volume page : ℕ) (answer : WorkAnswer)
+    → answer ≡ Stopped (g.faults w.site) → task_at v.tasks n ≡ Some old → FailsChange g v volume (Free page) w.site → w ≡ with_row_stopped v n volume (Free page) w.site (g.faults w.site)
+    → WorkDoes g.tells may (seen g v) n (Frees volume page) answer (seen g w)
+unfreed_does {S} {C} g may v w n old volume page answer is at fails path =
+    subst (λ (a : WorkAnswer). WorkDoes g.tells may (seen g v) n (Frees volume page) a (seen g w)) (sym is)
+    (subst (λ (o : Option Task). WithTask o (λ task. TaskDoes g.tells (seen g v) n (Frees volume page) task (Stopped (g.faults w.site)) (seen g w))) (sym at)
+    (fails, ap (λ (z : CoreValue S C). seen g z) path))
 
 -- ---- the change is due, and with it the core is kept
 

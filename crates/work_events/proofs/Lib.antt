@@ -17,6 +17,7 @@ pub mod FailedWhole
 pub mod CopyWhole
 pub mod ChangedRows
 pub mod RowSteps
+pub mod RoomFacts
 pub mod FailedSteps
 pub mod CopySteps
 pub mod EndSteps

@@ -1,22 +1,28 @@
 -- What comes of the command is the event, and keeps the core.
-use Rattle.std.proofs.Common.{rules, ◌≡◌, length, refl, None, Some, ◌∙◌, ap, subst}
-use Rattle.std.specs.Prelude.{◌-◌, slice_set, Err}
+use Rattle.std.proofs.Common.{rules, ◌≡◌, ◌≤◌, length, refl, None, Some, sym, ◌∙◌, ap, subst}
+use Rattle.std.specs.Prelude.{Err}
 use Rattle.volume_table.specs.Listed.{listed}
-use Rattle.channel_commands.specs.Data.{equipment_check, stopped}
+use Rattle.channel_commands.specs.Data.{ReplyData, equipment_check, stopped}
 use Rattle.channel_commands.specs.Views.{call_of, reply_of}
 use Rattle.mss_base.specs.Places.{frame_block}
 use Rattle.track_engine.specs.declared.place.EngineFault.{EngineFault}
 use Rattle.track_engine.specs.declared.place.EngineFault.TheVariants.{ReadFailed, WriteFailed}
-use Rattle.core_state.specs.Pins.{host_at}
+use Rattle.track_engine.specs.Faults.{IsNoFailure, IsNoFailedWrite}
+use Rattle.core_state.specs.HostEvents.{replied}
+use Rattle.core_state.specs.Counted.{AreEntries}
+use Rattle.core_state.specs.declared.session.TheConstants.{ENTRY_LIMIT}
+use Rattle.core_state.specs.Pins.{host_at, put_host}
 use Rattle.core_state.specs.SessionData.{SessionData, with_stop}
 use Rattle.core_state.specs.Sessions.{session_data}
 use Rattle.core_state.specs.Tasks.{tasks_after}
+use Rattle.host_events.specs.Parts.{IsUnfailed}
 use Rattle.host_events.specs.Replies.{with_reply}
 use Rattle.host_events.specs.Runs.{run_by, Comes}
 use Rattle.host_events.proofs.Prepared.{prepared_kept}
-use Rattle.host_events.proofs.RunKept.{has_row, in_frame, is_staged, is_asked, is_data_, touches, passes_, tracks_, still_kept, run_kept, run_event, check_kept, stop_kept, stop_event}
+use Rattle.host_events.proofs.RunDoes.{done_is_unfailed}
+use Rattle.host_events.proofs.RunKept.{has_row, in_frame, is_staged, is_asked, is_data_, touches, passes_, tracks_, room_event, still_kept, still_event, run_kept, run_event, check_kept, check_event, stop_kept, stop_event}
 use Rattle.host_events.proofs.run.run.Goals as goal
-use Rattle.core_state.specs.CoreValue.{seen_site}
+use Rattle.core_state.specs.CoreValue.{CoreValue, seen_site}
 
 pub invariant_of-core : goal.invariant_of-core
 invariant_of-core g c =
@@ -59,9 +65,9 @@ invariant_of-core-in-Ok-run_in g c =
     c.args.volume c.args.frame c.requires.rule c.standing-old.result (c.standing-old.ensures.state ∙ ap (λ l. host_at l c.args.host) c.as_slice.ensures) c.standing-old.ensures.cylinder c.standing-old.ensures.head
     c.prepare.new.site c.prepare.ensures.site c.run_in.new.site c.run_in.ensures.site_ (λ tl. g.met.S.Site.counted c.run_in.new.site tl)
     (reply_of c.in-Ok-run_in.reply) c.run_in.new.host c.in-Ok-run_in.ensures.comes.0
-    c.end_request.new.requests c.end_request.ensures c.touch_after.new.tasks.items (c.touch_after.ensures ∙ ap (λ n. tasks_after c.args.command.now c.args.volume n c.core.inside.tasks.items) c.page.ensures)
-    c.set.new.self.items (c.set.ensures.items ∙ (λ i. slice_set c.core.inside.hosts.items ((c.from-at.ensures ∙ c.get.ensures.value) i - 1) c.run_in.new.host)) c.touch.new.self c.touch.ensures
-    (session_data c.enter.new.session) (c.enter.ensures ∙ (λ i. with_reply c.args.host (c.in-Ok.ensures.copy i) (reply_of c.in-Ok-run_in.reply) None (c.writes-mark.ensures i) (c.prepare.ensures.session i)))
+    c.close.new.requests c.close.ensures.requests c.touch_after.new.tasks.items (c.touch_after.ensures ∙ ap (λ n. tasks_after c.args.command.now c.args.volume n c.core.inside.tasks.items) c.page.ensures)
+    c.close.new.hosts.items c.close.ensures.hosts c.touch.new.self c.touch.ensures
+    (session_data c.close.new.session) (c.close.ensures.session ∙ (λ i. with_reply c.args.host (c.in-Ok.ensures.copy i) (reply_of c.in-Ok-run_in.reply) None (c.writes-mark.ensures i) (c.prepare.ensures.session i)))
 
 pub invariant_of-core-in-Err-ReadFailed : goal.invariant_of-core-in-Err-ReadFailed
 invariant_of-core-in-Err-ReadFailed g c =
@@ -73,8 +79,8 @@ invariant_of-core-in-Err-ReadFailed g c =
     check_kept g.row.S.Denot S c.args.core.now c.core.view_is c.core.invariant c.args.host (call_of c.args.call.now) c.args.command.now
     c.args.volume c.args.frame c.requires.rule c.standing-old.result (c.standing-old.ensures.state ∙ ap (λ l. host_at l c.args.host) c.as_slice.ensures) c.standing-old.ensures.cylinder c.standing-old.ensures.head
     c.prepare.new.site c.prepare.ensures.site c.run_in.new.site c.run_in.ensures.site_ (λ tl. g.met.S.Site.counted c.run_in.new.site tl)
-    comes.0 c.end.new.self c.end.ensures c.set-in-Err-ReadFailed.new.self.items (c.set-in-Err-ReadFailed.ensures.items ∙ (λ i. slice_set c.core.inside.hosts.items ((c.from-at.ensures ∙ c.get.ensures.value) i - 1) (c.checked.ensures i)))
-    (session_data c.enter-in-Err-ReadFailed.new.session) (c.enter-in-Err-ReadFailed.ensures ∙ (λ i. with_reply c.args.host (c.in-Ok.ensures.copy i) equipment_check (Some ((c.in-Err-ReadFailed.fault-is ∙ comes.1) i)) (c.writes-mark-in-Err-ReadFailed.ensures i) (c.prepare.ensures.session i)))
+    comes.0 c.close-in-Err-ReadFailed.new.requests c.close-in-Err-ReadFailed.ensures.requests c.close-in-Err-ReadFailed.new.hosts.items (c.close-in-Err-ReadFailed.ensures.hosts ∙ ap (put_host c.core.inside.hosts.items c.args.host) c.checked-now.ensures)
+    (session_data c.close-in-Err-ReadFailed.new.session) (c.close-in-Err-ReadFailed.ensures.session ∙ (λ i. with_reply c.args.host (c.in-Ok.ensures.copy i) equipment_check (Some ((c.in-Err-ReadFailed.fault-is ∙ comes.1) i)) (c.writes-mark-in-Err-ReadFailed.ensures i) (c.prepare.ensures.session i)))
 
 pub invariant_of-core-in-Err-WriteFailed : goal.invariant_of-core-in-Err-WriteFailed
 invariant_of-core-in-Err-WriteFailed g c =
@@ -86,7 +92,7 @@ invariant_of-core-in-Err-WriteFailed g c =
     stop_kept g.row.S.Denot S c.args.core.now c.core.view_is c.core.invariant c.args.host (call_of c.args.call.now) c.args.command.now
     c.args.volume c.args.frame c.requires.rule c.standing-old.result (c.standing-old.ensures.state ∙ ap (λ l. host_at l c.args.host) c.as_slice.ensures) c.standing-old.ensures.cylinder c.standing-old.ensures.head
     c.prepare.new.site c.prepare.ensures.site c.run_in.new.site c.run_in.ensures.site_ (λ tl. g.met.S.Site.counted c.run_in.new.site tl)
-    c.in-Err-WriteFailed.fault comes (with_stop _ (session_data c.enter-in-Err-WriteFailed.new.session)) (λ i. with_stop (c.in-Err-WriteFailed.fault-is i) ((c.enter-in-Err-WriteFailed.ensures ∙ (λ i. with_reply c.args.host (c.in-Ok.ensures.copy i) stopped (Some (c.in-Err-WriteFailed.fault-is i)) (c.writes-mark-in-Err-WriteFailed.ensures i) (c.prepare.ensures.session i))) i))
+    c.in-Err-WriteFailed.fault comes (with_stop _ (session_data c.enter.new.session)) (λ i. with_stop (c.in-Err-WriteFailed.fault-is i) ((c.enter.ensures ∙ (λ i. with_reply c.args.host (c.in-Ok.ensures.copy i) stopped (Some (c.in-Err-WriteFailed.fault-is i)) (c.writes-mark-in-Err-WriteFailed.ensures i) (c.prepare.ensures.session i))) i))
 
 pub invariant_of-core-in-Err-Memory : goal.invariant_of-core-in-Err-Memory
 invariant_of-core-in-Err-Memory g c =
@@ -105,10 +111,41 @@ returns-in-Ok-run_in-clause-event g c =
     c.args.volume c.args.frame c.requires.rule c.standing-old.result (c.standing-old.ensures.state ∙ ap (λ l. host_at l c.args.host) c.as_slice.ensures) c.standing-old.ensures.cylinder c.standing-old.ensures.head
     c.prepare.new.site c.prepare.ensures.site c.run_in.new.site c.run_in.ensures.site_ (λ tl. g.met.S.Site.counted c.run_in.new.site tl)
     (reply_of c.in-Ok-run_in.reply) c.run_in.new.host c.in-Ok-run_in.ensures.comes.0
-    c.end_request.new.requests c.end_request.ensures c.touch_after.new.tasks.items (c.touch_after.ensures ∙ ap (λ n. tasks_after c.args.command.now c.args.volume n c.core.inside.tasks.items) c.page.ensures)
-    c.set.new.self.items (c.set.ensures.items ∙ (λ i. slice_set c.core.inside.hosts.items ((c.from-at.ensures ∙ c.get.ensures.value) i - 1) c.run_in.new.host)) c.touch.new.self c.touch.ensures
-    (session_data c.enter.new.session) (c.enter.ensures ∙ (λ i. with_reply c.args.host (c.in-Ok.ensures.copy i) (reply_of c.in-Ok-run_in.reply) None (c.writes-mark.ensures i) (c.prepare.ensures.session i)))
+    c.close.new.requests c.close.ensures.requests c.touch_after.new.tasks.items (c.touch_after.ensures ∙ ap (λ n. tasks_after c.args.command.now c.args.volume n c.core.inside.tasks.items) c.page.ensures)
+    c.close.new.hosts.items c.close.ensures.hosts c.touch.new.self c.touch.ensures
+    (session_data c.close.new.session) (c.close.ensures.session ∙ (λ i. with_reply c.args.host (c.in-Ok.ensures.copy i) (reply_of c.in-Ok-run_in.reply) None (c.writes-mark.ensures i) (c.prepare.ensures.session i)))
     (reply_of c.in-Ok-run_in.told) c.in-Ok-run_in.ensures.comes.1 (length c.as_slice-2.result.now) (ap length c.as_slice-2.ensures ∙ ap (λ (d : SessionData). length d.history) c.prepare.ensures.session)
+
+pub returns-in_default-clause-event : goal.returns-in_default-clause-event
+returns-in_default-clause-event g c =
+    let S = g.S.Site in
+    room_event g.row.S.Denot S c.args.core.now c.core.view_is c.core.invariant c.args.host (call_of c.args.call.now) c.args.command.now
+    c.args.volume c.args.frame c.requires.rule c.standing-old.result (c.standing-old.ensures.state ∙ ap (λ l. host_at l c.args.host) c.as_slice.ensures) c.standing-old.ensures.cylinder c.standing-old.ensures.head
+    c.prepare.new.site c.prepare.ensures.site (session_data c.prepare.new.session) c.prepare.ensures.session
+
+pub returns-in-Err-ReadFailed-clause-event : goal.returns-in-Err-ReadFailed-clause-event
+returns-in-Err-ReadFailed-clause-event g c =
+    let S = g.S.Site in
+    let comes : Comes S.tells (run_by c.standing-old.result (frame_block c.args.frame c.standing-old.result.cylinder 0) c.args.command.now (call_of c.args.call.now))
+    (seen_site S c.prepare.new.site) (seen_site S c.run_in.new.site) c.run_in.new.host (Err (ReadFailed c.in-Err-ReadFailed.fault)) =
+    subst (λ (e : EngineFault). Comes S.tells (run_by c.standing-old.result (frame_block c.args.frame c.standing-old.result.cylinder 0) c.args.command.now (call_of c.args.call.now))
+    (seen_site S c.prepare.new.site) (seen_site S c.run_in.new.site) c.run_in.new.host (Err e)) c.in-Err-ReadFailed.field-0-is c.in-Err-ReadFailed.ensures.comes in
+    check_event g.row.S.Denot S c.args.core.now c.core.view_is c.core.invariant c.args.host (call_of c.args.call.now) c.args.command.now
+    c.args.volume c.args.frame c.requires.rule c.standing-old.result (c.standing-old.ensures.state ∙ ap (λ l. host_at l c.args.host) c.as_slice.ensures) c.standing-old.ensures.cylinder c.standing-old.ensures.head
+    c.prepare.new.site c.prepare.ensures.site c.run_in.new.site c.run_in.ensures.site_ (λ tl. g.met.S.Site.counted c.run_in.new.site tl)
+    comes.0 c.close-in-Err-ReadFailed.new.requests c.close-in-Err-ReadFailed.ensures.requests c.close-in-Err-ReadFailed.new.hosts.items (c.close-in-Err-ReadFailed.ensures.hosts ∙ ap (put_host c.core.inside.hosts.items c.args.host) c.checked-now.ensures)
+    (session_data c.close-in-Err-ReadFailed.new.session) (c.close-in-Err-ReadFailed.ensures.session ∙ (λ i. with_reply c.args.host (c.in-Ok.ensures.copy i) equipment_check (Some ((c.in-Err-ReadFailed.fault-is ∙ comes.1) i)) (c.writes-mark-in-Err-ReadFailed.ensures i) (c.prepare.ensures.session i)))
+    (length c.as_slice-2.result.now) (ap length c.as_slice-2.ensures ∙ ap (λ (d : SessionData). length d.history) c.prepare.ensures.session)
+
+pub returns-in-Err-Memory-clause-event : goal.returns-in-Err-Memory-clause-event
+returns-in-Err-Memory-clause-event g c =
+    let S = g.S.Site in
+    still_event g.row.S.Denot S c.args.core.now c.core.view_is c.core.invariant c.args.host (call_of c.args.call.now) c.args.command.now
+    c.args.volume c.args.frame c.requires.rule c.standing-old.result (c.standing-old.ensures.state ∙ ap (λ l. host_at l c.args.host) c.as_slice.ensures) c.standing-old.ensures.cylinder c.standing-old.ensures.head
+    c.prepare.new.site c.prepare.ensures.site c.run_in.new.site c.run_in.ensures.site_ (λ tl. g.met.S.Site.counted c.run_in.new.site tl)
+    (subst (λ (e : EngineFault). Comes S.tells (run_by c.standing-old.result (frame_block c.args.frame c.standing-old.result.cylinder 0) c.args.command.now (call_of c.args.call.now))
+    (seen_site S c.prepare.new.site) (seen_site S c.run_in.new.site) c.run_in.new.host (Err e)) c.in-Err-Memory.field-0-is c.in-Err-Memory.ensures.comes)
+    (session_data c.prepare.new.session) c.prepare.ensures.session
 
 pub returns-in-Err-WriteFailed-clause-event : goal.returns-in-Err-WriteFailed-clause-event
 returns-in-Err-WriteFailed-clause-event g c =
@@ -120,18 +157,8 @@ returns-in-Err-WriteFailed-clause-event g c =
     stop_event g.row.S.Denot S c.args.core.now c.core.view_is c.core.invariant c.args.host (call_of c.args.call.now) c.args.command.now
     c.args.volume c.args.frame c.requires.rule c.standing-old.result (c.standing-old.ensures.state ∙ ap (λ l. host_at l c.args.host) c.as_slice.ensures) c.standing-old.ensures.cylinder c.standing-old.ensures.head
     c.prepare.new.site c.prepare.ensures.site c.run_in.new.site c.run_in.ensures.site_ (λ tl. g.met.S.Site.counted c.run_in.new.site tl)
-    c.in-Err-WriteFailed.fault comes (with_stop _ (session_data c.enter-in-Err-WriteFailed.new.session)) (λ i. with_stop (c.in-Err-WriteFailed.fault-is i) ((c.enter-in-Err-WriteFailed.ensures ∙ (λ i. with_reply c.args.host (c.in-Ok.ensures.copy i) stopped (Some (c.in-Err-WriteFailed.fault-is i)) (c.writes-mark-in-Err-WriteFailed.ensures i) (c.prepare.ensures.session i))) i))
+    c.in-Err-WriteFailed.fault comes (with_stop _ (session_data c.enter.new.session)) (λ i. with_stop (c.in-Err-WriteFailed.fault-is i) ((c.enter.ensures ∙ (λ i. with_reply c.args.host (c.in-Ok.ensures.copy i) stopped (Some (c.in-Err-WriteFailed.fault-is i)) (c.writes-mark-in-Err-WriteFailed.ensures i) (c.prepare.ensures.session i))) i))
     _ c.in-Err-WriteFailed.fault-is
-
-pub invariant_of-core-in-Err-Memory-2 : goal.invariant_of-core-in-Err-Memory-2
-invariant_of-core-in-Err-Memory-2 g c =
-    let S = g.S.Site in
-    still_kept g.row.S.Denot S c.args.core.now c.core.view_is c.core.invariant c.args.host (call_of c.args.call.now) c.args.command.now
-    c.args.volume c.args.frame c.requires.rule c.standing-old.result (c.standing-old.ensures.state ∙ ap (λ l. host_at l c.args.host) c.as_slice.ensures) c.standing-old.ensures.cylinder c.standing-old.ensures.head
-    c.prepare.new.site c.prepare.ensures.site c.run_in.new.site c.run_in.ensures.site_ (λ tl. g.met.S.Site.counted c.run_in.new.site tl)
-    (subst (λ (e : EngineFault). Comes S.tells (run_by c.standing-old.result (frame_block c.args.frame c.standing-old.result.cylinder 0) c.args.command.now (call_of c.args.call.now))
-    (seen_site S c.prepare.new.site) (seen_site S c.run_in.new.site) c.run_in.new.host (Err e)) c.in-Err-Memory.field-0-is c.in-Err-Memory.ensures.comes)
-    (session_data c.prepare.new.session) c.prepare.ensures.session
 
 pub row_of-row-requires : goal.row_of-row-requires
 row_of-row-requires g c =
@@ -155,3 +182,75 @@ run_in-requires-clause-staged g c =
           c.args.volume c.args.frame c.requires.rule c.standing-old.result (c.standing-old.ensures.state ∙ ap (λ l. host_at l c.args.host) c.as_slice.ensures) c.standing-old.ensures.cylinder c.standing-old.ensures.head
           c.row_of-row.result.now row;
     }
+
+-- ---- no call failed: then a run isn't answered by a failure
+
+pub returns-in-Ok-run_in-clause-works : goal.returns-in-Ok-run_in-clause-works
+returns-in-Ok-run_in-clause-works g c = λ but sound unit.
+    let comes = c.in-Ok-run_in.ensures.comes in
+    subst (λ (r : ReplyData). IsUnfailed (replied (length c.as_slice-2.result.now) r)) (sym comes.1) (done_is_unfailed (length c.as_slice-2.result.now) _ comes.0.done_)
+
+pub returns-in-Err-ReadFailed-clause-works : goal.returns-in-Err-ReadFailed-clause-works
+returns-in-Err-ReadFailed-clause-works g c = λ but sound unit.
+    subst IsNoFailure c.in-Err-ReadFailed.field-0-is (c.in-Err-ReadFailed.ensures.works but (c.prepare.ensures.site.sound but (subst (λ (z : CoreValue g.row.S.Denot g.row.C.Denot). g.S.Site.never_fails_but z.site but) (sym c.core.view_is) sound)) unit)
+
+pub returns-in-Err-WriteFailed-clause-works : goal.returns-in-Err-WriteFailed-clause-works
+returns-in-Err-WriteFailed-clause-works g c = λ but sound unit.
+    subst IsNoFailure c.in-Err-WriteFailed.field-0-is (c.in-Err-WriteFailed.ensures.works but (c.prepare.ensures.site.sound but (subst (λ (z : CoreValue g.row.S.Denot g.row.C.Denot). g.S.Site.never_fails_but z.site but) (sym c.core.view_is) sound)) unit)
+
+pub returns-in-Err-WriteFailed-clause-only_reads_fail : goal.returns-in-Err-WriteFailed-clause-only_reads_fail
+returns-in-Err-WriteFailed-clause-only_reads_fail g c = λ but sound.
+    subst IsNoFailedWrite c.in-Err-WriteFailed.field-0-is (c.in-Err-WriteFailed.ensures.only_reads_fail but (c.prepare.ensures.site.sound but (subst (λ (z : CoreValue g.row.S.Denot g.row.C.Denot). g.S.Site.never_fails_but z.site but) (sym c.core.view_is) sound)))
+
+-- ---- the entry that is put last has its room
+
+pub close-requires-clause-few : goal.close-requires-clause-few
+close-requires-clause-few g c = subst (λ (d : SessionData). length d.history ≤ ENTRY_LIMIT) (sym c.prepare.ensures.session) c.core.invariant.whole.shaped.few
+
+pub close-requires-clause-entries : goal.close-requires-clause-entries
+close-requires-clause-entries g c = subst (λ (d : SessionData). AreEntries d.history) (sym c.prepare.ensures.session) c.core.invariant.counted.entries
+
+pub close-requires-in-Err-ReadFailed-clause-few : goal.close-requires-in-Err-ReadFailed-clause-few
+close-requires-in-Err-ReadFailed-clause-few g c = subst (λ (d : SessionData). length d.history ≤ ENTRY_LIMIT) (sym c.prepare.ensures.session) c.core.invariant.whole.shaped.few
+
+pub close-requires-in-Err-ReadFailed-clause-entries : goal.close-requires-in-Err-ReadFailed-clause-entries
+close-requires-in-Err-ReadFailed-clause-entries g c = subst (λ (d : SessionData). AreEntries d.history) (sym c.prepare.ensures.session) c.core.invariant.counted.entries
+
+pub enter-requires-clause-few : goal.enter-requires-clause-few
+enter-requires-clause-few g c = subst (λ (d : SessionData). length d.history ≤ ENTRY_LIMIT) (sym c.prepare.ensures.session) c.core.invariant.whole.shaped.few
+
+pub enter-requires-clause-entries : goal.enter-requires-clause-entries
+enter-requires-clause-entries g c = subst (λ (d : SessionData). AreEntries d.history) (sym c.prepare.ensures.session) c.core.invariant.counted.entries
+
+pub close-requires-clause-room : goal.close-requires-clause-room
+close-requires-clause-room g c = c.in-Ok.ensures.room
+
+pub close-requires-clause-room_marks : goal.close-requires-clause-room_marks
+close-requires-clause-room_marks g c = c.in-Ok.ensures.room_marks
+
+pub close-requires-clause-room_events : goal.close-requires-clause-room_events
+close-requires-clause-room_events g c = c.in-Ok.ensures.room_events
+
+pub close-requires-clause-hosts : goal.close-requires-clause-hosts
+close-requires-clause-hosts g c = c.core.invariant.whole.shaped.hosts_
+
+pub close-requires-in-Err-ReadFailed-clause-room : goal.close-requires-in-Err-ReadFailed-clause-room
+close-requires-in-Err-ReadFailed-clause-room g c = c.in-Ok.ensures.room
+
+pub close-requires-in-Err-ReadFailed-clause-room_marks : goal.close-requires-in-Err-ReadFailed-clause-room_marks
+close-requires-in-Err-ReadFailed-clause-room_marks g c = c.in-Ok.ensures.room_marks
+
+pub close-requires-in-Err-ReadFailed-clause-room_events : goal.close-requires-in-Err-ReadFailed-clause-room_events
+close-requires-in-Err-ReadFailed-clause-room_events g c = c.in-Ok.ensures.room_events
+
+pub close-requires-in-Err-ReadFailed-clause-hosts : goal.close-requires-in-Err-ReadFailed-clause-hosts
+close-requires-in-Err-ReadFailed-clause-hosts g c = c.core.invariant.whole.shaped.hosts_
+
+pub enter-requires-clause-room : goal.enter-requires-clause-room
+enter-requires-clause-room g c = c.in-Ok.ensures.room
+
+pub enter-requires-clause-room_marks : goal.enter-requires-clause-room_marks
+enter-requires-clause-room_marks g c = c.in-Ok.ensures.room_marks
+
+pub enter-requires-clause-room_events : goal.enter-requires-clause-room_events
+enter-requires-clause-room_events g c = c.in-Ok.ensures.room_events

@@ -1,17 +1,20 @@
-use Rattle.std.proofs.Common.{◌≡◌, length, Some, refl, ◌∙◌, ap, arith}
-use Rattle.std.specs.Prelude.{slice_set}
+use Rattle.std.proofs.Common.{◌≡◌, ◌≤◌, length, Some, refl, sym, ◌∙◌, ap, subst, arith}
+use Rattle.std.specs.Prelude.{is_err, slice_set}
+use Rattle.table_pair.specs.declared.change.TheConstants.{CHANGE_ITEMS}
 use Rattle.volume_table.specs.declared.changes.Change.TheVariants.{Assign}
 use Rattle.victim_choice.specs.Order.{touched}
 use Rattle.core_state.specs.declared.session.Event.TheVariants.{Work}
 use Rattle.core_state.specs.CoreValue.{CoreValue}
-use Rattle.core_state.specs.SessionData.{data_of, of_parts, with_last_event, with_last_message}
+use Rattle.core_state.specs.declared.rule.WorkAnswer.TheVariants.{Stopped}
+use Rattle.core_state.specs.SessionData.{SessionData, data_of, of_parts, with_last_event, with_last_message}
 use Rattle.core_state.specs.Sessions.{session_data}
 use Rattle.core_state.specs.Agrees.{message_of}
 use Rattle.volume_table.specs.Listed.{listed}
 use Rattle.work_events.proofs.KeptFacts.{kept_at, in_order}
-use Rattle.work_events.proofs.RowSteps.{has_room, kept_as, kept_room, row_changed, row_held, row_stopped, row_there, slots_counted}
+use Rattle.work_events.proofs.RowSteps.{has_room, kept_as, kept_room, row_changed, row_failed, row_held, row_stopped, row_there, slots_counted, stopped_is}
+use Rattle.work_events.proofs.RoomFacts.{room_going, room_same, room_spares, room_writes, when_ok, works_always}
 use Rattle.work_events.proofs.RuleFacts.{MayAssignPage, rule_assigns}
-use Rattle.work_events.proofs.AssignWhole.{assigned, assigned_does, due_assigned, kept_assigned}
+use Rattle.work_events.proofs.AssignWhole.{assigned, assigned_does, due_assigned, kept_assigned, unassigned_does}
 use Rattle.work_events.proofs.frames.assign.Goals as goal
 
 pub served-task-requires : goal.served-task-requires
@@ -108,3 +111,79 @@ invariant_of-core-in-Err g c =
     let may : MayAssignPage now c.args.volume c.args.page c.served-task.result.0 c.served-task.result.1 = says.may c.served-task.result.0 c.served-task.result.1 c.served-task.ensures.serves c.served-task.ensures.low c.served-task.ensures.known in
     let due = due_assigned g.row.S.Denot g.S.Site.tells (g.S.Site.told now.site) now has.kept.whole says.going c.args.recorder c.served-task.result.0 c.served-task.result.1 c.served-task.ensures.serves c.args.volume c.args.page may in
     row_stopped g.S.Site has c.args.volume (Assign c.args.page c.served-task.result.0.frame) c.write_change.new.site c.write_change.ensures.rows c.write_change.ensures.site_.devices _ c.in-Err.ensures.copies due says.going c.args.recorder c.in-Err.ensures.site_.cause.failed c.in-Err.ensures.used.failed c.in-Err.ensures.session.stopped c.stop.ensures.told
+
+pub returns-in-Err-clause-event : goal.returns-in-Err-clause-event
+returns-in-Err-clause-event g c =
+    let now = c.args.core.now in
+    let has = has_room g.S.Site now c.core.view_is c.core.invariant c.make_room.new.site _ c.make_room.ensures.session c.make_room.ensures.site in
+    let x = c.write_change.new.site in
+    let change = Assign c.args.page c.served-task.result.0.frame in
+    let fails = row_failed g.S.Site has c.args.volume change x c.write_change.ensures.rows c.write_change.ensures.site_.devices _ c.in-Err.ensures.copies c.in-Err.ensures.site_.counted c.in-Err.ensures.site_.cause.failed in
+    let path = stopped_is g.S.Site has c.args.volume change x c.write_change.ensures.rows c.write_change.ensures.site_.devices _ c.in-Err.ensures.copies c.args.recorder c.in-Err.ensures.used.failed c.in-Err.ensures.session.stopped c.stop.ensures.told in
+    unassigned_does g.S.Site (g.C.Choose.may now.chooser) now _ c.args.recorder c.served-task.result.0 c.args.volume c.args.page c.stop.result (c.stop.ensures.answer ∙ ap Stopped c.faults.ensures) c.served-task.ensures.serves.at fails path
+
+-- ---- there is room
+
+pub write_change-requires-clause-room : goal.write_change-requires-clause-room
+write_change-requires-clause-room g c =
+    when_ok c.make_room.result (sym c.is_err.ensures.value ∙ c.if-is_err.false) c.make_room.ensures.room_site
+
+pub write_change-requires-clause-room_console : goal.write_change-requires-clause-room_console
+write_change-requires-clause-room_console g c =
+    when_ok c.make_room.result (sym c.is_err.ensures.value ∙ c.if-is_err.false) c.make_room.ensures.room_console
+
+pub did-requires : goal.did-requires
+did-requires g c =
+    subst (λ (e : _). 1 ≤ e.spare) (sym c.write_change.ensures.session.events_) (when_ok c.make_room.result (sym c.is_err.ensures.value ∙ c.if-is_err.false) c.make_room.ensures.room_events)
+
+pub stop-requires : goal.stop-requires
+stop-requires g c =
+    subst (λ (e : _). 1 ≤ e.spare) (sym c.write_change.ensures.session.events_) (when_ok c.make_room.result (sym c.is_err.ensures.value ∙ c.if-is_err.false) c.make_room.ensures.room_events)
+
+-- ---- what it leaves of the site, and that it goes on where no write fails
+
+pub returns-then-is_err-clause-event : goal.returns-then-is_err-clause-event
+returns-then-is_err-clause-event g c =
+    let has = has_room g.S.Site c.args.core.now c.core.view_is c.core.invariant c.make_room.new.site _ c.make_room.ensures.session c.make_room.ensures.site in
+    room_same g.S.Site has
+
+pub returns-then-is_err-clause-devices : goal.returns-then-is_err-clause-devices
+returns-then-is_err-clause-devices g c =
+    let has = has_room g.S.Site c.args.core.now c.core.view_is c.core.invariant c.make_room.new.site _ c.make_room.ensures.session c.make_room.ensures.site in
+    room_spares g.S.Site has CHANGE_ITEMS
+
+pub returns-then-is_err-clause-works : goal.returns-then-is_err-clause-works
+returns-then-is_err-clause-works g c =
+    let has = has_room g.S.Site c.args.core.now c.core.view_is c.core.invariant c.make_room.new.site _ c.make_room.ensures.session c.make_room.ensures.site in
+    λ but never. room_going g.S.Site has
+
+pub returns-in-Ok-clause-devices : goal.returns-in-Ok-clause-devices
+returns-in-Ok-clause-devices g c =
+    let has = has_room g.S.Site c.args.core.now c.core.view_is c.core.invariant c.make_room.new.site _ c.make_room.ensures.session c.make_room.ensures.site in
+    room_writes g.S.Site has CHANGE_ITEMS c.write_change.ensures.site_.devices (omega arith)
+
+pub returns-in-Ok-clause-works : goal.returns-in-Ok-clause-works
+returns-in-Ok-clause-works g c =
+    let has = has_room g.S.Site c.args.core.now c.core.view_is c.core.invariant c.make_room.new.site _ c.make_room.ensures.session c.make_room.ensures.site in
+    λ but never. ap (λ (d : SessionData). d.stopped) (c.did.ensures.told ∙ ap (with_last_event (Work c.args.recorder)) c.in-Ok.ensures.session.told) ∙ room_going g.S.Site has
+
+pub returns-in-Err-clause-devices : goal.returns-in-Err-clause-devices
+returns-in-Err-clause-devices g c =
+    let has = has_room g.S.Site c.args.core.now c.core.view_is c.core.invariant c.make_room.new.site _ c.make_room.ensures.session c.make_room.ensures.site in
+    room_writes g.S.Site has CHANGE_ITEMS c.write_change.ensures.site_.devices (omega arith)
+
+pub returns-in-Err-clause-works : goal.returns-in-Err-clause-works
+returns-in-Err-clause-works g c =
+    let has = has_room g.S.Site c.args.core.now c.core.view_is c.core.invariant c.make_room.new.site _ c.make_room.ensures.session c.make_room.ensures.site in
+    λ but never. works_always c.write_change.result (c.write_change.ensures.site_.works but (has.reserves.sound but never)) (ap is_err c.in-Err.is)
+
+-- ---- its chooser stays
+
+pub returns-then-is_err-clause-chooser : goal.returns-then-is_err-clause-chooser
+returns-then-is_err-clause-chooser g c = ap (λ (z : CoreValue g.row.S.Denot g.row.C.Denot). z.chooser) c.core.view_is
+
+pub returns-in-Ok-clause-chooser : goal.returns-in-Ok-clause-chooser
+returns-in-Ok-clause-chooser g c = ap (λ (z : CoreValue g.row.S.Denot g.row.C.Denot). z.chooser) c.core.view_is
+
+pub returns-in-Err-clause-chooser : goal.returns-in-Err-clause-chooser
+returns-in-Err-clause-chooser g c = ap (λ (z : CoreValue g.row.S.Denot g.row.C.Denot). z.chooser) c.core.view_is

@@ -3,15 +3,16 @@ use Rattle.std.specs.Prelude.{slice_set}
 use Rattle.volume_table.specs.declared.changes.Change.TheVariants.{Free}
 use Rattle.core_state.specs.declared.session.Event.TheVariants.{Work}
 use Rattle.core_state.specs.CoreValue.{CoreValue}
+use Rattle.core_state.specs.declared.rule.WorkAnswer.TheVariants.{Stopped}
 use Rattle.core_state.specs.SessionData.{data_of, of_parts, with_last_event, with_last_message}
 use Rattle.core_state.specs.Sessions.{session_data}
 use Rattle.core_state.specs.Agrees.{message_of}
 use Rattle.volume_table.specs.Listed.{listed}
 use Rattle.core_state.specs.Working.{MayFree}
 use Rattle.work_events.proofs.KeptFacts.{kept_at}
-use Rattle.work_events.proofs.RowSteps.{has_room, kept_as, kept_room, row_changed, row_held, row_stopped, row_there, slots_counted}
+use Rattle.work_events.proofs.RowSteps.{has_room, kept_as, kept_room, row_changed, row_failed, row_held, row_stopped, row_there, slots_counted, stopped_is}
 use Rattle.work_events.proofs.RuleFacts.{rule_frees}
-use Rattle.work_events.proofs.FreeWhole.{due_freed, freed, freed_does, kept_freed}
+use Rattle.work_events.proofs.FreeWhole.{due_freed, freed, freed_does, kept_freed, unfreed_does}
 use Rattle.work_events.proofs.frames.free.Goals as goal
 
 pub served-requires : goal.served-requires
@@ -98,3 +99,23 @@ invariant_of-core-in-Err g c =
     let may : MayFree now c.served.result.0 c.args.volume c.args.page = says.may c.served.result.0 c.served.result.1 c.served.ensures.serves in
     let due = due_freed g.row.S.Denot g.S.Site.tells (g.S.Site.told now.site) now has.kept.whole says.going c.args.recorder c.served.result.0 c.served.result.1 c.served.ensures.serves c.args.volume c.args.page may in
     row_stopped g.S.Site has c.args.volume (Free c.args.page) c.write_change.new.site c.write_change.ensures.rows c.write_change.ensures.site_.devices _ c.in-Err.ensures.copies due says.going c.args.recorder c.in-Err.ensures.site_.cause.failed c.in-Err.ensures.used.failed c.in-Err.ensures.session.stopped c.stop.ensures.told
+
+pub returns-in-Err-clause-event : goal.returns-in-Err-clause-event
+returns-in-Err-clause-event g c =
+    let now = c.args.core.now in
+    let has = has_room g.S.Site now c.core.view_is c.core.invariant c.make_room.new.site _ c.make_room.ensures.session c.make_room.ensures.site in
+    let x = c.write_change.new.site in
+    let fails = row_failed g.S.Site has c.args.volume (Free c.args.page) x c.write_change.ensures.rows c.write_change.ensures.site_.devices _ c.in-Err.ensures.copies c.in-Err.ensures.site_.counted c.in-Err.ensures.site_.cause.failed in
+    let path = stopped_is g.S.Site has c.args.volume (Free c.args.page) x c.write_change.ensures.rows c.write_change.ensures.site_.devices _ c.in-Err.ensures.copies c.args.recorder c.in-Err.ensures.used.failed c.in-Err.ensures.session.stopped c.stop.ensures.told in
+    unfreed_does g.S.Site (g.C.Choose.may now.chooser) now _ c.args.recorder c.served.result.0 c.args.volume c.args.page c.stop.result (c.stop.ensures.answer ∙ ap Stopped c.faults.ensures) c.served.ensures.serves.at fails path
+
+-- ---- the recorder has its place
+
+pub put_task-requires : goal.put_task-requires
+put_task-requires g c =
+    let now = c.args.core.now in
+    let is = c.core.view_is in
+    let kept = kept_at g.S.Site _ now is c.core.invariant in
+    let size : length c.core.inside.tasks.items ≡ now.config.recorders = ap (λ (z : CoreValue g.row.S.Denot g.row.C.Denot). length z.tasks) is ∙ kept.whole.shaped.tasks_ in
+    let fits = c.requires.fits in
+    omega (arith, size, fits)
