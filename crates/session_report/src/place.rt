@@ -1,11 +1,10 @@
-// What a row shows of its volume: the mark, and where a track lies.
+// What a row shows of its volume: the mark, and which cylinders are blank.
 ghost use Rattle.std.specs.Prelude.{◌≡◌, ◌==◌, ◌||◌};
 ghost use Rattle.volume_table.specs.Listed.{listed};
 ghost use Rattle.volume_table.specs.Row.{state_of};
-ghost use Rattle.shown_volumes.specs.Shown.{in_page, is_marked, source};
+ghost use Rattle.shown_volumes.specs.Shown.{is_marked};
 
-use mss_base::{BlockPlace, Cylinder, Head, VolumeNo, frame_block};
-use shown_volumes::on_cartridge;
+use mss_base::{Cylinder, VolumeNo};
 use volume_table::{CylinderState, Rows, VolumeRow};
 
 /// The row of a volume, if the list has one.
@@ -25,33 +24,10 @@ pub fn is_marked(row: &Option<VolumeRow>) -> bool
     }
 }
 
-/// The place of a track in the frame of its page, if the page has one.
-fn in_page(row: &VolumeRow, cylinder: Cylinder, head: Head) -> Option<BlockPlace>
-    ensures { result ≡ in_page row.now cylinder head }
-{
-    let Some(frame) = row.frame(cylinder.page()) else {
-        return None;
-    };
-    Some(frame_block(frame, cylinder, head))
-}
-
 /// Whether a row shows each track of a cylinder as blank.
 pub fn is_blank(row: &VolumeRow, cylinder: Cylinder) -> bool
     ensures { result ≡ ((state_of row.now cylinder == 0) || (state_of row.now cylinder == 2)) }
 {
     let state = row.state(cylinder);
     matches!(state, CylinderState::Blank | CylinderState::StagedBlank)
-}
-
-/// The place of the track that a row shows. There is none where the cylinder is blank.
-pub fn shown_place(row: &VolumeRow, cylinder: Cylinder, head: Head) -> Option<BlockPlace>
-    ensures { result ≡ source row.now cylinder head }
-{
-    match row.state(cylinder) {
-        CylinderState::Blank | CylinderState::StagedBlank => None,
-        CylinderState::OnCartridge | CylinderState::Staged => {
-            Some(on_cartridge(row, cylinder, head))
-        }
-        CylinderState::Changed => in_page(row, cylinder, head),
-    }
 }

@@ -12,9 +12,10 @@ ghost use Rattle.session_report.specs.Parts.{IsUnread, MayFail, block_of};
 ghost use Rattle.session_report.specs.Reports.{Grows, untitled, volumes_text};
 
 use crate::fault::VolumesFault;
-use crate::place::{is_blank, is_marked, row_of, shown_place};
+use crate::place::{is_blank, is_marked, row_of};
 use mss_base::{Block, Bytes, CYLINDERS, Cylinder, HEADS, Head, Serial, Sink, Site, VolumeNo};
 use report_text::{put_heading, put_track};
+use shown_volumes::shown_place;
 use volume_table::{Rows, VolumeRow};
 
 /// Reads the block of a track that a row shows, and puts the track. A blank cylinder isn't read. Of a track that can't

@@ -1,0 +1,5 @@
+pub mod TakenFacts
+pub mod StepFacts
+pub mod EntryFacts
+pub mod CopyFacts
+pub mod EventFacts

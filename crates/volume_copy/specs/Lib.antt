@@ -1,0 +1,4 @@
+pub mod Copies
+pub mod Places
+pub mod Steps
+pub mod Reads
