@@ -22,6 +22,9 @@ MEMORY = "/dev/shm"
 ROOM = 2**30  # bytes, of which images take a part
 # No run that a test makes takes a tenth of this, in seconds: one that does hangs. Its status is then that of `timeout`.
 LONGEST, HUNG = 60, 124
+ONE_FRAME = "mss 1 frames 1 recorders 1\n"
+ENDLESS = "ccw 03\ntic 0\n"  # the words of a program that never ends
+READ_RECORD = "ccw 07 000000050003\nccw 31 0005000301\ntic 1\nccw 06\n"
 SHOWN = 200  # the letters that are shown of a line
 NOTHING = "nothing"
 
@@ -55,6 +58,12 @@ def run(command, folder, text=b"", **rest):
 def run_on_blank(command, text, folder):
     remove_site(folder)
     return run(command, folder, text)
+
+
+def one_host_job(*programs, mark=""):
+    """A job in which a host mounts the one volume, with one frame, and runs these programs, each the text of its words."""
+    ran = "".join(f"program\n{words}end\n" for words in programs)
+    return f"{ONE_FRAME}volume 0 VOL001{mark}\nhost 1\nmount VOL001\n{ran}done\n"
 
 
 def told_by(ran):

@@ -7,6 +7,7 @@ import unittest
 from drawn_jobs import Drawing, shrunk
 from fixtures import (
     CASES,
+    ENDLESS,
     EXAMPLES,
     PROGRAM,
     TOOLS,
@@ -14,6 +15,7 @@ from fixtures import (
     SiteTest,
     Test,
     difference,
+    one_host_job,
     run,
     run_on_blank,
     tests_of,
@@ -70,20 +72,6 @@ END
 status 0"""
 
 # A chain without an end has 2,048 commands, and a job 4,096 entries; here the first session comes to the limit.
-ENDLESS = """mss 1 frames 1 recorders 1
-volume 0 VOL001
-host 1
-mount VOL001
-program
-ccw 03
-tic 0
-end
-program
-ccw 03
-tic 0
-end
-done
-"""
 LIMITED = """MSS POLICIES 1
 policy lru staged 0 destaged 0 free 0
 LIMIT
@@ -232,7 +220,7 @@ def comparison(text):
 @tests_of(
     [
         ("as it was worked out", JOB, COMPARED),
-        ("to the limit of entries", ENDLESS, LIMITED),
+        ("to the limit of entries", one_host_job(ENDLESS, ENDLESS), LIMITED),
         ("of no job", JOB.replace("done", "gone"), "job refused line 19 Unknown\nstatus 3"),
         ("of no text", "", "job refused line 1 Ended\nstatus 3"),
     ]
@@ -257,7 +245,7 @@ class Compared(SiteTest):
 
 COMPARED_JOBS = [(name, path.read_text()) for name, path in JOBS]
 COMPARED_JOBS += [(f"job {number:02}", Drawing(number).job()) for number in range(DRAWN)]
-COMPARED_JOBS += [("two changed cylinders", TWO_CHANGED), ("no end", ENDLESS)]
+COMPARED_JOBS += [("two changed cylinders", TWO_CHANGED), ("no end", one_host_job(ENDLESS, ENDLESS))]
 
 
 @tests_of([(f"{number:03} {name}", text) for number, (name, text) in enumerate(COMPARED_JOBS, 1)])

@@ -9,7 +9,7 @@ import shutil
 import signal
 import unittest
 
-from fixtures import CASES, EXAMPLES, PROGRAM, SiteTest, remove_site, run, tests_of, told_by
+from fixtures import CASES, EXAMPLES, PROGRAM, READ_RECORD, SiteTest, one_host_job, remove_site, run, tests_of, told_by
 from killed_runs import faults_of_kills
 from test_slots import ASSIGNED, CHANGED, STAGED, slots_of
 from test_spoiled_sites import spelled_row
@@ -21,18 +21,8 @@ REPORT = (EXAMPLES / "first.report").read_text()
 LISTING = "MSS VOLUMES 1\n"
 RECORD = "volume 0 VOL001\ntrack 5 3\nrecord 0005000301 - 414243\nEND\nstatus 0"
 MARKED = "volume 0 VOL001 readonly\ntrack 5 3\nrecord 0005000301 - 414243\nEND\nstatus 0"
-READ_BACK = """mss 1 frames 1 recorders 1
-volume 0 VOL001
-host 1
-mount VOL001
-program
-ccw 07 000000050003
-ccw 31 0005000301
-tic 1
-ccw 06
-end
-done
-"""
+UPDATE = "ccw 07 000000050003\nccw 31 0005000301\ntic 1\n"
+READ_BACK = one_host_job(READ_RECORD)
 READ = """MSS REPORT 1
 entry 1 host 1 mount 0 mounted
 entry 2 host 1 ccw 07 status 0C
@@ -40,21 +30,7 @@ entry 3 host 1 ccw 31 status 0C
 entry 4 host 1 ccw 31 status 4C
 entry 5 host 1 ccw 06 status 0C data 414243
 """
-WRITE_ON_READ_ONLY = """mss 1 frames 1 recorders 1
-volume 0 VOL001 readonly
-host 1
-mount VOL001
-program
-ccw 07 000000050003
-ccw 31 0005000301
-tic 1
-ccw 05 41
-end
-program
-ccw 04
-end
-done
-"""
+WRITE_ON_READ_ONLY = one_host_job(f"{UPDATE}ccw 05 41\n", "ccw 04\n", mark=" readonly")
 PROTECTED = f"""MSS REPORT 1
 entry 1 host 1 mount 0 mounted
 entry 2 host 1 ccw 07 status 0C

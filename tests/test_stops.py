@@ -21,7 +21,7 @@ from functools import cache
 from itertools import accumulate, pairwise
 from pathlib import Path
 
-from fixtures import EXAMPLES, PROGRAM, SiteTest, new_folder, run, tests_of, tool_is_there
+from fixtures import ENDLESS, EXAMPLES, PROGRAM, SiteTest, new_folder, one_host_job, run, tests_of, tool_is_there
 from formats.following import sources_of
 from formats.jobs import read_job
 from formats.plain import Machine
@@ -36,16 +36,7 @@ NOT_LOADED = 127  # the loader's own reads fail before the program begins
 JOBS = [(name, (EXAMPLES / f"{name}.job").read_bytes()) for name in ("first", "update", "replacement")]
 
 # Its report has 2,048 entries, and is written by pieces.
-LONG = b"""mss 1 frames 1 recorders 1
-volume 0 VOL001
-host 1
-mount VOL001
-program
-ccw 03
-tic 0
-end
-done
-"""
+LONG = one_host_job(ENDLESS).encode()
 
 
 @cache

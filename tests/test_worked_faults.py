@@ -13,7 +13,8 @@ from dataclasses import dataclass
 from itertools import count
 from pathlib import Path
 
-from fixtures import CASES, EXAMPLES, PROGRAM, SiteTest, host_lines, new_folder, run, tests_of, told_by
+from fixtures import CASES, EXAMPLES, PROGRAM, READ_RECORD, SiteTest, host_lines, new_folder, one_host_job, run
+from fixtures import tests_of, told_by
 from test_stops import may_trace
 from worked_calls import CALLS, COPIES, FILES, FRAMES, HEADS, READ, WRITE
 from worked_calls import appended, block_of, changed, copied, created, reads, synced, writes
@@ -397,16 +398,6 @@ LATER_READS = [
 
 
 # The record is looked for on that site, in vain, and the report can't read the first track.
-READ_BACK = f"""{HEAD}host 1
-mount VOL001
-program
-ccw 07 000000050003
-ccw 31 0005000301
-tic 1
-ccw 06
-end
-done
-"""
 NEITHER_READ = """MSS REPORT 1
 entry 1 host 1 mount 0 mounted
 entry 2 host 1 ccw 07 status 0C
@@ -433,7 +424,7 @@ PAIRS = [
     (
         "a search and the report",
         FIRST.text,
-        READ_BACK,
+        one_host_job(READ_RECORD),
         READ,
         (READS_OF_START + 1, READS_OF_START + 2),
         NEITHER_READ,

@@ -13,7 +13,7 @@ from concurrent.futures import ThreadPoolExecutor
 from dataclasses import dataclass
 from pathlib import Path
 
-from fixtures import CASES, EXAMPLES, PROGRAM, SiteTest, new_folder, run, tests_of, told_by
+from fixtures import CASES, EXAMPLES, PROGRAM, SiteTest, new_folder, one_host_job, run, tests_of, told_by
 from test_power_cuts import SITE, parted, traced
 from test_stops import may_trace
 
@@ -208,16 +208,7 @@ FORMATS = [([WHOLE], 0, FORMATTED), ([LOST], 1, FORMATTED), (FILLED, 0, FORMAT_F
 REPLACEMENT = (CASES / "replacement.job").read_text()
 
 # The first record is read.
-FIRST_READ = f"""{HEAD}host 1
-mount VOL001
-program
-ccw 07 000000000000
-ccw 31 0000000001
-tic 1
-ccw 06
-end
-done
-"""
+FIRST_READ = one_host_job("ccw 07 000000000000\nccw 31 0000000001\ntic 1\nccw 06\n")
 FIRST_IS_READ = """MSS REPORT 1
 entry 1 host 1 mount 0 mounted
 entry 2 host 1 ccw 07 status 0C
