@@ -10,10 +10,10 @@ use Rattle.clap.specs.Walk.{Row, first_of}
 use Rattle.clap.specs.declared.parser.matches.ArgMatches.{ArgMatches}
 use Rattle.clap.specs.declared.parser.matches.ArgMatches.TheViews.{out-ArgMatches}
 use Rattle.command_words.specs.declared.command.Command.{Command}
-use Rattle.command_words.specs.declared.command.Command.TheVariants.{Threads, Show}
+use Rattle.command_words.specs.declared.command.Command.TheVariants.{Show}
 use Rattle.command_words.specs.Options.{Given, Text, given_in}
 use Rattle.command_words.specs.Parser.{CommandForm, audit, expected_by, expected_top, row_for, serial, show, threads}
-use Rattle.command_words.specs.Words.{audit_of, audit_options, command_by, serial_of, serial_options, text_of, unruled}
+use Rattle.command_words.specs.Words.{audit_of, audit_options, command_by, serial_of, serial_options, text_of, threads_of, threads_options, unruled}
 
 -- the text of an option, by its row
 pub text_by_row : (name : Text) (givens : List Given) → first_of name (map row_for givens) ≡ text_of name givens
@@ -58,11 +58,11 @@ module _ (name : Text) (rows : List Row) (result : Option Command)
   by_name : (words : List Text) (a b c d : Bool)
       → expected_by (if a then Some serial else (if b then Some threads else (if c then Some show else (if d then Some audit else None)))) words ≡ Some (Some (name, rows))
       → result ≡ (if a then option_and_then serial_of (given_in serial_options words)
-      else (if b then option_map (λ _. Threads) (given_in [] words)
+      else (if b then option_and_then threads_of (given_in threads_options words)
       else (if c then option_map (λ _. Show) (given_in [] words)
       else (if d then option_and_then audit_of (given_in audit_options words) else None))))
   by_name words true b c d e = by_form serial (given_in serial_options words) e
-  by_name words false true c d e = by_form threads (given_in [] words) e ∙ plain Threads (given_in [] words)
+  by_name words false true c d e = by_form threads (given_in threads_options words) e
   by_name words false false true d e = by_form show (given_in [] words) e ∙ plain Show (given_in [] words)
   by_name words false false false true e = by_form audit (given_in audit_options words) e
   by_name words false false false false e = absurd cc

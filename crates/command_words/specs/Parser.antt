@@ -9,7 +9,7 @@ use Rattle.clap.specs.declared.builder.action.ArgAction.TheVariants.{Set}
 use Rattle.clap.specs.declared.builder.value_parser.ValueParser.TheVariants as vp
 use Rattle.clap.specs.declared.parser.matches.ValueSource.TheVariants.{CommandLine}
 use Rattle.command_words.specs.Options.{Given, Text, given_in}
-use Rattle.command_words.specs.Words.{audit_options, serial_options}
+use Rattle.command_words.specs.Words.{audit_options, serial_options, threads_options}
 
 -- a command's name, and the names of its options
 abbrev pub CommandForm : Type 0
@@ -19,7 +19,7 @@ abbrev pub serial : CommandForm
 serial = (codes "serial", serial_options)
 
 abbrev pub threads : CommandForm
-threads = (codes "threads", [])
+threads = (codes "threads", threads_options)
 
 abbrev pub show : CommandForm
 show = (codes "show", [])

@@ -9,6 +9,7 @@ use Rattle.mss_base.specs.Decimal.{is_digit, number_of}
 use Rattle.command_words.specs.declared.command.Command.{Command}
 use Rattle.command_words.specs.declared.command.Command.TheVariants.{Serial, Policy, Threads}
 use Rattle.command_words.specs.declared.command.Command.TheVariants.{Show, Audit, Compare}
+use Rattle.command_words.specs.declared.command.CopyAsked.{CopyAsked}
 use Rattle.command_words.specs.Options.{Given, Text, given_in}
 use Rattle.victim_rules.specs.Texts.{rules_of}
 use Rattle.victim_rules.specs.declared.reading.RulesFault.{RulesFault}
@@ -38,13 +39,37 @@ abbrev pub load_setting : Option Text → Option (Option ℕ)
 load_setting None = Some None
 load_setting (Some text) = option_map (λ n. Some n) (number_in 1 1000 text)
 
--- `serial`, where each of its settings is in order
-abbrev pub serial_by : Option ℕ → Option ℕ → Option (Option ℕ) → Option Command
-serial_by (Some order) (Some turns) (Some load) = Some (Serial order turns load)
-serial_by _ _ _ = None
+-- a copy, where its volume and its point are in order
+abbrev pub copy_by : Option ℕ → Option ℕ → Option (Option CopyAsked)
+copy_by (Some volume) (Some after) = Some (Some (record { volume = volume; after = after }))
+copy_by _ _ = None
+
+-- of volume 0 to 31, after 0 to 4,096 entries of the history, where 0 may be left out; or no copy,
+-- where both are left out. None where a point is named, but no volume.
+abbrev pub copy_setting : Option Text → Option Text → Option (Option CopyAsked)
+copy_setting None None = Some None
+copy_setting None (Some after) = None
+copy_setting (Some volume) after = copy_by (number_in 0 31 volume) (setting 4096 after)
+
+-- what the options of a copy mean
+abbrev pub copy_of : List Given → Option (Option CopyAsked)
+copy_of givens = copy_setting (text_of (codes "copy") givens) (text_of (codes "after") givens)
+
+-- a run of these settings, unless a copy of a load is asked for
+abbrev pub serial_with : ℕ → ℕ → Option ℕ → Option CopyAsked → Option Command
+serial_with order turns (Some programs) (Some copy) = None
+serial_with order turns (Some programs) None = Some (Serial order turns (Some programs) None)
+serial_with order turns None copy = Some (Serial order turns None copy)
+
+-- `serial`, where each of its settings is in order, and they go together
+abbrev pub serial_by : Option ℕ → Option ℕ → Option (Option ℕ) → Option (Option CopyAsked)
+    → Option Command
+serial_by (Some order) (Some turns) (Some load) (Some copy) = serial_with order turns load copy
+serial_by _ _ _ _ = None
 
 abbrev pub serial_options : List Text
-serial_options = codes "order" ∷ codes "turns" ∷ codes "load" ∷ []
+serial_options =
+    codes "order" ∷ codes "turns" ∷ codes "load" ∷ codes "copy" ∷ codes "after" ∷ []
 
 -- what the options of `serial` mean
 abbrev pub serial_of : List Given → Option Command
@@ -52,6 +77,19 @@ serial_of givens = serial_by
     (setting 18446744073709551615 (text_of (codes "order") givens))
     (setting 100000 (text_of (codes "turns") givens))
     (load_setting (text_of (codes "load") givens))
+    (copy_of givens)
+
+-- `threads`, where its setting is in order
+abbrev pub threads_by : Option (Option CopyAsked) → Option Command
+threads_by (Some copy) = Some (Threads copy)
+threads_by None = None
+
+abbrev pub threads_options : List Text
+threads_options = codes "copy" ∷ codes "after" ∷ []
+
+-- what the options of `threads` mean
+abbrev pub threads_of : List Given → Option Command
+threads_of givens = threads_by (copy_of givens)
 
 -- 1 to 200 frames, and 200 where it is left out
 abbrev pub frames_setting : Option Text → Option ℕ
@@ -74,7 +112,7 @@ audit_of givens = audit_by (frames_setting (text_of (codes "frames") givens))
 abbrev pub command_by : Text → List Given → Option Command
 command_by name givens =
     if bytes_eq name (codes "serial") then serial_of givens
-    else (if bytes_eq name (codes "threads") then Some Threads
+    else (if bytes_eq name (codes "threads") then threads_of givens
     else (if bytes_eq name (codes "show") then Some Show else audit_of givens))
 
 -- what words without rules mean, if anything: a command's name, and then its options
@@ -82,14 +120,16 @@ abbrev pub unruled : List Text → Option Command
 unruled [] = None
 unruled (name ∷ words) =
     if bytes_eq (codes "serial") name then option_and_then serial_of (given_in serial_options words)
-    else (if bytes_eq (codes "threads") name then option_map (λ _. Threads) (given_in [] words)
+    else (if bytes_eq (codes "threads") name
+    then option_and_then threads_of (given_in threads_options words)
     else (if bytes_eq (codes "show") name then option_map (λ _. Show) (given_in [] words)
     else (if bytes_eq (codes "audit") name
     then option_and_then audit_of (given_in audit_options words) else None)))
 
 -- a run by rules, where `serial` is asked for otherwise
 abbrev pub with_rules : List Rule → Option Command → Option Command
-with_rules rules (Some (Serial order turns load)) = Some (Policy rules order turns load)
+with_rules rules (Some (Serial order turns load copy)) =
+    Some (Policy rules order turns load copy)
 with_rules rules _ = None
 
 abbrev pub policy_by : Result (List Rule) RulesFault → Option Command → Option Command
@@ -118,12 +158,17 @@ meaning words =
     if asks_policy words then policy_of (get_or words 1 []) (drop 2 words)
     else one_word_or_more words
 
+-- the numbers of a copy that whoever takes it relies on
+abbrev pub IsCopyWithin : Option CopyAsked → Type 0
+IsCopyWithin copy = IfSome copy (λ c. (c.volume ≤ 31) × (c.after ≤ 4096))
+
 -- the numbers that whoever runs a command relies on
 abbrev pub IsWithin : Command → Type 0
-IsWithin (Serial order turns load) = (turns ≤ 100000) × IfSome load (λ n. (1 ≤ n) × (n ≤ 1000))
-IsWithin (Policy rules order turns load) =
-    (turns ≤ 100000) × IfSome load (λ n. (1 ≤ n) × (n ≤ 1000))
-IsWithin Threads = ⊤
+IsWithin (Serial order turns load copy) =
+    (turns ≤ 100000) × IfSome load (λ n. (1 ≤ n) × (n ≤ 1000)) × IsCopyWithin copy
+IsWithin (Policy rules order turns load copy) =
+    (turns ≤ 100000) × IfSome load (λ n. (1 ≤ n) × (n ≤ 1000)) × IsCopyWithin copy
+IsWithin (Threads copy) = IsCopyWithin copy
 IsWithin Show = ⊤
 IsWithin (Audit frames) = (1 ≤ frames) × (frames ≤ 200)
 IsWithin Compare = ⊤

@@ -2,6 +2,15 @@
 use std::alloc::AllocError;
 use victim_rules::Ruled;
 
+/// A copy of a volume that a run is to take.
+#[derive(Clone, Copy)]
+pub struct CopyAsked {
+    /// The volume, 0 to 31.
+    pub volume: u8,
+    /// How many entries the history has at the copy's point, 0 to 4,096.
+    pub after: u64,
+}
+
 /// What the words of the command ask for.
 #[derive(Clone, Copy)]
 pub enum Command {
@@ -13,6 +22,8 @@ pub enum Command {
         turns: u32,
         /// Of how many programs, 1 to 1,000, a load stands in for the input's job, if one does.
         load: Option<u32>,
+        /// The copy that is taken, if one is. There is none of a load.
+        copy: Option<CopyAsked>,
     },
     /// A run in one thread, in which rules choose the page that gives its frame to another.
     Policy {
@@ -21,9 +32,13 @@ pub enum Command {
         order: u64,
         turns: u32,
         load: Option<u32>,
+        copy: Option<CopyAsked>,
     },
     /// A run in threads.
-    Threads,
+    Threads {
+        /// The copy that is taken, if one is.
+        copy: Option<CopyAsked>,
+    },
     /// A look at the volumes.
     Show,
     /// An audit of the site.

@@ -14,5 +14,5 @@ mod parser;
 mod read;
 mod ruled_read;
 
-pub use command::{Command, CommandFault};
+pub use command::{Command, CommandFault, CopyAsked};
 pub use ruled_read::read_command;

@@ -44,13 +44,33 @@ fn turns_parser<'a>(alloc: Global) -> Result<Command<'a>, AllocError>
     with_option(alloc, parser, "turns")
 }
 
+/// A command with the options of a copy.
+fn with_copy<'a>(alloc: Global, command: Command<'a>) -> Result<Command<'a>, AllocError>
+    requires { (fields_of command).has_globals ≡ false }
+    ensures shape { IfOk result (λ parser. shape_of parser
+        ≡ with_option (codes "after") (with_option (codes "copy") (shape_of command.entry))) }
+    ensures local { IfOk result (λ parser. (fields_of parser).has_globals ≡ false) }
+{
+    let parser = with_option(alloc, command, "copy")?;
+    with_option(alloc, parser, "after")
+}
+
 /// `serial`, with its options.
 fn serial_parser<'a>(alloc: Global) -> Result<Command<'a>, AllocError>
     ensures shape { IfOk result (λ parser. shape_of parser ≡ command_shape serial) }
     ensures local { IfOk result (λ parser. (fields_of parser).has_globals ≡ false) }
 {
     let parser = turns_parser(alloc)?;
-    with_option(alloc, parser, "load")
+    let parser = with_option(alloc, parser, "load")?;
+    with_copy(alloc, parser)
+}
+
+/// `threads`, with its options.
+fn threads_parser<'a>(alloc: Global) -> Result<Command<'a>, AllocError>
+    ensures shape { IfOk result (λ parser. shape_of parser ≡ command_shape threads) }
+    ensures local { IfOk result (λ parser. (fields_of parser).has_globals ≡ false) }
+{
+    with_copy(alloc, plain_parser(alloc, "threads"))
 }
 
 /// `audit`, with its option.
@@ -99,13 +119,20 @@ fn with_serial<'a>(alloc: Global) -> Result<Command<'a>, AllocError>
     with_command(bare_parser(alloc), serial)
 }
 
-/// The program with the commands that have no options, `threads` and `show`.
-fn with_plain<'a>(alloc: Global, program: Command<'a>) -> Result<Command<'a>, AllocError>
+/// The program with `threads`.
+fn with_threads<'a>(alloc: Global, program: Command<'a>) -> Result<Command<'a>, AllocError>
     ensures { IfOk result (λ parser. app_of parser
-        ≡ with_subcommand (with_subcommand (app_of program.entry) (command_shape threads))
-        (command_shape show)) }
+        ≡ with_subcommand (app_of program.entry) (command_shape threads)) }
 {
-    let program = with_command(program, plain_parser(alloc, "threads"))?;
+    let threads = threads_parser(alloc)?;
+    with_command(program, threads)
+}
+
+/// The program with `show`, which has no options.
+fn with_show<'a>(alloc: Global, program: Command<'a>) -> Result<Command<'a>, AllocError>
+    ensures { IfOk result (λ parser. app_of parser
+        ≡ with_subcommand (app_of program.entry) (command_shape show)) }
+{
     with_command(program, plain_parser(alloc, "show"))
 }
 
@@ -123,7 +150,8 @@ fn parser<'a>(alloc: Global) -> Result<Command<'a>, AllocError>
     ensures { IfOk result (λ parser. app_of parser ≡ app) }
 {
     let program = with_serial(alloc)?;
-    let program = with_plain(alloc, program)?;
+    let program = with_threads(alloc, program)?;
+    let program = with_show(alloc, program)?;
     with_audit(alloc, program)
 }
 

@@ -9,9 +9,11 @@ ghost use Rattle.command_words.specs.Outcomes.{Reads};
 ghost use Rattle.command_words.specs.Parser.{expected_top, row_for};
 ghost use Rattle.command_words.specs.Words.{IsWithin, command_by, load_setting, unruled};
 ghost use Rattle.command_words.specs.Words.{audit_by, audit_of, frames_setting};
-ghost use Rattle.command_words.specs.Words.{serial_by, serial_of, setting};
+ghost use Rattle.command_words.specs.Words.{IsCopyWithin, copy_by, copy_of, copy_setting};
+ghost use Rattle.command_words.specs.Words.{serial_by, serial_of, serial_with, setting};
+ghost use Rattle.command_words.specs.Words.{threads_by, threads_of};
 
-use crate::command::{Command, CommandFault};
+use crate::command::{Command, CommandFault, CopyAsked};
 use crate::digits::number_in;
 use crate::parser::parse;
 use clap::ArgMatches;
@@ -25,6 +27,12 @@ const PROGRAM_LIMIT: u64 = 1000;
 
 /// As many frames as there may be.
 const FRAME_LIMIT: u64 = 200;
+
+/// The last volume.
+const VOLUME_LIMIT: u64 = 31;
+
+/// The most entries of a history.
+const ENTRY_LIMIT: u64 = 4096;
 
 /// A number up to a most, and 0 where it is left out.
 fn setting(most: u64, text: Option<&str>) -> Option<u64>
@@ -51,11 +59,86 @@ fn load_setting(text: Option<&str>) -> Option<Option<u32>>
     }
 }
 
-/// `serial`, where each of its settings is in order.
-fn serial_by(order: Option<u64>, turns: Option<u64>, load: Option<Option<u32>>) -> Option<Command>
+/// A copy, where its volume and its point are in order.
+fn copy_by(volume: Option<u64>, after: Option<u64>) -> Option<Option<CopyAsked>>
+    requires volume { IfSome volume (λ n. n ≤ 31) }
+    requires after { IfSome after (λ n. n ≤ 4096) }
+    ensures value { result ≡ copy_by volume after }
+    ensures within { IfSome result IsCopyWithin }
+{
+    let Some(volume) = volume else {
+        return None;
+    };
+    let Some(after) = after else {
+        return None;
+    };
+    let volume = volume as u8;
+    Some(Some(CopyAsked { volume, after }))
+}
+
+/// The copy that is asked for, or that there is none where both are left out. A point alone is
+/// refused.
+fn copy_setting(volume: Option<&str>, after: Option<&str>) -> Option<Option<CopyAsked>>
+    ensures value { result ≡ copy_setting
+        (option_map (λ t. t.now) volume.entry) (option_map (λ t. t.now) after.entry) }
+    ensures within { IfSome result IsCopyWithin }
+{
+    match volume {
+        Some(volume) => copy_by(
+            number_in(0, VOLUME_LIMIT, volume),
+            setting(ENTRY_LIMIT, after),
+        ),
+        None => match after {
+            Some(_) => None,
+            None => Some(None),
+        },
+    }
+}
+
+/// What the options of a copy mean.
+fn copy_of(options: &ArgMatches<'_>) -> Option<Option<CopyAsked>>
+    ensures value { (givens : List Given) → rows_of (found_of options.now) ≡ map row_for givens
+        → result ≡ copy_of givens }
+    ensures within { IfSome result IsCopyWithin }
+{
+    copy_setting(options.get_str("copy"), options.get_str("after"))
+}
+
+/// A run of these settings, unless a copy of a load is asked for.
+fn serial_with(
+    order: u64,
+    turns: u32,
+    load: Option<u32>,
+    copy: Option<CopyAsked>,
+) -> Option<Command>
+    requires turns { turns ≤ 100000 }
+    requires load { IfSome load (λ n. (1 ≤ n) × (n ≤ 1000)) }
+    requires copy { IsCopyWithin copy }
+    ensures value { result ≡ serial_with order turns load copy }
+    ensures within { IfSome result IsWithin }
+{
+    if load.is_some() && copy.is_some() {
+        return None;
+    }
+    Some(Command::Serial {
+        order,
+        turns,
+        load,
+        copy,
+    })
+}
+
+/// `serial`, where each of its settings is in order, and they go together.
+fn serial_by(
+    order: Option<u64>,
+    turns: Option<u64>,
+    load: Option<Option<u32>>,
+    copy: Option<Option<CopyAsked>>,
+) -> Option<Command>
     requires turns { IfSome turns (λ n. n ≤ 100000) }
     requires load { IfSome load (λ load. IfSome load (λ n. (1 ≤ n) × (n ≤ 1000))) }
-    ensures value { result ≡ serial_by order turns load }
+    requires copy { IfSome copy IsCopyWithin }
+    ensures value { result ≡ serial_by order turns load copy }
     ensures within { IfSome result IsWithin }
 {
     let Some(order) = order else {
@@ -67,8 +150,10 @@ fn serial_by(order: Option<u64>, turns: Option<u64>, load: Option<Option<u32>>) 
     let Some(load) = load else {
         return None;
     };
-    let turns = turns as u32;
-    Some(Command::Serial { order, turns, load })
+    let Some(copy) = copy else {
+        return None;
+    };
+    serial_with(order, turns as u32, load, copy)
 }
 
 /// What the options of `serial` mean.
@@ -80,7 +165,30 @@ fn serial_of(options: &ArgMatches<'_>) -> Option<Command>
     let order = setting(u64::MAX, options.get_str("order"));
     let turns = setting(TURN_LIMIT, options.get_str("turns"));
     let load = load_setting(options.get_str("load"));
-    serial_by(order, turns, load)
+    let copy = copy_of(options);
+    serial_by(order, turns, load, copy)
+}
+
+/// `threads`, where its setting is in order.
+fn threads_by(copy: Option<Option<CopyAsked>>) -> Option<Command>
+    requires { IfSome copy IsCopyWithin }
+    ensures value { result ≡ threads_by copy }
+    ensures within { IfSome result IsWithin }
+{
+    let Some(copy) = copy else {
+        return None;
+    };
+    Some(Command::Threads { copy })
+}
+
+/// What the options of `threads` mean.
+fn threads_of(options: &ArgMatches<'_>) -> Option<Command>
+    ensures value { (givens : List Given) → rows_of (found_of options.now) ≡ map row_for givens
+        → result ≡ threads_of givens }
+    ensures within { IfSome result IsWithin }
+{
+    let copy = copy_of(options);
+    threads_by(copy)
 }
 
 /// How many frames an audit allows, and as many as there may be where that is left out.
@@ -129,7 +237,7 @@ fn command_by(name: &str, options: &ArgMatches<'_>) -> Option<Command>
         return serial_of(options);
     }
     if name == "threads" {
-        return Some(Command::Threads);
+        return threads_of(options);
     }
     if name == "show" {
         return Some(Command::Show);

@@ -53,11 +53,17 @@ fn with_rules(rules: Ruled, command: Command) -> Result<Command, CommandFault>
     ensures within { IfOk result IsWithin }
 {
     match command {
-        Command::Serial { order, turns, load } => Ok(Command::Policy {
+        Command::Serial {
+            order,
+            turns,
+            load,
+            copy,
+        } => Ok(Command::Policy {
             rules,
             order,
             turns,
             load,
+            copy,
         }),
         _ => Err(CommandFault::Refused),
     }
@@ -80,12 +86,14 @@ fn read_policy(alloc: Global, rules: &str, options: &[String]) -> Result<Command
 /// The command that the words behind the program's name ask for.
 ///
 /// They are `serial`, `threads`, `show` or `audit`, and behind `serial` its options: `--order` of 0
-/// to 18,446,744,073,709,551,615, `--turns` of 0 to 100,000 and `--load` of 1 to 1,000, each at most
-/// once, in any order, as two words or with `=`. Order and turns are 0 where they are left out.
-/// Behind `audit` there may be `--frames` of 1 to 200, which is 200 where it is left out. A number
-/// is one to twenty digits. A last word `--` means nothing. Or they are `policy`, a text of rules,
-/// as `victim_rules` reads it, and the options of `serial`; or the one word `compare`. All other
-/// words are `Refused`, `help`, `--help` and `--version` too. `Memory` may come at any words.
+/// to 18,446,744,073,709,551,615, `--turns` of 0 to 100,000, `--load` of 1 to 1,000, `--copy` of 0 to
+/// 31 and, with `--copy` alone, `--after` of 0 to 4,096, each at most once, in any order, as two
+/// words or with `=`. Order, turns and `--after` are 0 where they are left out. `--load` and `--copy`
+/// don't go together. Behind `threads` there may be `--copy` and `--after`, behind `audit` `--frames`
+/// of 1 to 200, which is 200 where it is left out. A number is one to twenty digits. A last word `--`
+/// means nothing. Or they are `policy`, a text of rules, as `victim_rules` reads it, and the options
+/// of `serial`; or the one word `compare`. All other words are `Refused`, `help`, `--help` and
+/// `--version` too. `Memory` may come at any words.
 pub fn read_command(alloc: Global, words: &[String]) -> Result<Command, CommandFault>
     ensures meaning { Reads result (meaning (map string_bytes words.now)) }
     ensures within { IfOk result IsWithin }

@@ -9,6 +9,7 @@ use Rattle.core_state.specs.CoreValue.{DevicesSeen}
 use Rattle.core_state.specs.SessionData.{SessionData}
 use Rattle.serial_driver.specs.declared.answer.DriveAnswer.{DriveAnswer}
 use Rattle.serial_driver.specs.declared.answer.DriveAnswer.TheVariants as ended
+use Rattle.job_runs.specs.Copies.{job_alone}
 use Rattle.job_runs.specs.Runs.{IsPlayed}
 
 -- devices of zeros, to which nothing was done
@@ -27,7 +28,7 @@ pub record IsAlone (tells : Type 0) (may : List Candidate → ℕ → Type 0) (j
   pub now : DevicesSeen
   pub blank : AreBlank was
   pub none_failed : now.faults ≡ 0
-  pub played : IsPlayed may job [] (record { tells = tells; was = was; now = now }) end s
+  pub played : IsPlayed may (job_alone job) [] (record { tells = tells; was = was; now = now }) end s
 
 -- all scripts were followed to their ends, or a host has a call at the limit of entries
 abbrev pub IsOver : DriveAnswer → Type 0

@@ -61,13 +61,14 @@ fn play_on<S: Site + Drop, C: Choose + Drop>(
         told.end (session_data told.session)) }
     ensures over { IfOk result (λ told. IsOver told.end) }
 {
-    match play(alloc, job, &[], site, chooser) {
+    match play(alloc, job, &[], site, chooser, None) {
         Ok(played) => {
             let Played {
                 site: _,
                 rows: _,
                 session,
                 end,
+                copier: _,
             } = played;
             kept(session, end)
         }

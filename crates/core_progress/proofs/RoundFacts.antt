@@ -16,7 +16,7 @@ use Rattle.core_state.specs.declared.session.Event.TheVariants.{Host}
 use Rattle.core_state.specs.declared.rule.Waiting.{Waiting}
 use Rattle.core_state.specs.declared.rule.HostRule.{HostRule}
 use Rattle.core_state.specs.declared.rule.HostRule.TheVariants.{IsStopped, IsFull, IsBusy, IsMoving, IsHeld, Responds, HasFailed, HasNoSpace, Faults, Marks, Runs}
-use Rattle.core_state.specs.Chains.{Step, called, worked, is_end, OneOf, IsCallOf, Goes, HostGoes, HostTurn, Ended, AllNone, IsSettled}
+use Rattle.core_state.specs.Chains.{Step, called, worked, is_end, OneOf, IsCallOf, Goes, HostGoes, HostTurn, Ended, AllNone, IsSettled, without_copy}
 use Rattle.core_state.specs.CoreValue.{CoreData, DevicesSeen}
 use Rattle.core_state.specs.HostEvents.{HostTold, replied, marked, waits, halts, at_limit, no_memory, Asks, HostDoes, HostEvent}
 use Rattle.core_state.specs.HostRules.{data_command, is_for, request_for, host_rule}
@@ -192,7 +192,7 @@ pub record Turned (calls : NextCalls) (hs : List ℕ) (old new : CoreData) : Typ
 
 module _ (tells : Type 0) (may : List Candidate → ℕ → Type 0) (calls : CallsAfter) (history : List EntryData) (left : CoreData) where
   abbrev Turns : List ℕ → CoreData → List Step → Type 0
-  Turns hs core steps = HostTurn tells may calls hs core steps left (Ended left)
+  Turns hs core steps = HostTurn (without_copy tells may) calls hs core steps left (Ended left)
 
   abbrev Ends : List ℕ → CoreData → List Step → Type 0
   Ends hs core steps = HasAnswer steps ⊎ Turned (calls history) hs core left
@@ -202,7 +202,7 @@ module _ (tells : Type 0) (may : List Candidate → ℕ → Type 0) (calls : Cal
   Event h call hs core steps = (told : HostTold) × (rest : List Step) × (next : CoreData) × (steps ≡ called h call told ∷ rest) × HostEvent tells core h call told next
       × OneOf (is_end (called h call told)) ((rest ≡ []) × (left ≡ next)) (Turns hs next rest)
 
-  pub event_of : (h : ℕ) (call : CallData) (hs : List ℕ) (core : CoreData) (steps : List Step) → Goes tells may core (IsCallOf h call) steps left (λ next rest. Turns hs next rest) → Event h call hs core steps
+  pub event_of : (h : ℕ) (call : CallData) (hs : List ℕ) (core : CoreData) (steps : List Step) → Goes (without_copy tells may) core (IsCallOf h call) steps left (λ next rest. Turns hs next rest) → Event h call hs core steps
   event_of h call hs core [] goes = absurd goes
   event_of h call hs core (worked r told ∷ rest) goes = absurd goes.1
   event_of h call hs core (called k c told ∷ rest) goes = (
@@ -218,10 +218,10 @@ module _ (tells : Type 0) (may : List Candidate → ℕ → Type 0) (calls : Cal
   all_wait [] core steps same calm turns = inr (subst (λ (c : CoreData). Turned (calls history) [] core c) (sym turns.1) (record { grown = grown_none core; met = λ h call at is. absurd (let l = at.1 in omega (arith, l)) }))
   all_wait (h ∷ hs) core steps same calm turns =
       by_call (calls history h) refl (all_wait hs)
-      (subst (λ (x : List EntryData). HostGoes tells may (calls x h) h core steps left (λ next rest. Turns hs next rest)) same turns) where
+      (subst (λ (x : List EntryData). HostGoes (without_copy tells may) (calls x h) h core steps left (λ next rest. Turns hs next rest)) same turns) where
         by_call : (o : Option CallData) → calls history h ≡ o
             → ((c : CoreData) (xs : List Step) → c.history ≡ history → IsCalm c → Turns hs c xs → Ends hs c xs)
-            → HostGoes tells may o h core steps left (λ next rest. Turns hs next rest) → Ends (h ∷ hs) core steps
+            → HostGoes (without_copy tells may) o h core steps left (λ next rest. Turns hs next rest) → Ends (h ∷ hs) core steps
         by_call None none onward goes = elim (onward core steps same calm goes) [
           | inl one ↦ inl one
           | inr t ↦ inr (record { grown = t.grown; met = with_none t.met })
@@ -291,12 +291,12 @@ module _ (tells : Type 0) (may : List Candidate → ℕ → Type 0) (calls : Cal
   found_later step steps (inl one) = inl (answer_later step steps one)
   found_later step steps (inr one) = inr one
 
-  turn : (hs : List ℕ) (site : DevicesSeen) (steps : List Step) → Among core (calls core.history) hs → HostTurn tells may calls hs (here site) steps left (Ended left) → Found steps
+  turn : (hs : List ℕ) (site : DevicesSeen) (steps : List Step) → Among core (calls core.history) hs → HostTurn (without_copy tells may) calls hs (here site) steps left (Ended left) → Found steps
   turn [] site steps among turns = absurd among
   turn (h ∷ hs) site steps among turns = by_call (calls core.history h) refl (turn hs) turns where
     by_call : (o : Option CallData) → calls core.history h ≡ o
-        → ((s : DevicesSeen) (xs : List Step) → Among core (calls core.history) hs → HostTurn tells may calls hs (here s) xs left (Ended left) → Found xs)
-        → HostGoes tells may o h (here site) steps left (λ next rest. HostTurn tells may calls hs next rest left (Ended left)) → Found steps
+        → ((s : DevicesSeen) (xs : List Step) → Among core (calls core.history) hs → HostTurn (without_copy tells may) calls hs (here s) xs left (Ended left) → Found xs)
+        → HostGoes (without_copy tells may) o h (here site) steps left (λ next rest. HostTurn (without_copy tells may) calls hs next rest left (Ended left)) → Found steps
     by_call None none onward goes = elim among [
       | inl mine ↦ absurd (none_some mine.0 (sym none ∙ mine.1))
       | inr others ↦ onward site steps others goes
@@ -305,13 +305,13 @@ module _ (tells : Type 0) (may : List Candidate → ℕ → Type 0) (calls : Cal
         let e = event_of tells may calls core.history left h call hs (here site) steps goes in
         subst Found (sym e.3) (by_told e.0 e.1 e.2 e.4 e.5) where
           -- it is told to wait: it was kept waiting, or it asks
-          waits_on : (w : Waiting) (rest : List Step) (next : CoreData) → HostEvent tells (here site) h call (waits w) next → HostTurn tells may calls hs next rest left (Ended left) → Found (called h call (waits w) ∷ rest)
+          waits_on : (w : Waiting) (rest : List Step) (next : CoreData) → HostEvent tells (here site) h call (waits w) next → HostTurn (without_copy tells may) calls hs next rest left (Ended left) → Found (called h call (waits w) ∷ rest)
           waits_on w rest next event on = elim (cases_Bool (is_kept_waiting core h call)) [
             | inl waits_ ↦
                 let same = (kept_same tells (here site) next h call kept.on_mounted (waits w) event (same_kept_waiting core site h call ∙ waits_)).1.1 in
                 elim among [
                   | inl mine ↦ absurd (both_ways (is_kept_waiting core h call) (subst (λ (c : CallData). is_kept_waiting core h c ≡ false) (some_is mine.0 call (sym mine.1 ∙ its)) mine.2) waits_)
-                  | inr others ↦ found_later (called h call (waits w)) rest (onward next.site rest others (subst (λ (c : CoreData). HostTurn tells may calls hs c rest left (Ended left)) same on))
+                  | inr others ↦ found_later (called h call (waits w)) rest (onward next.site rest others (subst (λ (c : CoreData). HostTurn (without_copy tells may) calls hs c rest left (Ended left)) same on))
                 ]
             | inr free ↦
                 let first = goes_on tells (here site) kept.requests_ h call (waits w) next event (same_kept_waiting core site h call ∙ free) in
@@ -341,7 +341,7 @@ module _ (tells : Type 0) (may : List Candidate → ℕ → Type 0) (calls : Cal
             asks_by (Runs c volume frame) v does says goes_ = absurd (run_never_waits tells (here site) h next c volume frame call v does)
 
           by_told : (told : HostTold) (rest : List Step) (next : CoreData) → HostEvent tells (here site) h call told next
-              → OneOf (is_end (called h call told)) ((rest ≡ []) × (left ≡ next)) (HostTurn tells may calls hs next rest left (Ended left)) → Found (called h call told ∷ rest)
+              → OneOf (is_end (called h call told)) ((rest ≡ []) × (left ≡ next)) (HostTurn (without_copy tells may) calls hs next rest left (Ended left)) → Found (called h call told ∷ rest)
           by_told (waits w) rest next event on = waits_on w rest next event on
           by_told (replied index reply) rest next event on = inl (answer_here h call (replied index reply) rest refl)
           by_told marked rest next event on = inl (answer_here h call marked rest refl)

@@ -7,7 +7,7 @@ use Rattle.fault_queue.specs.Requests.{request_of}
 use Rattle.victim_choice.specs.declared.choose.Candidate.{Candidate}
 use Rattle.core_state.specs.CoreValue.{CoreData}
 use Rattle.core_state.specs.declared.rule.WorkAnswer.TheVariants.{Did}
-use Rattle.core_state.specs.Chains.{Step, called, worked, is_end, OneOf, IsEvent, HostTurn, Ended}
+use Rattle.core_state.specs.Chains.{Step, called, worked, is_end, OneOf, IsEvent, HostTurn, Ended, without_copy}
 use Rattle.core_state.specs.Chains.{IsSettled}
 use Rattle.core_state.specs.HostEvents.{HostTold, replied, marked, waits}
 use Rattle.core_state.specs.IsCore.{IsCore}
@@ -52,7 +52,7 @@ pub record IsBetweenRounds (calls : CallsAfter) (hosts : List ℕ) (core : CoreD
 module _ (tells : Type 0) (may : List Candidate → ℕ → Type 0) where
   -- these are all events of a round
   abbrev pub IsRound : CallsAfter → List ℕ → CoreData → List Step → CoreData → Type 0
-  IsRound calls hosts core steps left = HostTurn tells may calls hosts core steps left (Ended left)
+  IsRound calls hosts core steps left = HostTurn (without_copy tells may) calls hosts core steps left (Ended left)
 
   -- events of recorders alone, of which none is an end, each on a core that keeps what cores keep
   abbrev pub AreWork : CoreData → List Step → CoreData → Type 0
@@ -117,5 +117,5 @@ module _ (tells : Type 0) (may : List Candidate → ℕ → Type 0) where
   abbrev pub AreEvents : CoreData → List Step → CoreData → Type 0
   AreEvents core [] left = left ≡ core
   AreEvents core (step ∷ steps) left =
-      IsCore core × (next : CoreData) × IsEvent tells may core step next
+      IsCore core × (next : CoreData) × IsEvent (without_copy tells may) core step next
       × OneOf (is_end step) ((steps ≡ []) × (left ≡ next)) (AreEvents next steps left)

@@ -23,7 +23,7 @@ use Rattle.core_state.specs.Pins.{candidates, free_frame, is_moving, page_of}
 use Rattle.core_state.specs.WorkRules.{task_of, held_in, work_rule, transfer_of, stopped_rule, return_rule, pick_on, pick_for, first_pick, pick_rule, abandon_rule, carry_for, carry_rule, copy_rule, end_rule, free_rule, assign_rule, task_rule, is_within, is_in_cell, needs_cartridge}
 use Rattle.core_state.specs.WorkEvents.{WorkDoes, WorkEvent, TaskDoes, WithTask, EndsIt, TellsEnd}
 use Rattle.core_state.specs.Devices.{SyncUnit}
-use Rattle.core_state.specs.Chains.{IsEvent, IsChain}
+use Rattle.core_state.specs.Chains.{IsEvent, IsChain, without_copy}
 use Rattle.core_state.proofs.Runner.{World, Asked, calls, works, step, steps_of, world_after, work_step, task_step, end_it, take_first}
 use Rattle.core_state.proofs.RuleWalks.{nothing, this, either, where_test, if_test, mapped, chained, found}
 use Rattle.core_state.proofs.RunnerEvents.{still, same, rows, call_is_event}
@@ -164,11 +164,11 @@ module _ (core : CoreData) (recorder : ℕ) where
 pub work_is_event : (core : CoreData) (recorder : ℕ) → WorkEvent ⊥ first_place core recorder (work_step core recorder (work_rule core recorder)).0 (work_step core recorder (work_rule core recorder)).1
 work_is_event core recorder = work_does core recorder (work_rule core recorder) (work_fits core recorder)
 
-step_is_event : (w : World) (asked : Asked) → IsEvent ⊥ first_place w.core (step w asked).0 (step w asked).1.core
+step_is_event : (w : World) (asked : Asked) → IsEvent (without_copy ⊥ first_place) w.core (step w asked).0 (step w asked).1.core
 step_is_event w (calls h call) = call_is_event w h call
 step_is_event w (works recorder) = work_is_event w.core recorder
 
 -- the runner's events are a chain
-pub steps_are_chain : (w : World) (asked : List Asked) → IsChain ⊥ first_place w.core (steps_of w asked) (world_after w asked).core
+pub steps_are_chain : (w : World) (asked : List Asked) → IsChain (without_copy ⊥ first_place) w.core (steps_of w asked) (world_after w asked).core
 steps_are_chain w [] = refl
 steps_are_chain w (one ∷ more) = ((step w one).1.core, step_is_event w one, steps_are_chain (step w one).1 more)

@@ -1,5 +1,5 @@
 -- Events one after the other.
-use Rattle.std.specs.Prelude.{◌≡◌, ◌⊎◌, ◌<◌, ℕ, zero, suc, Bool, true, false, ◌&&◌, ◌||◌, List, []}
+use Rattle.std.specs.Prelude.{◌≡◌, ◌⊎◌, ◌<◌, ◌≤◌, ℕ, zero, suc, Bool, true, false, ◌&&◌, ◌||◌, List, []}
 use Rattle.std.specs.Prelude.{◌∷◌, Option, Some, None, is_some, IsSome}
 use Rattle.channel_commands.specs.Data.{CallData}
 use Rattle.ckd_plain.specs.History.{EntryData}
@@ -14,7 +14,7 @@ use Rattle.core_state.specs.declared.session.Event.{Event}
 use Rattle.core_state.specs.declared.session.Event.TheVariants.{Host, Work}
 use Rattle.core_state.specs.declared.rule.WorkAnswer.{WorkAnswer}
 use Rattle.core_state.specs.declared.rule.WorkAnswer.TheVariants.{Idle, Stopped, Memory}
-use Rattle.core_state.specs.CoreValue.{CoreData}
+use Rattle.core_state.specs.CoreValue.{CoreData, DevicesSeen}
 use Rattle.core_state.specs.Pins.{owner_at, page_of, is_bound, is_held}
 use Rattle.core_state.specs.HostEvents.{HostTold, halts, at_limit, no_memory, HostEvent}
 use Rattle.core_state.specs.WorkEvents.{WorkEvent}
@@ -55,10 +55,43 @@ OneOf false A B = B
 abbrev pub Onward : Type 1
 Onward = CoreData → List Step → Type 0
 
-module _ (tells : Type 0) (may : List Candidate → ℕ → Type 0) where
+-- whether one of these hosts has a call
+abbrev pub has_call : (List EntryData → ℕ → Option CallData) → List ℕ → CoreData → Bool
+has_call calls [] core = false
+has_call calls (h ∷ hs) core = is_some (calls core.history h) || has_call calls hs core
+
+-- ---- on which terms events follow each other
+
+-- whether the site tells, what the chooser may answer, and whether a copy of a volume is taken
+-- meanwhile
+pub record Terms : Type 1 where
+  pub tells : Type 0
+  pub may : List Candidate → ℕ → Type 0
+  pub copies : Bool
+
+-- without a copy
+abbrev pub without_copy : Type 0 → (List Candidate → ℕ → Type 0) → Terms
+without_copy tells may = record { tells = tells; may = may; copies = false }
+
+-- devices that were read, whether or not a read failed
+pub record WereRead (tells : Type 0) (old new : DevicesSeen) : Type 0 where
+  pub told : tells → new.told ≡ old.told
+  pub unwritten : new.writes ≡ old.writes
+  pub later : old.faults ≤ new.faults
+
+-- what is so of a core behind the reads of a copy, if one is taken
+abbrev pub Reading : Bool → Type 0 → CoreData → (CoreData → Type 0) → Type 0
+Reading false tells core P = P core
+Reading true tells core P =
+    (site : DevicesSeen) × WereRead tells core.site site × P (record core { site = site })
+
+module _ (terms : Terms) where
   abbrev pub IsEvent : CoreData → Step → CoreData → Type 0
-  IsEvent core (called h call told) core' = HostEvent tells core h call told core'
-  IsEvent core (worked recorder told) core' = WorkEvent tells may core recorder told core'
+  IsEvent core (called h call told) core' =
+      Reading terms.copies terms.tells core
+      (λ read. HostEvent terms.tells read h call told core')
+  IsEvent core (worked recorder told) core' =
+      WorkEvent terms.tells terms.may core recorder told core'
 
   -- each event begins with the core that the one before left
   abbrev pub IsChain : CoreData → List Step → CoreData → Type 0
@@ -115,22 +148,18 @@ module _ (tells : Type 0) (may : List Candidate → ℕ → Type 0) where
   EventTurn calls (Work r ∷ events) core steps core' go =
       Goes core (IsWorkOf r) steps core' (λ next rest. EventTurn calls events next rest core' go)
 
-  -- whether one of these hosts has a call
-  abbrev pub has_call : (List EntryData → ℕ → Option CallData) → List ℕ → CoreData → Bool
-  has_call calls [] core = false
-  has_call calls (h ∷ hs) core = is_some (calls core.history h) || has_call calls hs core
-
-  -- so many rounds, before each of which some host has a call: in each the recorders work until
-  -- nothing is left to do, and then each host that has a call calls. That none has one at the end
-  -- is for what goes on to say.
+  -- so many rounds, before each of which some host has a call: in each a track may be copied, the
+  -- recorders work until nothing is left to do, and then each host that has a call calls. That none
+  -- has one at the end is for what goes on to say.
   abbrev pub Rounds : (List EntryData → ℕ → Option CallData) → List ℕ → List ℕ → ℕ → CoreData
       → List Step → CoreData → Onward → Type 0
   Rounds calls hosts recorders zero core steps core' go = go core steps
   Rounds calls hosts recorders (suc rounds) core steps core' go =
       (has_call calls hosts core ≡ true)
-      × (turns : ℕ) × Settles recorders turns core steps core' (λ settled rest.
+      × Reading terms.copies terms.tells core (λ read.
+      (turns : ℕ) × Settles recorders turns read steps core' (λ settled rest.
       HostTurn calls hosts settled rest core'
-      (λ next left. Rounds calls hosts recorders rounds next left core' go))
+      (λ next left. Rounds calls hosts recorders rounds next left core' go)))
 
 -- no event is left
 abbrev pub Ended : CoreData → Onward

@@ -29,3 +29,4 @@ pub mod RunKept
 pub mod WholeMark
 pub mod MarkRequests
 pub mod MarkKept
+pub mod RefusedCalls

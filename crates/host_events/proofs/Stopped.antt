@@ -5,7 +5,7 @@ use Rattle.victim_choice.specs.declared.choose.Candidate.{Candidate}
 use Rattle.core_state.specs.declared.rule.HostRule.{HostRule}
 use Rattle.core_state.specs.declared.rule.WorkAnswer.TheVariants.{Stopped}
 use Rattle.core_state.specs.declared.rule.WorkRule.{WorkRule}
-use Rattle.core_state.specs.Chains.{Step, called, worked, IsEvent, IsChain}
+use Rattle.core_state.specs.Chains.{Step, called, worked, IsEvent, IsChain, without_copy}
 use Rattle.core_state.specs.CoreValue.{CoreData}
 use Rattle.core_state.specs.HostEvents.{HostTold, halts, IsSame, HostDoes, HostEvent}
 use Rattle.core_state.specs.HostRules.{host_rule}
@@ -69,7 +69,7 @@ module _ (tells : Type 0) (may : List Candidate → ℕ → Type 0) (fault : ℕ
   Halts (called h call told) = told ≡ halts fault
   Halts (worked recorder told) = told ≡ Stopped fault
 
-  step_halts : (core : CoreData) (step : Step) (next : CoreData) → core.stopped ≡ Some fault → IsEvent tells may core step next → Halts step × IsSame tells core next
+  step_halts : (core : CoreData) (step : Step) (next : CoreData) → core.stopped ≡ Some fault → IsEvent (without_copy tells may) core step next → Halts step × IsSame tells core next
   step_halts core (called h call told) next is event =
       subst (λ (r : HostRule). HostDoes tells core h call r told next) (host_stopped core fault h call is) event
   step_halts core (worked recorder told) next is event =
@@ -79,7 +79,7 @@ module _ (tells : Type 0) (may : List Candidate → ℕ → Type 0) (fault : ℕ
   all_halts (called h call told) steps one more = (one, more)
   all_halts (worked recorder told) steps one more = (one, more)
 
-  pub stays_stopped : (steps : List Step) (core left : CoreData) → core.stopped ≡ Some fault → IsChain tells may core steps left → AllHalt fault steps × IsSame tells core left
+  pub stays_stopped : (steps : List Step) (core left : CoreData) → core.stopped ≡ Some fault → IsChain (without_copy tells may) core steps left → AllHalt fault steps × IsSame tells core left
   stays_stopped [] core left is chain =
       (tt, (record { told = λ t. ap (λ (c : CoreData). c.site.told) chain; unwritten = ap (λ (c : CoreData). c.site.writes) chain; sound = ap (λ (c : CoreData). c.site.faults) chain }, chain ∙ (λ i. record core { site = (sym chain i).site })))
   stays_stopped (step ∷ steps) core left is chain =

@@ -5,7 +5,7 @@ ghost use Rattle.fault_queue.specs.Requests.{IsOnce};
 ghost use Rattle.core_state.specs.declared.rule.Waiting.{Waiting};
 ghost use Rattle.core_state.specs.declared.session.Event.TheVariants.{Host};
 ghost use Rattle.core_state.specs.Beginning.{IsLater};
-ghost use Rattle.core_state.specs.Chains.{Step, IsChain};
+ghost use Rattle.core_state.specs.Chains.{Step, IsChain, without_copy};
 ghost use Rattle.core_state.specs.CoreValue.{CoreData};
 ghost use Rattle.core_state.specs.HostEvents.{HostEvent, HostTold, IsSame};
 ghost use Rattle.core_state.specs.HostEvents.{replied, waits, halts, no_memory};
@@ -81,7 +81,7 @@ pub fn stopped_cores_stay<S: Site, C: Choose>()
         → left.stopped ≡ Some fault }
     ensures stays { (core : CoreData) (fault : ℕ) (chooser : C) (steps : List Step)
         (left : CoreData) → core.stopped ≡ Some fault
-        → IsChain S.tells (C.may chooser) core steps left
+        → IsChain (without_copy S.tells (C.may chooser)) core steps left
         → AllHalt fault steps × IsSame S.tells core left }
 {}
 

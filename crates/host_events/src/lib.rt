@@ -15,6 +15,7 @@ mod exception;
 pub mod law;
 mod mark;
 mod prepare;
+mod refusal;
 mod reply;
 mod requests;
 mod respond;
@@ -24,4 +25,5 @@ mod wait;
 
 pub use answer::HostAnswer;
 pub use event::{EVENT_ITEMS, host_event};
+pub use refusal::{look, refused};
 pub use rule::host_rule;

@@ -2,3 +2,5 @@ pub mod Seen
 pub mod Reporting
 pub mod SessionFacts
 mod Ended
+pub mod FinishFacts
+pub mod CopyTold

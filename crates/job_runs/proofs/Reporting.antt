@@ -1,5 +1,5 @@
 -- What is told of a session, over the volumes that are shown.
-use Rattle.std.proofs.Common.{◌≡◌, ℕ, List, ◌++◌, Option, None, Ok, Err, ◌∙◌, ap, subst}
+use Rattle.std.proofs.Common.{◌≡◌, ℕ, List, [], ◌++◌, Option, None, Ok, Err, ◌∙◌, ap, subst}
 use Rattle.mss_base.specs.Puts.{PutsFront}
 use Rattle.ckd_track.specs.Data.{Volumes}
 use Rattle.serial_driver.specs.declared.answer.DriveAnswer.{DriveAnswer}
@@ -11,9 +11,9 @@ use Rattle.session_report.specs.declared.fault.ReportFault.TheVariants as report
 use Rattle.session_report.specs.declared.reporting.Last.{Last}
 use Rattle.job_runs.specs.Runs.{IsHalted, IsTold}
 
-module _ (opening : List ℕ) (volumes : List Heading) (site : Devices) (sink : Stream) (answer : Answer) where
+module _ (opening : List ℕ) (volumes : List Heading) (behind : List ℕ) (site : Devices) (sink : Stream) (answer : Answer) where
   abbrev about : Volumes → Matter
-  about shown = record { opening = opening; shown = shown; volumes = volumes }
+  about shown = record { opening = opening; shown = shown; volumes = volumes; behind = behind }
 
   module _ (a b : Volumes) where
     put_alike : (telling : Telling) → (site.tells → told_text (about a) telling ≡ told_text (about b) telling) → IsPut (told_answer telling) (told_text (about a) telling) (seen_with site sink) answer
@@ -65,20 +65,23 @@ read_going m site sink fault (ended.Stopped other) kept halts is = absurd (stopp
 read_going m site sink fault ended.Memory kept halts is = halts
 
 -- the report broke off, where the volumes are the same
-module _ (opening : List ℕ) (volumes : List Heading) (site : Devices) (sink : Stream) (Unread : ℕ → ℕ → Type 0) (a b : Volumes) where
+module _ (opening : List ℕ) (volumes : List Heading) (behind : List ℕ) (site : Devices) (sink : Stream) (Unread : ℕ → ℕ → Type 0) (a b : Volumes) where
   abbrev Off : Volumes → ℕ → Type 0
-  Off shown fault = BreaksOff Unread (record { opening = opening; shown = shown; volumes = volumes }) (seen_with site sink) fault
+  Off shown fault = BreaksOff Unread (record { opening = opening; shown = shown; volumes = volumes; behind = behind }) (seen_with site sink) fault
 
-  pub broken_alike : (answer : Answer) (end : DriveAnswer) (kept : Option ℕ) → IsHalted end kept → (site.tells → kept ≡ None → a ≡ b) → IsTold (record { opening = opening; shown = a; volumes = volumes }) end site sink answer
-      → OnRead answer (Off a) → OnRead answer (Off b)
+  abbrev Off_ : Volumes → ℕ → Type 0
+  Off_ shown fault = BreaksOff Unread (record { opening = opening; shown = shown; volumes = volumes; behind = [] }) (seen_with site sink) fault
+
+  pub broken_alike : (answer : Answer) (end : DriveAnswer) (kept : Option ℕ) → IsHalted end kept → (site.tells → kept ≡ None → a ≡ b) → IsTold (record { opening = opening; shown = a; volumes = volumes; behind = behind }) end site sink answer
+      → OnRead answer (Off a) → OnRead answer (Off_ b)
   broken_alike (Err (report_fault.Read fault)) end kept halts same is off = record {
     place = off.place;
     tracks = off.tracks;
     there = off.there;
     few = off.few;
     unread_ = off.unread_;
-    put = λ t. off.put t ∙ ap (λ (v : Volumes). sink.was ++ told_text (record { opening = opening; shown = v; volumes = volumes }) (unread off.place off.tracks fault))
-        (same t.0 (read_going (record { opening = opening; shown = a; volumes = volumes }) site sink fault end kept halts is));
+    put = λ t. off.put t ∙ ap (λ (v : Volumes). sink.was ++ told_text (record { opening = opening; shown = v; volumes = volumes; behind = behind }) (unread off.place off.tracks fault))
+        (same t.0 (read_going (record { opening = opening; shown = a; volumes = volumes; behind = behind }) site sink fault end kept halts is));
   }
   broken_alike (Ok x) end kept halts same is off = tt
   broken_alike (Err report_fault.Output) end kept halts same is off = tt

@@ -4,26 +4,12 @@ use Rattle.mss_base.specs.Configs.{ConfigData}
 use Rattle.mss_base.specs.declared.site.Site.{Ghosts}
 use Rattle.ckd_track.specs.Data.{Volumes}
 use Rattle.core_state.specs.CoreValue.{CoreValue, CoreData, seen}
-use Rattle.core_state.specs.IsCore.{IsTold}
 use Rattle.core_restart.specs.Begins.{Begins}
 use Rattle.core_restart.specs.TakingUp.{BeginsWith}
 
 module _ {S C : Type 0} (g : Ghosts S) (v : CoreValue S C) where
   abbrev there : CoreData
   there = seen g v
-
-  pub told_seen : IsTold (g.told v.site) v → IsTold (g.told v.site) there
-  told_seen is = record {
-    began = is.began;
-    entries = is.entries;
-    messages = is.messages;
-    legal = is.legal;
-    stops = is.stops;
-    agrees = is.agrees;
-    going = λ none.
-        let g = is.going none in
-        record { no_stop = g.no_stop; hosts_ = g.hosts_; shows = g.shows; rows_ = g.rows_; copies = g.copies; slots_ = g.slots_; told = g.told; served = g.served; quiet = g.quiet };
-  }
 
   pub begins_seen : (config : ConfigData) (chooser : C) → Begins config chooser (g.writes v.site) (g.faults v.site) v → Begins config tt (g.writes v.site) (g.faults v.site) there
   begins_seen config chooser is = record {

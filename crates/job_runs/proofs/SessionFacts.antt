@@ -1,5 +1,6 @@
 -- A session of a job, from its parts.
-use Rattle.std.proofs.Common.{◌≡◌, inl, inr, ℕ, List, [], ◌∷◌, length, Option, None, Ok, Err, refl, sym, ◌∙◌, ap, subst}
+use Rattle.std.proofs.Common.{◌≡◌, ◌⊎◌, inl, inr, ℕ, Bool, List, [], ◌∷◌, length, Option, None, Ok, Err, refl, sym, ◌∙◌, ap, subst}
+use Rattle.std.specs.Prelude.{is_some}
 use Rattle.mss_base.specs.Configs.{ConfigData, IsConfig}
 use Rattle.mss_base.specs.Content.{SiteLog, content}
 use Rattle.mss_base.specs.Sound.{StaysSound}
@@ -11,6 +12,7 @@ use Rattle.job_text.specs.Jobs.{JobData, ScriptData}
 use Rattle.volume_table.specs.Listed.{listed}
 use Rattle.volume_table.specs.Row.{RowValue}
 use Rattle.shown_volumes.specs.Shown.{rows_of, shown, shown_by}
+use Rattle.core_state.specs.Chains.{Reading, Terms}
 use Rattle.core_state.specs.Counted.{IsCounted}
 use Rattle.core_state.specs.CoreValue.{CoreValue, CoreData, DevicesSeen, seen, seen_site}
 use Rattle.core_state.specs.IsCore.{IsTold as IsToldCore}
@@ -21,7 +23,7 @@ use Rattle.core_restart.specs.TakingUp.{BeginsWith, shown_for}
 use Rattle.core_restart.proofs.Syncing.{opens_synced, telling}
 use Rattle.plain_sessions.specs.Sessions.{BeganOver, IsPlainSession, StopsAnywhere, plain_volumes}
 use Rattle.core_state.specs.Beginning.{IsLater}
-use Rattle.serial_driver.specs.Drives.{Leaves, RunsOn, Halts}
+use Rattle.serial_driver.specs.Drives.{DriveValue, IsFull, Leaves, RunsOn, Halts, terms_by}
 use Rattle.serial_driver.specs.declared.answer.DriveAnswer.{DriveAnswer}
 use Rattle.serial_driver.specs.declared.answer.DriveAnswer.TheVariants as ended
 use Rattle.session_report.specs.Answers.{Answer, SinkCounts}
@@ -30,12 +32,18 @@ use Rattle.session_report.specs.Parts.{IsUnread}
 use Rattle.session_report.specs.Reports.{BreaksOff, OnRead, SiteCounts, report_matter, opening_text}
 use Rattle.session_report.specs.declared.fault.ReportFault.TheVariants as report_fault
 use Rattle.session_report.proofs.SiteReads.{unread_since}
+use Rattle.volume_copy.specs.Beside.{ReadsBeside, asked}
+use Rattle.volume_copy.specs.Copies.{AskedCopy, CopyData}
+use Rattle.session_report.specs.CopyTexts.{behind_text}
+use Rattle.job_runs.specs.Copies.{EndsForCopy, IsBehind, IsToldWhole, JobAsked, job_with}
+use Rattle.job_runs.proofs.FinishFacts.{WasRead, devices_read, ended_before, goes_finished, halted_finished, part_same, was_read}
 use Rattle.job_runs.specs.Parties.{Devices, devices}
 use Rattle.job_runs.specs.Runs.{AreRowsOf, FollowScripts, FollowToEnd, Goes, GoesUnstopped, IsBegun, IsFramed, IsHalted, IsMarked, IsPlayed, IsPromised, IsReportOf, IsSessionOf, IsTold, Ends, OnUnread, ReportBrokeOff, TellsSession, matter_of}
 use Rattle.job_runs.specs.declared.run.Outcome.{Outcome}
 use Rattle.job_runs.specs.declared.run.Outcome.TheVariants.{Untaken, Ran}
 use Rattle.job_runs.proofs.Reporting.{broken_alike, read_going, told_alike}
-use Rattle.job_runs.proofs.Seen.{begins_seen, told_seen, with_seen}
+use Rattle.core_state.proofs.Moved.{told_seen}
+use Rattle.job_runs.proofs.Seen.{begins_seen, with_seen}
 
 -- ---- scripts
 
@@ -48,12 +56,29 @@ follows_none (program words ∷ more) = inl (at_start, refl, refl)
 
 -- ---- how it went
 
-pub goes_by : (tells : Type 0) (may : List Candidate → ℕ → Type 0) (scripts : List ScriptData) (turns : List ℕ) (began : CoreData) (end : DriveAnswer) (left : CoreData) → RunsOn tells may scripts turns began end left
-    → Goes tells may scripts turns began end left
-goes_by tells may scripts turns began ended.Done left runs = runs
-goes_by tells may scripts turns began ended.CommandLimit left runs = runs
-goes_by tells may scripts turns began (ended.Stopped fault) left runs = runs
-goes_by tells may scripts turns began ended.Memory left runs = inr runs
+pub goes_by : (terms : Terms) (scripts : List ScriptData) (turns : List ℕ) (began : CoreData) (end : DriveAnswer) (left : CoreData) → RunsOn terms scripts turns began end left
+    → Goes terms scripts turns began end left
+goes_by terms scripts turns began ended.Done left runs = runs
+goes_by terms scripts turns began ended.CommandLimit left runs = runs
+goes_by terms scripts turns began (ended.Stopped fault) left runs = runs
+goes_by terms scripts turns began ended.Memory left runs = inr (inl runs)
+
+-- of the copier at its start only what is asked for counts
+pub leaves_asked : {S C : Type 0} (g : Ghosts S) (core : CoreValue S C) (copier other : Option CopyData) (scripts : List ScriptData) → asked copier ≡ asked other → (new : DriveValue S C) (end : DriveAnswer)
+    → Leaves g (record { core = core; copier = copier; scripts = scripts }) new end → Leaves g (record { core = core; copier = other; scripts = scripts }) new end
+leaves_asked g core copier other scripts same new end is = record {
+  session = is.session;
+  scripts_ = is.scripts_;
+  copier_ = is.copier_ ∙ same;
+  chooser_ = is.chooser_;
+  written = is.written;
+  later = is.later;
+  sound = is.sound;
+  halts = is.halts;
+  cause = is.cause;
+  only_reads_fail = is.only_reads_fail;
+  full = is.full;
+}
 
 pub halted_by : (end : DriveAnswer) (was is : Option ℕ) → was ≡ None → Halts end was is → IsHalted end is
 halted_by ended.Done was is none halts = halts ∙ none
@@ -88,20 +113,43 @@ module _ {S C : Type 0} (g : Ghosts S) (core left : CoreValue S C) (config : Con
     }
 
 module _ {S C : Type 0} (g : Ghosts S) (may : List Candidate → ℕ → Type 0) (job : JobData) (turns : List ℕ)
-    (core left : CoreValue S C) (end : DriveAnswer)
-    (goes : Goes g.tells may job.hosts turns (seen g core) end (seen g left))
+    (core left now : CoreValue S C) (copier copy : Option CopyData) (end last : DriveAnswer)
+    (goes : Goes (terms_by g (λ (c : C). may) core.chooser copier) job.hosts turns (seen g core) end (seen g left))
     (follow : FollowScripts job.hosts left.history) (reach : end ≡ ended.Done → FollowToEnd job.hosts left.history)
-    (leaves : Leaves g (record { core = core; scripts = job.hosts }) (record { core = left; scripts = job.hosts }) end)
+    (leaves : Leaves g (record { core = core; copier = copier; scripts = job.hosts }) (record { core = left; copier = copy; scripts = job.hosts }) end)
+    (reads : ReadsBeside g (is_some (asked copy)) left now) (ends : (last ≡ end) ⊎ EndsForCopy copy end last)
     (was : DevicesSeen) (begun : IsBegun g.tells job.config was (seen g core))
-    (promised : IsPromised job.config (record { tells = g.tells; was = was; now = seen_site g left.site }) (data_of left)) where
-  pub played_of : IsPlayed may job turns (record { tells = g.tells; was = was; now = seen_site g left.site }) end (data_of left)
+    (promised : IsPromised job.config (record { tells = g.tells; was = was; now = seen_site g now.site }) (data_of now)) where
+  read : WasRead g left now
+  read = was_read g left now (is_some (asked copy)) reads
+
+  -- is there a copy now, there was one
+  copies_ : is_some (asked copier) ≡ is_some (asked copy)
+  copies_ = ap is_some (sym leaves.copier_)
+
+  same_history : now.history ≡ left.history
+  same_history = part_same g left now read (λ (v : CoreValue S C). v.history) refl
+
+  pub halts_now : IsHalted last now.stopped
+  halts_now =
+      subst (IsHalted last) (sym (part_same g left now read (λ (v : CoreValue S C). v.stopped) refl))
+      (halted_finished copy end last ends left.stopped (halted_by end core.stopped left.stopped begun.begins.going leaves.halts))
+
+  pub played_of : IsPlayed may (job_with job copier) turns (record { tells = g.tells; was = was; now = seen_site g now.site }) last (data_of now)
   played_of = record {
-    driven = record { began = seen g core; begun = begun; left = seen g left; goes = goes; devices_ = refl; session = refl };
+    driven = record {
+      began = seen g core;
+      begun = begun;
+      left = seen g left;
+      goes = goes_finished copy end last ends (terms_by g (λ (c : C). may) core.chooser copier) copies_ job.hosts turns (seen g core) (seen g left) goes;
+      devices_ = subst (λ (b : Bool). Reading b g.tells (seen g left) (λ x. x.site ≡ seen_site g now.site)) (sym copies_) (devices_read g left now (is_some (asked copy)) reads);
+      session = sym (part_same g left now read data_of refl);
+    };
     promised = promised;
-    follow = follow;
-    reach = reach;
-    full = leaves.full;
-    halts = halted_by end core.stopped left.stopped begun.begins.going leaves.halts;
+    follow = subst (FollowScripts job.hosts) (sym same_history) follow;
+    reach = λ is. subst (FollowToEnd job.hosts) (sym same_history) (reach (ended_before copy end last ends ended.Done (λ e. absurd cc) is));
+    full = λ is. subst (IsFull job.hosts) (sym same_history) (leaves.full (ended_before copy end last ends ended.CommandLimit (λ e. absurd cc) is));
+    halts = halts_now;
   }
 
 -- its rows
@@ -116,12 +164,15 @@ module _ {S : Type 0} (g : Ghosts S) (job : JobData)
     (are_rows : AreRowsOf g.tells (g.told mid) s.stopped rows)
     (same_volumes : listed rows ≡ rows_of (content (g.told mid)) → shown_by (listed rows) (content (g.told mid)) ≡ shown (content (g.told mid)))
     (sink : Stream) (answer : Answer)
-    (read : OnlyReads g mid site)
-    (report : IsTold (report_matter s job.config.volumes (shown_by (listed rows) (content (g.told mid)))) end (site_between g mid site) sink answer) where
-  pub report_of : IsFramed s end sink answer → SiteCounts (g.faults mid) (g.faults site) answer → SinkCounts sink.faults_was sink.faults_now answer → IsReportOf job was (devices g mid site) sink end answer s
-  report_of framed counted puts = record {
+    (read : OnlyReads g mid site) (copier : Option CopyData)
+    (report : IsTold (report_matter s job.config.volumes (shown_by (listed rows) (content (g.told mid))) (behind_text copier)) end (site_between g mid site) sink answer) where
+  pub report_of : (IsToldWhole end → IsBehind g.tells (asked copier) (plain_volumes job.config (content was)) s (g.faults mid) (behind_text copier))
+      → IsFramed s end sink answer → SiteCounts (g.faults mid) (g.faults site) answer → SinkCounts sink.faults_was sink.faults_now answer → IsReportOf (job_with job copier) was (devices g mid site) sink end answer s
+  report_of copied framed counted puts = record {
     read = record { told_ = read.log; writes_ = read.unwritten; later = read.later };
-    report = told_alike (opening_text s) job.config.volumes (site_between g mid site) sink answer
+    behind = behind_text copier;
+    behind_ = copied;
+    report = told_alike (opening_text s) job.config.volumes (behind_text copier) (site_between g mid site) sink answer
         (shown_by (listed rows) (content (g.told mid))) (plain_volumes job.config (content was) s.history) end s.stopped halts
         (λ t none. same_volumes (are_rows.shown_ t none) ∙ (plain t).shows none) report;
     framed = framed;
@@ -130,37 +181,37 @@ module _ {S : Type 0} (g : Ghosts S) (job : JobData)
   }
 
   -- which broke off before a track that couldn't be read
-  pub broken_of : OnRead answer (BreaksOff (IsUnread g mid (listed rows) job.config.volumes) (report_matter s job.config.volumes (shown_by (listed rows) (content (g.told mid)))) (seen_with (site_between g mid site) sink))
-      → OnRead answer (BreaksOff (IsUnread g mid (listed rows) job.config.volumes) (matter_of job (content was) s) (seen_with (site_between g mid site) sink))
-  broken_of off = broken_alike (opening_text s) job.config.volumes (site_between g mid site) sink (IsUnread g mid (listed rows) job.config.volumes)
+  pub broken_of : OnRead answer (BreaksOff (IsUnread g mid (listed rows) job.config.volumes) (report_matter s job.config.volumes (shown_by (listed rows) (content (g.told mid))) (behind_text copier)) (seen_with (site_between g mid site) sink))
+      → OnRead answer (BreaksOff (IsUnread g mid (listed rows) job.config.volumes) (matter_of job (content was) s []) (seen_with (site_between g mid site) sink))
+  broken_of off = broken_alike (opening_text s) job.config.volumes (behind_text copier) (site_between g mid site) sink (IsUnread g mid (listed rows) job.config.volumes)
       (shown_by (listed rows) (content (g.told mid))) (plain_volumes job.config (content was) s.history) answer end s.stopped halts
       (λ t none. same_volumes (are_rows.shown_ t none) ∙ (plain t).shows none) report off
 
-module _ {S : Type 0} (g : Ghosts S) (may : List Candidate → ℕ → Type 0) (job : JobData) (turns : List ℕ)
+module _ {S : Type 0} (g : Ghosts S) (may : List Candidate → ℕ → Type 0) (asked_ : JobAsked) (turns : List ℕ)
     (was : DevicesSeen) (mid site : S) (end : DriveAnswer) (s : SessionData)
-    (played : IsPlayed may job turns (record { tells = g.tells; was = was; now = seen_site g mid }) end s) (sink : Stream) where
-  pub ends_of : (o : Outcome) → TellsSession job was.told (devices g mid site) sink end s o → Ends may job turns (record { tells = g.tells; was = was; now = seen_site g site }) sink o
+    (played : IsPlayed may asked_ turns (record { tells = g.tells; was = was; now = seen_site g mid }) end s) (sink : Stream) where
+  pub ends_of : (o : Outcome) → TellsSession asked_ was.told (devices g mid site) sink end s o → Ends may asked_ turns (record { tells = g.tells; was = was; now = seen_site g site }) sink o
   ends_of (Untaken why) is = absurd is
   ends_of (Ran session last answer) is =
-      subst (λ (x : SessionData × DriveAnswer). IsSessionOf may job turns (record { tells = g.tells; was = was; now = seen_site g site }) sink x.1 answer x.0) (λ i. (sym is.0 i, sym is.1 i))
+      subst (λ (x : SessionData × DriveAnswer). IsSessionOf may asked_ turns (record { tells = g.tells; was = was; now = seen_site g site }) sink x.1 answer x.0) (λ i. (sym is.0 i, sym is.1 i))
       (record { mid = seen_site g mid; played = played; report = is.2 })
 
 -- one that wasn't stopped
-pub unstopped_of : (job : JobData) (was : SiteLog) (site : Devices) (sink : Stream) (end : DriveAnswer) (s : SessionData) (o : Outcome) → TellsSession job was site sink end s o → s.stopped ≡ None → GoesUnstopped o
-unstopped_of job was site sink end s (Untaken why) is none = absurd is
-unstopped_of job was site sink end s (Ran session last answer) is none = ap (λ (x : SessionData). x.stopped) is.0 ∙ none
+pub unstopped_of : (asked_ : JobAsked) (was : SiteLog) (site : Devices) (sink : Stream) (end : DriveAnswer) (s : SessionData) (o : Outcome) → TellsSession asked_ was site sink end s o → s.stopped ≡ None → GoesUnstopped o
+unstopped_of asked_ was site sink end s (Untaken why) is none = absurd is
+unstopped_of asked_ was site sink end s (Ran session last answer) is none = ap (λ (x : SessionData). x.stopped) is.0 ∙ none
 
 -- its report broke off, over the devices that were handed in
 module _ {S : Type 0} (g : Ghosts S) (job : JobData)
     (began mid site : S) (end : DriveAnswer) (s : SessionData) (rows : List (Option RowValue))
     (halts : IsHalted end s.stopped) (are_rows : AreRowsOf g.tells (g.told mid) s.stopped rows)
-    (sound : StaysSound g.never_fails_but began mid) (read : OnlyReads g mid site) (sink : Stream) where
-  pub broke_off_of : (o : Outcome) → TellsSession job (g.told began) (devices g mid site) sink end s o
-      → OnUnread o (λ (x : SessionData). BreaksOff (IsUnread g mid (listed rows) job.config.volumes) (matter_of job (content (g.told began)) x) (seen_with (site_between g mid site) sink))
+    (sound : StaysSound g.never_fails_but began mid) (read : OnlyReads g mid site) (sink : Stream) (copy : Option AskedCopy) where
+  pub broke_off_of : (o : Outcome) → TellsSession (record { job = job; copy = copy }) (g.told began) (devices g mid site) sink end s o
+      → OnUnread o (λ (x : SessionData). BreaksOff (IsUnread g mid (listed rows) job.config.volumes) (matter_of job (content (g.told began)) x []) (seen_with (site_between g mid site) sink))
       → OnUnread o (ReportBrokeOff g began job (devices g began site) sink)
   broke_off_of (Untaken why) is off = tt
   broke_off_of (Ran session last (Err (report_fault.Read fault))) is off =
-      let going : s.stopped ≡ None = read_going (matter_of job (content (g.told began)) s) (site_between g mid site) sink fault end s.stopped halts is.2.report in
+      let going : s.stopped ≡ None = read_going (matter_of job (content (g.told began)) s is.2.behind) (site_between g mid site) sink fault end s.stopped halts is.2.report in
       record {
         going = ap (λ (x : SessionData). x.stopped) is.0 ∙ going;
         rows = rows;

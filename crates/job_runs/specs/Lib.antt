@@ -1,2 +1,3 @@
 pub mod Parties
+pub mod Copies
 pub mod Runs

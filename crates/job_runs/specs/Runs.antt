@@ -1,5 +1,5 @@
 -- What running a job on a site promises.
-use Rattle.std.specs.Prelude.{◌≡◌, ◌⊎◌, ◌≤◌, ℕ, List, length, Option, None, Some, Result, Ok, Err}
+use Rattle.std.specs.Prelude.{◌≡◌, ◌⊎◌, ◌≤◌, ℕ, true, List, [], length, Option, None, Some, is_some, Result, Ok, Err}
 use Rattle.mss_base.specs.Configs.{ConfigData}
 use Rattle.mss_base.specs.Content.{Content, SiteLog, content}
 use Rattle.mss_base.specs.declared.site.Site.{Ghosts}
@@ -13,6 +13,7 @@ use Rattle.volume_table.specs.Row.{RowValue}
 use Rattle.shown_volumes.specs.Shown.{rows_of}
 use Rattle.shown_volumes.specs.declared.refused.Refused.{Refused}
 use Rattle.mss_restart.specs.declared.opening.Opened.{Opened}
+use Rattle.core_state.specs.Chains.{Reading, Terms}
 use Rattle.core_state.specs.Counted.{IsCounted}
 use Rattle.core_state.specs.CoreValue.{CoreData, DevicesSeen}
 use Rattle.core_state.specs.SessionData.{SessionData, data_of}
@@ -34,6 +35,8 @@ use Rattle.session_report.specs.Summaries.{summary_text}
 use Rattle.session_report.specs.declared.fault.ReportFault.TheVariants as report_fault
 use Rattle.session_report.specs.declared.reporting.Last.{Last}
 use Rattle.session_report.specs.declared.reporting.Last.TheVariants.{End, Limit}
+use Rattle.volume_copy.specs.Copies.{AskedCopy}
+use Rattle.job_runs.specs.Copies.{IsBehind, IsToldWhole, JobAsked, job_alone}
 use Rattle.job_runs.specs.Parties.{Devices, since, until, reported}
 use Rattle.job_runs.specs.declared.run.Outcome.{Outcome}
 use Rattle.job_runs.specs.declared.run.Outcome.TheVariants.{Untaken, Ran}
@@ -51,27 +54,35 @@ pub record IsBegun (tells : Type 0) (config : ConfigData) (was : DevicesSeen) (c
   pub opened : OpensSynced tells config was core.site (Ok (opened_in core))
   pub over : tells → BeganOver config was core
 
+-- it went to its end, and memory ran out for the rest of the copy
+pub record LacksForCopy (terms : Terms) (scripts : List ScriptData) (turns : List ℕ)
+    (began left : CoreData) : Type 0 where
+  pub copies_ : terms.copies ≡ true
+  pub end : DriveAnswer
+  pub runs : RunsOn terms scripts turns began end left
+
 -- from a core that has begun to one that ended so: by the turns and then by rounds, or not at all,
 -- where memory ran out before
-abbrev pub Goes : Type 0 → (List Candidate → ℕ → Type 0) → List ScriptData → List ℕ → CoreData
-    → DriveAnswer → CoreData → Type 0
-Goes tells may scripts turns began ended.Memory left =
-    (left ≡ began) ⊎ RunsOn tells may scripts turns began ended.Memory left
-Goes tells may scripts turns began end left = RunsOn tells may scripts turns began end left
+abbrev pub Goes : Terms → List ScriptData → List ℕ → CoreData → DriveAnswer → CoreData → Type 0
+Goes terms scripts turns began ended.Memory left =
+    (left ≡ began) ⊎ RunsOn terms scripts turns began ended.Memory left
+    ⊎ LacksForCopy terms scripts turns began left
+Goes terms scripts turns began end left = RunsOn terms scripts turns began end left
 
 -- whether a session was stopped, and by which fault
 abbrev pub IsHalted : DriveAnswer → Option ℕ → Type 0
 IsHalted (ended.Stopped fault) kept = kept ≡ Some fault
 IsHalted _ kept = kept ≡ None
 
--- the core that a session began with, and the one that it came to
-pub record IsDriven (tells : Type 0) (may : List Candidate → ℕ → Type 0) (job : JobData)
-    (turns : List ℕ) (was now : DevicesSeen) (end : DriveAnswer) (s : SessionData) : Type 0 where
+-- the core that a session began with, and the one that it came to; behind it the rest of a copy may
+-- be read
+pub record IsDriven (terms : Terms) (job : JobData) (turns : List ℕ) (was now : DevicesSeen)
+    (end : DriveAnswer) (s : SessionData) : Type 0 where
   pub began : CoreData
-  pub begun : IsBegun tells job.config was began
+  pub begun : IsBegun terms.tells job.config was began
   pub left : CoreData
-  pub goes : Goes tells may job.hosts turns began end left
-  pub devices_ : left.site ≡ now
+  pub goes : Goes terms job.hosts turns began end left
+  pub devices_ : Reading terms.copies terms.tells left (λ read. read.site ≡ now)
   pub session : data_of left ≡ s
 
 -- ---- what is told
@@ -104,9 +115,11 @@ abbrev pub IsSummed : ℕ → SessionData → DriveAnswer → Stream → Answer 
 IsSummed programs s end sink told =
     TellsOf (λ ending. IsPut (Ok tt) (summary_text programs s ending) sink told) end sink told
 
--- the session, its changes of rows, and the plain volumes of the job after its history
-abbrev pub matter_of : JobData → Content → SessionData → Matter
-matter_of job c s = report_matter s job.config.volumes (plain_volumes job.config c s.history)
+-- the session, its changes of rows, the plain volumes of the job after its history, and what stands
+-- behind them
+abbrev pub matter_of : JobData → Content → SessionData → List ℕ → Matter
+matter_of job c s behind =
+    report_matter s job.config.volumes (plain_volumes job.config c s.history) behind
 
 -- the devices were read at most
 pub record OnlyRead (tells : Type 0) (from to : DevicesSeen) : Type 0 where
@@ -141,14 +154,18 @@ pub record IsPromised (config : ConfigData) (site : Devices) (s : SessionData) :
   pub plain : site.tells → IsPlainSession config site.was.told site.now.told s
   pub stops : site.tells → StopsAnywhere config site.was.told site.now.told s
 
+-- on which terms its events follow each other
+abbrev pub terms_for : (List Candidate → ℕ → Type 0) → Type 0 → Option AskedCopy → Terms
+terms_for may tells copy = record { tells = tells; may = may; copies = is_some copy }
+
 -- A session of a job: how it went by the turns and by rounds, and what it promises.
-pub record IsPlayed (may : List Candidate → ℕ → Type 0) (job : JobData) (turns : List ℕ)
+pub record IsPlayed (may : List Candidate → ℕ → Type 0) (asked : JobAsked) (turns : List ℕ)
     (site : Devices) (end : DriveAnswer) (s : SessionData) : Type 0 where
-  pub driven : IsDriven site.tells may job turns site.was site.now end s
-  pub promised : IsPromised job.config site s
-  pub follow : FollowScripts job.hosts s.history
-  pub reach : end ≡ ended.Done → FollowToEnd job.hosts s.history
-  pub full : end ≡ ended.CommandLimit → IsFull job.hosts s.history
+  pub driven : IsDriven (terms_for may site.tells asked.copy) asked.job turns site.was site.now end s
+  pub promised : IsPromised asked.job.config site s
+  pub follow : FollowScripts asked.job.hosts s.history
+  pub reach : end ≡ ended.Done → FollowToEnd asked.job.hosts s.history
+  pub full : end ≡ ended.CommandLimit → IsFull asked.job.hosts s.history
   pub halts : IsHalted end s.stopped
 
 -- the session, if one was run, wasn't stopped
@@ -162,36 +179,40 @@ pub record AreRowsOf (tells : Type 0) (log : SiteLog) (stop : Option ℕ)
   pub shown_ : tells → stop ≡ None → listed rows ≡ rows_of (content log)
 
 -- a session's report was put, over devices of which it was read at most
-pub record IsReportOf (job : JobData) (was : SiteLog) (site : Devices) (sink : Stream)
+pub record IsReportOf (asked : JobAsked) (was : SiteLog) (site : Devices) (sink : Stream)
     (end : DriveAnswer) (told : Answer) (s : SessionData) : Type 0 where
   pub read : OnlyRead site.tells site.was site.now
-  pub report : IsTold (matter_of job (content was) s) end (reported site) sink told
+  -- what stands behind the volumes, where they are told
+  pub behind : List ℕ
+  pub behind_ : IsToldWhole end → IsBehind site.tells asked.copy
+      (plain_volumes asked.job.config (content was)) s site.was.faults behind
+  pub report : IsTold (matter_of asked.job (content was) s behind) end (reported site) sink told
   pub framed : IsFramed s end sink told
   -- where all went well, both counts of faults stay
   pub counted : SiteCounts site.was.faults site.now.faults told
   pub puts : SinkCounts sink.faults_was sink.faults_now told
 
 -- such a session and its report, from the devices that were handed in to those that are handed back
-pub record IsSessionOf (may : List Candidate → ℕ → Type 0) (job : JobData) (turns : List ℕ)
+pub record IsSessionOf (may : List Candidate → ℕ → Type 0) (asked : JobAsked) (turns : List ℕ)
     (site : Devices) (sink : Stream) (end : DriveAnswer) (told : Answer) (s : SessionData)
     : Type 0 where
   -- the devices when it ended
   pub mid : DevicesSeen
-  pub played : IsPlayed may job turns (until site mid) end s
-  pub report : IsReportOf job site.was.told (since site mid) sink end told s
+  pub played : IsPlayed may asked turns (until site mid) end s
+  pub report : IsReportOf asked site.was.told (since site mid) sink end told s
 
 -- what became of a job is this session, that ended so, and its report was put
-abbrev pub TellsSession : JobData → SiteLog → Devices → Stream → DriveAnswer → SessionData
+abbrev pub TellsSession : JobAsked → SiteLog → Devices → Stream → DriveAnswer → SessionData
     → Outcome → Type 0
-TellsSession job was site sink end s (Untaken why) = ⊥
-TellsSession job was site sink end s (Ran session last told) =
-    (session_data session ≡ s) × (last ≡ end) × IsReportOf job was site sink end told s
+TellsSession asked was site sink end s (Untaken why) = ⊥
+TellsSession asked was site sink end s (Ran session last told) =
+    (session_data session ≡ s) × (last ≡ end) × IsReportOf asked was site sink end told s
 
 -- such a session of a load, and its summary
 pub record IsLoadOf (may : List Candidate → ℕ → Type 0) (job : JobData) (programs : ℕ)
     (turns : List ℕ) (site : Devices) (sink : Stream) (end : DriveAnswer) (told : Answer)
     (s : SessionData) : Type 0 where
-  pub played : IsPlayed may job turns site end s
+  pub played : IsPlayed may (job_alone job) turns site end s
   pub summed : IsSummed programs s end sink told
   pub puts : SinkCounts sink.faults_was sink.faults_now told
 
@@ -201,11 +222,11 @@ pub record IsUntaken (job : JobData) (site : Devices) (sink : Stream) (why : Ref
   pub unput : IsUntouched sink
 
 -- the site isn't taken up, or a session was run, and its report was put
-abbrev pub Ends : (List Candidate → ℕ → Type 0) → JobData → List ℕ → Devices → Stream → Outcome
+abbrev pub Ends : (List Candidate → ℕ → Type 0) → JobAsked → List ℕ → Devices → Stream → Outcome
     → Type 0
-Ends may job turns site sink (Untaken why) = IsUntaken job site sink why
-Ends may job turns site sink (Ran session end told) =
-    IsSessionOf may job turns site sink end told (session_data session)
+Ends may asked turns site sink (Untaken why) = IsUntaken asked.job site sink why
+Ends may asked turns site sink (Ran session end told) =
+    IsSessionOf may asked turns site sink end told (session_data session)
 
 -- or its summary
 abbrev pub LoadEnds : (List Candidate → ℕ → Type 0) → JobData → ℕ → List ℕ → Devices → Stream
@@ -230,4 +251,4 @@ pub record ReportBrokeOff {S : Type 0} (g : Ghosts S) (s : S) (job : JobData)
   pub rows : List (Option RowValue)
   pub shown_ : site.tells → listed rows ≡ rows_of (content site.now.told)
   pub off : BreaksOff (IsUnread g s (listed rows) job.config.volumes)
-      (matter_of job (content site.was.told) session) (seen_with (reported site) sink) fault
+      (matter_of job (content site.was.told) session []) (seen_with (reported site) sink) fault

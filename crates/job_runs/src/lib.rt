@@ -13,4 +13,4 @@ mod run;
 mod telling;
 
 pub use load::run_load;
-pub use run::{JobEnd, Outcome, Played, look, play, put_report, run_job};
+pub use run::{JobEnd, Outcome, Played, finish_copy, look, play, put_report, run_job};

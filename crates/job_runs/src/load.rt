@@ -75,13 +75,14 @@ pub fn run_load<S: Site, C: Choose + Drop, O: Sink>(
     ensures only_reads_fail { (but : UnitNo → Bool) → S.never_fails_but site but
         → GoesUnstopped result.outcome }
 {
-    match play(alloc, job, turns, site, chooser) {
+    match play(alloc, job, turns, site, chooser, None) {
         Ok(played) => {
             let Played {
                 site,
                 rows: _,
                 session,
                 end,
+                copier: _,
             } = played;
             let told = tell_load(programs, &session, end, output);
             JobEnd {

@@ -1,5 +1,5 @@
 // A job, run on a site.
-ghost use Rattle.std.specs.Prelude.{◌≡◌, Bool, Err, IfErr, IfOk, None};
+ghost use Rattle.std.specs.Prelude.{◌≡◌, ◌⊎◌, Bool, [], Err, IfErr, IfOk, IfSome, OnOk, None, is_some};
 ghost use Rattle.mss_base.specs.Content.{SiteLog, content};
 ghost use Rattle.mss_base.specs.Sites.{OnlyReads};
 ghost use Rattle.mss_base.specs.declared.place.UnitNo.{UnitNo};
@@ -13,10 +13,30 @@ ghost use Rattle.plain_sessions.specs.Sessions.{IsPlainSession};
 ghost use Rattle.session_report.specs.Parties.{seen_with, site_between, sink_between};
 ghost use Rattle.session_report.specs.Parts.{IsUnread};
 ghost use Rattle.session_report.specs.Reports.{BreaksOff};
-ghost use Rattle.serial_driver.specs.Drives.{AreTurns, IsUnused, Leaves};
-ghost use Rattle.serial_driver.specs.declared.answer.DriveAnswer.TheVariants.{Done};
+ghost use Rattle.serial_driver.specs.Drives.{AreTurns, IsUnused, Leaves, terms_by};
+ghost use Rattle.serial_driver.specs.declared.answer.DriveAnswer.TheVariants.{Done, Memory};
+ghost use Rattle.volume_copy.specs.Beside.{IsCopied, IsReadyFor, ReadsBeside, StandsBeside, asked};
+ghost use Rattle.volume_copy.specs.Copies.{IsCopier, asked_by};
+ghost use Rattle.volume_copy.specs.Steps.{ReadsCore};
+ghost use Rattle.job_runs.specs.Copies.{EndsForCopy, HoldsCopy, IsToldWhole, job_with};
 ghost use Rattle.job_runs.specs.Parties.{devices};
-ghost use Rattle.job_runs.specs.Runs.{AreRowsOf, Ends, FollowScripts, FollowToEnd, Goes, IsBegun, GoesUnstopped, IsHalted, IsMarked, IsPlayed, OnUnread, Opens, ReportBrokeOff, TellsSession, matter_of};
+ghost use Rattle.job_runs.specs.Runs.{
+  AreRowsOf,
+  Ends,
+  FollowScripts,
+  FollowToEnd,
+  Goes,
+  GoesUnstopped,
+  IsBegun,
+  IsHalted,
+  IsMarked,
+  IsPlayed,
+  OnUnread,
+  Opens,
+  ReportBrokeOff,
+  TellsSession,
+  matter_of,
+};
 ghost use Rattle.core_state.specs.Sessions.{session_data};
 
 use crate::telling::tell;
@@ -30,6 +50,8 @@ use session_report::ReportFault;
 use session_report::law::rows_of_a_content_show_its_volumes;
 use std::alloc::Global;
 use victim_choice::Choose;
+use volume_copy::Copier;
+use volume_copy::law::whole_copies_are_their_volumes;
 
 /// A session that was run, and what it left.
 #[derive(Drop)]
@@ -39,6 +61,8 @@ pub struct Played<S> {
     pub rows: Rows,
     pub session: Session,
     pub end: DriveAnswer,
+    /// The copy, if one was asked for. Where the session ended by itself it is finished.
+    pub copier: Option<Copier>,
 }
 
 /// What became of a job.
@@ -58,29 +82,87 @@ pub struct JobEnd<S> {
     pub outcome: Outcome,
 }
 
+/// A core that a run left, with the copier that was beside it, and how the run ended.
+#[derive(Drop)]
+struct Driven<S: Site, C: Choose> {
+    core: Core<S, C>,
+    copier: Option<Copier>,
+    end: DriveAnswer,
+}
+
 /// Runs the scripts of a job on a core in which nothing has happened: by turns, and then by rounds, until no host has a
 /// call or an event ends them.
 fn run_scripts<S: Site, C: Choose + Drop>(
     core: Core<S, C>,
     job: &Job,
     turns: &[u32],
-) -> (Core<S, C>, DriveAnswer)
+    copier: Option<Copier>,
+) -> Driven<S, C>
     requires unused { IsUnused core job.now }
+    requires ready { IfSome copier (IsReadyFor core.history) }
     requires turns { AreTurns job.now.hosts job.now.config turns.now }
-    ensures goes { Goes S.tells (C.may core.chooser) job.now.hosts turns.now
-        (seen S.Site core) result.1 (seen S.Site result.0) }
-    ensures follow { FollowScripts job.now.hosts result.0.history }
-    ensures reach { result.1 ≡ Done → FollowToEnd job.now.hosts result.0.history }
-    ensures leaves { Leaves S.Site (record { core = core; scripts = job.now.hosts })
-        (record { core = result.0; scripts = job.now.hosts }) result.1 }
+    ensures goes { Goes (terms_by S.Site C.may core.chooser copier) job.now.hosts turns.now
+        (seen S.Site core) result.end (seen S.Site result.core) }
+    ensures follow { FollowScripts job.now.hosts result.core.history }
+    ensures reach { result.end ≡ Done → FollowToEnd job.now.hosts result.core.history }
+    ensures stands { IsToldWhole result.end
+        → IfSome result.copier (StandsBeside S.Site result.core) }
+    ensures leaves { let hosts = job.now.hosts in
+        Leaves S.Site (record { core = core; copier = copier; scripts = hosts })
+        (record { core = result.core; copier = result.copier; scripts = hosts }) result.end }
 {
-    match Drive::new(core, job) {
+    match Drive::new(core, job, copier) {
         Ok(mut drive) => {
             let end = drive.run(turns);
             let _follows = drive.core();
-            (drive.into_core(), end)
+            let (core, copier) = drive.into_core();
+            Driven { core, copier, end }
         }
-        Err((core, NoMemory)) => (core, DriveAnswer::Memory),
+        Err((core, copier, NoMemory)) => Driven {
+            core,
+            copier,
+            end: DriveAnswer::Memory,
+        },
+    }
+}
+
+/// Takes the rest of a copy.
+fn finish<S: Site, C: Choose>(
+    core: &mut Core<S, C>,
+    copier: &mut Copier,
+    end: DriveAnswer,
+) -> DriveAnswer
+    ensures core { ReadsCore S.Site core.old core.new }
+    ensures asked { asked_by copier.new ≡ asked_by copier.old }
+    ensures ended { (result ≡ end) ⊎ (result ≡ Memory) }
+    ensures copied { IsToldWhole result → StandsBeside S.Site core.old copier.old
+        → IsCopied S.Site core.new copier.new }
+{
+    match copier.finish(core) {
+        Ok(_) => end,
+        Err(NoMemory) => DriveAnswer::Memory,
+    }
+}
+
+/// Takes the rest of the copy that is asked for, if one is, behind a run that ended by itself. Where memory runs out in
+/// it, the run is told to have ended so.
+pub fn finish_copy<S: Site, C: Choose>(
+    core: &mut Core<S, C>,
+    copier: &mut Option<Copier>,
+    end: DriveAnswer,
+) -> DriveAnswer
+    ensures core { ReadsBeside S.Site (is_some (asked copier.old)) core.old core.new }
+    ensures asked { asked copier.new ≡ asked copier.old }
+    ensures ended { (result ≡ end) ⊎ EndsForCopy copier.old end result }
+    ensures copied { IsToldWhole result → IfSome copier.old (StandsBeside S.Site core.old)
+        → IfSome copier.new (IsCopied S.Site core.new) }
+{
+    match end {
+        DriveAnswer::Done | DriveAnswer::CommandLimit => match copier {
+            Some(copier) => finish(core, copier, end),
+            None => end,
+        },
+        DriveAnswer::Stopped { .. } | DriveAnswer::Memory => end,
     }
 }
 
@@ -95,21 +177,35 @@ pub fn look<S: Site, C: Choose>(core: &Core<S, C>)
 }
 
 /// Plays a job on a core that has just begun.
-fn play_on<S: Site, C: Choose + Drop>(core: Core<S, C>, job: &Job, turns: &[u32]) -> Played<S>
+fn play_on<S: Site, C: Choose + Drop>(
+    core: Core<S, C>,
+    job: &Job,
+    turns: &[u32],
+    copier: Option<Copier>,
+) -> Played<S>
     requires unused { IsUnused core job.now }
     requires going { core.stopped ≡ None }
+    requires ready { IfSome copier (IsReadyFor core.history) }
     requires turns { AreTurns job.now.hosts job.now.config turns.now }
     ensures session { (was : DevicesSeen) → IsBegun S.tells job.now.config was (seen S.Site core)
-        → IsPlayed (C.may core.chooser) job.now turns.now
+        → IsPlayed (C.may core.chooser) (job_with job.now copier) turns.now
         (record { tells = S.tells; was = was; now = seen_site S.Site result.site })
         result.end (session_data result.session) }
+    ensures asked { asked result.copier ≡ asked copier }
+    ensures copy { (was : DevicesSeen) → IsBegun S.tells job.now.config was (seen S.Site core)
+        → HoldsCopy S.Site job.now.config was.told result }
     ensures rows { AreRowsOf S.tells (S.told result.site) result.session.stopped result.rows }
     ensures devices { WritesOn S.Site core.site result.site }
     ensures only_reads_fail { (but : UnitNo → Bool) → S.never_fails_but core.site but
         → result.session.stopped ≡ None }
 {
     sessions_are_plain::<S>();
-    let (core, end) = run_scripts(core, job, turns);
+    let Driven {
+        mut core,
+        mut copier,
+        end,
+    } = run_scripts(core, job, turns, copier);
+    let end = finish_copy(&mut core, &mut copier, end);
     look(&core);
     let (site, session, rows) = core.into_session();
     Played {
@@ -117,10 +213,11 @@ fn play_on<S: Site, C: Choose + Drop>(core: Core<S, C>, job: &Job, turns: &[u32]
         rows,
         session,
         end,
+        copier,
     }
 }
 
-/// Takes up a site and runs a job on it.
+/// Takes up a site and runs a job on it, with a copier beside it, if a copy is asked for.
 ///
 /// A site that a session left, stopped at whatever moment, is taken up; one with another fault is refused by the
 /// first, untouched, and handed back. Hosts and recorders take the turns of a list first, one event each: a turn is a
@@ -133,11 +230,15 @@ pub fn play<S: Site, C: Choose + Drop>(
     turns: &[u32],
     site: S,
     chooser: C,
+    copier: Option<Copier>,
 ) -> Result<Played<S>, (S, Refused)>
     requires able { C.can_choose chooser }
+    requires armed { IfSome copier (IsReadyFor []) }
     requires turns { AreTurns job.now.hosts job.now.config turns.now }
-    ensures played { IfOk result (λ p. IsPlayed (C.may chooser) job.now turns.now
-        (devices S.Site site p.site) p.end (session_data p.session)) }
+    ensures played { IfOk result (λ p. IsPlayed (C.may chooser) (job_with job.now copier)
+        turns.now (devices S.Site site p.site) p.end (session_data p.session)) }
+    ensures asked { IfOk result (λ p. asked p.copier ≡ asked copier) }
+    ensures copy { IfOk result (HoldsCopy S.Site job.now.config (S.told site)) }
     ensures rows { IfOk result (λ p. AreRowsOf S.tells (S.told p.site) p.session.stopped p.rows) }
     ensures devices { IfOk result (λ p. WritesOn S.Site site p.site) }
     ensures only_reads_fail { IfOk result (λ p. (but : UnitNo → Bool)
@@ -149,16 +250,25 @@ pub fn play<S: Site, C: Choose + Drop>(
     match restart(alloc, site, &job.config, chooser) {
         Ok(core) => {
             look(&core);
-            Ok(play_on(core, job, turns))
+            Ok(play_on(core, job, turns, copier))
         }
         Err((site, refused)) => Err((site, refused)),
     }
 }
 
+/// What every copier keeps, for the proof of a caller that holds one.
+fn look_at_copy(copier: &Option<Copier>)
+    ensures { IfSome copier.now IsCopier }
+{
+    if let Some(copier) = copier {
+        let _state = copier.state();
+    }
+}
+
 /// Puts the report of a session that was played, and hands the site back.
 ///
-/// Where it promises plain volumes, those are told. Where a read fails, the report ends before a track that one of its
-/// rows shows in a unit of which a read may fail.
+/// Where it promises plain volumes, those are told, and behind them the copy, if one was asked for. Where a read
+/// fails, the report ends before a track that one of its rows shows in a unit of which a read may fail.
 pub fn put_report<S: Site, O: Sink>(
     alloc: Global,
     job: &Job,
@@ -169,14 +279,15 @@ pub fn put_report<S: Site, O: Sink>(
     requires halts { IsHalted played.end played.session.stopped }
     ensures tells { (was : SiteLog) → (S.tells → IsPlainSession job.now.config was
         (S.told played.site) (session_data played.session))
-        → TellsSession job.now was (devices S.Site played.site result.site)
-        (sink_between O.Sink output.old output.new)
+        → HoldsCopy S.Site job.now.config was played
+        → TellsSession (job_with job.now played.copier) was
+        (devices S.Site played.site result.site) (sink_between O.Sink output.old output.new)
         played.end (session_data played.session) result.outcome }
     ensures unread { (was : SiteLog) → (S.tells → IsPlainSession job.now.config was
         (S.told played.site) (session_data played.session))
         → OnUnread result.outcome (λ s. BreaksOff
         (IsUnread S.Site played.site (listed played.rows) job.now.config.volumes)
-        (matter_of job.now (content was) s) (seen_with (site_between S.Site played.site result.site)
+        (matter_of job.now (content was) s []) (seen_with (site_between S.Site played.site result.site)
         (sink_between O.Sink output.old output.new))) }
     ensures site { OnlyReads S.Site played.site result.site }
 {
@@ -186,35 +297,51 @@ pub fn put_report<S: Site, O: Sink>(
         rows,
         session,
         end,
+        copier,
     } = played;
     let volumes = job.config.volumes.as_slice();
-    let told = tell(alloc, &mut site, &rows, volumes, &session, end, output);
+    whole_copies_are_their_volumes();
+    look_at_copy(&copier);
+    let told = tell(
+        alloc,
+        &mut site,
+        &rows,
+        volumes,
+        &session,
+        end,
+        output,
+        copier.as_ref(),
+    );
     JobEnd {
         site,
         outcome: Outcome::Ran(session, end, told),
     }
 }
 
-/// Plays a job on a site, and puts the report. Where a read for it fails, it ends before that track.
+/// Plays a job on a site, with a copier beside it, if a copy is asked for, and puts the report. Where a read for it
+/// fails, it ends before that track.
 pub fn run_job<S: Site, C: Choose + Drop, O: Sink>(
     alloc: Global,
     job: &Job,
     turns: &[u32],
     site: S,
     chooser: C,
+    copier: Option<Copier>,
     output: &mut O,
 ) -> JobEnd<S>
     requires able { C.can_choose chooser }
+    requires armed { IfSome copier (IsReadyFor []) }
     requires turns { AreTurns job.now.hosts job.now.config turns.now }
-    ensures ends { Ends (C.may chooser) job.now turns.now (devices S.Site site result.site)
-        (sink_between O.Sink output.old output.new) result.outcome }
+    ensures ends { Ends (C.may chooser) (job_with job.now copier) turns.now
+        (devices S.Site site result.site) (sink_between O.Sink output.old output.new)
+        result.outcome }
     ensures unread { OnUnread result.outcome (ReportBrokeOff S.Site site job.now
         (devices S.Site site result.site) (sink_between O.Sink output.old output.new)) }
     ensures devices { WritesOn S.Site site result.site }
     ensures only_reads_fail { (but : UnitNo → Bool) → S.never_fails_but site but
         → GoesUnstopped result.outcome }
 {
-    match play(alloc, job, turns, site, chooser) {
+    match play(alloc, job, turns, site, chooser, copier) {
         Ok(played) => put_report(alloc, job, played, output),
         Err((site, refused)) => JobEnd {
             site,

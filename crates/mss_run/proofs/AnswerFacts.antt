@@ -1,5 +1,5 @@
 -- What an event leaves of a pass and of the lock, from what it did to the history.
-use Rattle.std.proofs.Common.{◌≡◌, ◌≤◌, ◌<◌, ℕ, ◌+◌, Bool, List, [], ◌∷◌, ◌++◌, length, length-append, Option, Some, None, inl, inr, refl, sym, ◌∙◌, ap, subst, arith}
+use Rattle.std.proofs.Common.{◌≡◌, ◌≤◌, ◌<◌, ℕ, ◌+◌, Bool, true, false, List, [], ◌∷◌, ◌++◌, length, length-append, Option, Some, None, inl, inr, refl, sym, ◌∙◌, ap, subst, arith}
 use Rattle.std.specs.Prelude.{slice_get}
 use mathlib.Core.List.{IsPrefix}
 use Rattle.channel_commands.specs.Data.{CallData, ReplyData, stopped}
@@ -8,8 +8,12 @@ use Rattle.ckd_plain.specs.History.{EntryData, IsLegal}
 use Rattle.seen_book.specs.Openings.{OpeningData, IsLegalFrom}
 use Rattle.seen_book.specs.Books.{BookData, PassData}
 use Rattle.mss_base.specs.declared.place.UnitNo.{UnitNo}
-use Rattle.core_state.specs.Beginning.{IsLater}
-use Rattle.core_state.specs.CoreValue.{CoreData}
+use Rattle.mss_base.specs.Content.{SiteLog}
+use Rattle.mss_base.specs.declared.site.Site.{Ghosts}
+use Rattle.volume_copy.specs.Beside.{ReadsBeside}
+use Rattle.volume_copy.specs.Copies.{AskedCopy}
+use Rattle.core_state.specs.Beginning.{Continues, IsLater}
+use Rattle.core_state.specs.CoreValue.{CoreData, CoreValue, seen}
 use Rattle.core_state.specs.HostEvents.{halts}
 use Rattle.core_state.specs.IsCore.{opening_of}
 use Rattle.core_state.proofs.Later.{later_none, later_then}
@@ -107,6 +111,24 @@ module _ (opening : OpeningData) (setup : SetupData) (tells : Type 0) where
   pub legal_from : (never : Failing) (core : CoreData) → OpensWith opening setup tells never core → (tells → IsLegal (opening_of core.site.told core) core.history) → IsLegalFrom opening core.history
   legal_from never core opens legal = λ tl. let here = opens.to tl in subst (λ (s : State). IsLegal s core.history) (opens.state_ here) (legal here)
 
+-- a read for a copy leaves a later core of the same session
+module _ {S C : Type 0} (g : Ghosts S) (v w : CoreValue S C) where
+  pub history_read : (copies : Bool) → ReadsBeside g copies v w → w.history ≡ v.history
+  history_read false same = ap (λ (x : CoreValue S C). x.history) same
+  history_read true reads = ap (λ (x : CoreValue S C). x.history) reads.core
+
+  pub opens_read : (opening : OpeningData) (setup : SetupData) → OpensWith opening setup g.tells (g.never_fails_but v.site) (seen g v) → (g.tells → v.first_write ≤ length (g.told v.site).log)
+      → (copies : Bool) → ReadsBeside g copies v w → OpensWith opening setup g.tells (g.never_fails_but w.site) (seen g w)
+  opens_read opening setup opens before false same = subst (λ (x : CoreValue S C). OpensWith opening setup g.tells (g.never_fails_but x.site) (seen g x)) (sym same) opens
+  opens_read opening setup opens before true reads =
+      let read : CoreValue S C = record v { site = w.site } in
+      let later : IsLater g.tells (seen g v) (seen g read) = record {
+        beginning = record { config = refl; first_write = refl; first_faults = refl; handed = λ rows. refl };
+        grown = λ tl. subst (λ (s : SiteLog). Continues (g.told v.site) s) (sym (reads.site_.log tl)) ((later_none g.tells (seen g v)).grown tl);
+      } in
+      subst (λ (x : CoreValue S C). OpensWith opening setup g.tells (g.never_fails_but x.site) (seen g x)) (sym reads.core)
+      (opens_still opening setup g.tells (g.never_fails_but v.site) (g.never_fails_but w.site) (seen g v) (seen g read) opens before later reads.site_.sound (λ but none going. going))
+
 -- the book that is there has the list that is kept
 pub list_is : (b : Option BookData) (x : BookData) (log : List EntryData) (made : List ℕ) → b ≡ Some x → b ≡ Some record { list = log; made = made } → x.list ≡ log
 list_is b x log made is kept = let same : Some x ≡ Some record { list = log; made = made } = sym is ∙ kept in ap book_list same
@@ -121,8 +143,9 @@ book_there b x none some = absurd (let e : None ≡ Some x = sym none ∙ some i
 -- ---- the whole session
 
 -- the session of a core has its own opening
-pub opens_itself : (tells : Type 0) (never : Failing) (core : CoreData) → OpensWith (record { tells = tells; state = opening_of core.site.told core }) (record { began = core; never_fails_but = never }) tells never core
-opens_itself tells never core = record { to = λ t. t; from = λ t. t; later = later_none tells core; state_ = λ _. refl; sound = λ but none. none; only_reads_fail = λ but none going. going }
+pub opens_itself : (tells : Type 0) (never : Failing) (core : CoreData) (copy : Option AskedCopy)
+    → OpensWith (record { tells = tells; state = opening_of core.site.told core }) (record { began = core; never_fails_but = never; copy = copy }) tells never core
+opens_itself tells never core copy = record { to = λ t. t; from = λ t. t; later = later_none tells core; state_ = λ _. refl; sound = λ but none. none; only_reads_fail = λ but none going. going }
 
 module _ (opening : OpeningData) (setup : SetupData) (tells : Type 0) (never : Failing) (core : CoreData) (opens : OpensWith opening setup tells never core) where
   pub legal_since : (log : List EntryData) → IsLegalFrom opening log → tells → IsLegal (opening_of core.site.told core) log

@@ -1,13 +1,14 @@
 -- What an event leaves of a session, from its laws.
-use Rattle.std.proofs.Common.{◌≡◌, ◌⊎◌, inl, inr, ℕ, ◌+◌, ◌≤◌, Bool, true, false, [], ◌∷◌, length, length-append, Option, Some, refl, ◌∙◌, ap, arith}
+use Rattle.std.proofs.Common.{◌≡◌, ◌⊎◌, inl, inr, ℕ, ◌+◌, ◌≤◌, Bool, true, false, [], ◌∷◌, length, length-append, Option, Some, refl, ◌∙◌, ap, subst, arith}
 use Rattle.std.specs.Prelude.{is_some}
 use Rattle.std.proofs.lemmas.Bool.{eqb-true}
+use Rattle.mss_base.specs.Content.{SiteLog}
 use Rattle.channel_commands.specs.Data.{CallData, ReplyData, stopped}
 use Rattle.ckd_plain.specs.History.{IsStopped}
-use Rattle.core_state.specs.Beginning.{Continues, KeepsBeginning}
-use Rattle.core_state.specs.Chains.{OneOf}
-use Rattle.core_state.specs.CoreValue.{CoreData}
-use Rattle.core_state.specs.IsCore.{opening_of}
+use Rattle.core_state.specs.Beginning.{Continues, IsLater, KeepsBeginning}
+use Rattle.core_state.specs.Chains.{OneOf, Reading, WereRead}
+use Rattle.core_state.specs.CoreValue.{CoreData, DevicesSeen}
+use Rattle.core_state.specs.IsCore.{IsCore, opening_of}
 use Rattle.core_state.specs.HostEvents.{HostTold, HostEvent, replied, marked, waits, halts, at_limit, no_memory, IsSame}
 use Rattle.core_state.specs.declared.rule.Waiting.{Waiting}
 use Rattle.core_state.specs.declared.session.Event.TheVariants.{Host}
@@ -16,7 +17,7 @@ use Rattle.core_state.specs.StopRule.{opening}
 use Rattle.core_state.proofs.EntryLemmas.{opening_same}
 use Rattle.host_events.specs.Leaves.{ChangesRequestAtMost, KeepsHistory, AddsEntry, EntersAsTold}
 use Rattle.host_events.specs.Causes.{CauseOf, CauseOfReply}
-use Rattle.mss_run.specs.Happens.{Enters, EntersStop, Happens, is_in_vain}
+use Rattle.mss_run.specs.Happens.{Enters, EntersStop, Happens, IsSameButRead, is_in_vain}
 
 -- ---- the history
 
@@ -68,6 +69,49 @@ same_then tells a b c first then_ = (
   record { told = λ t. then_.0.told t ∙ first.0.told t; unwritten = then_.0.unwritten ∙ first.0.unwritten; sound = then_.0.sound ∙ first.0.sound },
   then_.1 ∙ ap (λ (x : CoreData). record x { site = c.site }) first.1,
 )
+
+-- ---- behind a read for a copy
+
+-- what is so of a core behind a read is so of one with these devices
+pub read_at : (copies : Bool) (tells : Type 0) (core : CoreData) (P : CoreData → Type 0) → Reading copies tells core P → (site : DevicesSeen) × WereRead tells core.site site × P (record core { site = site })
+read_at false tells core P is = (core.site, record { told = λ _. refl; unwritten = refl; later = omega arith }, is)
+read_at true tells core P is = is
+
+pub read_on : (copies : Bool) (tells : Type 0) (core : CoreData) (P Q : CoreData → Type 0) → ((site : DevicesSeen) → P (record core { site = site }) → Q (record core { site = site })) → Reading copies tells core P → Reading copies tells core Q
+read_on false tells core P Q on is = on core.site is
+read_on true tells core P Q on is = (is.0, is.1, on is.0 is.2)
+
+-- what a core keeps doesn't speak of its devices
+pub core_read : (core : CoreData) (site : DevicesSeen) → IsCore core → IsCore (record core { site = site })
+core_read core site is = record {
+  places = is.places;
+  are_rows = is.are_rows;
+  used_ = is.used_;
+  hosts_ = is.hosts_;
+  requests_ = is.requests_;
+  owners_ = is.owners_;
+  moving_ = is.moving_;
+  few = is.few;
+  marked = is.marked;
+  alone = is.alone;
+  on_mounted = is.on_mounted;
+  framed = is.framed;
+  owned = is.owned;
+  waiting = is.waiting;
+  fit = is.fit;
+  beside = is.beside;
+  tasks_ = is.tasks_;
+}
+
+pub later_read : (tells : Type 0) (core core' : CoreData) (site : DevicesSeen) → WereRead tells core.site site → IsLater tells (record core { site = site }) core' → IsLater tells core core'
+later_read tells core core' site read is = record {
+  beginning = let b = is.beginning in record { config = b.config; first_write = b.first_write; first_faults = b.first_faults; handed = b.handed };
+  grown = λ tl. subst (λ (s : SiteLog). Continues s core'.site.told) (read.told tl) (is.grown tl);
+}
+
+-- nothing was done behind it, and then nothing again
+pub same_still : (copies : Bool) (tells : Type 0) (a b c : CoreData) → IsSameButRead copies tells a b → IsSame tells b c → IsSameButRead copies tells a c
+same_still copies tells a b c first then_ = read_on copies tells a (λ (read : CoreData). IsSame tells read b) (λ (read : CoreData). IsSame tells read c) (λ site same. same_then tells (record a { site = site }) b c same then_) first
 
 -- ---- the session
 

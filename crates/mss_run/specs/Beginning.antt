@@ -1,21 +1,23 @@
 -- What a session began with, and that each later moment is one of that session.
-use Rattle.std.specs.Prelude.{◌≡◌, Bool, [], None}
+use Rattle.std.specs.Prelude.{◌≡◌, Bool, [], Option, None}
 use Rattle.mss_base.specs.declared.place.UnitNo.{UnitNo}
 use Rattle.accessors.specs.Rails.{rail_start}
 use Rattle.seen_book.specs.Openings.{OpeningData}
 use Rattle.core_state.specs.Beginning.{IsLater}
 use Rattle.core_state.specs.CoreValue.{CoreData}
 use Rattle.core_state.specs.IsCore.{opening_of}
+use Rattle.volume_copy.specs.Copies.{AskedCopy}
 
 -- which units' reads may fail, where no other call of the devices does
 abbrev pub Failing : Type 1
 Failing = (UnitNo → Bool) → Type 0
 
--- what a session is made of beside its opening: the core that it began with, and what of its
--- devices may have failed then
+-- what a session is made of beside its opening: the core that it began with, what of its devices
+-- may have failed then, and which copy is asked for, if one is
 pub record SetupData : Type 1 where
   pub began : CoreData
   pub never_fails_but : Failing
+  pub copy : Option AskedCopy
 
 -- a core of nothing
 abbrev pub no_core : CoreData
@@ -45,7 +47,7 @@ no_core = record {
 
 -- a setup that tells nothing
 abbrev pub no_setup : SetupData
-no_setup = record { began = no_core; never_fails_but = λ but. ⊥ }
+no_setup = record { began = no_core; never_fails_but = λ but. ⊥; copy = None }
 
 -- the core is a later one of the session that has this opening and this setup
 pub record OpensWith (opening : OpeningData) (setup : SetupData) (tells : Type 0)

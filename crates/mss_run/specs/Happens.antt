@@ -1,9 +1,11 @@
--- What an event of a host adds to the history.
+-- What an event of a host adds to the history, and what one in vain leaves.
 use Rattle.std.specs.Prelude.{◌≡◌, ◌⊎◌, ℕ, ◌==◌, Bool, false, List, [], ◌∷◌, ◌++◌, length, Some}
 use Rattle.channel_commands.specs.Data.{CallData, ReplyData, stopped}
 use Rattle.ckd_plain.specs.History.{EntryData, IsStopped}
+use Rattle.core_state.specs.Chains.{Reading}
+use Rattle.core_state.specs.CoreValue.{CoreData}
 use Rattle.core_state.specs.declared.session.TheConstants.{ENTRY_LIMIT}
-use Rattle.core_state.specs.HostEvents.{HostTold, replied, marked, waits, halts, at_limit, no_memory}
+use Rattle.core_state.specs.HostEvents.{HostTold, replied, marked, waits, halts, at_limit, no_memory, IsSame}
 
 -- one entry was added, of this host, call and reply, at this place
 pub record Enters (host : ℕ) (call : CallData) (reply : ReplyData) (index : ℕ)
@@ -25,6 +27,10 @@ pub record EntersStop (host : ℕ) (call : CallData) (fault : ℕ) (old new : Li
 abbrev pub is_in_vain : HostTold → ℕ → ℕ → Bool
 is_in_vain (waits why) before after = after == before
 is_in_vain _ before after = false
+
+-- nothing changed, but that a read for a copy came before, if one is taken: it may have failed
+abbrev pub IsSameButRead : Bool → Type 0 → CoreData → CoreData → Type 0
+IsSameButRead copies tells core core' = Reading copies tells core (λ read. IsSame tells read core')
 
 -- a reply is the last entry; a stop may be one; at the limit there is no room; else nothing was added
 abbrev pub Happens : ℕ → CallData → HostTold → List EntryData → List EntryData → Type 0

@@ -3,6 +3,10 @@ use Rattle.std.specs.Prelude.{◌≡◌, ◌⊎◌, ℕ, Bool, true, false, repl
 use Rattle.std.specs.List.{list_any}
 use Rattle.core_state.specs.declared.rule.WorkAnswer.{WorkAnswer}
 use Rattle.core_state.specs.declared.rule.WorkAnswer.TheVariants.{Idle}
+use Rattle.volume_copy.specs.declared.copier.CopyState.{CopyState}
+use Rattle.volume_copy.specs.declared.copier.CopyState.TheVariants.{Armed, Taking}
+use Rattle.mss_run.specs.declared.held.CopyTurn.{CopyTurn}
+use Rattle.mss_run.specs.declared.held.CopyTurn.TheVariants as turn
 use Rattle.mss_run.specs.declared.present.Presence.{Presence}
 
 -- before any actor is in
@@ -37,3 +41,14 @@ Turns recorder old None new =
 Turns recorder old (Some Idle) new =
     (old.ended ≡ false) × (has_hosts old ≡ true) × (new ≡ old)
 Turns recorder old (Some answer) new = (old.ended ≡ false) × (new ≡ old)
+
+-- A copier's turn: it goes on only while the run does and some host is in, and waits only where its
+-- copy hasn't begun. It is told to leave only where the run is over, no host is in, nothing is left
+-- to take, or memory is wanting.
+abbrev pub CopyTurns : Presence → CopyTurn → Option CopyState → Type 0
+CopyTurns p turn.Took copy = (p.ended ≡ false) × (has_hosts p ≡ true) × (copy ≡ Some Taking)
+CopyTurns p turn.Waits copy = (p.ended ≡ false) × (has_hosts p ≡ true) × (copy ≡ Some Armed)
+CopyTurns p turn.Leaves copy =
+    (p.ended ≡ true)
+    ⊎ ((has_hosts p ≡ false) ⊎ ((copy ≡ Some Armed → ⊥) × (copy ≡ Some Taking → ⊥)))
+CopyTurns p turn.Lacks copy = Unit {0}

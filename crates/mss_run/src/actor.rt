@@ -11,18 +11,22 @@ use victim_choice::Choose;
 pub enum Actor {
     Host(HostNo),
     Recorder(RecorderNo),
+    /// Who takes a copy of a volume, where one is asked for.
+    Copier,
 }
 
 /// Where an actor is when it passes a gate.
 #[derive(Clone, Copy)]
 pub enum Point {
-    /// Before it is counted in.
+    /// Before it is counted in, or before a copier's first take.
     Enter,
     /// After an event of this host's own call that was replied or marked.
     Host(HostNo),
     /// After a work event that did something, by whichever actor did it.
     Work(WorkKind),
-    /// After it was counted out.
+    /// After a track that the copier took, where others are left.
+    Take,
+    /// After it was counted out, or after a copier's last take.
     Leave,
 }
 

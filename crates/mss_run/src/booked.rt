@@ -1,5 +1,6 @@
-// A core with the book of its history.
-ghost use Rattle.std.specs.Prelude.{◌≡◌, ◌≤◌, ◌<◌, length, slice_get, true, Some};
+// A core, a copier beside it, and the book of its history.
+ghost use Rattle.std.specs.Prelude.{◌≡◌, ◌≤◌, ◌<◌, IfOk, IfSome, is_some, length, slice_get, true, Some};
+ghost use Rattle.std.specs.Option.{option_map};
 ghost use Rattle.channel_commands.specs.Views.{call_of};
 ghost use Rattle.seen_book.specs.Openings.{IsLegalFrom};
 ghost use Rattle.host_events.specs.Answers.{told_of};
@@ -7,39 +8,42 @@ ghost use Rattle.core_state.specs.CoreValue.{seen};
 ghost use Rattle.core_state.specs.HostEvents.{IsSame};
 ghost use Rattle.core_state.specs.declared.rule.WorkAnswer.TheVariants.{Idle};
 ghost use Rattle.core_state.specs.declared.session.TheConstants.{ENTRY_LIMIT};
+ghost use Rattle.volume_copy.specs.Beside.{IsReadyFor, ReadsBeside, StandsBeside, asked};
 ghost use Rattle.mss_run.specs.Answers.{Answered};
 ghost use Rattle.mss_run.specs.Beginning.{OpensWith};
-ghost use Rattle.mss_run.specs.Happens.{Happens};
+ghost use Rattle.mss_run.specs.Happens.{Happens, IsSameButRead};
 
-use crate::event::{entries_of, host_step, work_step};
+use crate::event::{entries_beside, host_step, work_step};
 use crate::setup::Setup;
 use channel_commands::Call;
 use ckd_plain::Entry;
 use core_state::{Core, WorkAnswer};
 use host_events::HostAnswer;
-use mss_base::{RecorderNo, Site};
+use mss_base::{NoMemory, RecorderNo, Site};
 use seen_book::{Book, HostPass, Name, Word, append, see};
 use std::marker::Model;
 use victim_choice::Choose;
+use volume_copy::{CopiedCore, Copier, CopyState};
 
-/// A core, and the book of its history, which is out only within an event.
+/// A core with the copier beside it, and the book of its history, which is out only within an event.
 #[derive(Drop)]
 pub(crate) struct BookedCore<N: Setup, S: Site, C: Choose> {
-    core: Core<S, C>,
+    copied: CopiedCore<S, C>,
     book: Option<Book<N>>,
 }
 
 impl<N: Setup, S: Site, C: Choose> Model for BookedCore<N, S, C> {
-    ghost use Rattle.core_state.specs.CoreValue.{CoreValue, seen};
+    ghost use Rattle.core_state.specs.CoreValue.{seen};
+    ghost use Rattle.volume_copy.specs.Beside.{CopiedValue};
     ghost use Rattle.mss_run.specs.Held.{IsHeld};
 
-    ghost Value = { CoreValue S C };
+    ghost Value = { CopiedValue S C };
 
-    ghost view = { λ b. b.core };
+    ghost view = { λ b. b.copied };
 
     ghost invariant = { λ b.
-        IsHeld N.opening N.setup S.tells (S.never_fails_but b.core.site)
-        (seen S.Site b.core) b.book };
+        IsHeld N.opening N.setup S.tells (S.never_fails_but b.copied.core.site)
+        (seen S.Site b.copied.core) b.copied.copier b.book };
 }
 
 /// The entry at a place.
@@ -85,34 +89,39 @@ fn told<N: Name>(
 }
 
 impl<N: Setup, S: Site, C: Choose> BookedCore<N, S, C> {
-    /// A core of the session that the name names, with its book.
-    pub fn new(core: Core<S, C>, book: Book<N>) -> Self
+    /// A core of the session that the name names, with its book and the copier that is asked for.
+    pub fn new(core: Core<S, C>, copier: Option<Copier>, book: Book<N>) -> Self
         requires opening { OpensWith N.opening N.setup S.tells (S.never_fails_but core.site)
             (seen S.Site core) }
         requires history { book.list ≡ core.history }
+        requires ready { IfSome copier (IsReadyFor core.history) }
+        requires copy { asked copier ≡ N.setup.copy }
     {
         BookedCore {
-            core,
+            copied: CopiedCore::new(core, copier),
             book: Some(book),
         }
     }
 
-    /// The core and the book.
-    pub fn into_parts(self) -> (Core<S, C>, Book<N>)
+    /// The core, the copier and the book.
+    pub fn into_parts(self) -> (Core<S, C>, Option<Copier>, Book<N>)
         ensures opening { OpensWith N.opening N.setup S.tells
             (S.never_fails_but result.0.site) (seen S.Site result.0) }
-        ensures history { result.1.list ≡ result.0.history }
+        ensures history { result.2.list ≡ result.0.history }
+        ensures copy { asked result.1 ≡ N.setup.copy }
+        ensures stands { IfSome result.1 (StandsBeside S.Site result.0) }
     {
-        let BookedCore { core, book } = self;
+        let BookedCore { copied, book } = self;
         let Some(book) = book else { unreachable!() };
-        (core, book)
+        let (core, copier) = copied.into_parts();
+        (core, copier, book)
     }
 
     /// How many recorders are configured.
     pub fn recorders(&self) -> u8
-        ensures { result ≡ self.now.config.recorders }
+        ensures { result ≡ self.now.core.config.recorders }
     {
-        self.core.recorder_count()
+        self.copied.core().recorder_count()
     }
 
     /// One event of the pass's host, of which the book and the pass are told; and whether it is a wait that changed
@@ -124,17 +133,18 @@ impl<N: Setup, S: Site, C: Choose> BookedCore<N, S, C> {
         call: &Call,
     ) -> (HostPass<N>, HostAnswer, bool)
         ensures answered { Answered (call_of call.now) pass (told_of result.1) result.0 }
-        ensures in_vain { result.2 ≡ true → IsSame S.tells
-            (seen S.Site self.old) (seen S.Site self.new) }
+        ensures in_vain { result.2 ≡ true → IsSameButRead (is_some (asked self.old.copier)) S.tells
+            (seen S.Site self.old.core) (seen S.Site self.new.core) }
+        ensures copier { asked self.new.copier ≡ asked self.old.copier }
     {
         let host = pass.host();
-        let before = entries_of(&self.core);
-        let (answer, in_vain) = host_step(&mut self.core, host, call);
-        let _after = entries_of(&self.core);
+        let before = entries_beside(&self.copied);
+        let (answer, in_vain) = host_step(&mut self.copied, host, call);
+        let _after = entries_beside(&self.copied);
         let Some(book) = self.book.take() else {
             unreachable!()
         };
-        let history = self.core.history().as_slice();
+        let history = self.copied.core().history().as_slice();
         let (book, pass) = told(word, book, pass, call, &answer, history, before);
         self.book = Some(book);
         (pass, answer, in_vain)
@@ -143,12 +153,25 @@ impl<N: Setup, S: Site, C: Choose> BookedCore<N, S, C> {
     /// One event of a recorder; none of one that isn't configured. An idle one changes nothing.
     pub fn work(&mut self, recorder: RecorderNo) -> WorkAnswer
         ensures idle { result ≡ Idle → IsSame S.tells
-            (seen S.Site self.old) (seen S.Site self.new) }
+            (seen S.Site self.old.core) (seen S.Site self.new.core) }
+        ensures copier { asked self.new.copier ≡ asked self.old.copier }
     {
-        if recorder.get() >= self.core.recorder_count() {
+        if recorder.get() >= self.recorders() {
             return WorkAnswer::Idle;
         }
-        let _before = entries_of(&self.core);
-        work_step(&mut self.core, recorder)
+        let _before = entries_beside(&self.copied);
+        work_step(&mut self.copied, recorder)
+    }
+
+    /// Takes the next track for the copy, if there is one, and tells how far it is then.
+    pub fn take(&mut self) -> Result<Option<CopyState>, NoMemory>
+        ensures core { ReadsBeside S.Site (is_some (asked self.old.copier))
+            self.old.core self.new.core }
+        ensures copier { asked self.new.copier ≡ asked self.old.copier }
+        ensures state { IfOk result (λ state.
+            state ≡ option_map (λ c. c.state) self.new.copier) }
+    {
+        let _before = entries_beside(&self.copied);
+        self.copied.take()
     }
 }

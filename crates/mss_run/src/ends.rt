@@ -3,6 +3,7 @@ use core_state::Core;
 use mss_base::{HostNo, Listed, Site};
 use std::marker::Model;
 use victim_choice::Choose;
+use volume_copy::Copier;
 
 /// Places in a history, in rising order.
 pub type Places = Listed<u64>;
@@ -44,6 +45,8 @@ pub enum RunAnswer {
 #[derive(Drop)]
 pub struct RunEnd<S: Site, C: Choose> {
     pub core: Core<S, C>,
+    /// The copier, if a copy of a volume is asked for.
+    pub copier: Option<Copier>,
     pub hosts: HostEnds,
     pub answer: RunAnswer,
 }

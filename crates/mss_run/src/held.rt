@@ -1,13 +1,24 @@
 // What the lock keeps, and what an actor does in one hold of it.
-ghost use Rattle.std.specs.Prelude.{◌≡◌, None, Some, false, true};
+ghost use Rattle.std.specs.Prelude.{◌≡◌, IfSome, None, Some, false, is_some, true};
+ghost use Rattle.std.specs.Option.{option_map};
 ghost use Rattle.channel_commands.specs.Views.{call_of};
 ghost use Rattle.core_state.specs.CoreValue.{seen};
 ghost use Rattle.core_state.specs.HostEvents.{IsSame};
 ghost use Rattle.core_state.specs.declared.rule.WorkAnswer.TheVariants.{Idle};
 ghost use Rattle.host_events.specs.Answers.{told_of};
+ghost use Rattle.volume_copy.specs.Beside.{IsReadyFor, ReadsBeside, StandsBeside, asked};
 ghost use Rattle.mss_run.specs.Answers.{Answered, Stepped};
 ghost use Rattle.mss_run.specs.Beginning.{OpensWith};
-ghost use Rattle.mss_run.specs.Presence.{IsRest, Turns, ended, nobody, with_host, with_worker};
+ghost use Rattle.mss_run.specs.Happens.{IsSameButRead};
+ghost use Rattle.mss_run.specs.Presence.{
+  CopyTurns,
+  IsRest,
+  Turns,
+  ended,
+  nobody,
+  with_host,
+  with_worker,
+};
 
 use crate::booked::BookedCore;
 use crate::present::Presence;
@@ -18,6 +29,7 @@ use host_events::HostAnswer;
 use mss_base::{HostNo, RecorderNo, Site};
 use seen_book::{Book, HostPass, Word};
 use victim_choice::Choose;
+use volume_copy::{Copier, CopyState};
 
 /// What the lock keeps: the session, and who is in.
 #[derive(Drop)]
@@ -26,26 +38,43 @@ pub(crate) struct Held<N: Setup, S: Site, C: Choose> {
     present: Presence,
 }
 
+/// What a copier does next, by what came of its hold.
+#[derive(Clone, Copy)]
+pub(crate) enum CopyTurn {
+    /// It took a track, and others are left.
+    Took,
+    /// Its copy hasn't begun yet.
+    Waits,
+    /// No track is left to take, or the run doesn't go on with a host in.
+    Leaves,
+    /// Memory is wanting.
+    Lacks,
+}
+
 /// What one hold of an actor does: an event, or it counts, or it ends the run.
 impl<N: Setup, S: Site, C: Choose> Held<N, S, C> {
     /// Before any actor is in.
-    pub fn new(core: Core<S, C>, book: Book<N>) -> Self
+    pub fn new(core: Core<S, C>, copier: Option<Copier>, book: Book<N>) -> Self
         requires opening { OpensWith N.opening N.setup S.tells (S.never_fails_but core.site)
             (seen S.Site core) }
         requires history { book.list ≡ core.history }
+        requires ready { IfSome copier (IsReadyFor core.history) }
+        requires copy { asked copier ≡ N.setup.copy }
         ensures { result.present ≡ nobody }
     {
         Held {
-            session: BookedCore::new(core, book),
+            session: BookedCore::new(core, copier, book),
             present: Presence::nobody(),
         }
     }
 
-    /// The core and the book, when the lock is gone.
-    pub fn into_parts(self) -> (Core<S, C>, Book<N>)
+    /// The core, the copier and the book, when the lock is gone.
+    pub fn into_parts(self) -> (Core<S, C>, Option<Copier>, Book<N>)
         ensures opening { OpensWith N.opening N.setup S.tells
             (S.never_fails_but result.0.site) (seen S.Site result.0) }
-        ensures history { result.1.list ≡ result.0.history }
+        ensures history { result.2.list ≡ result.0.history }
+        ensures copy { asked result.1 ≡ N.setup.copy }
+        ensures stands { IfSome result.1 (StandsBeside S.Site result.0) }
     {
         let Held { session, .. } = self;
         session.into_parts()
@@ -85,8 +114,9 @@ impl<N: Setup, S: Site, C: Choose> Held<N, S, C> {
         ensures present { self.new.present ≡ self.old.present }
         ensures over { self.old.present.ended ≡ true
             → (result.1 ≡ None) × (self.new.session ≡ self.old.session) }
-        ensures idle { result.2 ≡ Some Idle → IsSame S.tells (seen S.Site self.old.session)
-            (seen S.Site self.new.session) }
+        ensures idle { result.2 ≡ Some Idle
+            → IsSameButRead (is_some (asked self.old.session.copier)) S.tells
+            (seen S.Site self.old.session.core) (seen S.Site self.new.session.core) }
     {
         if self.present.is_over() {
             return (pass, None, None);
@@ -102,8 +132,8 @@ impl<N: Setup, S: Site, C: Choose> Held<N, S, C> {
     /// One event of the first recorder that has one and whose own worker isn't in.
     fn help(&mut self) -> WorkAnswer
         ensures present { self.new.present ≡ self.old.present }
-        ensures idle { result ≡ Idle → IsSame S.tells (seen S.Site self.old.session)
-            (seen S.Site self.new.session) }
+        ensures idle { result ≡ Idle → IsSame S.tells (seen S.Site self.old.session.core)
+            (seen S.Site self.new.session.core) }
     {
         for number in 0..self.session.recorders() {
             let Some(recorder) = RecorderNo::of(number) else {
@@ -125,8 +155,8 @@ impl<N: Setup, S: Site, C: Choose> Held<N, S, C> {
     pub fn turn(&mut self, recorder: RecorderNo) -> Option<WorkAnswer>
         ensures turns { Turns recorder self.old.present result self.new.present }
         ensures over { self.old.present.ended ≡ true → self.new.session ≡ self.old.session }
-        ensures idle { IsRest result → IsSame S.tells (seen S.Site self.old.session)
-            (seen S.Site self.new.session) }
+        ensures idle { IsRest result → IsSame S.tells (seen S.Site self.old.session.core)
+            (seen S.Site self.new.session.core) }
     {
         if self.present.is_over() {
             self.present.set_worker(recorder, false);
@@ -141,6 +171,27 @@ impl<N: Setup, S: Site, C: Choose> Held<N, S, C> {
                 None
             }
             answer => Some(answer),
+        }
+    }
+
+    /// Takes the next track for the copy, while the run goes on and some host is in. It is counted nowhere, so it keeps
+    /// nobody in.
+    pub fn take(&mut self) -> CopyTurn
+        ensures turns { CopyTurns self.old.present result
+            (option_map (λ c. c.state) self.new.session.copier) }
+        ensures present { self.new.present ≡ self.old.present }
+        ensures core { ReadsBeside S.Site (is_some (asked self.old.session.copier))
+            self.old.session.core self.new.session.core }
+        ensures over { self.old.present.ended ≡ true → self.new.session ≡ self.old.session }
+    {
+        if self.present.is_over() || !self.present.has_hosts() {
+            return CopyTurn::Leaves;
+        }
+        match self.session.take() {
+            Ok(Some(CopyState::Taking)) => CopyTurn::Took,
+            Ok(Some(CopyState::Armed)) => CopyTurn::Waits,
+            Ok(_) => CopyTurn::Leaves,
+            Err(_) => CopyTurn::Lacks,
         }
     }
 

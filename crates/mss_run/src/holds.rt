@@ -5,12 +5,19 @@
 // nobody sleeps who would find something. Who comes in wakes nobody, since a host that is in only keeps workers from
 // leaving, and a worker takes over what hosts that wait would do. `command` and `work` wake nobody either: no actor
 // shares a core with their callers.
+//
+// A copier finds something as soon as its copy has begun, and has to leave when the last host does, or when the run
+// ends. A copy begins behind an entry, and each hold that adds one is an event, so each of these holds wakes it. Its
+// own takes wake nobody: a read of the devices gives no host and no worker anything to do. A host that waits may have had
+// a track taken before its call, and sleeps all the same: a copier that has begun doesn't sleep. Nor does the copier's
+// leave wake anybody, since nobody waits for it: it isn't counted in.
 ghost use Rattle.std.specs.Prelude.{◌≡◌, Some};
 ghost use Rattle.channel_commands.specs.Views.{call_of};
 ghost use Rattle.core_state.specs.declared.rule.WorkAnswer.TheVariants.{Idle};
 ghost use Rattle.mss_run.specs.Answers.{Stepped};
+ghost use Rattle.mss_run.specs.declared.held.CopyTurn.TheVariants.{Waits};
 
-use crate::held::Held;
+use crate::held::{CopyTurn, Held};
 use crate::setup::Setup;
 use crate::shared::Shared;
 use channel_commands::Call;
@@ -28,6 +35,16 @@ impl<N: Setup, S: Site, C: Choose> Shared<N, S, C> {
     {
         // The clause speaks of it; no code does.
         let _ = found;
+        let held = self.changed.wait(rt, held);
+        drop(held);
+    }
+
+    /// The same for a copier, whose copy hasn't begun.
+    fn sleep_copier<R: Wait>(&self, rt: &R, held: MutexGuard<'_, Held<N, S, C>>, turn: CopyTurn)
+        requires { turn ≡ Waits }
+    {
+        // The clause speaks of it; no code does.
+        let _ = turn;
         let held = self.changed.wait(rt, held);
         drop(held);
     }
@@ -65,6 +82,17 @@ impl<N: Setup, S: Site, C: Choose> Shared<N, S, C> {
             _ => self.wake(held),
         }
         answer
+    }
+
+    /// A copier whose copy hasn't begun has slept.
+    pub(crate) fn take<R: Wait>(&self, rt: &R) -> CopyTurn {
+        let mut held = self.held.lock(rt);
+        let turn = held.take();
+        match turn {
+            CopyTurn::Waits => self.sleep_copier(rt, held, turn),
+            CopyTurn::Took | CopyTurn::Leaves | CopyTurn::Lacks => drop(held),
+        }
+        turn
     }
 
     pub(crate) fn enter_host<R: Wait>(&self, rt: &R, host: HostNo) {

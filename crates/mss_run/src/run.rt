@@ -1,5 +1,5 @@
 // The actors of a job, each in a thread of its own.
-ghost use Rattle.std.specs.Prelude.{◌≡◌, ◌≤◌, ◌+◌, ◌++◌, ◌∷◌, [], Bool, IfOk, None, length, nat_eq};
+ghost use Rattle.std.specs.Prelude.{◌≡◌, ◌≤◌, ◌+◌, ◌++◌, ◌∷◌, [], Bool, IfOk, IfSome, None, length, nat_eq};
 ghost use Rattle.std.specs.List.{IsDistinct, list_all};
 ghost use Rattle.std.specs.Thread.{IsSend, IsSync};
 ghost use Rattle.mss_base.specs.Sound.{StaysSound};
@@ -9,6 +9,7 @@ ghost use Rattle.seen_book.specs.Books.{AreOfThese};
 ghost use Rattle.core_state.specs.Beginning.{IsLater};
 ghost use Rattle.core_state.specs.CoreValue.{seen};
 ghost use Rattle.core_state.specs.IsCore.{opening_of};
+ghost use Rattle.volume_copy.specs.Beside.{IsReadyFor, StandsBeside, asked};
 ghost use Rattle.mss_run.specs.Beginning.{OpensWith};
 ghost use Rattle.mss_run.specs.Runs.{
   AreRuns,
@@ -37,6 +38,7 @@ use std::marker::Brand;
 use std::sync::Wait;
 use std::thread::{Threads, join};
 use victim_choice::Choose;
+use volume_copy::{CopiedCore, Copier};
 
 impl<N: Setup, S: Site, C: Choose, G: Gate, R: Wait> Run<'_, N, S, C, G, R> {
     /// A host as an actor: it is counted in, makes the calls of its script, and is counted out.
@@ -172,7 +174,22 @@ impl<
         );
     }
 
-    /// Hosts and recorders side by side.
+    /// The recorders, and beside them the copier, where a copy is asked for.
+    fn run_others(&self, recorders: u8) {
+        if !self.shared.copies() {
+            return self.run_workers(recorders);
+        }
+        join(
+            self.rt,
+            || self.copy(),
+            ||
+                requires { IsSync R.row × IsSend N.row × IsSync N.row × IsSend S.row × IsSend C.row
+                    × IsSync G.row }
+            { self.run_workers(recorders) },
+        );
+    }
+
+    /// Hosts and recorders side by side, and the copier, where a copy is asked for.
     fn run_all(
         &self,
         scripts: &[HostScript],
@@ -196,7 +213,7 @@ impl<
             ||
                 requires { IsSync R.row × IsSend N.row × IsSync N.row × IsSend S.row × IsSend C.row
                     × IsSync G.row }
-            { self.run_workers(recorders) },
+            { self.run_others(recorders) },
         );
         ended
     }
@@ -276,17 +293,27 @@ fn supplies_for<N: Name>(alloc: Global, blank: Blank, hosts: usize) -> Result<Su
     })
 }
 
-/// The core as it is, in which no call was made, without the end of any host.
-fn without_ends<S: Site, C: Choose>(alloc: Global, core: Core<S, C>, job: &Job) -> RunEnd<S, C>
+/// The core as it is, in which no call was made, and the copier, without the end of any host.
+fn without_ends<S: Site, C: Choose>(
+    alloc: Global,
+    core: Core<S, C>,
+    job: &Job,
+    copier: Option<Copier>,
+) -> RunEnd<S, C>
     requires empty { core.history ≡ [] }
-    ensures { LeavesRun S.Site job.now core result.core result.hosts.items result.answer }
+    requires ready { IfSome copier (IsReadyFor core.history) }
+    ensures leaves { LeavesRun S.Site job.now core result.core result.hosts.items result.answer }
+    ensures copier { asked result.copier ≡ asked copier }
+    ensures stands { IfSome result.copier (StandsBeside S.Site result.core) }
 {
     let scripts = job.hosts.as_slice();
     let ends = HostEnds::new(alloc);
     let none = ends.as_slice();
     let answer = answer_of(&core, scripts.len(), none);
+    let (core, copier) = CopiedCore::new(core, copier).into_parts();
     RunEnd {
         core,
+        copier,
         hosts: ends,
         answer,
     }
@@ -299,7 +326,15 @@ fn run_named<
     C: Choose + Send,
     G: Gate + Sync,
     R: Threads + Wait + Sync,
->(rt: &R, alloc: Global, blank: Blank, core: Core<S, C>, job: &Job, gate: &G) -> RunEnd<S, C>
+>(
+    rt: &R,
+    alloc: Global,
+    blank: Blank,
+    core: Core<S, C>,
+    job: &Job,
+    gate: &G,
+    copier: Option<Copier>,
+) -> RunEnd<S, C>
     requires word { blank ≡ N.table }
     requires opening { OpensWith N.opening N.setup S.tells (S.never_fails_but core.site)
         (seen S.Site core) }
@@ -308,13 +343,17 @@ fn run_named<
         → S.never_fails_but core.site but → N.setup.never_fails_but but }
     requires hosts { N.hosts ≡ hosts_of job.now.hosts }
     requires empty { core.history ≡ [] }
-    ensures { LeavesRun S.Site job.now core result.core result.hosts.items result.answer }
+    requires ready { IfSome copier (IsReadyFor core.history) }
+    requires copy { asked copier ≡ N.setup.copy }
+    ensures leaves { LeavesRun S.Site job.now core result.core result.hosts.items result.answer }
+    ensures copier { asked result.copier ≡ asked copier }
+    ensures stands { IfSome result.copier (StandsBeside S.Site result.core) }
 {
     let hosts = job.hosts.as_slice().len();
     let Ok(taken) = supplies_for::<N>(alloc, blank, hosts) else {
-        return without_ends(alloc, core, job);
+        return without_ends(alloc, core, job, copier);
     };
-    run_supplied(rt, alloc, taken, core, job, gate)
+    run_supplied(rt, alloc, taken, core, job, gate, copier)
 }
 
 /// Runs a job under such a name, with the lists that the run fills.
@@ -324,7 +363,15 @@ fn run_supplied<
     C: Choose + Send,
     G: Gate + Sync,
     R: Threads + Wait + Sync,
->(rt: &R, alloc: Global, taken: Supplies<N>, core: Core<S, C>, job: &Job, gate: &G) -> RunEnd<S, C>
+>(
+    rt: &R,
+    alloc: Global,
+    taken: Supplies<N>,
+    core: Core<S, C>,
+    job: &Job,
+    gate: &G,
+    copier: Option<Copier>,
+) -> RunEnd<S, C>
     requires word { taken.blank ≡ N.table }
     requires passes { IsEmptyFor (length job.now.hosts) taken.passes }
     requires ends { IsEmptyFor (length job.now.hosts) taken.ends }
@@ -335,7 +382,11 @@ fn run_supplied<
         → S.never_fails_but core.site but → N.setup.never_fails_but but }
     requires hosts { N.hosts ≡ hosts_of job.now.hosts }
     requires empty { core.history ≡ [] }
-    ensures { LeavesRun S.Site job.now core result.core result.hosts.items result.answer }
+    requires ready { IfSome copier (IsReadyFor core.history) }
+    requires copy { asked copier ≡ N.setup.copy }
+    ensures leaves { LeavesRun S.Site job.now core result.core result.hosts.items result.answer }
+    ensures copier { asked result.copier ≡ asked copier }
+    ensures stands { IfSome result.copier (StandsBeside S.Site result.core) }
 {
     let Supplies {
         blank,
@@ -345,7 +396,7 @@ fn run_supplied<
     let scripts = job.hosts.as_slice();
     let (word, book) = start_book::<N>(blank);
     let (book, passes) = make_passes(&word, book, scripts, passes);
-    let shared = Shared::new(word, book, core);
+    let shared = Shared::new(word, book, core, copier);
     let run = Run {
         rt,
         alloc,
@@ -353,10 +404,11 @@ fn run_supplied<
         gate,
     };
     let (passes, ends) = run.run_all(scripts, passes, ends);
-    let core = shared.close(passes);
+    let (core, copier) = shared.close(passes);
     let answer = answer_of(&core, scripts.len(), ends.as_slice());
     RunEnd {
         core,
+        copier,
         hosts: ends,
         answer,
     }
@@ -371,14 +423,19 @@ fn run_supplied<
 /// there is none, and no entry. Each entry is a call of its host's script, in order, also one that stopped the core. All
 /// memory that is common to them is taken before the first actor starts. Where nothing but reads can fail, the core isn't
 /// stopped.
+///
+/// Where a copier is handed in, it is an actor too, and comes back for the same copy, which stands for the session. Its
+/// copy isn't whole where the others left first, or where memory was wanting: `finish` takes the rest.
 pub fn run_actors<S: Site + Send, C: Choose + Send, G: Gate + Sync, R: Threads + Wait + Sync>(
     rt: &R,
     alloc: Global,
     core: Core<S, C>,
     job: &Job,
     gate: &G,
+    copier: Option<Copier>,
 ) -> RunEnd<S, C>
     requires empty { core.history ≡ [] }
+    requires ready { IfSome copier (IsReadyFor core.history) }
     requires config { core.config ≡ job.now.config }
     ensures later { IsLater S.tells (seen S.Site core) (seen S.Site result.core) }
     ensures sound { StaysSound S.never_fails_but core.site result.core.site }
@@ -390,9 +447,11 @@ pub fn run_actors<S: Site + Send, C: Choose + Send, G: Gate + Sync, R: Threads +
     ensures follow { AskByScript result.core.history job.now.hosts }
     ensures answer { result.answer ≡ run_answer result.core.stopped (length result.core.history)
         (length job.now.hosts) result.hosts.items }
+    ensures copier { asked result.copier ≡ asked copier }
+    ensures stands { IfSome result.copier (StandsBeside S.Site result.core) }
 {
     let Ok(blank) = make::<Brand>(alloc) else {
-        return without_ends(alloc, core, job);
+        return without_ends(alloc, core, job, copier);
     };
-    run_named::<Brand, S, C, G, R>(rt, alloc, blank, core, job, gate)
+    run_named::<Brand, S, C, G, R>(rt, alloc, blank, core, job, gate, copier)
 }

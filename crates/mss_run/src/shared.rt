@@ -1,11 +1,12 @@
 // The core under one lock.
-ghost use Rattle.std.specs.Prelude.{◌≡◌, ◌≤◌, All, length};
+ghost use Rattle.std.specs.Prelude.{◌≡◌, ◌≤◌, All, IfSome, length};
 ghost use Rattle.channel_commands.specs.Views.{call_of};
 ghost use Rattle.seen_book.specs.Books.{AreNested, AreOfThese, Begins, HaveOneEach};
 ghost use Rattle.seen_book.specs.Openings.{IsLegalFrom};
 ghost use Rattle.core_state.specs.CoreValue.{seen};
 ghost use Rattle.core_state.specs.declared.session.TheConstants.{ENTRY_LIMIT};
 ghost use Rattle.host_events.specs.Answers.{told_of};
+ghost use Rattle.volume_copy.specs.Beside.{IsReadyFor, StandsBeside, asked};
 ghost use Rattle.mss_run.specs.Answers.{Answered};
 ghost use Rattle.mss_run.specs.Beginning.{OpensWith};
 
@@ -19,6 +20,7 @@ use mss_base::{RecorderNo, Site};
 use seen_book::{Book, HostPass, PassList, Word, close};
 use std::sync::{Condvar, Mutex, Wait};
 use victim_choice::Choose;
+use volume_copy::Copier;
 
 /// A core that hosts and recorders share. Each call does what it does in one hold of the one lock.
 #[derive(Drop)]
@@ -28,21 +30,27 @@ pub struct Shared<N: Setup, S: Site, C: Choose> {
     /// Where actors that find nothing to do sleep.
     pub(crate) changed: Condvar,
     recorders: u8,
+    copies: bool,
 }
 
 impl<N: Setup, S: Site, C: Choose> Shared<N, S, C> {
-    /// Puts a core under a lock, with the book of its history. The name names the core's session.
-    pub fn new(word: Word<N>, book: Book<N>, core: Core<S, C>) -> Self
+    /// Puts a core under a lock, with the book of its history, and with a copier, if a copy is asked for. The name names
+    /// the core's session and the copy.
+    pub fn new(word: Word<N>, book: Book<N>, core: Core<S, C>, copier: Option<Copier>) -> Self
         requires opening { OpensWith N.opening N.setup S.tells (S.never_fails_but core.site)
             (seen S.Site core) }
         requires history { book.list ≡ core.history }
+        requires ready { IfSome copier (IsReadyFor core.history) }
+        requires copy { asked copier ≡ N.setup.copy }
     {
         let recorders = core.recorder_count();
+        let copies = copier.is_some();
         Shared {
             word,
-            held: Mutex::new(Held::new(core, book)),
+            held: Mutex::new(Held::new(core, copier, book)),
             changed: Condvar::new(),
             recorders,
+            copies,
         }
     }
 
@@ -72,24 +80,32 @@ impl<N: Setup, S: Site, C: Choose> Shared<N, S, C> {
         self.recorders
     }
 
-    /// The core, whose session is the one that the name names.
+    /// Whether a copy is asked for.
+    pub(crate) fn copies(&self) -> bool {
+        self.copies
+    }
+
+    /// The core, whose session is the one that the name names, and the copier of the copy that it names, which stands for
+    /// that session.
     ///
     /// Its history is legal, and each entry is of a host of the name's list. Each pass that is handed in has seen a
     /// beginning of it, and has all entries of its host there. A pass that isn't handed in is given up.
-    pub fn close(self, passes: PassList<N>) -> Core<S, C>
+    pub fn close(self, passes: PassList<N>) -> (Core<S, C>, Option<Copier>)
         ensures opening { OpensWith N.opening N.setup S.tells
-            (S.never_fails_but result.site) (seen S.Site result) }
-        ensures legal { IsLegalFrom N.opening result.history }
-        ensures few { length result.history ≤ ENTRY_LIMIT }
-        ensures hosts { AreOfThese N.hosts result.history }
-        ensures passes { All (Begins result.history) passes.items }
+            (S.never_fails_but result.0.site) (seen S.Site result.0) }
+        ensures legal { IsLegalFrom N.opening result.0.history }
+        ensures few { length result.0.history ≤ ENTRY_LIMIT }
+        ensures hosts { AreOfThese N.hosts result.0.history }
+        ensures passes { All (Begins result.0.history) passes.items }
         ensures nested { AreNested passes.items }
         ensures one_each { HaveOneEach passes.items }
+        ensures copy { asked result.1 ≡ N.setup.copy }
+        ensures stands { IfSome result.1 (StandsBeside S.Site result.0) }
     {
         let Shared { word, held, .. } = self;
-        let (core, book) = held.into_inner().into_parts();
+        let (core, copier, book) = held.into_inner().into_parts();
         let _entries = entries_of(&core);
         close(word, book, passes);
-        core
+        (core, copier)
     }
 }

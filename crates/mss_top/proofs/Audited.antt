@@ -11,10 +11,9 @@ use Rattle.mss_audit.specs.declared.finding.Finding.{Finding}
 use Rattle.session_report.specs.Parties.{Stream}
 use Rattle.job_runs.specs.Parties.{Devices}
 use Rattle.mss_top.specs.Admission.{Asks}
-use Rattle.mss_top.specs.Auditing.{Answered, Audits, AuditsWell, EndsAudit, IsAudit, IsUnaudited, IsWrongPut, all_wrong, answer_status, answer_text}
+use Rattle.mss_top.specs.Auditing.{Answered, Audits, AuditsWell, EndsAudit, IsAudit, IsUnaudited, IsWrongPut, answer_status, answer_text}
 use Rattle.mss_top.specs.Status.{IsLinePut, IsTextPut, whole, broken}
 use Rattle.mss_top.specs.declared.status.Status.{Status}
-use Rattle.mss_top.specs.declared.status.Status.TheVariants as status
 use Rattle.mss_top.proofs.Looked.{none_rises}
 
 -- words that ask for none

@@ -19,7 +19,9 @@ use Rattle.core_state.specs.SessionData.{SessionData}
 use Rattle.core_state.specs.Sessions.{session_data}
 use Rattle.core_state.specs.declared.session.Session.{Session}
 use Rattle.command_words.specs.declared.command.Command.{Command}
+use Rattle.command_words.specs.declared.command.CopyAsked.{CopyAsked}
 use Rattle.job_text.specs.Jobs.{JobData}
+use Rattle.job_runs.specs.Copies.{JobAsked}
 use Rattle.job_runs.specs.Parties.{Devices, devices}
 use Rattle.job_runs.specs.Runs.{IsHalted, IsSummed, LoadEnds, OnUnread, ReportBrokeOff}
 use Rattle.job_runs.specs.declared.run.Outcome.{Outcome}
@@ -104,9 +106,9 @@ load_unread may job programs turns site sink P (outcome.Untaken why) is = tt
 load_unread may job programs turns site sink P (outcome.Ran session end answer) is = summed_unread (P (session_data session)) programs (session_data session) end sink answer is.summed
 
 -- how a session ended that was told
-pub halts_of : (may : Chooses) (load : Option ℕ) (job : JobData) (turns : List ℕ) (site : Devices) (sink : Stream) (end : DriveAnswer) (answer : Answer) (s : SessionData) → IsToldOf may load job turns site sink end answer s → IsHalted end s.stopped
-halts_of may None job turns site sink end answer s is = is.played.halts
-halts_of may (Some programs) job turns site sink end answer s is = is.played.halts
+pub halts_of : (may : Chooses) (load : Option ℕ) (task : JobAsked) (turns : List ℕ) (site : Devices) (sink : Stream) (end : DriveAnswer) (answer : Answer) (s : SessionData) → IsToldOf may load task turns site sink end answer s → IsHalted end s.stopped
+halts_of may None task turns site sink end answer s is = is.played.halts
+halts_of may (Some programs) task turns site sink end answer s is = is.played.halts
 
 limit_unstopped : status.Limit ≡ status.Stopped → ⊥
 limit_unstopped is = cc
@@ -152,6 +154,6 @@ module _ {S : Type 0} (g : Ghosts S) (s : S) where
     run_broken run None admitted broke = tt
     run_broken run (Some session) admitted broke = λ none. record { run = run; admitted = admitted; broke = broke none }
 
-    pub threads_broken : (job : JobData) (session : Option Session) → IsThreadsJob asked input job → OnUnstopped session (JobBrokeOff g s job site sink) → OnUnstopped session (ThreadsBrokeOff g s asked input site sink)
-    threads_broken job None admitted broke = tt
-    threads_broken job (Some session) admitted broke = λ none. record { job = job; admitted = admitted; broke = broke none }
+    pub threads_broken : (copy : Option CopyAsked) (job : JobData) (session : Option Session) → IsThreadsJob asked input copy job → OnUnstopped session (JobBrokeOff g s job site sink) → OnUnstopped session (ThreadsBrokeOff g s asked input site sink)
+    threads_broken copy job None admitted broke = tt
+    threads_broken copy job (Some session) admitted broke = λ none. record { copy = copy; job = job; admitted = admitted; broke = broke none }

@@ -12,7 +12,8 @@ use Rattle.serial_driver.specs.declared.answer.DriveAnswer.{DriveAnswer}
 use Rattle.session_report.specs.Answers.{Answer}
 use Rattle.session_report.specs.Parties.{Stream}
 use Rattle.job_runs.specs.Parties.{Devices}
-use Rattle.mss_top.specs.Admission.{AskInVain, AskToRun, IsAdmitted, IsJobOf, IsJobless, IsUnread, command_of}
+use Rattle.volume_copy.specs.Copies.{AskedCopy}
+use Rattle.mss_top.specs.Admission.{copy_asked, task_of, AskInVain, AskToRun, IsAdmitted, IsJobOf, IsJobless, IsUnread, command_of}
 use Rattle.mss_top.specs.Serial.{AsksJob, Chooses, Closes, Ends, GoesWell, IsComplete, IsRefused, IsRunOf, IsToldOf, IsUntaken, Output, since, until}
 use Rattle.mss_top.specs.Status.{line_status}
 use Rattle.mss_top.specs.declared.admission.Admitted.{Admitted}
@@ -27,7 +28,8 @@ same_settings asked a b one other =
     let order : a.order ≡ b.order = cc in
     let turns : a.turns ≡ b.turns = cc in
     let load : a.load ≡ b.load = cc in
-    λ i. record { order = order i; turns = turns i; load = load i }
+    let copied : a.copy ≡ b.copy = cc in
+    λ i. record { order = order i; turns = turns i; load = load i; copy = copied i }
 
 one_job : (load : Option ℕ) (order : ℕ) (input : Stream) (a b : JobData) → IsJobOf load order input a → AsksJob load order input b → a ≡ b
 one_job (Some programs) order input a b is asks = is.0 ∙ sym asks
@@ -62,16 +64,16 @@ module _ (asked : Option Command) (input : Stream) (site : Devices) (sink : Stre
       | inr late ↦ untaken_complete job input site sink well.fair is.said (subst (λ (j : JobData). IsUntaken j site is.said) (same_job late.run late.admitted) late.untaken)
     ]) is.put
 
-    session_complete : (may : Chooses) (load : Option ℕ) (turns : List ℕ) (mid : Output) (end : DriveAnswer) (answer : Answer) (s : SessionData) → Closes end answer (since sink mid) told
-        → IsToldOf may load job turns site (until sink mid) end answer s → IsComplete told
-    session_complete may None turns mid end answer s closes is =
-        reported_complete job input site sink well.fair told mid end answer s is.played.halts closes is.mid is.played.promised is.report
-    session_complete may (Some programs) turns mid end answer s closes is =
+    session_complete : (may : Chooses) (load : Option ℕ) (turns : List ℕ) (mid : Output) (end : DriveAnswer) (answer : Answer) (s : SessionData) (copy : Option AskedCopy) → Closes end answer (since sink mid) told
+        → IsToldOf may load (record { job = job; copy = copy }) turns site (until sink mid) end answer s → IsComplete told
+    session_complete may None turns mid end answer s copy closes is =
+        reported_complete job input site sink well.fair told mid end answer s is.played.halts closes copy is.mid is.played.promised is.report
+    session_complete may (Some programs) turns mid end answer s copy closes is =
         summed_complete job input site sink well.fair told mid end answer s is.played.halts closes programs is.played.promised is.summed
 
     run_done : (may : Chooses) (run : Admitted) (s : SessionData) → run.job ≡ job → IsRunOf may run site sink told s → IsComplete told
-    run_done may run s same is = session_complete may run.settings.load run.turns.items is.mid is.end is.answer s is.closes
-        (subst (λ (j : JobData). IsToldOf may run.settings.load j run.turns.items site (until sink is.mid) is.end is.answer s) same is.session)
+    run_done may run s same is = session_complete may run.settings.load run.turns.items is.mid is.end is.answer s (copy_asked run.settings.copy) is.closes
+        (subst (λ (j : JobData). IsToldOf may run.settings.load (task_of j run.settings.copy) run.turns.items site (until sink is.mid) is.end is.answer s) same is.session)
 
     pub run_complete : (may : Chooses) (left : Option Session) → Ends asked may input site sink told left → IsComplete told
     run_complete may None is = refused_complete is

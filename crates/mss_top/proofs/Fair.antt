@@ -23,6 +23,7 @@ use Rattle.session_report.specs.Summaries.{summary_text}
 use Rattle.session_report.specs.declared.reporting.Last.{Last}
 use Rattle.session_report.specs.declared.reporting.Last.TheVariants.{End, Limit}
 use Rattle.session_report.specs.Reports.{Ending, HasReason, IsReported, Matter, Telling, finished, told_answer, told_text, whole, unread}
+use Rattle.volume_copy.specs.Copies.{AskedCopy}
 use Rattle.job_runs.specs.Parties.{Devices, reported, since as devices_since, until as devices_until}
 use Rattle.job_runs.specs.Runs.{IsHalted, IsPromised, IsReportOf, IsSummed, TellsOf, matter_of}
 use Rattle.mss_top.specs.Admission.{IsJobText, IsNoJob}
@@ -106,10 +107,10 @@ module _ (job : JobData) (input : Stream) (site : Devices) (sink : Stream) (fair
       going at later is fault stopped = let stop = (is.counted.stop fault stopped).within in no_rise _ _ _ _ fair.site_none (omega (arith, is.began)) (omega (arith, stop.past, later)) stop.rises
 
       -- its report was put
-      pub reported_complete : (at : DevicesSeen) → IsPromised job.config (devices_until site at) s → IsReportOf job site.was.told (devices_since site at) (until sink mid) end answer s → IsComplete told
-      reported_complete at promised is =
-          ended_complete s.stopped (λ (ending : Ending). IsReported (matter_of job (content site.was.told) s) ending (reported (devices_since site at)) (until sink mid) answer) answer (going at is.read.later promised)
-          (λ last end complete puts put. report_complete (matter_of job (content site.was.told) s) (finished last) end (reported (devices_since site at)) (until sink mid) answer
+      pub reported_complete : (copy : Option AskedCopy) (at : DevicesSeen) → IsPromised job.config (devices_until site at) s → IsReportOf (record { job = job; copy = copy }) site.was.told (devices_since site at) (until sink mid) end answer s → IsComplete told
+      reported_complete copy at promised is =
+          ended_complete s.stopped (λ (ending : Ending). IsReported (matter_of job (content site.was.told) s is.behind) ending (reported (devices_since site at)) (until sink mid) answer) answer (going at is.read.later promised)
+          (λ last end complete puts put. report_complete (matter_of job (content site.was.told) s is.behind) (finished last) end (reported (devices_since site at)) (until sink mid) answer
           (λ rose. no_rise _ _ _ _ fair.site_none (omega (arith, promised.began, promised.counted.began)) (omega arith) rose) puts complete put)
           end halts is.report closes
 

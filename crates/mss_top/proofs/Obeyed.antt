@@ -2,6 +2,7 @@
 use Rattle.std.proofs.Common.{◌≡◌, inl, inr, ℕ, List, [], Option, Some, None, Err, refl, sym, ◌∙◌, subst}
 use Rattle.mss_base.specs.Content.{Content}
 use Rattle.command_words.specs.declared.command.Command.{Command}
+use Rattle.command_words.specs.declared.command.CopyAsked.{CopyAsked}
 use Rattle.command_words.specs.declared.command.Command.TheVariants.{Serial, Policy, Threads, Show, Audit, Compare}
 use Rattle.core_state.specs.declared.session.Session.{Session}
 use Rattle.report_text.specs.declared.one_line.OneLine.{OneLine}
@@ -30,11 +31,11 @@ whole_of None may other p told session does = tt
 whole_of (Some Show) may other p told session does = λ well. look_complete (Some Show) p.site p.sink well told does
 whole_of (Some (Audit frames)) may other p told session does = λ well. audit_complete (Some (Audit frames)) p.site p.sink frames well told does
 whole_of (Some Compare) may other p told session does = λ job well. compare_complete (Some Compare) other p.input p.sink job well told does.0.sessions does.0.ended
-whole_of (Some Threads) may other p told session does = λ job well. threads_complete (Some Threads) p.input p.site p.sink job well told does.0 session does.1
-whole_of (Some (Serial order turns load)) may other p told session does = λ settings job well.
-    run_complete (Some (Serial order turns load)) p.input p.site p.sink settings job well told may session does
-whole_of (Some (Policy rules order turns load)) may other p told session does = λ settings job well.
-    run_complete (Some (Serial order turns load)) p.input p.site p.sink settings job well told (RulesMay rules) session does
+whole_of (Some (Threads copy)) may other p told session does = λ job well. threads_complete (Some (Threads copy)) p.input p.site p.sink job well told does.0 session does.1
+whole_of (Some (Serial order turns load copy)) may other p told session does = λ settings job well.
+    run_complete (Some (Serial order turns load copy)) p.input p.site p.sink settings job well told may session does
+whole_of (Some (Policy rules order turns load copy)) may other p told session does = λ settings job well.
+    run_complete (Some (Serial order turns load copy)) p.input p.site p.sink settings job well told (RulesMay rules) session does
 
 -- ---- words that are refused
 
@@ -62,20 +63,20 @@ module _ (asked : Option Command) where
   refused_exactly c (line.RestartRefused why) is asks = absurd is
 
 -- a run of `serial`
-refused_run : (order turns : ℕ) (load : Option ℕ) (may : Chooses) (p : Parties) (told : Status) (session : Option Session) (said : OneLine)
-    → Asks (Some (Serial order turns load)) (Err said) → IsUntouched p.input → p.site.now ≡ p.site.was → session ≡ None → IsLinePut said p.sink told
-    → Ends (Some (Serial order turns load)) may p.input p.site p.sink told session
-refused_run order turns load may p told session said is untouched same none put =
-    subst (λ (l : Option Session). Ends (Some (Serial order turns load)) may p.input p.site p.sink told l) (sym none)
-    (record { said = said; cause = inl (record { unread = refused_words (Some (Serial order turns load)) p.input said is untouched; devices_ = same }); put = put })
+refused_run : (order turns : ℕ) (load : Option ℕ) (copy : Option CopyAsked) (may : Chooses) (p : Parties) (told : Status) (session : Option Session) (said : OneLine)
+    → Asks (Some (Serial order turns load copy)) (Err said) → IsUntouched p.input → p.site.now ≡ p.site.was → session ≡ None → IsLinePut said p.sink told
+    → Ends (Some (Serial order turns load copy)) may p.input p.site p.sink told session
+refused_run order turns load copy may p told session said is untouched same none put =
+    subst (λ (l : Option Session). Ends (Some (Serial order turns load copy)) may p.input p.site p.sink told l) (sym none)
+    (record { said = said; cause = inl (record { unread = refused_words (Some (Serial order turns load copy)) p.input said is untouched; devices_ = same }); put = put })
 
 -- of words that ask for a run by rules only want of memory can be told
-asks_serial : (rules : List Rule) (order turns : ℕ) (load : Option ℕ) (said : OneLine) → Asks (Some (Policy rules order turns load)) (Err said) → Asks (Some (Serial order turns load)) (Err said)
-asks_serial rules order turns load line.WordsRefused is = absurd cc
-asks_serial rules order turns load line.WantOfMemory is = tt
-asks_serial rules order turns load line.InputFault is = is
-asks_serial rules order turns load (line.JobRefused n kind) is = is
-asks_serial rules order turns load (line.RestartRefused why) is = is
+asks_serial : (rules : List Rule) (order turns : ℕ) (load : Option ℕ) (copy : Option CopyAsked) (said : OneLine) → Asks (Some (Policy rules order turns load copy)) (Err said) → Asks (Some (Serial order turns load copy)) (Err said)
+asks_serial rules order turns load copy line.WordsRefused is = absurd cc
+asks_serial rules order turns load copy line.WantOfMemory is = tt
+asks_serial rules order turns load copy line.InputFault is = is
+asks_serial rules order turns load copy (line.JobRefused n kind) is = is
+asks_serial rules order turns load copy (line.RestartRefused why) is = is
 
 -- whatever they ask for, if memory ran out before that was known
 pub refused_does : (asked : Option Command) (may other : Chooses) (p : Parties) (told : Status) (session : Option Session) (said : OneLine)
@@ -86,9 +87,9 @@ refused_does (Some Show) may other p told session said is untouched same none pu
 refused_does (Some (Audit frames)) may other p told session said is untouched same none put = inl (record { said = said; cause = refused_audit (Some (Audit frames)) p.site said is same; put = put })
 refused_does (Some Compare) may other p told session said is untouched same none put =
     (record { sessions = []; ended = inl (record { says = record { said = said; cause = refused_compare (Some Compare) p.input said is untouched; put = put }; none = refl }) }, same, none)
-refused_does (Some Threads) may other p told session said is untouched same none put =
-    ([], ends_kept_out (Some Threads) p.input p.site p.sink told [] said session none refl (refused_threads (Some Threads) p.input said is untouched) same put)
-refused_does (Some (Serial order turns load)) may other p told session said is untouched same none put =
-    refused_run order turns load may p told session said is untouched same none put
-refused_does (Some (Policy rules order turns load)) may other p told session said is untouched same none put =
-    refused_run order turns load (RulesMay rules) p told session said (asks_serial rules order turns load said is) untouched same none put
+refused_does (Some (Threads copy)) may other p told session said is untouched same none put =
+    ([], ends_kept_out (Some (Threads copy)) p.input p.site p.sink told [] said session none refl (refused_threads (Some (Threads copy)) p.input said is untouched) same put)
+refused_does (Some (Serial order turns load copy)) may other p told session said is untouched same none put =
+    refused_run order turns load copy may p told session said is untouched same none put
+refused_does (Some (Policy rules order turns load copy)) may other p told session said is untouched same none put =
+    refused_run order turns load copy (RulesMay rules) p told session said (asks_serial rules order turns load copy said is) untouched same none put

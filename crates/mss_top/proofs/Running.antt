@@ -6,6 +6,7 @@ use Rattle.job_text.specs.Jobs.{JobData}
 use Rattle.report_text.specs.declared.one_line.OneLine.{OneLine}
 use Rattle.shown_volumes.specs.declared.refused.Refused.{Refused}
 use Rattle.session_report.specs.Parties.{Stream}
+use Rattle.job_runs.specs.Copies.{JobAsked}
 use Rattle.job_runs.specs.Parties.{Devices}
 use Rattle.job_runs.specs.Runs.{Ends as JobEnds, LoadEnds, IsUntaken as IsNotTakenUp}
 use Rattle.job_runs.specs.declared.run.Outcome.{Outcome}
@@ -18,22 +19,22 @@ use Rattle.mss_top.specs.Status.{IsLinePut}
 use Rattle.mss_top.specs.declared.status.Status.{Status}
 use Rattle.mss_top.proofs.Closing.{put_since}
 
-job_by : (may : Chooses) (job : JobData) (turns : List ℕ) (site : Devices) (sink : Stream) (o : Outcome) → JobEnds may job turns site sink o → Runs may None job turns site sink o
-job_by may job turns site sink (outcome.Untaken why) is = is
-job_by may job turns site sink (outcome.Ran session end answer) is = is
+job_by : (may : Chooses) (task : JobAsked) (turns : List ℕ) (site : Devices) (sink : Stream) (o : Outcome) → JobEnds may task turns site sink o → Runs may None task turns site sink o
+job_by may task turns site sink (outcome.Untaken why) is = is
+job_by may task turns site sink (outcome.Ran session end answer) is = is
 
-load_by : (may : Chooses) (job : JobData) (programs : ℕ) (turns : List ℕ) (site : Devices) (sink : Stream) (o : Outcome) → LoadEnds may job programs turns site sink o → Runs may (Some programs) job turns site sink o
-load_by may job programs turns site sink (outcome.Untaken why) is = is
-load_by may job programs turns site sink (outcome.Ran session end answer) is = is
+load_by : (may : Chooses) (task : JobAsked) (programs : ℕ) (turns : List ℕ) (site : Devices) (sink : Stream) (o : Outcome) → LoadEnds may task.job programs turns site sink o → Runs may (Some programs) task turns site sink o
+load_by may task programs turns site sink (outcome.Untaken why) is = is
+load_by may task programs turns site sink (outcome.Ran session end answer) is = is
 
-pub runs_job : (may : Chooses) (load : Option ℕ) (job : JobData) (used turns : List ℕ) (site : Devices) (sink : Stream) (o : Outcome) → used ≡ turns → load ≡ None → JobEnds may job used site sink o → Runs may load job turns site sink o
-runs_job may load job used turns site sink o same none is =
-    subst (λ (l : Option ℕ). Runs may l job turns site sink o) (sym none) (job_by may job turns site sink o (subst (λ (t : List ℕ). JobEnds may job t site sink o) same is))
+pub runs_job : (may : Chooses) (load : Option ℕ) (task : JobAsked) (used turns : List ℕ) (site : Devices) (sink : Stream) (o : Outcome) → used ≡ turns → load ≡ None → JobEnds may task used site sink o → Runs may load task turns site sink o
+runs_job may load task used turns site sink o same none is =
+    subst (λ (l : Option ℕ). Runs may l task turns site sink o) (sym none) (job_by may task turns site sink o (subst (λ (t : List ℕ). JobEnds may task t site sink o) same is))
 
-pub runs_load : (may : Chooses) (load : Option ℕ) (job : JobData) (programs : ℕ) (used turns : List ℕ) (site : Devices) (sink : Stream) (o : Outcome) → used ≡ turns → load ≡ Some programs → LoadEnds may job programs used site sink o
-    → Runs may load job turns site sink o
-runs_load may load job programs used turns site sink o same some is =
-    subst (λ (l : Option ℕ). Runs may l job turns site sink o) (sym some) (load_by may job programs turns site sink o (subst (λ (t : List ℕ). LoadEnds may job programs t site sink o) same is))
+pub runs_load : (may : Chooses) (load : Option ℕ) (task : JobAsked) (programs : ℕ) (used turns : List ℕ) (site : Devices) (sink : Stream) (o : Outcome) → used ≡ turns → load ≡ Some programs → LoadEnds may task.job programs used site sink o
+    → Runs may load task turns site sink o
+runs_load may load task programs used turns site sink o same some is =
+    subst (λ (l : Option ℕ). Runs may l task turns site sink o) (sym some) (load_by may task programs turns site sink o (subst (λ (t : List ℕ). LoadEnds may task.job programs t site sink o) same is))
 
 pub says_untaken : (job : JobData) (site : Devices) (sink : Stream) (mid : Output) (told : Status) (said : OneLine) (why : Refused) → said ≡ line_of why → IsNotTakenUp job site (until sink mid) why → IsLinePut said (since sink mid) told
     → SaysWhy (IsUntaken job site) sink told

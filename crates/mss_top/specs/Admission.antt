@@ -1,17 +1,21 @@
 -- Which run is admitted: what the words ask for, the job, and the turns that are drawn.
 use Rattle.std.specs.Prelude.{◌≡◌, ◌≢◌, ◌⊎◌, ◌≤◌, ◌+◌, ℕ, List, drop, length, Option, Some, None}
 use Rattle.std.specs.Prelude.{IfSome, Result, Ok, Err}
+use Rattle.std.specs.Option.{option_map}
 use Rattle.mss_base.specs.Counts.{Rises}
 use Rattle.job_text.specs.declared.kind.JobKind.{JobKind}
 use Rattle.job_text.specs.Grammar.{job_of}
 use Rattle.job_text.specs.Jobs.{JobData}
 use Rattle.command_words.specs.declared.command.Command.{Command}
 use Rattle.command_words.specs.declared.command.Command.TheVariants.{Serial}
+use Rattle.command_words.specs.declared.command.CopyAsked.{CopyAsked}
 use Rattle.draws.specs.Draws.{schedule}
 use Rattle.draws.specs.Load.{load_job}
 use Rattle.report_text.specs.declared.one_line.OneLine.{OneLine}
 use Rattle.report_text.specs.declared.one_line.OneLine.TheVariants as line
 use Rattle.session_report.specs.Parties.{Stream, IsUntouched}
+use Rattle.volume_copy.specs.Copies.{AskedCopy}
+use Rattle.job_runs.specs.Copies.{JobAsked}
 use Rattle.mss_top.specs.declared.admission.Admitted.{Admitted}
 use Rattle.mss_top.specs.declared.admission.Settings.{Settings}
 
@@ -19,11 +23,19 @@ use Rattle.mss_top.specs.declared.admission.Settings.{Settings}
 
 -- the command with these settings
 abbrev pub command_of : Settings → Command
-command_of s = Serial s.order s.turns s.load
+command_of s = Serial s.order s.turns s.load s.copy
 
 -- the words ask for a run with these settings
 abbrev pub AskToRun : Option Command → Settings → Type 0
 AskToRun asked settings = asked ≡ Some (command_of settings)
+
+-- the copy that they ask for, of a volume behind so many entries
+abbrev pub copy_asked : Option CopyAsked → Option AskedCopy
+copy_asked copy = option_map (λ c. record { volume = c.volume; after_ = c.after }) copy
+
+-- a job, and that copy beside it
+abbrev pub task_of : JobData → Option CopyAsked → JobAsked
+task_of job copy = record { job = job; copy = copy_asked copy }
 
 -- they ask for this, or are refused by this line; of want of memory nothing is said
 abbrev pub Asks : Option Command → Result Command OneLine → Type 0

@@ -53,12 +53,12 @@ Does (Some (Audit frames)) may other p told session =
 Does (Some Compare) may other p told session =
     IsCompared (Some Compare) other p.input p.sink told
     × (p.site.now ≡ p.site.was) × (session ≡ None)
-Does (Some Threads) may other p told session =
-    (hosts : List EndData) × EndsThreads (Some Threads) p.input p.site p.sink told hosts session
-Does (Some (Serial order turns load)) may other p told session =
-    Ends (Some (Serial order turns load)) may p.input p.site p.sink told session
-Does (Some (Policy rules order turns load)) may other p told session =
-    Ends (Some (Serial order turns load)) (RulesMay rules) p.input p.site p.sink told session
+Does (Some (Threads copy)) may other p told session = (hosts : List EndData)
+    × EndsThreads (Some (Threads copy)) p.input p.site p.sink told hosts session
+Does (Some (Serial order turns load copy)) may other p told session =
+    Ends (Some (Serial order turns load copy)) may p.input p.site p.sink told session
+Does (Some (Policy rules order turns load copy)) may other p told session =
+    Ends (Some (Serial order turns load copy)) (RulesMay rules) p.input p.site p.sink told session
 
 -- and what is answered where nothing fails
 abbrev pub IsWhole : Option Command → Parties → Status → Type 0
@@ -69,13 +69,13 @@ IsWhole (Some (Audit frames)) p told = AuditsWell (Some (Audit frames)) frames p
     → IsWrongPut frames (content p.site.was.told) p.sink told
 IsWhole (Some Compare) p told =
     (job : JobData) → ComparesWell (Some Compare) p.input p.sink job → IsComplete told
-IsWhole (Some Threads) p told =
-    (job : JobData) → GoesWellAtOnce (Some Threads) p.input p.site p.sink job → IsComplete told
-IsWhole (Some (Serial order turns load)) p told = (settings : Settings) (job : JobData)
-    → GoesWell (Some (Serial order turns load)) p.input p.site p.sink settings job
+IsWhole (Some (Threads copy)) p told = (job : JobData)
+    → GoesWellAtOnce (Some (Threads copy)) p.input p.site p.sink job → IsComplete told
+IsWhole (Some (Serial order turns load copy)) p told = (settings : Settings) (job : JobData)
+    → GoesWell (Some (Serial order turns load copy)) p.input p.site p.sink settings job
     → IsComplete told
-IsWhole (Some (Policy rules order turns load)) p told = (settings : Settings) (job : JobData)
-    → GoesWell (Some (Serial order turns load)) p.input p.site p.sink settings job
+IsWhole (Some (Policy rules order turns load copy)) p told = (settings : Settings) (job : JobData)
+    → GoesWell (Some (Serial order turns load copy)) p.input p.site p.sink settings job
     → IsComplete told
 
 -- What was put broke off before a track of which a read may fail, or an audit at such a read; of
@@ -86,9 +86,9 @@ OutputBrokeOff g s None p session = ⊥
 OutputBrokeOff g s (Some Show) p session = LookBrokeOff g s p.site p.sink
 OutputBrokeOff g s (Some (Audit frames)) p session = AuditBrokeOff g s p.site p.sink
 OutputBrokeOff g s (Some Compare) p session = ⊥
-OutputBrokeOff g s (Some Threads) p session =
-    OnUnstopped session (ThreadsBrokeOff g s (Some Threads) p.input p.site p.sink)
-OutputBrokeOff g s (Some (Serial order turns load)) p session = OnUnstopped session
-    (RunBrokeOff g s (Some (Serial order turns load)) p.input p.site p.sink)
-OutputBrokeOff g s (Some (Policy rules order turns load)) p session = OnUnstopped session
-    (RunBrokeOff g s (Some (Serial order turns load)) p.input p.site p.sink)
+OutputBrokeOff g s (Some (Threads copy)) p session =
+    OnUnstopped session (ThreadsBrokeOff g s (Some (Threads copy)) p.input p.site p.sink)
+OutputBrokeOff g s (Some (Serial order turns load copy)) p session = OnUnstopped session
+    (RunBrokeOff g s (Some (Serial order turns load copy)) p.input p.site p.sink)
+OutputBrokeOff g s (Some (Policy rules order turns load copy)) p session = OnUnstopped session
+    (RunBrokeOff g s (Some (Serial order turns load copy)) p.input p.site p.sink)

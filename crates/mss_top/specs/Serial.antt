@@ -22,7 +22,8 @@ use Rattle.job_runs.specs.Runs.{IsLoadOf, IsSessionOf, Opens, IsUntaken as IsNot
 use Rattle.job_runs.specs.Runs.{ReportBrokeOff}
 use Rattle.job_runs.specs.declared.run.Outcome.{Outcome}
 use Rattle.job_runs.specs.declared.run.Outcome.TheVariants as outcome
-use Rattle.mss_top.specs.Admission.{AskToRun, IsAdmitted, IsJobText, IsUnread}
+use Rattle.job_runs.specs.Copies.{JobAsked}
+use Rattle.mss_top.specs.Admission.{AskToRun, IsAdmitted, IsJobText, IsUnread, task_of}
 use Rattle.mss_top.specs.Ending.{SaysWhy, line_of}
 use Rattle.mss_top.specs.Status.{IsLinePut, status_of}
 use Rattle.mss_top.specs.declared.admission.Admitted.{Admitted}
@@ -81,12 +82,12 @@ Closes ended.Memory report sink told = IsLinePut line.WantOfMemory sink told
 Closes end report sink told = IsUntouched sink × (told ≡ status_of end report)
 
 -- a session of a run, with what was put of it: its report, or of a load its summary
-abbrev pub IsToldOf : Chooses → Option ℕ → JobData → List ℕ → Devices → Stream → DriveAnswer
+abbrev pub IsToldOf : Chooses → Option ℕ → JobAsked → List ℕ → Devices → Stream → DriveAnswer
     → Answer → SessionData → Type 0
-IsToldOf may None job turns site sink end answer s =
-    IsSessionOf may job turns site sink end answer s
-IsToldOf may (Some programs) job turns site sink end answer s =
-    IsLoadOf may job programs turns site sink end answer s
+IsToldOf may None task turns site sink end answer s =
+    IsSessionOf may task turns site sink end answer s
+IsToldOf may (Some programs) task turns site sink end answer s =
+    IsLoadOf may task.job programs turns site sink end answer s
 
 -- a session of a run was told, and the run closed
 pub record IsRunOf (may : Chooses) (run : Admitted) (site : Devices) (sink : Stream)
@@ -95,8 +96,8 @@ pub record IsRunOf (may : Chooses) (run : Admitted) (site : Devices) (sink : Str
   pub answer : Answer
   -- the output behind the report or the summary
   pub mid : Output
-  pub session : IsToldOf may run.settings.load run.job run.turns.items site (until sink mid) end
-      answer s
+  pub session : IsToldOf may run.settings.load (task_of run.job run.settings.copy)
+      run.turns.items site (until sink mid) end answer s
   pub closes : Closes end answer (since sink mid) told
 
 -- a run was admitted and done
@@ -124,11 +125,11 @@ Ends asked may input site sink told session =
     EndsAs (IsRefused asked input site sink told) (IsRun may asked input site sink told) session
 
 -- what running it leaves, told or not
-abbrev pub Runs : Chooses → Option ℕ → JobData → List ℕ → Devices → Stream → Outcome → Type 0
-Runs may load job turns site sink (outcome.Untaken why) =
-    IsNotTakenUp job site sink why
-Runs may load job turns site sink (outcome.Ran session end answer) =
-    IsToldOf may load job turns site sink end answer (session_data session)
+abbrev pub Runs : Chooses → Option ℕ → JobAsked → List ℕ → Devices → Stream → Outcome → Type 0
+Runs may load task turns site sink (outcome.Untaken why) =
+    IsNotTakenUp task.job site sink why
+Runs may load task turns site sink (outcome.Ran session end answer) =
+    IsToldOf may load task turns site sink end answer (session_data session)
 
 -- ---- a report that broke off
 

@@ -3,6 +3,7 @@ use Rattle.std.specs.Prelude.{◌≡◌, ◌≢◌, ◌⊎◌, List, [], Option,
 use Rattle.mss_base.specs.declared.site.Site.{Ghosts}
 use Rattle.command_words.specs.declared.command.Command.{Command}
 use Rattle.command_words.specs.declared.command.Command.TheVariants as command
+use Rattle.command_words.specs.declared.command.CopyAsked.{CopyAsked}
 use Rattle.job_text.specs.Jobs.{JobData}
 use Rattle.report_text.specs.declared.one_line.OneLine.{OneLine}
 use Rattle.report_text.specs.declared.one_line.OneLine.TheVariants as line
@@ -14,6 +15,8 @@ use Rattle.session_report.specs.Answers.{Answer}
 use Rattle.session_report.specs.Parties.{Stream, IsUntouched}
 use Rattle.job_runs.specs.Parties.{Devices}
 use Rattle.thread_runs.specs.Runs.{IsSessionAtOnce}
+use Rattle.job_runs.specs.Copies.{JobAsked}
+use Rattle.mss_top.specs.Admission.{task_of}
 use Rattle.mss_top.specs.Admission.{IsJobText, IsNoJob, Reads}
 use Rattle.mss_top.specs.Ending.{SaysWhy}
 use Rattle.mss_top.specs.Serial.{Closes, EndsAs, IsUntaken, JobBrokeOff, NothingFails, Output}
@@ -22,21 +25,31 @@ use Rattle.mss_top.specs.declared.status.Status.{Status}
 
 -- ---- which run is admitted
 
--- the words ask for a run in threads
-abbrev pub AskForThreads : Option Command → Type 0
-AskForThreads asked = asked ≡ Some command.Threads
+-- the words ask for a run in threads, with this copy
+abbrev pub AskForThreads : Option Command → Option CopyAsked → Type 0
+AskForThreads asked copy = asked ≡ Some (command.Threads copy)
 
--- and the input has this job
-pub record IsThreadsJob (asked : Option Command) (input : Stream) (job : JobData) : Type 0 where
-  pub command : AskForThreads asked
+-- with some copy, or without one
+pub record AskForSomeThreads (asked : Option Command) : Type 0 where
+  pub copy : Option CopyAsked
+  pub command : AskForThreads asked copy
+
+-- they ask for none
+abbrev pub AskForNoThreads : Option Command → Type 0
+AskForNoThreads asked = (copy : Option CopyAsked) → asked ≢ Some (command.Threads copy)
+
+-- they ask for one with this copy, and the input has this job
+pub record IsThreadsJob (asked : Option Command) (input : Stream) (copy : Option CopyAsked)
+    (job : JobData) : Type 0 where
+  pub command : AskForThreads asked copy
   pub text : Reads input (λ text. IsJobText text job)
 
 -- Why no run in threads is admitted: the words, or the input. Of want of memory no cause is said,
 -- but that the input is untouched, unless the words ask for its job.
 abbrev pub IsThreadless : Option Command → Stream → OneLine → Type 0
-IsThreadless asked input line.WordsRefused = (asked ≢ Some command.Threads) × IsUntouched input
-IsThreadless asked input line.WantOfMemory = IsUntouched input ⊎ AskForThreads asked
-IsThreadless asked input said = AskForThreads asked × IsNoJob input said
+IsThreadless asked input line.WordsRefused = AskForNoThreads asked × IsUntouched input
+IsThreadless asked input line.WantOfMemory = IsUntouched input ⊎ AskForSomeThreads asked
+IsThreadless asked input said = AskForSomeThreads asked × IsNoJob input said
 
 -- ---- a run without a session
 
@@ -49,8 +62,9 @@ pub record IsKeptOut (asked : Option Command) (input : Stream) (site : Devices) 
 -- the restart for the job doesn't take up the devices
 pub record IsTurnedBack (asked : Option Command) (input : Stream) (site : Devices) (said : OneLine)
     : Type 0 where
+  pub copy : Option CopyAsked
   pub job : JobData
-  pub admitted : IsThreadsJob asked input job
+  pub admitted : IsThreadsJob asked input copy job
   pub untaken : IsUntaken job site said
 
 -- no session began, and so no host came to an end
@@ -63,29 +77,30 @@ pub record BeganNone (asked : Option Command) (input : Stream) (site : Devices) 
 -- ---- a run with one
 
 -- a session in threads was told, and the run closed
-pub record IsThreadsRunOf (job : JobData) (site : Devices) (sink : Stream) (told : Status)
+pub record IsThreadsRunOf (task : JobAsked) (site : Devices) (sink : Stream) (told : Status)
     (hosts : List EndData) (s : SessionData) : Type 0 where
   pub end : DriveAnswer
   pub answer : Answer
   -- the output behind the report
   pub mid : Output
-  pub session : IsSessionAtOnce job site (until sink mid) end answer hosts s
+  pub session : IsSessionAtOnce task site (until sink mid) end answer hosts s
   pub closes : Closes end answer (since sink mid) told
 
 -- a run in threads was admitted and done
 pub record IsThreadsRun (asked : Option Command) (input : Stream) (site : Devices) (sink : Stream)
     (told : Status) (hosts : List EndData) (s : SessionData) : Type 0 where
+  pub copy : Option CopyAsked
   pub job : JobData
-  pub admitted : IsThreadsJob asked input job
-  pub done : IsThreadsRunOf job site sink told hosts s
+  pub admitted : IsThreadsJob asked input copy job
+  pub done : IsThreadsRunOf (task_of job copy) site sink told hosts s
 
 -- ---- a run
 
 -- a run that has its job
-abbrev pub EndsJob : JobData → Devices → Stream → Status → List EndData → Option Session → Type 0
-EndsJob job site sink told hosts session =
-    EndsAs (SaysWhy (IsUntaken job site) sink told × (hosts ≡ []))
-    (IsThreadsRunOf job site sink told hosts) session
+abbrev pub EndsJob : JobAsked → Devices → Stream → Status → List EndData → Option Session → Type 0
+EndsJob task site sink told hosts session =
+    EndsAs (SaysWhy (IsUntaken task.job site) sink told × (hosts ≡ []))
+    (IsThreadsRunOf task site sink told hosts) session
 
 abbrev pub EndsThreads : Option Command → Stream → Devices → Stream → Status → List EndData
     → Option Session → Type 0
@@ -97,8 +112,9 @@ EndsThreads asked input site sink told hosts session =
 pub record ThreadsBrokeOff {S : Type 0} (g : Ghosts S) (s : S)
     (asked : Option Command) (input : Stream) (site : Devices) (sink : Stream)
     (session : SessionData) : Type 0 where
+  pub copy : Option CopyAsked
   pub job : JobData
-  pub admitted : IsThreadsJob asked input job
+  pub admitted : IsThreadsJob asked input copy job
   pub broke : JobBrokeOff g s job site sink session
 
 -- ---- completeness
@@ -106,7 +122,7 @@ pub record ThreadsBrokeOff {S : Type 0} (g : Ghosts S) (s : S)
 -- the words ask for a run in threads, the input has this job, and nothing fails
 pub record GoesWellAtOnce (asked : Option Command) (input : Stream) (site : Devices) (sink : Stream)
     (job : JobData) : Type 0 where
-  pub command : AskForThreads asked
+  pub command : AskForSomeThreads asked
   pub can_read : input.tells
   pub text : IsJobText input.was job
   pub fair : NothingFails job input site sink

@@ -9,7 +9,7 @@ ghost use Rattle.mss_top.specs.Admission.{Admits, Asks, GivesJob, IsDrawn, IsLoa
 ghost use Rattle.mss_top.specs.Admission.{TakesText, actors, command_of};
 
 use crate::input::{InputFault, read_input};
-use command_words::{Command, CommandFault, read_command};
+use command_words::{Command, CommandFault, CopyAsked, read_command};
 use draws::{load_job, schedule};
 use job_text::{Job, JobFault, read_job};
 use mss_base::{NoMemory, Source};
@@ -28,6 +28,8 @@ pub struct Settings {
     pub turns: u32,
     /// Of how many programs, 1 to 1,000, a load stands in for the input's job, if one does.
     pub load: Option<u32>,
+    /// The copy that is taken, if one is.
+    pub copy: Option<CopyAsked>,
 }
 
 /// A run that is admitted.

@@ -1,13 +1,15 @@
 //! A run in threads: words, input, job, session, report.
 ghost use Rattle.std.specs.Prelude.{◌≡◌, [], Bool, IfSome, None, Some, map, string_bytes};
 ghost use Rattle.mss_base.specs.declared.place.UnitNo.{UnitNo};
-ghost use Rattle.command_words.specs.Words.{meaning};
+ghost use Rattle.command_words.specs.Words.{IsCopyWithin, meaning};
 ghost use Rattle.command_words.specs.declared.command.Command.TheVariants as command;
 ghost use Rattle.core_state.specs.Sessions.{session_data};
 ghost use Rattle.job_text.specs.Jobs.{JobData};
 ghost use Rattle.mss_restart.specs.Creations.{WritesOn};
 ghost use Rattle.session_report.specs.Parties.{sink_between, source_between};
 ghost use Rattle.job_runs.specs.Parties.{devices};
+ghost use Rattle.job_runs.specs.Copies.{job_with};
+ghost use Rattle.volume_copy.specs.Beside.{IsReadyFor};
 ghost use Rattle.mss_top.specs.Serial.{IsComplete, JobBrokeOff, OnUnstopped};
 ghost use Rattle.mss_top.specs.Threads.{EndsJob, EndsThreads, GoesWellAtOnce};
 ghost use Rattle.mss_top.specs.Threads.{ThreadsBrokeOff};
@@ -15,9 +17,10 @@ ghost use Rattle.mss_top.specs.Status.{IsLinePut};
 ghost use Rattle.mss_top.specs.declared.status.Status.TheVariants.{Stopped};
 
 use crate::admission::{command_in, job_of_input};
+use crate::copying::copier_for;
 use crate::ending::{Ended, refusal_line, refuse};
 use crate::run::close;
-use command_words::Command;
+use command_words::{Command, CopyAsked};
 use job_runs::{JobEnd, Outcome};
 use job_text::Job;
 use mss_base::{Sink, Site, Source};
@@ -28,6 +31,7 @@ use std::sync::Wait;
 use std::thread::Threads;
 use thread_runs::{EndAtOnce, run_at_once};
 use victim_choice::Choose;
+use volume_copy::Copier;
 
 /// What a run in threads leaves.
 #[derive(Drop)]
@@ -44,9 +48,18 @@ fn run_job_at_once<
     C: Choose + Drop + Send,
     G: Gate + Sync,
     R: Threads + Wait + Sync + AllocGlobal,
->(rt: &R, job: &Job, output: &mut O, site: S, chooser: C, gate: &G) -> EndedAtOnce<S>
+>(
+    rt: &R,
+    job: &Job,
+    copier: Option<Copier>,
+    output: &mut O,
+    site: S,
+    chooser: C,
+    gate: &G,
+) -> EndedAtOnce<S>
     requires able { C.can_choose chooser }
-    ensures ended { EndsJob job.now (devices S.Site site result.run.site)
+    requires ready { IfSome copier (IsReadyFor []) }
+    ensures ended { EndsJob (job_with job.now copier) (devices S.Site site result.run.site)
         (sink_between O.Sink output.old output.new)
         result.run.status result.hosts.items result.run.session }
     ensures unread { result.run.status ≡ Stopped → OnUnstopped result.run.session (JobBrokeOff
@@ -56,7 +69,16 @@ fn run_job_at_once<
         → IfSome result.run.session (λ s. (session_data s).stopped ≡ None) }
     ensures devices { WritesOn S.Site site result.run.site }
 {
-    let EndAtOnce { job, hosts } = run_at_once(rt, rt.alloc(), job, site, chooser, gate, output);
+    let EndAtOnce { job, hosts } = run_at_once(
+        rt,
+        rt.alloc(),
+        job,
+        site,
+        chooser,
+        copier,
+        gate,
+        output,
+    );
     let JobEnd { site, outcome } = job;
     match outcome {
         Outcome::Untaken(refused) => EndedAtOnce {
@@ -100,22 +122,34 @@ pub fn run_threads<
     C: Choose + Drop + Send,
     G: Gate + Sync,
     R: Threads + Wait + Sync + AllocGlobal,
->(rt: &R, input: &mut I, output: &mut O, site: S, chooser: C, gate: &G) -> EndedAtOnce<S>
+>(
+    rt: &R,
+    copy: Option<CopyAsked>,
+    input: &mut I,
+    output: &mut O,
+    site: S,
+    chooser: C,
+    gate: &G,
+) -> EndedAtOnce<S>
     requires able { C.can_choose chooser }
-    ensures ended { EndsThreads (Some command.Threads)
+    requires copy { IsCopyWithin copy }
+    ensures ended { EndsThreads (Some (command.Threads copy))
         (source_between I.Source input.old input.new) (devices S.Site site result.run.site)
         (sink_between O.Sink output.old output.new)
         result.run.status result.hosts.items result.run.session }
     ensures unread { result.run.status ≡ Stopped → OnUnstopped result.run.session
-        (ThreadsBrokeOff S.Site site (Some command.Threads)
+        (ThreadsBrokeOff S.Site site (Some (command.Threads copy))
         (source_between I.Source input.old input.new) (devices S.Site site result.run.site)
         (sink_between O.Sink output.old output.new)) }
     ensures only_reads_fail { (but : UnitNo → Bool) → S.never_fails_but site but
         → IfSome result.run.session (λ s. (session_data s).stopped ≡ None) }
     ensures devices { WritesOn S.Site site result.run.site }
 {
+    let Ok(copier) = copier_for(rt.alloc(), copy) else {
+        return refuse_threads(rt.alloc(), output, site, OneLine::WantOfMemory);
+    };
     match job_of_input(rt.alloc(), input) {
-        Ok(job) => run_job_at_once(rt, &job, output, site, chooser, gate),
+        Ok(job) => run_job_at_once(rt, &job, copier, output, site, chooser, gate),
         Err(line) => refuse_threads(rt.alloc(), output, site, line),
     }
 }
@@ -123,7 +157,7 @@ pub fn run_threads<
 /// Does the run in threads that the words ask for on the site, with its report: each host of the job and each recorder
 /// goes in a thread of its own.
 ///
-/// The words are the command `threads`, which has no options. The input is read to its end, or to one byte past the
+/// The words are the command `threads` with its options. The input is read to its end, or to one byte past the
 /// longest job text, before anything is looked at; a text that is no job, and a site that isn't taken up, are refused
 /// as by `serial`. The order in which the threads come is the system's: the history is that of plain volumes for each.
 /// All actors pass the gate between events. Where nothing but reads can fail, no session is stopped; where a read for the
@@ -162,7 +196,7 @@ pub fn threads<
     ensures devices { WritesOn S.Site site result.run.site }
 {
     match command_in(rt.alloc(), words) {
-        Ok(Command::Threads) => run_threads(rt, input, output, site, chooser, gate),
+        Ok(Command::Threads { copy }) => run_threads(rt, copy, input, output, site, chooser, gate),
         Ok(_) => refuse_threads(rt.alloc(), output, site, OneLine::WordsRefused),
         Err(line) => refuse_threads(rt.alloc(), output, site, line),
     }

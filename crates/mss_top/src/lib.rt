@@ -14,6 +14,7 @@ mod admission;
 mod at_once;
 mod auditing;
 mod comparing;
+mod copying;
 mod ending;
 mod input;
 mod obeying;

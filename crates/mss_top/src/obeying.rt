@@ -68,8 +68,18 @@ fn carry_out<
     ensures devices { WritesOn S.Site site result.site }
 {
     match command {
-        Command::Serial { order, turns, load } => {
-            let settings = Settings { order, turns, load };
+        Command::Serial {
+            order,
+            turns,
+            load,
+            copy,
+        } => {
+            let settings = Settings {
+                order,
+                turns,
+                load,
+                copy,
+            };
             run_with(rt.alloc(), settings, input, output, site, chooser)
         }
         Command::Policy {
@@ -77,11 +87,17 @@ fn carry_out<
             order,
             turns,
             load,
+            copy,
         } => {
-            let settings = Settings { order, turns, load };
+            let settings = Settings {
+                order,
+                turns,
+                load,
+                copy,
+            };
             policy(rt.alloc(), rules, settings, input, output, site)
         }
-        Command::Threads => run_threads(rt, input, output, site, chooser, gate).run,
+        Command::Threads { copy } => run_threads(rt, copy, input, output, site, chooser, gate).run,
         Command::Show => look(rt.alloc(), output, site),
         Command::Audit { frames } => audit_for(rt.alloc(), frames, output, site),
         Command::Compare => compare_beside(rt.alloc(), input, output, site, other),

@@ -1,15 +1,16 @@
 //! A whole run: words, input, job, session, report.
-ghost use Rattle.std.specs.Prelude.{◌≡◌, Bool, IfSome, None, Some, map, string_bytes};
+ghost use Rattle.std.specs.Prelude.{◌≡◌, [], Bool, IfSome, None, Some, map, string_bytes};
 ghost use Rattle.mss_base.specs.declared.place.UnitNo.{UnitNo};
 ghost use Rattle.core_state.specs.Sessions.{session_data};
-ghost use Rattle.command_words.specs.Words.{meaning};
+ghost use Rattle.command_words.specs.Words.{IsCopyWithin, meaning};
 ghost use Rattle.job_text.specs.Jobs.{JobData};
 ghost use Rattle.mss_restart.specs.Creations.{WritesOn};
 ghost use Rattle.serial_driver.specs.Drives.{AreTurns};
 ghost use Rattle.session_report.specs.Parties.{sink_between, source_between};
 ghost use Rattle.job_runs.specs.Parties.{devices};
 ghost use Rattle.job_runs.specs.Runs.{GoesUnstopped, OnUnread, ReportBrokeOff};
-ghost use Rattle.mss_top.specs.Admission.{IsLoad, command_of};
+ghost use Rattle.volume_copy.specs.Beside.{IsReadyFor, asked};
+ghost use Rattle.mss_top.specs.Admission.{IsLoad, command_of, copy_asked, task_of};
 ghost use Rattle.mss_top.specs.Serial.{Closes, Ends, EndsRun, GoesWell, IsComplete, Runs};
 ghost use Rattle.mss_top.specs.Serial.{JobBrokeOff, OnUnstopped, RunBrokeOff};
 ghost use Rattle.mss_top.specs.declared.admission.Settings.{Settings};
@@ -17,6 +18,7 @@ ghost use Rattle.mss_top.specs.declared.status.Status.TheVariants.{Stopped};
 ghost use Rattle.victim_rules.specs.Rules.{RulesMay};
 
 use crate::admission::{Admitted, Settings, admit, command_in};
+use crate::copying::copier_for;
 use crate::ending::{Ended, refusal_line, refuse, say, status_of};
 use crate::status::Status;
 use command_words::Command;
@@ -28,6 +30,7 @@ use session_report::ReportFault;
 use std::alloc::Global;
 use victim_choice::Choose;
 use victim_rules::Ruled;
+use volume_copy::Copier;
 
 /// Ends the output of a session, and answers with the status: where memory ran out in it, nothing was put yet, and one
 /// line says so.
@@ -44,13 +47,17 @@ pub fn close<O: Sink>(output: &mut O, end: DriveAnswer, told: Result<(), ReportF
 fn run_told<S: Site, C: Choose + Drop, O: Sink>(
     alloc: Global,
     run: &Admitted,
+    copier: Option<Copier>,
     site: S,
     chooser: C,
     output: &mut O,
 ) -> JobEnd<S>
     requires able { C.can_choose chooser }
+    requires ready { IfSome copier (IsReadyFor []) }
+    requires copy { asked copier ≡ copy_asked run.now.settings.copy }
     requires turns { AreTurns run.now.job.hosts run.now.job.config run.now.turns.items }
-    ensures runs { Runs (C.may chooser) run.now.settings.load run.now.job run.now.turns.items
+    ensures runs { Runs (C.may chooser) run.now.settings.load
+        (task_of run.now.job run.now.settings.copy) run.now.turns.items
         (devices S.Site site result.site)
         (sink_between O.Sink output.old output.new) result.outcome }
     ensures unread { OnUnread result.outcome (ReportBrokeOff S.Site site run.now.job
@@ -60,20 +67,24 @@ fn run_told<S: Site, C: Choose + Drop, O: Sink>(
     ensures devices { WritesOn S.Site site result.site }
 {
     match run.settings.load {
-        None => run_job(alloc, &run.job, &run.turns, site, chooser, output),
+        None => run_job(alloc, &run.job, &run.turns, site, chooser, copier, output),
         Some(programs) => run_load(alloc, &run.job, programs, &run.turns, site, chooser, output),
     }
 }
 
-/// Does an admitted run on the site, or puts the line that says why the site isn't taken up.
+/// Does an admitted run on the site, with the copier of its copy, or puts the line that says why the site isn't taken
+/// up.
 fn run_admitted<S: Site, C: Choose + Drop, O: Sink>(
     alloc: Global,
     run: &Admitted,
+    copier: Option<Copier>,
     site: S,
     chooser: C,
     output: &mut O,
 ) -> Ended<S>
     requires able { C.can_choose chooser }
+    requires ready { IfSome copier (IsReadyFor []) }
+    requires copy { asked copier ≡ copy_asked run.now.settings.copy }
     requires turns { AreTurns run.now.job.hosts run.now.job.config run.now.turns.items }
     ensures ended { EndsRun (C.may chooser) run.now (devices S.Site site result.site)
         (sink_between O.Sink output.old output.new) result.status result.session }
@@ -84,7 +95,7 @@ fn run_admitted<S: Site, C: Choose + Drop, O: Sink>(
         → IfSome result.session (λ s. (session_data s).stopped ≡ None) }
     ensures devices { WritesOn S.Site site result.site }
 {
-    let JobEnd { site, outcome } = run_told(alloc, run, site, chooser, output);
+    let JobEnd { site, outcome } = run_told(alloc, run, copier, site, chooser, output);
     match outcome {
         Outcome::Untaken(refused) => refuse(output, site, refusal_line(&refused)),
         Outcome::Ran(session, end, told) => Ended {
@@ -106,6 +117,7 @@ pub fn run_with<I: Source, O: Sink, S: Site, C: Choose + Drop>(
 ) -> Ended<S>
     requires able { C.can_choose chooser }
     requires load { IsLoad settings.load }
+    requires copy { IsCopyWithin settings.copy }
     ensures ended { Ends (Some (command_of settings)) (C.may chooser)
         (source_between I.Source input.old input.new) (devices S.Site site result.site)
         (sink_between O.Sink output.old output.new) result.status result.session }
@@ -116,8 +128,11 @@ pub fn run_with<I: Source, O: Sink, S: Site, C: Choose + Drop>(
         → IfSome result.session (λ s. (session_data s).stopped ≡ None) }
     ensures devices { WritesOn S.Site site result.site }
 {
+    let Ok(copier) = copier_for(alloc, settings.copy) else {
+        return refuse(output, site, OneLine::WantOfMemory);
+    };
     match admit(alloc, settings, input) {
-        Ok(run) => run_admitted(alloc, &run, site, chooser, output),
+        Ok(run) => run_admitted(alloc, &run, copier, site, chooser, output),
         Err(line) => refuse(output, site, line),
     }
 }
@@ -131,7 +146,8 @@ pub fn policy<I: Source, O: Sink, S: Site>(
     output: &mut O,
     site: S,
 ) -> Ended<S>
-    requires { IsLoad settings.load }
+    requires load { IsLoad settings.load }
+    requires copy { IsCopyWithin settings.copy }
     ensures ended { Ends (Some (command_of settings)) (RulesMay rules)
         (source_between I.Source input.old input.new) (devices S.Site site result.site)
         (sink_between O.Sink output.old output.new) result.status result.session }
@@ -180,8 +196,20 @@ pub fn serial<I: Source, O: Sink, S: Site, C: Choose + Drop>(
     ensures devices { WritesOn S.Site site result.site }
 {
     match command_in(alloc, words) {
-        Ok(Command::Serial { order, turns, load }) => {
-            let settings = Settings { order, turns, load };
+        Ok(
+            Command::Serial {
+                order,
+                turns,
+                load,
+                copy,
+            },
+        ) => {
+            let settings = Settings {
+                order,
+                turns,
+                load,
+                copy,
+            };
             run_with(alloc, settings, input, output, site, chooser)
         }
         Ok(_) => refuse(output, site, OneLine::WordsRefused),

@@ -96,7 +96,7 @@ module _ (config : ConfigData) (was : DevicesSeen) (began : CoreData) (b : Began
     first_is : left.first_write ≡ length began.site.told.log
     first_is = l.beginning.first_write ∙ b.begins.first_write_ ∙ b.counted
 
-    opening_is : opening_of left.site.told left ≡ plain_start config (content was.told)
+    pub opening_is : opening_of left.site.told left ≡ plain_start config (content was.told)
     opening_is =
         ap (λ (n : ℕ). opening n left.site.told) l.beginning.first_write
         ∙ opening_same began.first_write began.site.told left.site.told items grown b.told.began ∙ b.with_.opening_

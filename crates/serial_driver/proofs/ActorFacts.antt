@@ -6,6 +6,7 @@ use Rattle.mss_base.specs.declared.site.Site.{Ghosts}
 use Rattle.channel_program.proofs.ItemFacts.{view_at}
 use Rattle.victim_choice.specs.declared.choose.Candidate.{Candidate}
 use Rattle.job_text.specs.Jobs.{ScriptData}
+use Rattle.core_state.specs.Chains.{Terms}
 use Rattle.core_state.specs.declared.rule.WorkAnswer.{WorkAnswer}
 use Rattle.core_state.specs.declared.session.Event.{Event}
 use Rattle.core_state.specs.declared.session.Event.TheVariants.{Host, Work}
@@ -14,8 +15,8 @@ use Rattle.core_state.specs.WorkEvents.{WorkEvent}
 use Rattle.serial_driver.specs.Answers.{of_work}
 use Rattle.serial_driver.specs.declared.answer.DriveAnswer.{DriveAnswer}
 use Rattle.serial_driver.specs.declared.answer.DriveAnswer.TheVariants.{Done}
-use Rattle.serial_driver.specs.Drives.{DriveValue, EventTakes, Leaves, RunsEvents, RunsOn, RunsToEnd, event_of, events_of}
-use Rattle.serial_driver.proofs.EventRuns.{EventsSoFar, event_leaves, leaves_done, event_goes, event_halts, events_over, leaves_then}
+use Rattle.serial_driver.specs.Drives.{DriveValue, EventTakes, Leaves, RunsEvents, RunsOn, RunsToEnd, event_of, events_of, terms_of}
+use Rattle.serial_driver.proofs.EventRuns.{same_terms, EventsSoFar, event_leaves, leaves_done, event_goes, event_halts, events_over, leaves_then}
 
 -- ---- whose turn it is
 
@@ -29,9 +30,9 @@ recorder_of [] actor n is = let e : actor ≡ n = omega (arith, is) in ap Work e
 recorder_of (s ∷ ss) zero n is = absurd (omega (arith, is))
 recorder_of (s ∷ ss) (suc actor) n is = recorder_of ss actor n (omega (arith, is))
 
-module _ (tells : Type 0) (may : List Candidate → ℕ → Type 0) (scripts : List ScriptData) (core : CoreData) (answer : DriveAnswer) (left : CoreData) where
-  pub recorder_takes : (actor n : ℕ) (told : WorkAnswer) → n + length scripts ≡ actor → WorkEvent tells may core n told left → answer ≡ of_work told → EventTakes tells may scripts (event_of scripts actor) core answer left
-  recorder_takes actor n told is event answered = subst (λ (e : Event). EventTakes tells may scripts e core answer left) (sym (recorder_of scripts actor n is)) (told, event, answered)
+module _ (terms : Terms) (scripts : List ScriptData) (core : CoreData) (answer : DriveAnswer) (left : CoreData) where
+  pub recorder_takes : (actor n : ℕ) (told : WorkAnswer) → n + length scripts ≡ actor → WorkEvent terms.tells terms.may core n told left → answer ≡ of_work told → EventTakes terms scripts (event_of scripts actor) core answer left
+  recorder_takes actor n told is event answered = subst (λ (e : Event). EventTakes terms scripts e core answer left) (sym (recorder_of scripts actor n is)) (told, event, answered)
 
 -- ---- one turn more
 
@@ -44,9 +45,9 @@ same_there (x ∷ xs) (suc i) d e below = same_there xs i d e (omega (arith, bel
 module _ {S C : Type 0} (g : Ghosts S) (may : C → List Candidate → ℕ → Type 0)
     (turns : List ℕ) (i other : ℕ) (init now new : DriveValue S C) (answer : DriveAnswer)
     (below : i < length turns)
-    (so_far : EventsSoFar g.tells (may init.core.chooser) init.scripts (events_of init.scripts turns) (seen g init.core) (drop i (events_of init.scripts turns)) (seen g now.core))
+    (so_far : EventsSoFar (terms_of g may init) init.scripts (events_of init.scripts turns) (seen g init.core) (drop i (events_of init.scripts turns)) (seen g now.core))
     (leaves : Leaves g init now Done)
-    (takes : EventTakes g.tells (may now.core.chooser) now.scripts (event_of now.scripts (get_or turns i other)) (seen g now.core) answer (seen g new.core))
+    (takes : EventTakes (terms_of g may now) now.scripts (event_of now.scripts (get_or turns i other)) (seen g now.core) answer (seen g new.core))
     (left : Leaves g now new answer) where
   abbrev turn : ℕ
   turn = get_or turns i other
@@ -57,9 +58,9 @@ module _ {S C : Type 0} (g : Ghosts S) (may : C → List Candidate → ℕ → T
   there : event_of init.scripts turn ≡ get_or (events_of init.scripts turns) i (event_of init.scripts turn)
   there = view_at (event_of init.scripts) turns i turn below (same_there turns i other turn below)
 
-  takes_so : EventTakes g.tells (may now.core.chooser) now.scripts (event_of init.scripts turn) (seen g now.core) answer (seen g new.core)
+  takes_so : EventTakes (terms_of g may now) now.scripts (event_of init.scripts turn) (seen g now.core) answer (seen g new.core)
   takes_so =
-      subst (λ (scripts : List ScriptData). EventTakes g.tells (may now.core.chooser) now.scripts (event_of scripts turn) (seen g now.core) answer (seen g new.core)) leaves.scripts_ takes
+      subst (λ (scripts : List ScriptData). EventTakes (terms_of g may now) now.scripts (event_of scripts turn) (seen g now.core) answer (seen g new.core)) leaves.scripts_ takes
 
   pub turn_leaves : Leaves g init new answer
   turn_leaves = event_leaves g may (events_of init.scripts turns) i (event_of init.scripts turn) init now new answer low there so_far leaves takes_so left
@@ -67,23 +68,23 @@ module _ {S C : Type 0} (g : Ghosts S) (may : C → List Candidate → ℕ → T
   pub turn_done : answer ≡ Done → Leaves g init new Done
   turn_done = leaves_done g may (events_of init.scripts turns) i (event_of init.scripts turn) init now new answer low there so_far leaves takes_so left
 
-  pub turn_goes : answer ≡ Done → EventsSoFar g.tells (may init.core.chooser) init.scripts (events_of init.scripts turns) (seen g init.core) (drop (i + 1) (events_of init.scripts turns)) (seen g new.core)
+  pub turn_goes : answer ≡ Done → EventsSoFar (terms_of g may init) init.scripts (events_of init.scripts turns) (seen g init.core) (drop (i + 1) (events_of init.scripts turns)) (seen g new.core)
   turn_goes = event_goes g may (events_of init.scripts turns) i (event_of init.scripts turn) init now new answer low there so_far leaves takes_so left
 
-  pub turn_halts : answer ≢ Done → RunsEvents g.tells (may init.core.chooser) init.scripts (events_of init.scripts turns) (seen g init.core) answer (seen g new.core)
+  pub turn_halts : answer ≢ Done → RunsEvents (terms_of g may init) init.scripts (events_of init.scripts turns) (seen g init.core) answer (seen g new.core)
   turn_halts = event_halts g may (events_of init.scripts turns) i (event_of init.scripts turn) init now new answer low there so_far leaves takes_so left
 
-pub turns_over : (tells : Type 0) (may : List Candidate → ℕ → Type 0) (scripts : List ScriptData) (turns : List ℕ) (i : ℕ) (start now : CoreData) → length turns ≤ i
-    → EventsSoFar tells may scripts (events_of scripts turns) start (drop i (events_of scripts turns)) now → RunsEvents tells may scripts (events_of scripts turns) start Done now
-turns_over tells may scripts turns i start now past so_far =
-    events_over tells may scripts (events_of scripts turns) i start now (omega (arith, past, length-map turns (event_of scripts))) so_far
+pub turns_over : (terms : Terms) (scripts : List ScriptData) (turns : List ℕ) (i : ℕ) (start now : CoreData) → length turns ≤ i
+    → EventsSoFar terms scripts (events_of scripts turns) start (drop i (events_of scripts turns)) now → RunsEvents terms scripts (events_of scripts turns) start Done now
+turns_over terms scripts turns i start now past so_far =
+    events_over terms scripts (events_of scripts turns) i start now (omega (arith, past, length-map turns (event_of scripts))) so_far
 
 -- ---- and then rounds
 
 module _ {S C : Type 0} (g : Ghosts S) (may : C → List Candidate → ℕ → Type 0)
     (turns : List ℕ) (init mid : DriveValue S C) (halfway : DriveAnswer)
-    (turned : RunsEvents g.tells (may init.core.chooser) init.scripts (events_of init.scripts turns) (seen g init.core) halfway (seen g mid.core)) where
-  pub run_halts : halfway ≢ Done → RunsOn g.tells (may init.core.chooser) init.scripts turns (seen g init.core) halfway (seen g mid.core)
+    (turned : RunsEvents (terms_of g may init) init.scripts (events_of init.scripts turns) (seen g init.core) halfway (seen g mid.core)) where
+  pub run_halts : halfway ≢ Done → RunsOn (terms_of g may init) init.scripts turns (seen g init.core) halfway (seen g mid.core)
   run_halts other = record {
     mid = seen g mid.core;
     halfway = halfway;
@@ -93,13 +94,13 @@ module _ {S C : Type 0} (g : Ghosts S) (may : C → List Candidate → ℕ → T
   }
 
   module _ (leaves : Leaves g init mid halfway) (done : halfway ≡ Done) (new : DriveValue S C) (end : DriveAnswer) where
-    pub run_ends : RunsToEnd g.tells (may mid.core.chooser) mid.scripts (seen g mid.core) end (seen g new.core)
-        → RunsOn g.tells (may init.core.chooser) init.scripts turns (seen g init.core) end (seen g new.core)
+    pub run_ends : RunsToEnd (terms_of g may mid) mid.scripts (seen g mid.core) end (seen g new.core)
+        → RunsOn (terms_of g may init) init.scripts turns (seen g init.core) end (seen g new.core)
     run_ends rounds = record {
       mid = seen g mid.core;
       halfway = halfway;
       turned = turned;
-      rounds = λ _. subst (λ (p : C × List ScriptData). RunsToEnd g.tells (may p.0) p.1 (seen g mid.core) end (seen g new.core)) (λ k. (leaves.chooser_ k, leaves.scripts_ k)) rounds;
+      rounds = λ _. subst (λ (t : Terms). RunsToEnd t init.scripts (seen g mid.core) end (seen g new.core)) (same_terms g may init mid leaves) (subst (λ (scripts : List ScriptData). RunsToEnd (terms_of g may mid) scripts (seen g mid.core) end (seen g new.core)) leaves.scripts_ rounds);
       halted = λ other. absurd (other done);
     }
 

@@ -2,10 +2,9 @@
 use Rattle.std.proofs.Common.{◌≡◌, ◌≢◌, ◌<◌, ◌≤◌, arith, ℕ, Bool, true, false, List, [], ◌∷◌, ◌++◌, length, get_or, Option, Some, None, refl, sym, ◌∙◌, ap, subst}
 use Rattle.std.specs.Prelude.{nat_eq, slice_set, slice_get, is_some}
 use Rattle.mss_base.specs.Counts.{IsFaultSince}
-use Rattle.mss_base.specs.Content.{SiteLog}
 use Rattle.mss_base.specs.declared.site.Site.{Ghosts}
 use Rattle.channel_program.proofs.ItemFacts.{all_at}
-use Rattle.core_state.specs.Chains.{OneOf}
+use Rattle.core_state.specs.Chains.{OneOf, WereRead}
 use Rattle.host_events.proofs.RuleFacts.{core_seen}
 use Rattle.std.proofs.lemmas.Bool.{eqb-true, eqb-false}
 use Rattle.channel_commands.specs.Data.{CallData, stopped}
@@ -13,7 +12,7 @@ use Rattle.channel_program.specs.Script.{ItemData, Exchange}
 use Rattle.ckd_plain.specs.declared.host.HostState.{HostState}
 use Rattle.ckd_plain.specs.History.{EntryData}
 use Rattle.job_text.specs.Jobs.{ScriptData}
-use Rattle.core_state.specs.CoreValue.{CoreValue, CoreData, seen}
+use Rattle.core_state.specs.CoreValue.{CoreValue, CoreData, DevicesSeen, seen, seen_site}
 use Rattle.core_state.specs.HostEvents.{HostTold, replied, marked, waits, halts, at_limit, no_memory, HostEvent}
 use Rattle.core_state.specs.IsCore.{IsCore}
 use Rattle.core_state.specs.Pins.{host_at}
@@ -26,6 +25,7 @@ use Rattle.script_places.specs.Places.{StandsAt}
 use Rattle.script_places.specs.Scripts.{Left, not_begun, next_of, left_after, left_behind, Plays, script_of, exchanges_of, left_of, calls_of}
 use Rattle.serial_driver.specs.Drives.{IsScript, AllStand, HasMore, IsDriven, IsFull, Halts}
 use Rattle.script_places.proofs.ScriptFacts.{left_after-push, Plays-push, ended_has_none}
+use Rattle.serial_driver.proofs.ReadFacts.{core_read}
 use Rattle.serial_driver.proofs.ScriptPlaces.{others_entry, its_own, stand_set}
 use Rattle.serial_driver.proofs.ChainedOn.{open_goes_on}
 use Rattle.serial_driver.proofs.HostFacts.{HostFacts, LeavesHost, StopsAs, host_facts}
@@ -104,12 +104,13 @@ module _ (h : ℕ) (call : CallData) (old : List EntryData) where
 -- ---- over an event of a host
 
 module _ {S C : Type 0} (g : Ghosts S) (v w : CoreValue S C) (scripts : List ScriptData) (places : List Place) (kept : v.stopped ≡ None → IsCore v)
-    (driven : IsDriven v scripts places) (n : ℕ) (d : ScriptData) (below : n < length scripts) where
+    (driven : IsDriven v scripts places) (n : ℕ) (d : ScriptData) (below : n < length scripts) (site : DevicesSeen) (read : WereRead g.tells (seen_site g v.site) site) where
   abbrev host : ℕ
   host = (get_or scripts n d).host
 
+  -- behind a read for a copy
   abbrev old : CoreData
-  old = seen g v
+  old = record (seen g v) { site = site }
 
   abbrev new : CoreData
   new = seen g w
@@ -118,7 +119,7 @@ module _ {S C : Type 0} (g : Ghosts S) (v w : CoreValue S C) (scripts : List Scr
   is_script = all_at IsScript scripts n d driven.scripts_.each below
 
   kept_ : old.stopped ≡ None → IsCore old
-  kept_ going = core_seen g v (kept going)
+  kept_ going = core_read (seen g v) site (core_seen g v (kept going))
 
   module _ (call : CallData) (told : HostTold) (event : HostEvent g.tells old host call told new)
       (next : calls_of scripts v.history host ≡ Some call) (q : Place)
@@ -256,8 +257,11 @@ module _ {S C : Type 0} (g : Ghosts S) (v w : CoreValue S C) (scripts : List Scr
     pub host_cause : v.stopped ≡ None → (fault : ℕ) → w.stopped ≡ Some fault → IsFaultSince (g.faults v.site) (g.faults w.site) fault
     host_cause was fault is = by_told told facts.stops
       where
+        since : {other : ℕ} → IsFaultSince site.faults (g.faults w.site) other → IsFaultSince (g.faults v.site) (g.faults w.site) other
+        since it = record { count = it.count; rises = (let rises = it.rises in let later = read.later in omega (arith, rises, later)) }
+
         by_told : (told' : HostTold) → StopsAs told' old new → IsFaultSince (g.faults v.site) (g.faults w.site) fault
-        by_told (halts other) stops = let e : other ≡ fault = (let f : Some other ≡ Some fault = sym stops.0 ∙ is in cc) in subst (IsFaultSince (g.faults v.site) (g.faults w.site)) e (stops.1 was)
+        by_told (halts other) stops = let e : other ≡ fault = (let f : Some other ≡ Some fault = sym stops.0 ∙ is in cc) in subst (IsFaultSince (g.faults v.site) (g.faults w.site)) e (since (stops.1 was))
         by_told (replied index reply) stops = absurd (let e : None ≡ Some fault = sym was ∙ sym stops ∙ is in cc)
         by_told marked stops = absurd (let e : None ≡ Some fault = sym was ∙ sym stops ∙ is in cc)
         by_told (waits why) stops = absurd (let e : None ≡ Some fault = sym was ∙ sym stops ∙ is in cc)

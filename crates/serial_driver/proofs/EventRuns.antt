@@ -1,6 +1,6 @@
 -- Events of a list, one after the other.
 use Rattle.std.proofs.Common.{◌≡◌, ◌≢◌, ◌<◌, ◌≤◌, ℕ, zero, suc, ◌+◌, List, [], ◌∷◌, length, drop, get_or, Option, Some, None, refl, sym, ◌∙◌, ap, subst, arith}
-use Rattle.std.specs.Prelude.{◌==◌}
+use Rattle.std.specs.Prelude.{◌==◌, is_some}
 use Rattle.std.proofs.lemmas.Bool.{cond-false, ne_eqb}
 use Rattle.mss_base.specs.declared.site.Site.{Ghosts}
 use Rattle.victim_choice.specs.declared.choose.Candidate.{Candidate}
@@ -9,14 +9,14 @@ use Rattle.ckd_plain.specs.History.{EntryData}
 use Rattle.job_text.specs.Jobs.{ScriptData}
 use Rattle.core_state.specs.declared.session.Event.{Event}
 use Rattle.core_state.specs.declared.session.Event.TheVariants.{Host, Work}
-use Rattle.core_state.specs.Chains.{Step, worked, EventTurn, Ended}
+use Rattle.core_state.specs.Chains.{Terms, Step, worked, EventTurn, Ended}
 use Rattle.core_state.specs.CoreValue.{CoreData, seen}
 use Rattle.serial_driver.specs.declared.answer.DriveAnswer.{DriveAnswer}
 use Rattle.serial_driver.specs.declared.answer.DriveAnswer.TheVariants.{Done}
 use Rattle.serial_driver.specs.Answers.{of_last}
 use Rattle.script_places.specs.Scripts.{Left, not_begun, next_of, left_by, left_after, script_of, exchanges_of, calls_of}
 use Rattle.core_state.proofs.Later.{later_none, later_then}
-use Rattle.serial_driver.specs.Drives.{DriveValue, EventTakes, Halts, Leaves, RunsEvents}
+use Rattle.serial_driver.specs.Drives.{DriveValue, EventTakes, Halts, Leaves, RunsEvents, terms_of}
 use Rattle.serial_driver.proofs.ChainFacts.{of_last-cons, host_goes, host_ends, work_goes, work_last}
 
 -- ---- a host that isn't in the job
@@ -44,6 +44,7 @@ pub leaves_then : {S C : Type 0} (g : Ghosts S) (old mid new : DriveValue S C) (
 leaves_then g old mid new answer first then_ = record {
   session = later_then g.tells (seen g old.core) (seen g mid.core) (seen g new.core) first.session then_.session;
   scripts_ = then_.scripts_ ∙ first.scripts_;
+  copier_ = then_.copier_ ∙ first.copier_;
   chooser_ = then_.chooser_ ∙ first.chooser_;
   written = omega (arith, first.written, then_.written);
   later = omega (arith, first.later, then_.later);
@@ -60,6 +61,7 @@ pub leaves_none : {S C : Type 0} (g : Ghosts S) (d : DriveValue S C) → Leaves 
 leaves_none g d = record {
   session = later_none g.tells (seen g d.core);
   scripts_ = refl;
+  copier_ = refl;
   chooser_ = refl;
   written = omega arith;
   later = omega arith;
@@ -70,37 +72,41 @@ leaves_none g d = record {
   full = λ is. absurd cc;
 }
 
+-- nor are the terms other ones
+pub same_terms : {S C : Type 0} (g : Ghosts S) (may : C → List Candidate → ℕ → Type 0) (old new : DriveValue S C) {answer : DriveAnswer} → Leaves g old new answer → terms_of g may new ≡ terms_of g may old
+same_terms g may old new leaves = λ i. record { tells = g.tells; may = may (leaves.chooser_ i); copies = is_some (leaves.copier_ i) }
+
 -- ---- a list
 
-module _ (tells : Type 0) (may : List Candidate → ℕ → Type 0) (scripts : List ScriptData) (events : List Event) (start : CoreData) where
+module _ (terms : Terms) (scripts : List ScriptData) (events : List Event) (start : CoreData) where
   -- the events from now on are those of the whole list, with those before
   abbrev pub EventsSoFar : List Event → CoreData → Type 0
   EventsSoFar rest now =
-      (final : CoreData) (more : List Step) → EventTurn tells may (calls_of scripts) rest now more final (Ended final)
-      → (steps : List Step) × EventTurn tells may (calls_of scripts) events start steps final (Ended final) × (of_last steps ≡ of_last more)
+      (final : CoreData) (more : List Step) → EventTurn terms (calls_of scripts) rest now more final (Ended final)
+      → (steps : List Step) × EventTurn terms (calls_of scripts) events start steps final (Ended final) × (of_last steps ≡ of_last more)
 
   module _ (rest : List Event) (now next : CoreData) where
-    pub events_go : (event : Event) (answer : DriveAnswer) → EventTakes tells may scripts event now answer next → answer ≡ Done → EventsSoFar (event ∷ rest) now → EventsSoFar rest next
+    pub events_go : (event : Event) (answer : DriveAnswer) → EventTakes terms scripts event now answer next → answer ≡ Done → EventsSoFar (event ∷ rest) now → EventsSoFar rest next
     events_go (Host h) answer takes done so_far final more chain =
-        let one = host_goes tells may h (calls_of scripts now.history h) now next answer takes done more final (λ core steps. EventTurn tells may (calls_of scripts) rest core steps final (Ended final)) chain in
+        let one = host_goes terms h (calls_of scripts now.history h) now next answer takes done more final (λ core steps. EventTurn terms (calls_of scripts) rest core steps final (Ended final)) chain in
         let whole = so_far final one.0 one.1 in
         (whole.0, whole.1, whole.2 ∙ one.2)
     events_go (Work r) answer takes done so_far final more chain =
         let last = sym takes.2 ∙ done in
-        let whole = so_far final (worked r takes.0 ∷ more) (work_goes tells may r now next takes.0 takes.1 last more final (λ core steps. EventTurn tells may (calls_of scripts) rest core steps final (Ended final)) chain) in
+        let whole = so_far final (worked r takes.0 ∷ more) (work_goes terms r now next takes.0 takes.1 last more final (λ core steps. EventTurn terms (calls_of scripts) rest core steps final (Ended final)) chain) in
         (whole.0, whole.1, whole.2 ∙ of_last-cons (worked r takes.0) more last)
 
-    pub events_halt : (event : Event) (answer : DriveAnswer) → EventTakes tells may scripts event now answer next → answer ≢ Done → EventsSoFar (event ∷ rest) now
-        → RunsEvents tells may scripts events start answer next
+    pub events_halt : (event : Event) (answer : DriveAnswer) → EventTakes terms scripts event now answer next → answer ≢ Done → EventsSoFar (event ∷ rest) now
+        → RunsEvents terms scripts events start answer next
     events_halt (Host h) answer takes halted so_far =
-        let one = host_ends tells may h (calls_of scripts now.history h) now next answer takes halted (λ core steps. EventTurn tells may (calls_of scripts) rest core steps next (Ended next)) in
+        let one = host_ends terms h (calls_of scripts now.history h) now next answer takes halted (λ core steps. EventTurn terms (calls_of scripts) rest core steps next (Ended next)) in
         let whole = so_far next one.0 one.1 in
         record { steps = whole.0; chain = whole.1; last = one.2 ∙ sym whole.2 }
     events_halt (Work r) answer takes halted so_far =
-        let whole = so_far next (worked r takes.0 ∷ []) (work_last tells may r now next takes.0 takes.1 (λ done. halted (takes.2 ∙ done)) (λ core steps. EventTurn tells may (calls_of scripts) rest core steps next (Ended next))) in
+        let whole = so_far next (worked r takes.0 ∷ []) (work_last terms r now next takes.0 takes.1 (λ done. halted (takes.2 ∙ done)) (λ core steps. EventTurn terms (calls_of scripts) rest core steps next (Ended next))) in
         record { steps = whole.0; chain = whole.1; last = takes.2 ∙ sym whole.2 }
 
-  pub events_end : (now : CoreData) → EventsSoFar [] now → RunsEvents tells may scripts events start Done now
+  pub events_end : (now : CoreData) → EventsSoFar [] now → RunsEvents terms scripts events start Done now
   events_end now so_far = let whole = so_far now [] (refl, refl) in record { steps = whole.0; chain = whole.1; last = sym whole.2 }
 
 -- ---- one event more
@@ -115,18 +121,18 @@ rest_is (y ∷ ys) (suc n) x below is =
 module _ {S C : Type 0} (g : Ghosts S) (may : C → List Candidate → ℕ → Type 0)
     (events : List Event) (i : ℕ) (event : Event) (init now new : DriveValue S C) (answer : DriveAnswer)
     (below : i < length events) (is : event ≡ get_or events i event)
-    (so_far : EventsSoFar g.tells (may init.core.chooser) init.scripts events (seen g init.core) (drop i events) (seen g now.core))
+    (so_far : EventsSoFar (terms_of g may init) init.scripts events (seen g init.core) (drop i events) (seen g now.core))
     (leaves : Leaves g init now Done)
-    (takes : EventTakes g.tells (may now.core.chooser) now.scripts event (seen g now.core) answer (seen g new.core))
+    (takes : EventTakes (terms_of g may now) now.scripts event (seen g now.core) answer (seen g new.core))
     (left : Leaves g now new answer) where
-  takes_so : EventTakes g.tells (may init.core.chooser) init.scripts event (seen g now.core) answer (seen g new.core)
+  takes_so : EventTakes (terms_of g may init) init.scripts event (seen g now.core) answer (seen g new.core)
   takes_so =
-      subst (λ (p : C × List ScriptData). EventTakes g.tells (may p.0) p.1 event (seen g now.core) answer (seen g new.core))
-      (λ k. (leaves.chooser_ k, leaves.scripts_ k)) takes
+      subst (λ (t : Terms). EventTakes t init.scripts event (seen g now.core) answer (seen g new.core)) (same_terms g may init now leaves)
+      (subst (λ (scripts : List ScriptData). EventTakes (terms_of g may now) scripts event (seen g now.core) answer (seen g new.core)) leaves.scripts_ takes)
 
-  from : EventsSoFar g.tells (may init.core.chooser) init.scripts events (seen g init.core) (event ∷ drop (i + 1) events) (seen g now.core)
+  from : EventsSoFar (terms_of g may init) init.scripts events (seen g init.core) (event ∷ drop (i + 1) events) (seen g now.core)
   from =
-      subst (λ (l : List Event). EventsSoFar g.tells (may init.core.chooser) init.scripts events (seen g init.core) l (seen g now.core))
+      subst (λ (l : List Event). EventsSoFar (terms_of g may init) init.scripts events (seen g init.core) l (seen g now.core))
       (rest_is events i event below is) so_far
 
   pub event_leaves : Leaves g init new answer
@@ -135,13 +141,13 @@ module _ {S C : Type 0} (g : Ghosts S) (may : C → List Candidate → ℕ → T
   pub leaves_done : answer ≡ Done → Leaves g init new Done
   leaves_done done = subst (λ (a : DriveAnswer). Leaves g init new a) done event_leaves
 
-  pub event_goes : answer ≡ Done → EventsSoFar g.tells (may init.core.chooser) init.scripts events (seen g init.core) (drop (i + 1) events) (seen g new.core)
+  pub event_goes : answer ≡ Done → EventsSoFar (terms_of g may init) init.scripts events (seen g init.core) (drop (i + 1) events) (seen g new.core)
   event_goes done =
-      events_go g.tells (may init.core.chooser) init.scripts events (seen g init.core) (drop (i + 1) events) (seen g now.core) (seen g new.core) event answer takes_so done from
+      events_go (terms_of g may init) init.scripts events (seen g init.core) (drop (i + 1) events) (seen g now.core) (seen g new.core) event answer takes_so done from
 
-  pub event_halts : answer ≢ Done → RunsEvents g.tells (may init.core.chooser) init.scripts events (seen g init.core) answer (seen g new.core)
+  pub event_halts : answer ≢ Done → RunsEvents (terms_of g may init) init.scripts events (seen g init.core) answer (seen g new.core)
   event_halts halted =
-      events_halt g.tells (may init.core.chooser) init.scripts events (seen g init.core) (drop (i + 1) events) (seen g now.core) (seen g new.core) event answer takes_so halted from
+      events_halt (terms_of g may init) init.scripts events (seen g init.core) (drop (i + 1) events) (seen g now.core) (seen g new.core) event answer takes_so halted from
 
 nothing_left : (xs : List Event) (k : ℕ) → length xs ≤ k → drop k xs ≡ []
 nothing_left [] zero low = refl
@@ -149,7 +155,7 @@ nothing_left [] (suc n) low = refl
 nothing_left (x ∷ xs) zero low = absurd (omega (arith, low))
 nothing_left (x ∷ xs) (suc n) low = nothing_left xs n (omega (arith, low))
 
-pub events_over : (tells : Type 0) (may : List Candidate → ℕ → Type 0) (scripts : List ScriptData) (events : List Event) (i : ℕ) (start now : CoreData) → length events ≤ i
-    → EventsSoFar tells may scripts events start (drop i events) now → RunsEvents tells may scripts events start Done now
-events_over tells may scripts events i start now past so_far =
-    events_end tells may scripts events start now (subst (λ (l : List Event). EventsSoFar tells may scripts events start l now) (nothing_left events i past) so_far)
+pub events_over : (terms : Terms) (scripts : List ScriptData) (events : List Event) (i : ℕ) (start now : CoreData) → length events ≤ i
+    → EventsSoFar terms scripts events start (drop i events) now → RunsEvents terms scripts events start Done now
+events_over terms scripts events i start now past so_far =
+    events_end terms scripts events start now (subst (λ (l : List Event). EventsSoFar terms scripts events start l now) (nothing_left events i past) so_far)

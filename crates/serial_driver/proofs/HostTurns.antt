@@ -9,7 +9,10 @@ use Rattle.channel_program.specs.Script.{ItemData}
 use Rattle.ckd_plain.specs.History.{EntryData}
 use Rattle.job_text.specs.Jobs.{ScriptData}
 use Rattle.fault_queue.specs.Requests.{request_of}
-use Rattle.core_state.specs.Beginning.{IsLater}
+use Rattle.core_state.specs.Beginning.{IsLater, Continues}
+use Rattle.victim_choice.specs.declared.choose.Candidate.{Candidate}
+use Rattle.core_state.specs.Chains.{Terms}
+use Rattle.core_state.specs.HostEvents.{HostEvent}
 use Rattle.core_state.specs.CoreValue.{CoreValue, CoreData, seen}
 use Rattle.core_state.specs.IsCore.{IsCore}
 use Rattle.core_state.specs.Pins.{host_at}
@@ -23,6 +26,7 @@ use Rattle.serial_driver.specs.Answers.{IsUnstopped}
 use Rattle.script_places.specs.Places.{StandsAt}
 use Rattle.script_places.specs.Scripts.{Left, not_begun, next_of, left_after, left_behind, Plays, script_of, exchanges_of, left_of, calls_of}
 use Rattle.serial_driver.specs.Drives.{HostTakes, HasMore, IsDriven, IsFull, Halts}
+use Rattle.serial_driver.proofs.ReadFacts.{core_read, read_of}
 use Rattle.serial_driver.proofs.ScriptPlaces.{script_at, stand_at, stand_set, as_many}
 use Rattle.serial_driver.proofs.DriveFacts.{nothing_behind, host_driven, host_halts, host_full, host_cause}
 
@@ -44,7 +48,7 @@ pub record HostWhole {S C : Type 0} (g : Ghosts S) (v w : CoreValue S C) (script
   pub cause : v.stopped ≡ None → (fault : ℕ) → w.stopped ≡ Some fault → IsFaultSince (g.faults v.site) (g.faults w.site) fault
 
 module _ {S C : Type 0} (g : Ghosts S) (v w : CoreValue S C) (scripts : List ScriptData) (places : List Place) (kept : v.stopped ≡ None → IsCore v)
-    (driven : IsDriven v scripts places) (n : ℕ) (d : ScriptData) (below : n < length scripts) where
+    (driven : IsDriven v scripts places) (n : ℕ) (d : ScriptData) (below : n < length scripts) (may : List Candidate → ℕ → Type 0) (copies : Bool) where
   abbrev script : ScriptData
   script = get_or scripts n d
 
@@ -53,6 +57,9 @@ module _ {S C : Type 0} (g : Ghosts S) (v w : CoreValue S C) (scripts : List Scr
 
   abbrev new : CoreData
   new = seen g w
+
+  abbrev terms : Terms
+  terms = record { tells = g.tells; may = may; copies = copies }
 
   abbrev at_script : Left
   at_script = left_after (not_begun script.items) (exchanges_of script.host v.history)
@@ -73,20 +80,20 @@ module _ {S C : Type 0} (g : Ghosts S) (v w : CoreValue S C) (scripts : List Scr
         ∙ ap (λ (s : ScriptData). is_some (calls_of scripts v.history s.host)) (same_default scripts n d unknown below)
 
     module _ (q : Place) (answer : DriveAnswer)
-        (event : (left : Left) → StandsAt script.items left (get_or list n p) → HostTakes g.tells script.host (next_of left.items left.at) old answer new)
+        (event : (left : Left) → StandsAt script.items left (get_or list n p) → HostTakes terms script.host (next_of left.items left.at) old answer new)
         (moves : (left : Left) → StandsAt script.items left (get_or list n p) → StandsAt script.items (left_behind left (slice_get w.history (length v.history))) q) where
       call_is : calls_of scripts v.history script.host ≡ next_of at_script.items at_script.at
       call_is = ap (λ (items : List ItemData). next_of (left_after (not_begun items) (exchanges_of script.host v.history)).items (left_after (not_begun items) (exchanges_of script.host v.history)).at) (script_at scripts n d driven.scripts_.differ below)
 
-      takes : HostTakes g.tells script.host (calls_of scripts v.history script.host) old answer new
-      takes = subst (λ (c : Option CallData). HostTakes g.tells script.host c old answer new) (sym call_is) (event at_script stands_there)
+      takes : HostTakes terms script.host (calls_of scripts v.history script.host) old answer new
+      takes = subst (λ (c : Option CallData). HostTakes terms script.host c old answer new) (sym call_is) (event at_script stands_there)
 
       stands : StandsAt script.items (left_behind at_script (slice_get w.history (length v.history))) q
       stands = moves at_script stands_there
 
       -- with another script where there is none
-      pub host_takes : (unknown : ScriptData) → HostTakes g.tells (get_or scripts n unknown).host (calls_of scripts v.history (get_or scripts n unknown).host) old answer new
-      host_takes unknown = subst (λ (s : ScriptData). HostTakes g.tells s.host (calls_of scripts v.history s.host) old answer new) (same_default scripts n d unknown below) takes
+      pub host_takes : (unknown : ScriptData) → HostTakes terms (get_or scripts n unknown).host (calls_of scripts v.history (get_or scripts n unknown).host) old answer new
+      host_takes unknown = subst (λ (s : ScriptData). HostTakes terms s.host (calls_of scripts v.history s.host) old answer new) (same_default scripts n d unknown below) takes
 
       still : new ≡ old → IsDriven w scripts (slice_set places n q)
       still is = record {
@@ -110,31 +117,37 @@ module _ {S C : Type 0} (g : Ghosts S) (v w : CoreValue S C) (scripts : List Scr
                 asked = λ r asks. (driven.more was h).asked r (sym (ap (λ (c : CoreData). request_of c.requests h) is) ∙ asks);
               }
 
-      by_call : (call : Option CallData) → calls_of scripts v.history script.host ≡ call → HostTakes g.tells script.host call old answer new → HostWhole g v w scripts (slice_set places n q) answer
+      by_call : (call : Option CallData) → calls_of scripts v.history script.host ≡ call → HostTakes terms script.host call old answer new → HostWhole g v w scripts (slice_set places n q) answer
       by_call None next it = record {
         driven = still it.0;
         full = λ is. absurd (let e : Done ≡ CommandLimit = sym it.1 ∙ is in cc);
         halts = subst (λ (a : DriveAnswer). Halts a v.stopped w.stopped) (sym it.1) (ap (λ (c : CoreData). c.stopped) it.0);
         cause = λ was fault is. absurd (let e : None ≡ Some fault = sym was ∙ sym (ap (λ (c : CoreData). c.stopped) it.0) ∙ is in cc);
       }
-      by_call (Some call) next it = record {
-        driven = host_driven g v w scripts places kept driven n d below call it.0 it.1 next q stands;
-        full = λ is. host_full g v w scripts places kept driven n d below call it.0 it.1 next q stands (sym it.2 ∙ is);
-        halts = subst (λ (a : DriveAnswer). Halts a v.stopped w.stopped) (sym it.2) (host_halts g v w scripts places kept driven n d below call it.0 it.1 next q stands);
-        cause = host_cause g v w scripts places kept driven n d below call it.0 it.1 next q stands;
-      }
+      by_call (Some call) next it =
+          let at = read_of g.tells old copies (λ read. HostEvent g.tells read script.host call it.0 new) it.1 in
+          record {
+            driven = host_driven g v w scripts places kept driven n d below at.0 at.1 call it.0 at.2 next q stands;
+            full = λ is. host_full g v w scripts places kept driven n d below at.0 at.1 call it.0 at.2 next q stands (sym it.2 ∙ is);
+            halts = subst (λ (a : DriveAnswer). Halts a v.stopped w.stopped) (sym it.2) (host_halts g v w scripts places kept driven n d below at.0 at.1 call it.0 at.2 next q stands);
+            cause = host_cause g v w scripts places kept driven n d below at.0 at.1 call it.0 at.2 next q stands;
+          }
 
       pub host_whole : HostWhole g v w scripts (slice_set places n q) answer
       host_whole = by_call (calls_of scripts v.history script.host) refl takes
 
-      session_by : (call : Option CallData) → HostTakes g.tells script.host call old answer new → IsLater g.tells old new
+      session_by : (call : Option CallData) → HostTakes terms script.host call old answer new → IsLater g.tells old new
       session_by None it = subst (λ (c : CoreData). IsLater g.tells old c) (sym it.0) (later_none g.tells old)
-      session_by (Some call) it = record {
-        beginning = keeps_beginning g.tells old script.host new call it.0 it.1;
-        grown = λ t.
-            let added = leaves_cartridges g.tells old (λ going. core_seen g v (kept going)) script.host new t call it.0 it.1 in
-            (added.items, added.grown);
-      }
+      session_by (Some call) it =
+          let at = read_of g.tells old copies (λ read. HostEvent g.tells read script.host call it.0 new) it.1 in
+          let read : CoreData = record old { site = at.0 } in
+          let began = keeps_beginning g.tells read script.host new call it.0 at.2 in
+          record {
+            beginning = record { config = began.config; first_write = began.first_write; first_faults = began.first_faults; handed = began.handed };
+            grown = λ t.
+                let added = leaves_cartridges g.tells read (λ going. core_read old at.0 (core_seen g v (kept going))) script.host new t call it.0 at.2 in
+                subst (λ (log : SiteLog). Continues log new.site.told) (at.1.told t) (added.items, added.grown);
+          }
 
       pub host_session : IsLater g.tells old new
       host_session = session_by (calls_of scripts v.history script.host) takes

@@ -1,10 +1,10 @@
+pub mod ReadFacts
 pub mod ChainFacts
 pub mod ScriptPlaces
 pub mod ChainedOn
 pub mod HostFacts
 pub mod DriveFacts
 pub mod WorkFacts
-pub mod Refused
 pub mod DriveBegins
 pub mod HostTurns
 pub mod EventRuns
@@ -13,3 +13,4 @@ pub mod SettleFacts
 pub mod OwnerFacts
 pub mod RoundFacts
 pub mod ActorFacts
+pub mod TakeFacts

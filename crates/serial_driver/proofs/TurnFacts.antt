@@ -8,7 +8,7 @@ use Rattle.victim_choice.specs.declared.choose.Candidate.{Candidate}
 use Rattle.core_state.specs.declared.rule.WorkAnswer.{WorkAnswer}
 use Rattle.core_state.specs.declared.rule.WorkAnswer.TheVariants.{Did, Idle, Stopped, Memory}
 use Rattle.core_state.specs.declared.rule.WorkRule.TheVariants.{IsIdle}
-use Rattle.core_state.specs.Chains.{Step, worked, is_idle, WorkTurn}
+use Rattle.core_state.specs.Chains.{Terms, Step, worked, is_idle, WorkTurn}
 use Rattle.core_state.specs.CoreValue.{CoreValue, CoreData, seen}
 use Rattle.core_state.specs.IsCore.{IsCore}
 use Rattle.core_state.specs.WorkEvents.{WorkEvent}
@@ -24,7 +24,7 @@ use Rattle.serial_driver.specs.declared.answer.DriveAnswer.{DriveAnswer}
 use Rattle.serial_driver.specs.declared.answer.DriveAnswer.TheVariants as answer
 use Rattle.serial_driver.specs.declared.turn.Turn.{Turn}
 use Rattle.serial_driver.specs.Answers.{of_work, of_last}
-use Rattle.serial_driver.specs.Drives.{DriveValue, Leaves, recorders_of}
+use Rattle.serial_driver.specs.Drives.{DriveValue, Leaves, recorders_of, terms_of}
 use Rattle.serial_driver.specs.Turns.{AtTurnEnd, LeavesLessBy, TurnsTo}
 use Rattle.serial_driver.proofs.ChainFacts.{of_last-cons, work_goes, work_last}
 use Rattle.serial_driver.proofs.EventRuns.{leaves_then}
@@ -74,12 +74,12 @@ module _ {S C : Type 0} (g : Ghosts S) (may : List Candidate → ℕ → Type 0)
 
 -- ---- a turn under way
 
-module _ (tells : Type 0) (may : List Candidate → ℕ → Type 0) (start : CoreData) where
+module _ (terms : Terms) (start : CoreData) where
   -- the events from recorder number on make a whole turn with those before
   pub record TurnSoFar (number : ℕ) (idle : Bool) (now : CoreData) : Type 0 where
     pub on : (rest : ℕ) → number + rest ≡ start.config.recorders → (turn : Turn) (final : CoreData) (more : List Step)
-        → WorkTurn tells may (range_with_len number rest) idle now more final (AtTurnEnd turn final)
-        → (steps : List Step) × WorkTurn tells may (recorders_of start.config) true start steps final (AtTurnEnd turn final) × (of_last steps ≡ of_last more)
+        → WorkTurn terms (range_with_len number rest) idle now more final (AtTurnEnd turn final)
+        → (steps : List Step) × WorkTurn terms (recorders_of start.config) true start steps final (AtTurnEnd turn final) × (of_last steps ≡ of_last more)
     pub config_ : now.config ≡ start.config
     pub quiet : idle ≡ true → (j : ℕ) → j < number → work_rule now j ≡ IsIdle
     pub less : settle_left now ≤ settle_left start
@@ -91,7 +91,7 @@ module _ (tells : Type 0) (may : List Candidate → ℕ → Type 0) (start : Cor
   turn_begins = record {
     on = λ rest all turn final more chain.
         let e : rest ≡ start.config.recorders = omega (arith, all) in
-        (more, subst (λ (k : ℕ). WorkTurn tells may (range_with_len 0 k) true start more final (AtTurnEnd turn final)) e chain, refl);
+        (more, subst (λ (k : ℕ). WorkTurn terms (range_with_len 0 k) true start more final (AtTurnEnd turn final)) e chain, refl);
     config_ = refl;
     quiet = λ _ j below. absurd (omega (arith, below));
     less = omega arith;
@@ -101,7 +101,7 @@ module _ (tells : Type 0) (may : List Candidate → ℕ → Type 0) (start : Cor
   }
 
   module _ (number : ℕ) (idle : Bool) (now next : CoreData) (so_far : TurnSoFar number idle now) (below : number < now.config.recorders) (told : WorkAnswer)
-      (event : WorkEvent tells may now number told next) where
+      (event : WorkEvent terms.tells terms.may now number told next) where
     -- one more recorder
     one_more : (rest : ℕ) → number + 1 + rest ≡ start.config.recorders → number + suc rest ≡ start.config.recorders
     one_more rest all = omega (arith, all)
@@ -118,7 +118,7 @@ module _ (tells : Type 0) (may : List Candidate → ℕ → Type 0) (start : Cor
     turn_goes done config_ history_ it = record {
       on = λ rest all turn final more chain.
           let whole = so_far.on (suc rest) (one_more rest all) turn final (worked number told ∷ more)
-          (work_goes tells may number now next told event done more final (λ core steps. WorkTurn tells may (range_with_len (number + 1) rest) (idle && is_idle (worked number told)) core steps final (AtTurnEnd turn final)) chain) in
+          (work_goes terms number now next told event done more final (λ core steps. WorkTurn terms (range_with_len (number + 1) rest) (idle && is_idle (worked number told)) core steps final (AtTurnEnd turn final)) chain) in
           (whole.0, whole.1, whole.2 ∙ of_last-cons (worked number told) more done);
       config_ = config_ ∙ so_far.config_;
       quiet = λ is j low. idle_at (still_idle idle (is_idle (worked number told)) is) j low;
@@ -137,11 +137,11 @@ module _ (tells : Type 0) (may : List Candidate → ℕ → Type 0) (start : Cor
         falls_by (inl is) = omega (arith, so_far.falls is, it.less)
         falls_by (inr is) = omega (arith, so_far.less, it.falls is)
 
-    pub turn_halts : of_work told ≢ answer.Done → next.history ≡ now.history → (turn : Turn) → turn.answer ≡ of_work told → TurnsTo tells may start turn next
+    pub turn_halts : of_work told ≢ answer.Done → next.history ≡ now.history → (turn : Turn) → turn.answer ≡ of_work told → TurnsTo terms start turn next
     turn_halts halted history_ turn is =
         let rest = rest_of in
         let whole = so_far.on (suc rest.0) rest.1 turn next (worked number told ∷ [])
-        (work_last tells may number now next told event halted (λ core steps. WorkTurn tells may (range_with_len (number + 1) rest.0) (idle && is_idle (worked number told)) core steps next (AtTurnEnd turn next))) in
+        (work_last terms number now next told event halted (λ core steps. WorkTurn terms (range_with_len (number + 1) rest.0) (idle && is_idle (worked number told)) core steps next (AtTurnEnd turn next))) in
         record {
           steps = whole.0;
           chain = whole.1;
@@ -155,7 +155,7 @@ module _ (tells : Type 0) (may : List Candidate → ℕ → Type 0) (start : Cor
 
   -- the turn is over
   pub turn_over : (number : ℕ) (idle : Bool) (now : CoreData) → TurnSoFar number idle now → number ≡ start.config.recorders → 1 ≤ start.config.recorders
-      → TurnsTo tells may start (record { answer = answer.Done; idle = idle }) now
+      → TurnsTo terms start (record { answer = answer.Done; idle = idle }) now
   turn_over number idle now so_far all some =
       let turn : Turn = record { answer = answer.Done; idle = idle } in
       let whole = so_far.on 0 (omega (arith, all)) turn now [] ((refl, refl), refl) in
@@ -176,7 +176,7 @@ module _ (tells : Type 0) (may : List Candidate → ℕ → Type 0) (start : Cor
 
 module _ {S C : Type 0} (g : Ghosts S) (may : C → List Candidate → ℕ → Type 0) (number : ℕ) (idle : Bool)
     (init now new : DriveValue S C) (below : number < init.core.config.recorders)
-    (so_far : TurnSoFar g.tells (may init.core.chooser) (seen g init.core) number idle (seen g now.core))
+    (so_far : TurnSoFar (terms_of g may init) (seen g init.core) number idle (seen g now.core))
     (leaves : Leaves g init now answer.Done) (told : WorkAnswer)
     (event : WorkEvent g.tells (may now.core.chooser) (seen g now.core) number told (seen g new.core))
     (left : Leaves g now new (of_work told)) where
@@ -192,11 +192,11 @@ module _ {S C : Type 0} (g : Ghosts S) (may : C → List Candidate → ℕ → T
       (leaves_then g init now new (of_work told) leaves left)
 
   pub one_goes : of_work told ≡ answer.Done → new.core.history ≡ now.core.history → LeavesLessBy (seen g now.core) number told (seen g new.core)
-      → TurnSoFar g.tells (may init.core.chooser) (seen g init.core) (number + 1) (idle && is_idle (worked number told)) (seen g new.core)
+      → TurnSoFar (terms_of g may init) (seen g init.core) (number + 1) (idle && is_idle (worked number told)) (seen g new.core)
   one_goes done history_ less =
-      turn_goes g.tells (may init.core.chooser) (seen g init.core) number idle (seen g now.core) (seen g new.core) so_far low told event_so done left.session.beginning.config history_ less
+      turn_goes (terms_of g may init) (seen g init.core) number idle (seen g now.core) (seen g new.core) so_far low told event_so done left.session.beginning.config history_ less
 
   pub one_halts : of_work told ≢ answer.Done → new.core.history ≡ now.core.history → (turn : Turn) → turn.answer ≡ of_work told
-      → TurnsTo g.tells (may init.core.chooser) (seen g init.core) turn (seen g new.core)
+      → TurnsTo (terms_of g may init) (seen g init.core) turn (seen g new.core)
   one_halts halted history_ turn is =
-      turn_halts g.tells (may init.core.chooser) (seen g init.core) number idle (seen g now.core) (seen g new.core) so_far low told event_so halted history_ turn is
+      turn_halts (terms_of g may init) (seen g init.core) number idle (seen g now.core) (seen g new.core) so_far low told event_so halted history_ turn is

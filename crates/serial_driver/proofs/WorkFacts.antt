@@ -2,7 +2,6 @@
 use Rattle.std.proofs.Common.{◌≡◌, ◌⊎◌, inl, inr, ◌<◌, ℕ, Bool, true, false, List, Option, Some, None, refl, sym, ◌∙◌, ap, subst}
 use Rattle.std.specs.Prelude.{nat_eq, option_map}
 use Rattle.std.proofs.lemmas.Bool.{eqb-true, eqb-false}
-use Rattle.mss_base.specs.Content.{SiteLog}
 use Rattle.mss_base.specs.Counts.{IsFaultSince}
 use Rattle.mss_base.specs.declared.site.Site.{Ghosts}
 use Rattle.ckd_plain.specs.declared.host.HostState.{HostState}

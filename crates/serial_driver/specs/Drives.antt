@@ -1,6 +1,6 @@
 -- A serial run as plain data, what it keeps, and what its calls do.
 use Rattle.std.specs.Prelude.{◌≡◌, ◌≢◌, ◌≤◌, ◌<◌, ◌+◌, ◌==◌, ℕ, zero, suc, slice_index_or}
-use Rattle.std.specs.Prelude.{Bool, true, false, List, [], ◌∷◌, length, map, Option, Some, None}
+use Rattle.std.specs.Prelude.{Bool, true, false, List, [], ◌∷◌, length, map, Option, Some, None, is_some}
 use Rattle.std.specs.List.{IsDistinct, AllByRecursion, range_with_len}
 use Rattle.mss_base.specs.Sound.{StaysSound}
 use Rattle.mss_base.specs.Configs.{ConfigData}
@@ -15,12 +15,11 @@ use Rattle.victim_choice.specs.declared.choose.Candidate.{Candidate}
 use Rattle.fault_queue.specs.declared.queue.Request.{Request}
 use Rattle.fault_queue.specs.Requests.{request_of}
 use Rattle.core_state.specs.Beginning.{IsLater}
-use Rattle.core_state.specs.Chains.{Step, EventTurn, Settles, HostTurn, Rounds, Onward, Ended}
-use Rattle.core_state.specs.Chains.{has_call, IsSettled}
+use Rattle.core_state.specs.Chains.{Step, called, worked, IsEvent, EventTurn, Settles, HostTurn}
+use Rattle.core_state.specs.Chains.{Rounds, Onward, Ended, Terms, has_call, IsSettled}
 use Rattle.core_state.specs.CoreValue.{CoreValue, CoreData, seen}
 use Rattle.core_state.specs.Pins.{host_at}
-use Rattle.core_state.specs.HostEvents.{HostTold, HostEvent}
-use Rattle.core_state.specs.WorkEvents.{WorkEvent}
+use Rattle.core_state.specs.HostEvents.{HostTold}
 use Rattle.core_state.specs.declared.session.Event.{Event}
 use Rattle.core_state.specs.declared.session.Event.TheVariants.{Host, Work}
 use Rattle.core_state.specs.declared.rule.WorkAnswer.{WorkAnswer}
@@ -32,11 +31,27 @@ use Rattle.script_places.specs.declared.place.Place.{Place}
 use Rattle.script_places.specs.Places.{StandsAt}
 use Rattle.script_places.specs.Scripts.{Left, not_begun, next_of, left_after, Plays, script_of}
 use Rattle.script_places.specs.Scripts.{exchanges_of, left_of, calls_of}
+use Rattle.volume_copy.specs.Beside.{asked}
+use Rattle.volume_copy.specs.Copies.{CopyData}
 
--- a core, and what each host of the job is to do
+-- a core, the copier beside it, if a copy is asked for, and what each host of the job is to do
 pub record DriveValue (S C : Type 0) : Type 0 where
   pub core : CoreValue S C
+  pub copier : Option CopyData
   pub scripts : List ScriptData
+
+-- on which terms its events follow each other
+abbrev pub terms_by : {S C : Type 0} → Ghosts S → (C → List Candidate → ℕ → Type 0) → C
+    → Option CopyData → Terms
+terms_by g may chooser copier = record {
+  tells = g.tells;
+  may = may chooser;
+  copies = is_some (asked copier);
+}
+
+abbrev pub terms_of : {S C : Type 0} → Ghosts S → (C → List Candidate → ℕ → Type 0)
+    → DriveValue S C → Terms
+terms_of g may d = terms_by g may d.core.chooser d.copier
 
 -- the hosts of the job, in order
 abbrev pub hosts_of : List ScriptData → List ℕ
@@ -96,24 +111,23 @@ pub record IsDriven {S C : Type 0} (core : CoreValue S C) (scripts : List Script
 -- ---- what an event does
 
 -- a host's turn: one event of its next call, or, without a call, nothing
-abbrev pub HostTakes : Type 0 → ℕ → Option CallData → CoreData → DriveAnswer → CoreData → Type 0
-HostTakes tells h None core answer left = (left ≡ core) × (answer ≡ Done)
-HostTakes tells h (Some call) core answer left =
-    (told : HostTold) × HostEvent tells core h call told left × (answer ≡ of_host told)
+abbrev pub HostTakes : Terms → ℕ → Option CallData → CoreData → DriveAnswer → CoreData → Type 0
+HostTakes terms h None core answer left = (left ≡ core) × (answer ≡ Done)
+HostTakes terms h (Some call) core answer left =
+    (told : HostTold) × IsEvent terms core (called h call told) left × (answer ≡ of_host told)
 
 -- a recorder's turn
-abbrev pub WorkTakes : Type 0 → (List Candidate → ℕ → Type 0) → ℕ → CoreData → DriveAnswer
-    → CoreData → Type 0
-WorkTakes tells may recorder core answer left =
-    (told : WorkAnswer) × WorkEvent tells may core recorder told left × (answer ≡ of_work told)
+abbrev pub WorkTakes : Terms → ℕ → CoreData → DriveAnswer → CoreData → Type 0
+WorkTakes terms recorder core answer left =
+    (told : WorkAnswer) × IsEvent terms core (worked recorder told) left × (answer ≡ of_work told)
 
 -- an event of a list, of a host or a recorder
-abbrev pub EventTakes : Type 0 → (List Candidate → ℕ → Type 0) → List ScriptData → Event → CoreData
-    → DriveAnswer → CoreData → Type 0
-EventTakes tells may scripts (Host h) core answer left =
-    HostTakes tells h (calls_of scripts core.history h) core answer left
-EventTakes tells may scripts (Work recorder) core answer left =
-    WorkTakes tells may recorder core answer left
+abbrev pub EventTakes : Terms → List ScriptData → Event → CoreData → DriveAnswer → CoreData
+    → Type 0
+EventTakes terms scripts (Host h) core answer left =
+    HostTakes terms h (calls_of scripts core.history h) core answer left
+EventTakes terms scripts (Work recorder) core answer left =
+    WorkTakes terms recorder core answer left
 
 -- a recorder of a list is one of those configured
 abbrev pub IsConfigured : ConfigData → Event → Type 0
@@ -140,12 +154,14 @@ pub record IsFull (scripts : List ScriptData) (history : List EntryData) : Type 
   pub host : ℕ
   pub unfinished : FollowsToEnd (script_of scripts host) (exchanges_of host history) → ⊥
 
--- The job and the chooser stay, and no count falls. A fault stopped the core only by a write that
--- failed since, and none did where reads alone may fail. The limit is told of a full history alone.
+-- The job, the copy and the chooser stay, and no count falls. A fault stopped the core only by a
+-- write that failed since, and none did where reads alone may fail. The limit is told of a full
+-- history alone.
 pub record Leaves {S C : Type 0} (g : Ghosts S) (old new : DriveValue S C) (answer : DriveAnswer)
     : Type 0 where
   pub session : IsLater g.tells (seen g old.core) (seen g new.core)
   pub scripts_ : new.scripts ≡ old.scripts
+  pub copier_ : asked new.copier ≡ asked old.copier
   pub chooser_ : new.core.chooser ≡ old.core.chooser
   pub written : g.writes old.core.site ≤ g.writes new.core.site
   pub later : g.faults old.core.site ≤ g.faults new.core.site
@@ -173,22 +189,22 @@ abbrev pub AreTurns : List ScriptData → ConfigData → List ℕ → Type 0
 AreTurns scripts config turns =
     AllByRecursion (λ turn. turn < length scripts + config.recorders) turns
 
-module _ (tells : Type 0) (may : List Candidate → ℕ → Type 0) (scripts : List ScriptData) where
+module _ (terms : Terms) (scripts : List ScriptData) where
   -- the events of a list, each once and in order, until one ends them
   pub record RunsEvents (events : List Event) (core : CoreData) (answer : DriveAnswer)
       (left : CoreData) : Type 0 where
     pub steps : List Step
-    pub chain : EventTurn tells may (calls_of scripts) events core steps left (Ended left)
+    pub chain : EventTurn terms (calls_of scripts) events core steps left (Ended left)
     pub last : answer ≡ of_last steps
 
 -- ---- until nothing is left to do
 
-module _ (tells : Type 0) (may : List Candidate → ℕ → Type 0) where
+module _ (terms : Terms) where
   -- turns of the recorders, of which the last is idle as a whole, unless an event ends them before
   pub record SettlesIt (core : CoreData) (answer : DriveAnswer) (left : CoreData) : Type 0 where
     pub turns : ℕ
     pub steps : List Step
-    pub chain : Settles tells may (recorders_of core.config) turns core steps left (Ended left)
+    pub chain : Settles terms (recorders_of core.config) turns core steps left (Ended left)
     pub last : answer ≡ of_last steps
     pub settled : answer ≡ Done → IsSettled left
     pub going : answer ≡ Done → left.stopped ≡ None
@@ -197,34 +213,34 @@ module _ (tells : Type 0) (may : List Candidate → ℕ → Type 0) where
 
 -- ---- until no host has a call
 
-module _ (tells : Type 0) (may : List Candidate → ℕ → Type 0) (scripts : List ScriptData) where
+module _ (terms : Terms) (scripts : List ScriptData) where
   -- one event of each host that has a call, in order, unless one ends them before
   pub record HostsTurn (core : CoreData) (answer : DriveAnswer) (left : CoreData) : Type 0 where
     pub steps : List Step
-    pub chain : HostTurn tells may (calls_of scripts) (hosts_of scripts) core steps left
+    pub chain : HostTurn terms (calls_of scripts) (hosts_of scripts) core steps left
         (Ended left)
     pub last : answer ≡ of_last steps
 
   abbrev pub NoneCalls : CoreData → Onward
   NoneCalls left core steps =
       Ended left core steps
-      × (has_call tells may (calls_of scripts) (hosts_of scripts) core ≡ false)
+      × (has_call (calls_of scripts) (hosts_of scripts) core ≡ false)
 
   -- rounds until no host has a call, unless an event ends them before
   pub record RunsToEnd (core : CoreData) (answer : DriveAnswer) (left : CoreData) : Type 0 where
     pub rounds : ℕ
     pub steps : List Step
-    pub chain : Rounds tells may (calls_of scripts) (hosts_of scripts) (recorders_of core.config)
+    pub chain : Rounds terms (calls_of scripts) (hosts_of scripts) (recorders_of core.config)
         rounds core steps left (NoneCalls left)
     pub last : answer ≡ of_last steps
     pub none_calls : answer ≡ Done
-        → has_call tells may (calls_of scripts) (hosts_of scripts) left ≡ false
+        → has_call (calls_of scripts) (hosts_of scripts) left ≡ false
 
   -- the turns of a list, and then rounds, unless one of the turns ended them
   pub record RunsOn (turns : List ℕ) (core : CoreData) (answer : DriveAnswer) (left : CoreData)
       : Type 0 where
     pub mid : CoreData
     pub halfway : DriveAnswer
-    pub turned : RunsEvents tells may scripts (events_of scripts turns) core halfway mid
+    pub turned : RunsEvents terms scripts (events_of scripts turns) core halfway mid
     pub rounds : halfway ≡ Done → RunsToEnd mid answer left
     pub halted : halfway ≢ Done → (answer ≡ halfway) × (left ≡ mid)

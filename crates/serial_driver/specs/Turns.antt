@@ -1,11 +1,10 @@
 -- One turn of the recorders, and one of the hosts.
 use Rattle.std.specs.Prelude.{◌≡◌, ◌≤◌, ◌<◌, ℕ, Bool, true, false, List, None}
-use Rattle.victim_choice.specs.declared.choose.Candidate.{Candidate}
 use Rattle.core_state.specs.declared.rule.WorkAnswer.{WorkAnswer}
 use Rattle.core_state.specs.declared.rule.WorkRule.TheVariants.{IsIdle}
 use Rattle.core_state.specs.WorkRules.{work_rule}
 use Rattle.core_state.specs.Chains.{Step, worked, is_idle, WorkTurn, Onward, Ended, IsSettled}
-use Rattle.core_state.specs.Chains.{has_call}
+use Rattle.core_state.specs.Chains.{Terms, has_call}
 use Rattle.core_state.specs.CoreValue.{CoreData}
 use Rattle.core_progress.specs.Progress.{AreIdle}
 use Rattle.core_progress.specs.WorkLeft.{settle_left, run_left}
@@ -36,20 +35,17 @@ pub record LeavesLessBy (core : CoreData) (n : ℕ) (told : WorkAnswer) (left : 
     pub quiet : is_idle (worked n told) ≡ true
         → (work_rule core n ≡ IsIdle) × (left ≡ record core { site = left.site })
 
-pub record TurnsTo (tells : Type 0) (may : List Candidate → ℕ → Type 0) (core : CoreData)
-    (turn : Turn) (left : CoreData) : Type 0 where
+pub record TurnsTo (terms : Terms) (core : CoreData) (turn : Turn) (left : CoreData) : Type 0 where
   pub steps : List Step
-  pub chain : WorkTurn tells may (recorders_of core.config) true core steps left
-      (AtTurnEnd turn left)
+  pub chain : WorkTurn terms (recorders_of core.config) true core steps left (AtTurnEnd turn left)
   pub last : turn.answer ≡ of_last steps
   pub leaves : turn.answer ≡ Done → LeavesLess core turn.idle left
   pub history_ : left.history ≡ core.history
 
 -- behind a round of a core in which nothing was left to do the run has less left, where some host
 -- had a call
-abbrev pub RunFalls : Type 0 → (List Candidate → ℕ → Type 0) → List ScriptData → CoreData
-    → CoreData → Type 0
-RunFalls tells may scripts core left =
+abbrev pub RunFalls : List ScriptData → CoreData → CoreData → Type 0
+RunFalls scripts core left =
     IsSettled core → core.stopped ≡ None
-    → has_call tells may (calls_of scripts) (hosts_of scripts) core ≡ true
+    → has_call (calls_of scripts) (hosts_of scripts) core ≡ true
     → run_left left < run_left core

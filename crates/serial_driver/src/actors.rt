@@ -12,13 +12,13 @@ use victim_choice::Choose;
 
 impl<'a, S: Site, C: Choose> Drive<'a, S, C> {
     ghost use Rattle.serial_driver.specs.Drives.{AreTurns, EventTakes, Leaves, RunsEvents};
-    ghost use Rattle.serial_driver.specs.Drives.{RunsOn, event_of, events_of};
+    ghost use Rattle.serial_driver.specs.Drives.{RunsOn, event_of, events_of, terms_of};
 
     /// An event of the host or recorder with a number: the hosts of the job come first, in order, and then the
     /// recorders.
     fn act(&mut self, actor: u32) -> DriveAnswer
         requires there { actor < length self.old.scripts + self.old.core.config.recorders }
-        ensures takes { EventTakes S.tells (C.may self.old.core.chooser) self.old.scripts
+        ensures takes { EventTakes (terms_of S.Site C.may self.old) self.old.scripts
             (event_of self.old.scripts actor) (seen S.Site self.old.core) result
             (seen S.Site self.new.core) }
         ensures leaves { Leaves S.Site self.old self.new result }
@@ -38,7 +38,7 @@ impl<'a, S: Site, C: Choose> Drive<'a, S, C> {
     /// does nothing.
     pub fn run_turns(&mut self, turns: &[u32]) -> DriveAnswer
         requires turns { AreTurns self.old.scripts self.old.core.config turns.now }
-        ensures runs { RunsEvents S.tells (C.may self.old.core.chooser) self.old.scripts
+        ensures runs { RunsEvents (terms_of S.Site C.may self.old) self.old.scripts
             (events_of self.old.scripts turns.now) (seen S.Site self.old.core) result
             (seen S.Site self.new.core) }
         ensures leaves { Leaves S.Site self.old self.new result }
@@ -56,7 +56,7 @@ impl<'a, S: Site, C: Choose> Drive<'a, S, C> {
     /// turns ends it.
     pub fn run(&mut self, turns: &[u32]) -> DriveAnswer
         requires turns { AreTurns self.old.scripts self.old.core.config turns.now }
-        ensures runs { RunsOn S.tells (C.may self.old.core.chooser) self.old.scripts turns.now
+        ensures runs { RunsOn (terms_of S.Site C.may self.old) self.old.scripts turns.now
             (seen S.Site self.old.core) result (seen S.Site self.new.core) }
         ensures ended { result ≡ Done → (h : ℕ) → FollowsToEnd (script_of self.new.scripts h)
             (exchanges_of h self.new.core.history) }

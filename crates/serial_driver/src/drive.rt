@@ -1,18 +1,20 @@
 // A serial run: a core, and where each host of its job stands.
-ghost use Rattle.std.specs.Prelude.{◌≡◌, ◌<◌, ℕ, [], length, slice_index_or, is_some, None, IfOk, IfErr};
+ghost use Rattle.std.specs.Prelude.{◌≡◌, ◌<◌, ℕ, [], length, slice_index_or, is_some, None, IfOk, IfErr, IfSome};
 ghost use Rattle.channel_program.specs.Script.{Follows, FollowsToEnd};
+ghost use Rattle.core_state.specs.Chains.{Reading};
 ghost use Rattle.core_state.specs.CoreValue.{seen};
 ghost use Rattle.core_state.specs.WorkEvents.{WorkEvent};
 ghost use Rattle.core_progress.specs.Progress.{OwnersCall};
 ghost use Rattle.job_text.specs.Jobs.{ScriptData};
 ghost use Rattle.serial_driver.specs.Answers.{of_work};
+ghost use Rattle.serial_driver.specs.declared.answer.DriveAnswer.TheVariants.{Done};
 ghost use Rattle.std.specs.List.{AllByRecursion};
 ghost use Rattle.serial_driver.specs.Drives.{AllStand, IsNumberOf};
 ghost use Rattle.script_places.specs.Places.{StandsAt};
 ghost use Rattle.script_places.specs.Scripts.{calls_of, script_of, exchanges_of, not_begun};
 
 use crate::answer::DriveAnswer;
-use crate::host::{call_host, look};
+use crate::host::call_host;
 use core_state::{Core, Event, WorkAnswer};
 use job_text::{HostScript, Job};
 use mss_base::{HostNo, NoMemory, RecorderNo, Site};
@@ -20,7 +22,7 @@ use script_places::{Place, entered, has_call};
 use std::alloc::Global;
 use std::marker::Model;
 use victim_choice::Choose;
-use work_events::work_event;
+use volume_copy::{CopiedCore, Copier};
 
 /// Where the hosts of a job stand, script by script.
 type Places = Vec<Place>;
@@ -31,7 +33,7 @@ type Places = Vec<Place>;
 /// or that has a request, has a call left while the core isn't stopped.
 #[derive(Drop)]
 pub struct Drive<'a, S: Site, C: Choose> {
-    core: Core<S, C>,
+    session: CopiedCore<S, C>,
     /// Whence copies of calls take their memory.
     alloc: Global,
     scripts: &'a [HostScript],
@@ -44,9 +46,13 @@ impl<'a, S: Site, C: Choose> Model for Drive<'a, S, C> {
 
     ghost Value = { DriveValue S C };
 
-    ghost view = { λ d. record { core = d.core; scripts = d.scripts.now } };
+    ghost view = { λ d. record {
+      core = d.session.core;
+      copier = d.session.copier;
+      scripts = d.scripts.now;
+    } };
 
-    ghost invariant = { λ d. IsDriven d.core d.scripts.now d.places.items };
+    ghost invariant = { λ d. IsDriven d.session.core d.scripts.now d.places.items };
 }
 
 /// The place at the start of a script.
@@ -94,26 +100,34 @@ pub(crate) fn answer_of(told: WorkAnswer) -> DriveAnswer
 
 impl<'a, S: Site, C: Choose> Drive<'a, S, C> {
     ghost use Rattle.serial_driver.specs.Drives.{AreScripts, HostTakes, EventTakes, IsConfigured};
-    ghost use Rattle.serial_driver.specs.Drives.{IsUnused, Leaves, RunsEvents};
+    ghost use Rattle.serial_driver.specs.Drives.{IsUnused, Leaves, RunsEvents, terms_of};
+    ghost use Rattle.volume_copy.specs.Beside.{IsReadyFor, StandsBeside, asked};
 
-    /// A serial run of a job, on a core in which nothing has happened, of the job's configuration. After want of
-    /// memory it hands the core back.
-    pub fn new(core: Core<S, C>, job: &'a Job) -> Result<Drive<'a, S, C>, (Core<S, C>, NoMemory)>
+    /// A serial run of a job, on a core in which nothing has happened, of the job's configuration; with a copier beside
+    /// it, if a copy is asked for, which begins at once where its time has come. After want of memory it hands both
+    /// back.
+    pub fn new(
+        core: Core<S, C>,
+        job: &'a Job,
+        copier: Option<Copier>,
+    ) -> Result<Drive<'a, S, C>, (Core<S, C>, Option<Copier>, NoMemory)>
         requires unused { IsUnused core job.now }
-        ensures ok { IfOk result (λ drive.
-            drive ≡ record { core = core; scripts = job.now.hosts }) }
-        ensures memory { IfErr result (λ back. back.0 ≡ core) }
+        requires ready { IfSome copier (IsReadyFor core.history) }
+        ensures core { IfOk result (λ drive. drive.core ≡ core) }
+        ensures copier { IfOk result (λ drive. asked drive.copier ≡ asked copier) }
+        ensures scripts { IfOk result (λ drive. drive.scripts ≡ job.now.hosts) }
+        ensures memory { IfErr result (λ back. (back.0 ≡ core) × (back.1 ≡ copier)) }
     {
         let alloc = core.alloc;
         let scripts = job.hosts.as_slice();
         match places_of(alloc, scripts) {
             Ok(places) => Ok(Drive {
-                core,
+                session: CopiedCore::new(core, copier),
                 alloc,
                 scripts,
                 places,
             }),
-            Err(_) => Err((core, NoMemory)),
+            Err(_) => Err((core, copier, NoMemory)),
         }
     }
 
@@ -123,20 +137,22 @@ impl<'a, S: Site, C: Choose> Drive<'a, S, C> {
         ensures follows { (h : ℕ) → Follows (script_of self.now.scripts h)
             (exchanges_of h self.now.core.history) }
     {
-        &self.core
+        self.session.core()
     }
 
-    /// The core, as far as it came.
-    pub fn into_core(self) -> Core<S, C>
-        ensures { result ≡ self.entry.core }
+    /// The core, as far as it came, and the copier that was beside it, which stands for its session.
+    pub fn into_core(self) -> (Core<S, C>, Option<Copier>)
+        ensures core { result.0 ≡ self.entry.core }
+        ensures copier { result.1 ≡ self.entry.copier }
+        ensures stands { IfSome self.entry.copier (StandsBeside S.Site self.entry.core) }
     {
         let Drive {
-            core,
+            session,
             alloc: _,
             scripts: _,
             places: _,
         } = self;
-        core
+        session.into_parts()
     }
 
     /// An event of the host with a script's number, if it has a call.
@@ -144,14 +160,15 @@ impl<'a, S: Site, C: Choose> Drive<'a, S, C> {
         requires { number < length self.old.scripts }
         ensures takes { (unknown : ScriptData) →
             let h = (slice_index_or self.old.scripts number unknown).host in
-            HostTakes S.tells h (calls_of self.old.scripts self.old.core.history h)
+            HostTakes (terms_of S.Site C.may self.old) h
+            (calls_of self.old.scripts self.old.core.history h)
             (seen S.Site self.old.core) result (seen S.Site self.new.core) }
         ensures leaves { Leaves S.Site self.old self.new result }
     {
-        look(&self.core);
+        self.session.look();
         let script = &self.scripts[number];
         let place = &mut self.places[number];
-        call_host(&mut self.core, self.alloc, script, place)
+        call_host(&mut self.session, self.alloc, script, place)
     }
 
     /// How many hosts the job has.
@@ -168,7 +185,7 @@ impl<'a, S: Site, C: Choose> Drive<'a, S, C> {
             let h = (slice_index_or self.now.scripts number unknown).host in
             result ≡ is_some (calls_of self.now.scripts self.now.core.history h) }
     {
-        look(&self.core);
+        self.session.look();
         let script = &self.scripts[number];
         let place = &self.places[number];
         has_call(script.items.as_slice(), place)
@@ -183,7 +200,7 @@ impl<'a, S: Site, C: Choose> Drive<'a, S, C> {
         ensures ended { (h : ℕ) → calls_of self.now.scripts self.now.core.history h ≡ None
             → FollowsToEnd (script_of self.now.scripts h) (exchanges_of h self.now.core.history) }
     {
-        look(&self.core);
+        self.session.look();
     }
 
     /// An event of a recorder.
@@ -193,13 +210,22 @@ impl<'a, S: Site, C: Choose> Drive<'a, S, C> {
             (seen S.Site self.old.core) recorder result (seen S.Site self.new.core) }
         ensures leaves { Leaves S.Site self.old self.new (of_work result) }
     {
-        look(&self.core);
-        work_event(&mut self.core, recorder)
+        self.session.look();
+        self.session.work_event(recorder)
+    }
+
+    /// Takes the next track for the copy, if there is one. Where memory is wanting it is taken later.
+    pub(crate) fn take(&mut self)
+        ensures read { Reading (is_some (asked self.old.copier)) S.tells
+            (seen S.Site self.old.core) (λ read. seen S.Site self.new.core ≡ read) }
+        ensures leaves { Leaves S.Site self.old self.new Done }
+    {
+        let _taken = self.session.take();
     }
 
     /// An event of a host, if it has a call.
     fn named(&mut self, host: HostNo) -> DriveAnswer
-        ensures takes { HostTakes S.tells host
+        ensures takes { HostTakes (terms_of S.Site C.may self.old) host
             (calls_of self.old.scripts self.old.core.history host)
             (seen S.Site self.old.core) result (seen S.Site self.new.core) }
         ensures leaves { Leaves S.Site self.old self.new result }
@@ -213,7 +239,7 @@ impl<'a, S: Site, C: Choose> Drive<'a, S, C> {
     /// An event of a host or a recorder.
     fn event(&mut self, event: Event) -> DriveAnswer
         requires configured { IsConfigured self.old.core.config event }
-        ensures takes { EventTakes S.tells (C.may self.old.core.chooser) self.old.scripts event
+        ensures takes { EventTakes (terms_of S.Site C.may self.old) self.old.scripts event
             (seen S.Site self.old.core) result (seen S.Site self.new.core) }
         ensures leaves { Leaves S.Site self.old self.new result }
     {
@@ -227,7 +253,7 @@ impl<'a, S: Site, C: Choose> Drive<'a, S, C> {
     /// nothing.
     pub fn run_events(&mut self, events: &[Event]) -> DriveAnswer
         requires configured { AllByRecursion (IsConfigured self.old.core.config) events.now }
-        ensures runs { RunsEvents S.tells (C.may self.old.core.chooser) self.old.scripts events.now
+        ensures runs { RunsEvents (terms_of S.Site C.may self.old) self.old.scripts events.now
             (seen S.Site self.old.core) result (seen S.Site self.new.core) }
         ensures leaves { Leaves S.Site self.old self.new result }
     {

@@ -8,19 +8,19 @@ ghost use Rattle.script_places.specs.Scripts.{script_of, exchanges_of, calls_of}
 
 use crate::answer::DriveAnswer;
 use crate::drive::Drive;
-use crate::host::look;
 use core_progress::law::{calls_leave_less, kept_waiting_changes_nothing, settled_cores_go_on};
+use host_events::look;
 use mss_base::Site;
 use victim_choice::Choose;
 
 impl<'a, S: Site, C: Choose> Drive<'a, S, C> {
-    ghost use Rattle.serial_driver.specs.Drives.{Leaves, HostsTurn, RunsToEnd, hosts_of};
+    ghost use Rattle.serial_driver.specs.Drives.{Leaves, HostsTurn, RunsToEnd, hosts_of, terms_of};
     ghost use Rattle.serial_driver.specs.Turns.{RunFalls};
 
     /// Whether some host has a call.
     fn some_host_calls(&self) -> bool
-        ensures { result ≡ has_call S.tells (C.may self.now.core.chooser)
-            (calls_of self.now.scripts) (hosts_of self.now.scripts) (seen S.Site self.now.core) }
+        ensures { result ≡ has_call (calls_of self.now.scripts) (hosts_of self.now.scripts)
+            (seen S.Site self.now.core) }
     {
         let count = self.host_count();
         for number in 0..count {
@@ -34,10 +34,10 @@ impl<'a, S: Site, C: Choose> Drive<'a, S, C> {
     /// One event of each host that has a call, in the order of the job, until one ends them. Where nothing was left
     /// to do before, less of the run is left.
     fn hosts_turn(&mut self) -> DriveAnswer
-        ensures turns { HostsTurn S.tells (C.may self.old.core.chooser) self.old.scripts
+        ensures turns { HostsTurn (terms_of S.Site C.may self.old) self.old.scripts
             (seen S.Site self.old.core) result (seen S.Site self.new.core) }
-        ensures falls { result ≡ Done → RunFalls S.tells (C.may self.old.core.chooser)
-            self.old.scripts (seen S.Site self.old.core) (seen S.Site self.new.core) }
+        ensures falls { result ≡ Done → RunFalls self.old.scripts (seen S.Site self.old.core)
+            (seen S.Site self.new.core) }
         ensures leaves { Leaves S.Site self.old self.new result }
     {
         self.look_at_hosts();
@@ -56,12 +56,12 @@ impl<'a, S: Site, C: Choose> Drive<'a, S, C> {
         DriveAnswer::Done
     }
 
-    /// Goes on by rounds while some host has a call: the recorders work until nothing is left to do, and then each
-    /// host that has a call makes it, in the order of the job. An event that finds the core stopped, or stops it,
-    /// that finds the history full, or that is refused memory, ends it before. Where none does, each host has
-    /// followed its script to the end.
+    /// Goes on by rounds while some host has a call: a track is taken for the copy, if there is one, the recorders work
+    /// until nothing is left to do, and then each host that has a call makes it, in the order of the job. An event that
+    /// finds the core stopped, or stops it, that finds the history full, or that is refused memory, ends it before.
+    /// Where none does, each host has followed its script to the end.
     pub fn run_to_end(&mut self) -> DriveAnswer
-        ensures runs { RunsToEnd S.tells (C.may self.old.core.chooser) self.old.scripts
+        ensures runs { RunsToEnd (terms_of S.Site C.may self.old) self.old.scripts
             (seen S.Site self.old.core) result (seen S.Site self.new.core) }
         ensures ended { result ≡ Done → (h : ℕ) → FollowsToEnd (script_of self.new.scripts h)
             (exchanges_of h self.new.core.history) }
@@ -72,6 +72,7 @@ impl<'a, S: Site, C: Choose> Drive<'a, S, C> {
                 self.look_at_hosts();
                 return DriveAnswer::Done;
             }
+            self.take();
             match self.settle() {
                 DriveAnswer::Done => {}
                 halted => return halted,

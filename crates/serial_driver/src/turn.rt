@@ -9,9 +9,9 @@ ghost use Rattle.serial_driver.specs.Answers.{of_work};
 
 use crate::answer::DriveAnswer;
 use crate::drive::{Drive, answer_of};
-use crate::host::look;
 use core_progress::law::{idle_cores_are_settled, work_leaves_less, work_leaves_the_run};
-use core_state::{Core, WorkAnswer};
+use core_state::WorkAnswer;
+use host_events::look;
 use mss_base::{RecorderNo, Site};
 use victim_choice::Choose;
 
@@ -35,7 +35,7 @@ fn is_idle(told: WorkAnswer) -> bool
 }
 
 impl<'a, S: Site, C: Choose> Drive<'a, S, C> {
-    ghost use Rattle.serial_driver.specs.Drives.{Leaves, SettlesIt};
+    ghost use Rattle.serial_driver.specs.Drives.{Leaves, SettlesIt, terms_of};
     ghost use Rattle.serial_driver.specs.Turns.{TurnsTo, LeavesLessBy};
 
     /// An event of the recorder with a number, and what it leaves to do.
@@ -60,7 +60,7 @@ impl<'a, S: Site, C: Choose> Drive<'a, S, C> {
 
     /// One event of each recorder, in order, until one ends them.
     fn turn(&mut self) -> Turn
-        ensures turns { TurnsTo S.tells (C.may self.old.core.chooser)
+        ensures turns { TurnsTo (terms_of S.Site C.may self.old)
             (seen S.Site self.old.core) result (seen S.Site self.new.core) }
         ensures leaves { Leaves S.Site self.old self.new result.answer }
     {
@@ -84,7 +84,7 @@ impl<'a, S: Site, C: Choose> Drive<'a, S, C> {
     /// An event that finds the core stopped, or stops it, or that is refused memory, ends it before. What is left
     /// of a run doesn't grow.
     pub fn settle(&mut self) -> DriveAnswer
-        ensures settles { SettlesIt S.tells (C.may self.old.core.chooser)
+        ensures settles { SettlesIt (terms_of S.Site C.may self.old)
             (seen S.Site self.old.core) result (seen S.Site self.new.core) }
         ensures run { result ≡ Done → run_left (seen S.Site self.new.core)
             ≤ run_left (seen S.Site self.old.core) }

@@ -36,6 +36,13 @@ grows_front old new text front = record { added = front.front; put = front.put }
 pub line_behind : (old mid new line : List ℕ) → Grows old mid → new ≡ mid ++ line → EndsWith old new line
 line_behind old mid new line grown put = record { middle = grown.added; put = put ∙ ap (λ (l : List ℕ). l ++ line) grown.put }
 
+-- so was a text that ends with the line
+pub ends_behind : (old mid new line : List ℕ) → Grows old mid → EndsWith mid new line → EndsWith old new line
+ends_behind old mid new line grown ends = record {
+  middle = grown.added ++ ends.middle;
+  put = ends.put ∙ ap (λ (l : List ℕ). l ++ line) (ap (λ (l : List ℕ). l ++ ends.middle) grown.put ∙ append_assoc old grown.added ends.middle);
+}
+
 -- ---- after a fault of a part
 
 pub put_no_read : (answer : Answer) (fault : PartFault) (P : ℕ → Type 0) → answer ≡ Err (fault_of fault) → OnRead answer P

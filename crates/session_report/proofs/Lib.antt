@@ -3,4 +3,5 @@ pub mod SiteReads
 pub mod Told
 pub mod Framing
 pub mod Listings
+pub mod Copied
 mod Lines

@@ -65,6 +65,10 @@ module _ (tells : Type 0) (track : Tracks) (old now new : List ℕ) (cylinder nu
       record { tracks = cylinder * 19 + head; few = omega arith; unread = here put.1; put = λ t. put.0 t ∙ at_head t }
   tracks_left low Here Unread here (volumes_fault.Put fault) put = λ t. tracks_stop track old now new cylinder head 7676 low_head (omega arith) (at_head t) (put t)
 
+  -- of the track a front was put
+  pub tracks_halt : cylinder < 404 → (tells → PutsFront now new (track_text cylinder head (track cylinder head))) → tells → PutsFront old new (tracks_text track 7676)
+  tracks_halt low front t = tracks_stop track old now new cylinder head 7676 low_head (omega arith) (at_head t) (front t)
+
 -- of a cylinder that a row has as blank, staged or not, each track is blank
 pub blank_in_row : (c : Content) (r : RowValue) (cylinder : ℕ) → true ≡ ((state_of r cylinder == 0) || (state_of r cylinder == 2)) → (head : ℕ) → row_tracks c (Some r) cylinder head ≡ []
 blank_in_row c r cylinder blank head =
@@ -125,7 +129,7 @@ module _ (tells : Type 0) (shown : Volumes) (volumes : List Heading) (i : ℕ) (
     -- the walk was left within the volume
     pub volumes_left : (Here : ℕ → Type 0) (Unread : ℕ → ℕ → Type 0) → ((n : ℕ) → Here n → Unread i n)
         → (e : VolumesFault) → PutsTracks tells Here heading track now new (Err e)
-        → PutsVolumes tells Unread (untitled volumes shown) (volumes_text shown volumes) old new (Err e)
+        → PutsVolumes tells Unread (untitled volumes shown []) (volumes_text shown volumes) old new (Err e)
     volumes_left Here Unread here (volumes_fault.Read fault) put = record {
       place = i;
       tracks = put.tracks;

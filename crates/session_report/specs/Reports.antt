@@ -50,15 +50,22 @@ front_text shown volumes place tracks =
 
 -- ---- what is told
 
--- what a text with volumes is about: what stands before them, all volumes, and those to be listed
+-- what a text with volumes is about: what stands before them, all volumes, those to be listed, and
+-- what stands between these and the last line
 pub record Matter : Type 0 where
   pub opening : List ℕ
   pub shown : Volumes
   pub volumes : List Heading
+  pub behind : List ℕ
 
--- volumes alone, with nothing before them
-abbrev pub untitled : List Heading → Volumes → Matter
-untitled volumes shown = record { opening = []; shown = shown; volumes = volumes }
+-- volumes and what stands behind them, with nothing before them
+abbrev pub untitled : List Heading → Volumes → List ℕ → Matter
+untitled volumes shown behind = record {
+  opening = [];
+  shown = shown;
+  volumes = volumes;
+  behind = behind;
+}
 
 -- the line of a change of a row, at its place of the console
 abbrev pub message_line : ℕ → Message → List ℕ
@@ -72,12 +79,13 @@ changes_text console = numbered message_line 1 console
 abbrev pub opening_text : SessionData → List ℕ
 opening_text s = history_text s.history ++ changes_text s.console
 
--- a report is about a session, and the volumes of its job
-abbrev pub report_matter : SessionData → List Heading → Volumes → Matter
-report_matter s volumes shown = record {
+-- a report is about a session, the volumes of its job, and what stands behind these
+abbrev pub report_matter : SessionData → List Heading → Volumes → List ℕ → Matter
+report_matter s volumes shown behind = record {
   opening = opening_text s;
   shown = shown;
   volumes = volumes;
+  behind = behind;
 }
 
 -- a volume that is there
@@ -97,6 +105,7 @@ listing_matter shown = record {
   opening = listing_title;
   shown = shown;
   volumes = volumes_below 32 shown.serial shown.read_only;
+  behind = [];
 }
 
 -- ---- how it ends
@@ -124,7 +133,8 @@ last_text last.Limit = limit_text
 
 -- the text of it
 abbrev pub told_text : Matter → Telling → List ℕ
-told_text m (whole (finished l)) = m.opening ++ volumes_text m.shown m.volumes ++ last_text l
+told_text m (whole (finished l)) =
+    m.opening ++ volumes_text m.shown m.volumes ++ (m.behind ++ last_text l)
 told_text m (whole (stopped fault)) = m.opening ++ stopped_text fault
 told_text m (unread place tracks fault) =
     m.opening ++ front_text m.shown m.volumes place tracks ++ stopped_text fault

@@ -83,5 +83,13 @@ pub fn listing<S: Site, O: Sink>(
 {
     put_title(output)?;
     let volumes = listed_volumes(alloc, rows)?;
-    put_ending(alloc, site, rows, volumes.as_slice(), Last::End, output)
+    put_ending(
+        alloc,
+        site,
+        rows,
+        volumes.as_slice(),
+        Last::End,
+        output,
+        None,
+    )
 }

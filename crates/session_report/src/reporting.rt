@@ -1,5 +1,6 @@
 // The report of a session.
 ghost use Rattle.std.specs.Prelude.{◌≡◌, ◌≢◌, ◌++◌, IsErrOf, OnOk};
+ghost use Rattle.std.specs.Option.{option_map};
 ghost use Rattle.mss_base.specs.Content.{content};
 ghost use Rattle.mss_base.specs.Counts.{HasCause};
 ghost use Rattle.mss_base.specs.Puts.{Puts};
@@ -9,6 +10,7 @@ ghost use Rattle.shown_volumes.specs.Shown.{shown_by};
 ghost use Rattle.core_state.specs.Sessions.{session_data};
 ghost use Rattle.report_text.specs.Causes.{HasOutputCause};
 ghost use Rattle.session_report.specs.Answers.{SinkCounts};
+ghost use Rattle.session_report.specs.CopyTexts.{behind_text};
 ghost use Rattle.session_report.specs.Parties.{seen_with, site_between, sink_between};
 ghost use Rattle.session_report.specs.Parts.{PutsVolumes, CountsReads, CountsPuts};
 ghost use Rattle.session_report.specs.Parts.{CanReadShown, IsUnread, TellsNoRead};
@@ -19,12 +21,14 @@ ghost use Rattle.session_report.specs.Reports.{last_text, opening_text, report_m
 ghost use Rattle.session_report.specs.Reports.{untitled, volumes_text};
 
 use crate::changes::put_changes;
+use crate::copies::put_behind;
 use crate::fault::{ReportFault, VolumesFault};
 use crate::volumes::put_volumes;
 use core_state::Session;
 use mss_base::{Block, Bytes, Failed, Serial, Sink, Site, VolumeNo};
 use report_text::{ReportFault as PartFault, put_end, put_history, put_limit, put_stopped};
 use std::alloc::Global;
+use volume_copy::Copier;
 use volume_table::Rows;
 
 /// The last line of a report whose volumes are told.
@@ -62,19 +66,41 @@ fn put_opening<O: Sink>(
     put_changes(output, line, session.console.as_slice())
 }
 
-/// Puts the listed volumes and the last line.
+/// Puts what stands behind the volumes, and the last line.
+fn put_closing<O: Sink>(
+    output: &mut O,
+    line: &mut Bytes,
+    copy: Option<&Copier>,
+    last: Last,
+) -> Result<(), PartFault>
+    ensures bytes { let copy = option_map (λ c. c.now) copy.entry in
+        O.tells → Puts result (O.told output.old) (O.told output.new)
+        (behind_text copy ++ last_text last) }
+    ensures cause { HasOutputCause (O.faults output.old) (O.faults output.new) result }
+    ensures ended { O.tells → OnOk result
+        (EndsWith (O.told output.old) (O.told output.new) (last_text last)) }
+{
+    put_behind(output, line, copy)?;
+    put_last(output, last)?;
+    Ok(())
+}
+
+/// Puts the listed volumes, what stands behind them, and the last line.
 fn put_to_end<S: Site, O: Sink>(
     site: &mut S,
     output: &mut O,
     rows: &Rows,
     volumes: &[(VolumeNo, Serial, bool)],
+    copy: Option<&Copier>,
     last: Last,
     block: &mut Block,
     line: &mut Bytes,
 ) -> Result<(), VolumesFault>
     ensures bytes { let shown = shown_by (listed rows.now) (content (S.told site.old)) in
+        let behind = behind_text (option_map (λ c. c.now) copy.entry) in
         PutsVolumes (S.tells × O.tells) (IsUnread S.Site site.old (listed rows.now) volumes.now)
-        (untitled volumes.now shown) (volumes_text shown volumes.now ++ last_text last)
+        (untitled volumes.now shown behind)
+        (volumes_text shown volumes.now ++ (behind ++ last_text last))
         (O.told output.old) (O.told output.new) result }
     ensures grown { O.tells → Grows (O.told output.old) (O.told output.new) }
     ensures ended { O.tells → OnOk result
@@ -85,11 +111,12 @@ fn put_to_end<S: Site, O: Sink>(
     ensures output { CountsPuts (O.faults output.old) (O.faults output.new) result }
 {
     put_volumes(site, output, rows, volumes, block, line)?;
-    put_last(output, last)?;
+    put_closing(output, line, copy, last)?;
     Ok(())
 }
 
-/// Puts the listed volumes and the last line, or where a read fails the volumes before it and the count of faults.
+/// Puts the listed volumes, what stands behind them, and the last line; or where a read fails the volumes before it and
+/// the count of faults.
 pub fn put_ending<S: Site, O: Sink>(
     alloc: Global,
     site: &mut S,
@@ -97,13 +124,16 @@ pub fn put_ending<S: Site, O: Sink>(
     volumes: &[(VolumeNo, Serial, bool)],
     last: Last,
     output: &mut O,
+    copy: Option<&Copier>,
 ) -> Result<(), ReportFault>
     ensures report { let shown = shown_by (listed rows.now) (content (S.told site.old)) in
-        IsReported (untitled volumes.now shown) (finished last)
+        let behind = behind_text (option_map (λ c. c.now) copy.entry) in
+        IsReported (untitled volumes.now shown behind) (finished last)
         (site_between S.Site site.old site.new) (sink_between O.Sink output.old output.new) result }
     ensures unread { let shown = shown_by (listed rows.now) (content (S.told site.old)) in
+        let behind = behind_text (option_map (λ c. c.now) copy.entry) in
         OnRead result (BreaksOff (IsUnread S.Site site.old (listed rows.now) volumes.now)
-        (untitled volumes.now shown) (seen_with (site_between S.Site site.old site.new)
+        (untitled volumes.now shown behind) (seen_with (site_between S.Site site.old site.new)
         (sink_between O.Sink output.old output.new))) }
     ensures closed { O.tells → Closes last (O.told output.old) (O.told output.new) result }
     ensures counted { SiteCounts (S.faults site.old) (S.faults site.new) result }
@@ -113,7 +143,9 @@ pub fn put_ending<S: Site, O: Sink>(
 {
     let mut block = Block::zeros(alloc)?;
     let mut line = Bytes::new(alloc);
-    match put_to_end(site, output, rows, volumes, last, &mut block, &mut line) {
+    match put_to_end(
+        site, output, rows, volumes, copy, last, &mut block, &mut line,
+    ) {
         Ok(()) => Ok(()),
         Err(VolumesFault::Read { fault }) => {
             put_stopped(output, fault)?;
@@ -124,11 +156,11 @@ pub fn put_ending<S: Site, O: Sink>(
 }
 
 /// Puts the report of a session on the volumes of its job: the history, the changes of rows, the volumes as the rows
-/// show them over the devices, and a last line.
+/// show them over the devices, the copy that was taken in it, if one was, and a last line.
 ///
-/// A session that was stopped has no volumes, and its last line tells the fault. Where a read for a track fails, the
-/// report ends before that track, with a line that tells the count of faults. Of devices that don't tell what they
-/// hold, all but the volumes is known. Memory may run out behind the first line.
+/// A session that was stopped has no volumes and no copy, and its last line tells the fault. Where a read for a track
+/// fails, the report ends before that track, with a line that tells the count of faults. Of devices that don't tell
+/// what they hold, all but the volumes and the copy is known. Memory may run out behind the first line.
 pub fn report<S: Site, O: Sink>(
     alloc: Global,
     site: &mut S,
@@ -137,14 +169,17 @@ pub fn report<S: Site, O: Sink>(
     session: &Session,
     last: Last,
     output: &mut O,
+    copy: Option<&Copier>,
 ) -> Result<(), ReportFault>
     ensures report { let shown = shown_by (listed rows.now) (content (S.told site.old)) in
-        IsReported (report_matter (session_data session.now) volumes.now shown)
+        let behind = behind_text (option_map (λ c. c.now) copy.entry) in
+        IsReported (report_matter (session_data session.now) volumes.now shown behind)
         (ending_of session.now.stopped last) (site_between S.Site site.old site.new)
         (sink_between O.Sink output.old output.new) result }
     ensures unread { let shown = shown_by (listed rows.now) (content (S.told site.old)) in
+        let behind = behind_text (option_map (λ c. c.now) copy.entry) in
         OnRead result (BreaksOff (IsUnread S.Site site.old (listed rows.now) volumes.now)
-        (report_matter (session_data session.now) volumes.now shown)
+        (report_matter (session_data session.now) volumes.now shown behind)
         (seen_with (site_between S.Site site.old site.new)
         (sink_between O.Sink output.old output.new))) }
     ensures framed { O.tells → Frames (opening_text (session_data session.now))
@@ -161,6 +196,6 @@ pub fn report<S: Site, O: Sink>(
             put_stopped(output, kept)?;
             Ok(())
         }
-        None => put_ending(alloc, site, rows, volumes, last, output),
+        None => put_ending(alloc, site, rows, volumes, last, output, copy),
     }
 }

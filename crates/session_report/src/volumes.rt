@@ -149,7 +149,7 @@ pub fn put_volumes<S: Site, O: Sink>(
 ) -> Result<(), VolumesFault>
     ensures bytes { let shown = shown_by (listed rows.now) (content (S.told site.old)) in
         PutsVolumes (S.tells × O.tells) (IsUnread S.Site site.old (listed rows.now) volumes.now)
-        (untitled volumes.now shown) (volumes_text shown volumes.now)
+        (untitled volumes.now shown []) (volumes_text shown volumes.now)
         (O.told output.old) (O.told output.new) result }
     ensures grown { O.tells → Grows (O.told output.old) (O.told output.new) }
     ensures counted { CountsReads (S.faults site.old) (S.faults site.new) result }

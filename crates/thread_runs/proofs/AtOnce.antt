@@ -1,5 +1,5 @@
 -- A session of a job in threads, from its parts.
-use Rattle.std.proofs.Common.{◌≡◌, inl, inr, ◌≤◌, ℕ, zero, suc, Bool, true, false, cond, List, [], ◌∷◌, ◌==◌, ◌&&◌, length, map, Option, Some, None, if◌then◌else◌, eq-eqb, refl, sym, ◌∙◌, ap, subst, arith, Contains}
+use Rattle.std.proofs.Common.{◌≡◌, ◌⊎◌, inl, inr, ◌≤◌, ℕ, zero, suc, Bool, true, false, cond, List, [], ◌∷◌, ◌==◌, ◌&&◌, length, map, Option, Some, None, if◌then◌else◌, eq-eqb, refl, sym, ◌∙◌, ap, subst, arith, Contains}
 use Rattle.std.proofs.lemmas.Bool.{cases_Bool, cond-false, eqb-true, false≢true}
 use Rattle.std.proofs.lemmas.List.Elements.{All-head, All-tail}
 use Rattle.mss_base.specs.Sound.{StaysSound}
@@ -24,7 +24,12 @@ use Rattle.job_runs.specs.Parties.{Devices, devices}
 use Rattle.job_runs.specs.Runs.{FollowScripts, IsBegun, IsHalted, IsPromised, TellsSession}
 use Rattle.job_runs.specs.declared.run.Outcome.{Outcome}
 use Rattle.job_runs.specs.declared.run.Outcome.TheVariants.{Untaken, Ran}
-use Rattle.thread_runs.specs.Runs.{Ends, IsPlayedAtOnce, IsSessionAtOnce, ended_as}
+use Rattle.std.specs.Prelude.{is_some}
+use Rattle.volume_copy.specs.Beside.{asked}
+use Rattle.volume_copy.specs.Copies.{AskedCopy, CopyData}
+use Rattle.job_runs.specs.Copies.{EndsForCopy, JobAsked}
+use Rattle.job_runs.proofs.FinishFacts.{told_going}
+use Rattle.thread_runs.specs.Runs.{Ends, EndsAs, IsPlayedAtOnce, IsSessionAtOnce, ended_as}
 
 -- ---- how it ended
 
@@ -34,12 +39,25 @@ going_halts false true = refl
 going_halts false false = refl
 
 -- a run in threads ends in a stop just where its core is stopped
-run_halts : (stop : Option ℕ) (entries hosts : ℕ) (ends : List EndData) → IsHalted (ended_as (run_answer stop entries hosts ends)) stop
+pub run_halts : (stop : Option ℕ) (entries hosts : ℕ) (ends : List EndData) → IsHalted (ended_as (run_answer stop entries hosts ends)) stop
 run_halts (Some fault) entries hosts ends = refl
 run_halts None entries hosts ends = going_halts (are_finished hosts ends) ((entries == 4096) && (length ends == hosts))
 
-pub played_halts : (job : JobData) (site : Devices) (end : DriveAnswer) (hosts : List EndData) (s : SessionData) → IsPlayedAtOnce job site end hosts s → IsHalted end s.stopped
-played_halts job site end hosts s is = subst (λ (e : DriveAnswer). IsHalted e s.stopped) (sym is.ended_) (run_halts s.stopped (length s.history) (length job.hosts) hosts)
+-- memory that runs out for the rest of a copy stops no core
+halts_as : (copy : Option AskedCopy) (run end : DriveAnswer) (stop : Option ℕ) → EndsAs copy run end → IsHalted run stop → IsHalted end stop
+halts_as None run end stop same halts = subst (λ (e : DriveAnswer). IsHalted e stop) (sym same) halts
+halts_as (Some copy) run end stop (inl same) halts = subst (λ (e : DriveAnswer). IsHalted e stop) (sym same) halts
+halts_as (Some copy) run end stop (inr it) halts = subst (λ (e : DriveAnswer). IsHalted e stop) (sym it.1) (told_going run stop it.0 halts)
+
+pub ends_as : (copier : Option CopyData) (run end : DriveAnswer) → (end ≡ run) ⊎ EndsForCopy copier run end → (copy : Option AskedCopy) → asked copier ≡ copy → EndsAs copy run end
+ends_as copier run end (inl same) None is = same
+ends_as copier run end (inl same) (Some copy) is = inl same
+ends_as copier run end (inr it) None is = absurd (let e : true ≡ false = sym it.copies_ ∙ ap is_some is in cc)
+ends_as copier run end (inr it) (Some copy) is = inr (it.by_itself, it.memory)
+
+pub played_halts : (asked_ : JobAsked) (site : Devices) (end : DriveAnswer) (hosts : List EndData) (s : SessionData) → IsPlayedAtOnce asked_ site end hosts s → IsHalted end s.stopped
+played_halts asked_ site end hosts s is =
+    halts_as asked_.copy (ended_as (run_answer s.stopped (length s.history) (length asked_.job.hosts) hosts)) end s.stopped is.ended_ (run_halts s.stopped (length s.history) (length asked_.job.hosts) hosts)
 
 -- ---- scripts
 
@@ -105,13 +123,13 @@ module _ {S C : Type 0} (g : Ghosts S) (core left : CoreValue S C)
 
 -- ---- the session
 
-module _ {S C : Type 0} (g : Ghosts S) (job : JobData) (core left : CoreValue S C) (end : DriveAnswer) (hosts : List EndData)
+module _ {S C : Type 0} (g : Ghosts S) (job : JobData) (copy : Option AskedCopy) (core left : CoreValue S C) (end : DriveAnswer) (hosts : List EndData)
     (later : IsLater g.tells (seen g core) (seen g left))
     (of_hosts : AreOfThese (hosts_of job.hosts) left.history) (ends : Leaves left.history job.hosts hosts) (ask : AskByScript left.history job.hosts)
-    (ended_ : end ≡ ended_as (run_answer left.stopped (length left.history) (length job.hosts) hosts))
+    (ended_ : EndsAs copy (ended_as (run_answer left.stopped (length left.history) (length job.hosts) hosts)) end)
     (was : DevicesSeen) (begun : IsBegun g.tells job.config was (seen g core))
     (promised : IsPromised job.config (record { tells = g.tells; was = was; now = seen_site g left.site }) (data_of left)) where
-  pub played_at_once : IsPlayedAtOnce job (record { tells = g.tells; was = was; now = seen_site g left.site }) end hosts (data_of left)
+  pub played_at_once : IsPlayedAtOnce (record { job = job; copy = copy }) (record { tells = g.tells; was = was; now = seen_site g left.site }) end hosts (data_of left)
   played_at_once = record {
     led = record { began = seen g core; begun = begun; left = seen g left; later = later; devices_ = refl; session = refl };
     promised = promised;
@@ -123,11 +141,11 @@ module _ {S C : Type 0} (g : Ghosts S) (job : JobData) (core left : CoreValue S 
 
 -- ---- and its report
 
-module _ {S : Type 0} (g : Ghosts S) (job : JobData)
+module _ {S : Type 0} (g : Ghosts S) (asked_ : JobAsked)
     (was : DevicesSeen) (mid site : S) (end : DriveAnswer) (hosts : List EndData) (s : SessionData)
-    (played : IsPlayedAtOnce job (record { tells = g.tells; was = was; now = seen_site g mid }) end hosts s) (sink : Stream) where
-  pub ends_at_once : (o : Outcome) → TellsSession job was.told (devices g mid site) sink end s o → Ends job (record { tells = g.tells; was = was; now = seen_site g site }) sink o hosts
+    (played : IsPlayedAtOnce asked_ (record { tells = g.tells; was = was; now = seen_site g mid }) end hosts s) (sink : Stream) where
+  pub ends_at_once : (o : Outcome) → TellsSession asked_ was.told (devices g mid site) sink end s o → Ends asked_ (record { tells = g.tells; was = was; now = seen_site g site }) sink o hosts
   ends_at_once (Untaken why) is = absurd is
   ends_at_once (Ran session last told_) is =
-      subst (λ (x : SessionData × DriveAnswer). IsSessionAtOnce job (record { tells = g.tells; was = was; now = seen_site g site }) sink x.1 told_ hosts x.0) (λ i. (sym is.0 i, sym is.1 i))
+      subst (λ (x : SessionData × DriveAnswer). IsSessionAtOnce asked_ (record { tells = g.tells; was = was; now = seen_site g site }) sink x.1 told_ hosts x.0) (λ i. (sym is.0 i, sym is.1 i))
       (record { mid = seen_site g mid; played = played; report = is.2 })

@@ -1,5 +1,5 @@
 // A job, run in threads on a site.
-ghost use Rattle.std.specs.Prelude.{◌≡◌, [], Bool, Err, IfErr, IfOk, None};
+ghost use Rattle.std.specs.Prelude.{◌≡◌, [], Bool, Err, IfErr, IfOk, IfSome, None};
 ghost use Rattle.mss_base.specs.declared.place.UnitNo.{UnitNo};
 ghost use Rattle.core_state.specs.CoreValue.{DevicesSeen, seen, seen_site};
 ghost use Rattle.core_state.specs.Sessions.{session_data};
@@ -7,11 +7,13 @@ ghost use Rattle.mss_restart.specs.Creations.{WritesOn};
 ghost use Rattle.session_report.specs.Parties.{sink_between};
 ghost use Rattle.job_runs.specs.Parties.{devices};
 ghost use Rattle.job_runs.specs.Runs.{AreRowsOf, GoesUnstopped, IsBegun, OnUnread, Opens, ReportBrokeOff};
+ghost use Rattle.job_runs.specs.Copies.{HoldsCopy, job_with};
+ghost use Rattle.volume_copy.specs.Beside.{IsReadyFor, asked};
 ghost use Rattle.thread_runs.specs.Runs.{Ends, IsPlayedAtOnce, ended_as};
 
 use core_restart::{Refused, restart};
 use core_state::Core;
-use job_runs::{JobEnd, Outcome, Played, look, put_report};
+use job_runs::{JobEnd, Outcome, Played, finish_copy, look, put_report};
 use job_text::Job;
 use mss_base::{Sink, Site};
 use mss_run::{Gate, HostEnds, RunAnswer, RunEnd, run_actors};
@@ -21,6 +23,7 @@ use std::alloc::Global;
 use std::sync::Wait;
 use std::thread::Threads;
 use victim_choice::Choose;
+use volume_copy::Copier;
 
 /// A session that was run in threads, and how each host of its job ended.
 #[derive(Drop)]
@@ -81,18 +84,23 @@ fn play_on<S: Site + Send, C: Choose + Drop + Send, G: Gate + Sync, R: Threads +
     core: Core<S, C>,
     job: &Job,
     gate: &G,
+    copier: Option<Copier>,
 ) -> PlayedAtOnce<S>
     requires empty { core.history ≡ [] }
+    requires ready { IfSome copier (IsReadyFor core.history) }
     requires config { core.config ≡ job.now.config }
     requires writes { core.first_write ≡ S.writes core.site }
     requires faults { core.first_faults ≡ S.faults core.site }
     ensures session { (was : DevicesSeen) → IsBegun S.tells job.now.config was (seen S.Site core)
-        → IsPlayedAtOnce job.now (record {
+        → IsPlayedAtOnce (job_with job.now copier) (record {
           tells = S.tells;
           was = was;
           now = seen_site S.Site result.played.site;
         })
         result.played.end result.hosts.items (session_data result.played.session) }
+    ensures asked { asked result.played.copier ≡ asked copier }
+    ensures copy { (was : DevicesSeen) → IsBegun S.tells job.now.config was (seen S.Site core)
+        → HoldsCopy S.Site job.now.config was.told result.played }
     ensures rows { AreRowsOf S.tells (S.told result.played.site) result.played.session.stopped
         result.played.rows }
     ensures devices { WritesOn S.Site core.site result.played.site }
@@ -101,10 +109,12 @@ fn play_on<S: Site + Send, C: Choose + Drop + Send, G: Gate + Sync, R: Threads +
 {
     sessions_are_plain::<S>();
     let RunEnd {
-        core,
+        mut core,
         hosts,
         answer,
-    } = run_actors(rt, alloc, core, job, gate);
+        mut copier,
+    } = run_actors(rt, alloc, core, job, gate, copier);
+    let end = finish_copy(&mut core, &mut copier, ended_as(answer));
     look(&core);
     let (site, session, rows) = core.into_session();
     PlayedAtOnce {
@@ -112,14 +122,15 @@ fn play_on<S: Site + Send, C: Choose + Drop + Send, G: Gate + Sync, R: Threads +
             site,
             rows,
             session,
-            end: ended_as(answer),
+            end,
+            copier,
         },
         hosts,
     }
 }
 
-/// Takes up a site and runs a job on it in threads, each host of the job and each recorder in one of its own; and puts
-/// the report. Where a read for it fails, it ends before that track.
+/// Takes up a site and runs a job on it in threads, each host of the job and each recorder in one of its own, and the
+/// copier, if a copy is asked for; and puts the report. Where a read for it fails, it ends before that track.
 ///
 /// A site that a session left, stopped at whatever moment, is taken up; one with another fault is refused by the
 /// first, untouched, and handed back. The session's history is that of plain volumes, whatever the order in which the
@@ -131,9 +142,19 @@ pub fn run_at_once<
     G: Gate + Sync,
     O: Sink,
     R: Threads + Wait + Sync,
->(rt: &R, alloc: Global, job: &Job, site: S, chooser: C, gate: &G, output: &mut O) -> EndAtOnce<S>
+>(
+    rt: &R,
+    alloc: Global,
+    job: &Job,
+    site: S,
+    chooser: C,
+    copier: Option<Copier>,
+    gate: &G,
+    output: &mut O,
+) -> EndAtOnce<S>
     requires able { C.can_choose chooser }
-    ensures ends { Ends job.now (devices S.Site site result.job.site)
+    requires armed { IfSome copier (IsReadyFor []) }
+    ensures ends { Ends (job_with job.now copier) (devices S.Site site result.job.site)
         (sink_between O.Sink output.old output.new) result.job.outcome result.hosts.items }
     ensures unread { OnUnread result.job.outcome (ReportBrokeOff S.Site site job.now
         (devices S.Site site result.job.site) (sink_between O.Sink output.old output.new)) }
@@ -143,7 +164,7 @@ pub fn run_at_once<
 {
     match begin(alloc, job, site, chooser) {
         Ok(core) => {
-            let done = play_on(rt, alloc, core, job, gate);
+            let done = play_on(rt, alloc, core, job, gate, copier);
             EndAtOnce {
                 job: put_report(alloc, job, done.played, output),
                 hosts: done.hosts,

@@ -1,10 +1,11 @@
 -- What the calls of a copier leave of what it stands for.
-use Rattle.std.proofs.Common.{◌≡◌, ◌⊎◌, inl, inr, ℕ, true, ◌≤◌, List, length, take, Option, Some, None, IsSome, Result, Ok, Err, refl, sym, ap, subst, ◌∙◌, arith}
+use Rattle.std.proofs.Common.{◌≡◌, ◌⊎◌, inl, inr, ℕ, true, false, min, ◌≤◌, List, length, take, Option, Some, None, IsSome, Result, Ok, Err, refl, sym, ap, subst, ◌∙◌, arith}
 use Rattle.std.specs.Option.{option_map}
 use Rattle.std.specs.Result.{OnOk, OnErr}
 use Rattle.std.proofs.lemmas.Bool.{cond_both}
 use Rattle.std.proofs.lemmas.List.{take_all}
 use Rattle.mss_base.specs.Content.{SiteLog, content}
+use Rattle.mss_base.specs.Counts.{IsFaultSince}
 use Rattle.mss_base.specs.Sites.{OnlyReads}
 use Rattle.mss_base.specs.declared.site.Site.{Ghosts}
 use Rattle.ckd_track.specs.Data.{RecordData, Volumes}
@@ -13,6 +14,7 @@ use Rattle.ckd_plain.specs.History.{EntryData, after}
 use Rattle.shown_volumes.specs.Shown.{shown_by}
 use Rattle.volume_table.specs.Row.{RowValue}
 use Rattle.volume_table.specs.Listed.{listed}
+use Rattle.core_state.specs.Counted.{AreFaults}
 use Rattle.core_state.specs.CoreValue.{CoreValue}
 use Rattle.core_state.specs.IsCore.{IsGoing, opening_of}
 use Rattle.core_state.specs.SessionData.{data_of}
@@ -22,7 +24,9 @@ use Rattle.core_state.proofs.Moved.{whole_moved}
 use Rattle.volume_copy.specs.declared.copier.CopyState.{CopyState}
 use Rattle.volume_copy.specs.declared.copier.CopyState.TheVariants.{Armed, NoVolume, Taking, Whole, Failed}
 use Rattle.volume_copy.proofs.EntryFacts.{serials_after}
-use Rattle.volume_copy.specs.Copies.{AreNoneTaken, IsCopier, CopyData, IsCopying, IsOnTime, IsTrackOf, Stands, StandsFor, taken_at, track_of}
+use Rattle.volume_copy.proofs.FaultFacts.{own_new}
+use Rattle.volume_copy.specs.Beside.{IsCopied, IsFinished, StandsBeside}
+use Rattle.volume_copy.specs.Copies.{AreNoneTaken, FailedApart, FailedIn, IsCopier, CopyData, IsCopying, IsOnTime, IsTrackOf, Stands, StandsFor, taken_at, track_of}
 use Rattle.volume_copy.specs.Steps.{begun, begun_if_armed, is_armed, Finishes, IsLeftOrTaken, IsOfSame, KeepsStanding, TakesOnce, TakesOrFails, TakesTracks, had, lacked, taken, failed, rests, whole}
 
 -- ---- what is shown of a core that goes on
@@ -55,8 +59,10 @@ module _ (tells : Type 0) (tl : tells) (volumes : Volumes) (s : State) (history 
         | inr t ↦ subst (λ (state : CopyState). Stands state new s history) (sym t) (copying takes is)
       ]
 
-  pub stands_failed : (fault : ℕ) → new.state ≡ Failed fault → Stands new.state new s history
-  stands_failed fault is = subst (λ (state : CopyState). Stands state new s history) (sym is) tt
+  pub stands_failed : (fault : ℕ) → new.state ≡ Failed fault → new.volume ≡ old.volume → old.state ≡ Taking → Stands old.state old s history → Stands new.state new s history
+  stands_failed fault is volume_ taking stands =
+      let copy : IsCopying old s history = subst (λ (state : CopyState). Stands state old s history) taking stands in
+      subst (λ (state : CopyState). Stands state new s history) (sym is) (subst (λ (v : ℕ). IsSome (s.volumes.serial v)) (sym volume_) copy.there)
 
 -- ---- its start
 
@@ -116,60 +122,149 @@ on_time old new history taking begun_ same on =
       began = λ isn't. (same.point_ ∙ was.0 ∙ sym same.time, (let t = same.time in omega (arith, t, was.1)));
     }
 
+-- ---- a read that failed
+
+-- the copy of a call goes on, unless its own read fails
+failed_new : {S C : Type 0} (v : CoreValue S C) (before now fault : ℕ) → v.first_faults ≤ before → AreFaults v.first_faults before v.history v.requests → IsFaultSince before now fault → FailedApart v.history v.requests v.first_faults now fault
+failed_new v before now fault le are is = record {
+  within = record {
+    rises = let c = is.count in let r = is.rises in omega (arith, c, r, le);
+    past = let c = is.count in omega (arith, c);
+  };
+  own = own_new v.first_faults before now v.history v.requests fault are is;
+}
+
+pub failed_later : {S C : Type 0} (v : CoreValue S C) (before now : ℕ) (state : CopyState) → before ≤ now → FailedIn v before state → FailedIn v now state
+failed_later v before now Armed le is = tt
+failed_later v before now NoVolume le is = tt
+failed_later v before now Taking le is = tt
+failed_later v before now Whole le is = tt
+failed_later v before now (Failed fault) le is = record { within = record { rises = is.within.rises; past = let p = is.within.past in omega (arith, p, le) }; own = is.own }
+
+failed_none : {S C : Type 0} (v : CoreValue S C) (now : ℕ) (state : CopyState) → (state ≡ Taking) ⊎ (state ≡ Whole) → FailedIn v now state
+failed_none v now state (inl is) = subst (FailedIn v now) (sym is) tt
+failed_none v now state (inr is) = subst (FailedIn v now) (sym is) tt
+
+begun_failed : {S C : Type 0} (v : CoreValue S C) (now : ℕ) (row : Option RowValue) (n : ℕ) (c : CopyData) → FailedIn v now (begun row n c).state
+begun_failed v now None n c = tt
+begun_failed v now (Some r) n c = tt
+
+pub armed_failed : {S C : Type 0} (v : CoreValue S C) (now : ℕ) (row : Option RowValue) (n : ℕ) (c : CopyData) → FailedIn v now c.state → FailedIn v now (begun_if_armed row n c).state
+armed_failed v now row n c is = cond_both (is_armed c.state) (begun row n c) c (λ (x : CopyData). FailedIn v now x.state) (λ _. begun_failed v now row n c) (λ _. is)
+
 -- ---- what a call leaves of a copy
 
-module _ {S C : Type 0} (g : Ghosts S) (v : CoreValue S C) (x : S) (reads : OnlyReads g v.site x) (going : g.tells → v.stopped ≡ None → IsGoing (g.told v.site) v) where
-  module _ (n before now : ℕ) (old new : CopyData) (taking : old.state ≡ Taking) where
-    track_stands : g.tells → v.stopped ≡ None → TakesOrFails g.tells (shown_by (listed v.rows) (content (g.told v.site))) n before now old new
-        → Stands old.state old (opening_of (g.told v.site) v) v.history → Stands new.state new (opening_of (g.told v.site) v) v.history
-    track_stands tl none (taken takes unfailed) stands =
-        stands_on g.tells tl (shown_by (listed v.rows) (content (g.told v.site))) (opening_of (g.told v.site) v) v.history (shown_volumes (g.told v.site) v (going tl none)) old new taking takes.takes stands
-    track_stands tl none (failed fault since is) stands =
-        stands_failed g.tells tl (shown_by (listed v.rows) (content (g.told v.site))) (opening_of (g.told v.site) v) v.history (shown_volumes (g.told v.site) v (going tl none)) old new fault (ap (λ (c : CopyData). c.state) is)
+module _ {S C : Type 0} (g : Ghosts S) (v : CoreValue S C) (x : S) (reads : OnlyReads g v.site x) (going : g.tells → v.stopped ≡ None → IsGoing (g.told v.site) v) (began : v.first_faults ≤ g.faults v.site) (are : AreFaults v.first_faults (g.faults v.site) v.history v.requests) where
+  abbrev shown_there : Volumes
+  shown_there = shown_by (listed v.rows) (content (g.told v.site))
 
-    track_time : TakesOrFails g.tells (shown_by (listed v.rows) (content (g.told v.site))) n before now old new → IsOnTime old v.history → IsOnTime new v.history
+  abbrev start : State
+  start = opening_of (g.told v.site) v
+
+  module _ (n : ℕ) (old new : CopyData) (taking : old.state ≡ Taking) where
+    track_stands : g.tells → v.stopped ≡ None → TakesOrFails g.tells shown_there n (g.faults v.site) (g.faults x) old new → Stands old.state old start v.history → Stands new.state new start v.history
+    track_stands tl none (taken takes unfailed) stands = stands_on g.tells tl shown_there start v.history (shown_volumes (g.told v.site) v (going tl none)) old new taking takes.takes stands
+    track_stands tl none (failed fault since is) stands =
+        stands_failed g.tells tl shown_there start v.history (shown_volumes (g.told v.site) v (going tl none)) old new fault (ap (λ (c : CopyData). c.state) is) (ap (λ (c : CopyData). c.volume) is) taking stands
+
+    track_time : TakesOrFails g.tells shown_there n (g.faults v.site) (g.faults x) old new → IsOnTime old v.history → IsOnTime new v.history
     track_time (taken takes unfailed) on = on_time old new v.history taking (begun_state new takes.takes.state_) takes.takes.same on
     track_time (failed fault since is) on = on_time old new v.history taking (not_armed new fault (ap (λ (c : CopyData). c.state) is))
         (record { volume_ = ap (λ (c : CopyData). c.volume) is; time = ap (λ (c : CopyData). c.after_) is; point_ = ap (λ (c : CopyData). c.point) is }) on
 
-    pub track_keeps : TakesOrFails g.tells (shown_by (listed v.rows) (content (g.told v.site))) n before now old new → KeepsStanding g v (record v { site = x }) old new
+    track_failed : TakesOrFails g.tells shown_there n (g.faults v.site) (g.faults x) old new → FailedIn v (g.faults x) new.state
+    track_failed (taken takes unfailed) = failed_none v (g.faults x) new.state takes.takes.state_
+    track_failed (failed fault since is) = subst (FailedIn v (g.faults x)) (sym (ap (λ (c : CopyData). c.state) is)) (failed_new v (g.faults v.site) (g.faults x) fault began are since)
+
+    pub track_keeps : TakesOrFails g.tells shown_there n (g.faults v.site) (g.faults x) old new → KeepsStanding g v (record v { site = x }) old new
     track_keeps told = record {
       stands = λ tl stands none. subst (λ (t : SiteLog). Stands new.state new (opening_of t v) v.history) (sym (reads.log tl)) (track_stands tl none told (stands none));
       time = track_time told;
+      failed = λ _. track_failed told;
     }
 
   pub same_keeps : (c : CopyData) → KeepsStanding g v (record v { site = x }) c c
   same_keeps c = record {
     stands = λ tl stands none. subst (λ (t : SiteLog). Stands c.state c (opening_of t v) v.history) (sym (reads.log tl)) (stands none);
     time = λ on. on;
+    failed = failed_later v (g.faults v.site) (g.faults x) c.state reads.later;
   }
 
-  pub once_keeps : (n before now : ℕ) (old new : CopyData) → old.state ≡ Taking → TakesOnce g.tells (shown_by (listed v.rows) (content (g.told v.site))) n before now old new → KeepsStanding g v (record v { site = x }) old new
-  once_keeps n before now old new taking (had some same unfailed) = subst (λ (c : CopyData). KeepsStanding g v (record v { site = x }) old c) (sym same) (same_keeps old)
-  once_keeps n before now old new taking (lacked left_ told) = track_keeps n before now old new taking told
+  pub once_keeps : (n : ℕ) (old new : CopyData) → old.state ≡ Taking → TakesOnce g.tells shown_there n (g.faults v.site) (g.faults x) old new → KeepsStanding g v (record v { site = x }) old new
+  once_keeps n old new taking (had some same unfailed) = subst (λ (c : CopyData). KeepsStanding g v (record v { site = x }) old c) (sym same) (same_keeps old)
+  once_keeps n old new taking (lacked left_ told) = track_keeps n old new taking told
 
-  finished_stands : (before now : ℕ) (c new : CopyData) → g.tells → v.stopped ≡ None → Finishes g.tells (shown_by (listed v.rows) (content (g.told v.site))) before now c new
-      → Stands c.state c (opening_of (g.told v.site) v) v.history → Stands new.state new (opening_of (g.told v.site) v) v.history
-  finished_stands before now c new tl none (rests isn't same unfailed) stands = subst (λ (k : CopyData). Stands k.state k (opening_of (g.told v.site) v) v.history) (sym same) stands
-  finished_stands before now c new tl none (whole taking is takes unfailed) stands =
-      stands_on g.tells tl (shown_by (listed v.rows) (content (g.told v.site))) (opening_of (g.told v.site) v) v.history (shown_volumes (g.told v.site) v (going tl none)) c new taking takes stands
-  finished_stands before now c new tl none (failed fault taking since is same) stands =
-      stands_failed g.tells tl (shown_by (listed v.rows) (content (g.told v.site))) (opening_of (g.told v.site) v) v.history (shown_volumes (g.told v.site) v (going tl none)) c new fault is
+  -- ---- behind the session
+
+  abbrev Ends : CopyData → CopyData → Type 0
+  Ends c new = Finishes g.tells shown_there (g.faults v.site) (g.faults x) c new
+
+  finished_stands : (c new : CopyData) → g.tells → v.stopped ≡ None → Ends c new → Stands c.state c start v.history → Stands new.state new start v.history
+  finished_stands c new tl none (rests isn't same unfailed) stands = subst (λ (k : CopyData). Stands k.state k start v.history) (sym same) stands
+  finished_stands c new tl none (whole taking is takes unfailed) stands = stands_on g.tells tl shown_there start v.history (shown_volumes (g.told v.site) v (going tl none)) c new taking takes stands
+  finished_stands c new tl none (failed fault taking since is same) stands =
+      stands_failed g.tells tl shown_there start v.history (shown_volumes (g.told v.site) v (going tl none)) c new fault is same.volume_ taking stands
+
+  finished_failed : (c new : CopyData) → Ends c new → FailedIn v (g.faults v.site) c.state → FailedIn v (g.faults x) new.state
+  finished_failed c new (rests isn't same unfailed) is = subst (λ (k : CopyData). FailedIn v (g.faults x) k.state) (sym same) (failed_later v (g.faults v.site) (g.faults x) c.state reads.later is)
+  finished_failed c new (whole taking is takes unfailed) _ = failed_none v (g.faults x) new.state (inr is)
+  finished_failed c new (failed fault taking since is same) _ = subst (FailedIn v (g.faults x)) (sym is) (failed_new v (g.faults v.site) (g.faults x) fault began are since)
+
+  finished_point : (c new : CopyData) → Ends c new → (new.point ≡ c.point) × (new.after_ ≡ c.after_)
+  finished_point c new (rests isn't same unfailed) = (ap (λ (k : CopyData). k.point) same, ap (λ (k : CopyData). k.after_) same)
+  finished_point c new (whole taking is takes unfailed) = (takes.same.point_, takes.same.time)
+  finished_point c new (failed fault taking since is same) = (same.point_, same.time)
+
+  finished_state : (c new : CopyData) → (c.state ≡ Armed → ⊥) → Ends c new → IsFinished new.state
+  finished_state c new begun_ (rests isn't same unfailed) = subst (λ (k : CopyData). IsFinished k.state) (sym same) (by_state c.state begun_ isn't)
+    where
+      by_state : (state : CopyState) → (state ≡ Armed → ⊥) → (state ≡ Taking → ⊥) → IsFinished state
+      by_state Armed a t = absurd (a refl)
+      by_state NoVolume a t = tt
+      by_state Taking a t = absurd (t refl)
+      by_state Whole a t = tt
+      by_state (Failed fault) a t = tt
+  finished_state c new begun_ (whole taking is takes unfailed) = subst IsFinished (sym is) tt
+  finished_state c new begun_ (failed fault taking since is same) = subst IsFinished (sym is) tt
 
   -- a copy that is finished stands for the session
-  pub finish_stands : (before now : ℕ) (old new : CopyData) → IsCopier old
-      → Finishes g.tells (shown_by (listed v.rows) (content (g.told v.site))) before now (begun_if_armed (listed v.rows old.volume) (length v.history) old) new
-      → g.tells → StandsFor (g.told v.site) old v → StandsFor (g.told x) new (record v { site = x })
-  finish_stands before now old new kept ends tl stands none =
-      subst (λ (t : SiteLog). Stands new.state new (opening_of t v) v.history) (sym (reads.log tl))
-      (finished_stands before now (begun_if_armed (listed v.rows old.volume) (length v.history) old) new tl none ends
-      (armed_stands (g.told v.site) v (going tl none) old kept (stands none)))
+  module _ (old new : CopyData) (kept : IsCopier old) (ends : Ends (begun_if_armed (listed v.rows old.volume) (length v.history) old) new) where
+    abbrev begun_now : CopyData
+    begun_now = begun_if_armed (listed v.rows old.volume) (length v.history) old
+
+    pub finish_stands : g.tells → StandsFor (g.told v.site) old v → StandsFor (g.told x) new (record v { site = x })
+    finish_stands tl stands none =
+        subst (λ (t : SiteLog). Stands new.state new (opening_of t v) v.history) (sym (reads.log tl))
+        (finished_stands begun_now new tl none ends (armed_stands (g.told v.site) v (going tl none) old kept (stands none)))
+
+    begun_point : IsOnTime old v.history → (begun_now.point ≡ min begun_now.after_ (length v.history)) × (begun_now.state ≡ Armed → ⊥)
+    begun_point on = cond_both (is_armed old.state) (begun (listed v.rows old.volume) (length v.history) old) old (λ (c : CopyData). (c.point ≡ min c.after_ (length v.history)) × (c.state ≡ Armed → ⊥))
+        (λ armed. (let lt = on.waits (armed_is old.state armed) in omega (arith, lt), not_armed_now (listed v.rows old.volume)))
+        (λ isn't. let was = on.began (λ is. armed_not old.state is isn't) in ((let e = was.0 in let le = was.1 in omega (arith, e, le)), λ is. armed_not old.state is isn't))
+      where
+        not_armed_now : (row : Option RowValue) → (begun row (length v.history) old).state ≡ Armed → ⊥
+        not_armed_now None is = let e : NoVolume ≡ Armed = is in absurd cc
+        not_armed_now (Some r) is = let e : Taking ≡ Armed = is in absurd cc
+
+        armed_not : (state : CopyState) → state ≡ Armed → is_armed state ≡ false → ⊥
+        armed_not state is isn't = let e : true ≡ false = sym (ap is_armed is) ∙ isn't in absurd cc
+
+    pub finish_copied : StandsBeside g v old → IsCopied g (record v { site = x }) new
+    finish_copied beside =
+        let at = begun_point beside.time in
+        let same = finished_point begun_now new ends in
+        record {
+          stands = λ tl. finish_stands tl (beside.stands tl);
+          point_ = same.0 ∙ at.0 ∙ (λ i. min (sym same.1 i) (length v.history));
+          failed = finished_failed begun_now new ends (armed_failed v (g.faults v.site) (listed v.rows old.volume) (length v.history) old beside.failed);
+          finished = finished_state begun_now new at.1 ends;
+        }
 
   -- a track was taken, or not for want of memory
-  pub attended_keeps : {E : Type 0} (r : Result (Unit {0}) E) (n before now : ℕ) (old new : CopyData) → old.state ≡ Taking
-      → OnOk r (TakesOnce g.tells (shown_by (listed v.rows) (content (g.told v.site))) n before now old new) → OnErr r ((new ≡ old) × (x ≡ v.site)) → KeepsStanding g v (record v { site = x }) old new
-  attended_keeps (Ok done) n before now old new taking once short = once_keeps n before now old new taking once
-  attended_keeps (Err fault) n before now old new taking once short = subst (λ (c : CopyData). KeepsStanding g v (record v { site = x }) old c) (sym short.0) (same_keeps old)
+  pub attended_keeps : {E : Type 0} (r : Result (Unit {0}) E) (n : ℕ) (old new : CopyData) → old.state ≡ Taking
+      → OnOk r (TakesOnce g.tells shown_there n (g.faults v.site) (g.faults x) old new) → OnErr r ((new ≡ old) × (x ≡ v.site)) → KeepsStanding g v (record v { site = x }) old new
+  attended_keeps (Ok done) n old new taking once short = once_keeps n old new taking once
+  attended_keeps (Err fault) n old new taking once short = subst (λ (c : CopyData). KeepsStanding g v (record v { site = x }) old c) (sym short.0) (same_keeps old)
 
 -- ---- the same of a core that was looked into
 
@@ -178,19 +273,25 @@ module _ {S C : Type 0} (g : Ghosts S) (v w : CoreValue S C) (seen : v ≡ w) (k
   going_on : g.tells → v.stopped ≡ None → IsGoing (g.told v.site) v
   going_on tl none = (kept.whole.told tl).going none
 
-  pub attended_seen : {E : Type 0} (r : Result (Unit {0}) E) (n before now : ℕ) (old new : CopyData) → old.state ≡ Taking
-      → OnOk r (TakesOnce g.tells (shown_by (listed v.rows) (content (g.told v.site))) n before now old new) → OnErr r ((new ≡ old) × (x ≡ v.site)) → KeepsStanding g w (record v { site = x }) old new
-  attended_seen r n before now old new taking once short =
-      subst (λ (y : CoreValue S C). KeepsStanding g y (record v { site = x }) old new) seen (attended_keeps g v x reads going_on r n before now old new taking once short)
+  pub attended_seen : {E : Type 0} (r : Result (Unit {0}) E) (n : ℕ) (old new : CopyData) → old.state ≡ Taking
+      → OnOk r (TakesOnce g.tells (shown_by (listed v.rows) (content (g.told v.site))) n (g.faults v.site) (g.faults x) old new) → OnErr r ((new ≡ old) × (x ≡ v.site)) → KeepsStanding g w (record v { site = x }) old new
+  attended_seen r n old new taking once short =
+      subst (λ (y : CoreValue S C). KeepsStanding g y (record v { site = x }) old new) seen (attended_keeps g v x reads going_on kept.counted.began kept.counted.faults_ r n old new taking once short)
 
-  pub track_seen : (n before now : ℕ) (old new : CopyData) → old.state ≡ Taking → TakesOrFails g.tells (shown_by (listed v.rows) (content (g.told v.site))) n before now old new
+  pub track_seen : (n : ℕ) (old new : CopyData) → old.state ≡ Taking → TakesOrFails g.tells (shown_by (listed v.rows) (content (g.told v.site))) n (g.faults v.site) (g.faults x) old new
       → KeepsStanding g w (record v { site = x }) old new
-  track_seen n before now old new taking told =
-      subst (λ (y : CoreValue S C). KeepsStanding g y (record v { site = x }) old new) seen (track_keeps g v x reads going_on n before now old new taking told)
+  track_seen n old new taking told =
+      subst (λ (y : CoreValue S C). KeepsStanding g y (record v { site = x }) old new) seen (track_keeps g v x reads going_on kept.counted.began kept.counted.faults_ n old new taking told)
 
-  pub finish_seen : (before now : ℕ) (old begun_ new : CopyData) → IsCopier old → begun_ ≡ begun_if_armed (listed v.rows old.volume) (length v.history) old
-      → Finishes g.tells (shown_by (listed v.rows) (content (g.told v.site))) before now begun_ new
-      → g.tells → StandsFor (g.told w.site) old w → StandsFor (g.told x) new (record v { site = x })
-  finish_seen before now old begun_ new is begins ends tl stands =
-      finish_stands g v x reads going_on before now old new is (subst (λ (c : CopyData). Finishes g.tells (shown_by (listed v.rows) (content (g.told v.site))) before now c new) begins ends) tl
-      (subst (λ (y : CoreValue S C). StandsFor (g.told y.site) old y) (sym seen) stands)
+  module _ (old begun_ new : CopyData) (is : IsCopier old) (begins : begun_ ≡ begun_if_armed (listed v.rows old.volume) (length v.history) old)
+      (ends : Finishes g.tells (shown_by (listed v.rows) (content (g.told v.site))) (g.faults v.site) (g.faults x) begun_ new) where
+    ends_so : Finishes g.tells (shown_by (listed v.rows) (content (g.told v.site))) (g.faults v.site) (g.faults x) (begun_if_armed (listed v.rows old.volume) (length v.history) old) new
+    ends_so = subst (λ (c : CopyData). Finishes g.tells (shown_by (listed v.rows) (content (g.told v.site))) (g.faults v.site) (g.faults x) c new) begins ends
+
+    pub finish_seen : g.tells → StandsFor (g.told w.site) old w → StandsFor (g.told x) new (record v { site = x })
+    finish_seen tl stands =
+        finish_stands g v x reads going_on kept.counted.began kept.counted.faults_ old new is ends_so tl (subst (λ (y : CoreValue S C). StandsFor (g.told y.site) old y) (sym seen) stands)
+
+    pub copied_seen : StandsBeside g w old → IsCopied g (record v { site = x }) new
+    copied_seen beside =
+        finish_copied g v x reads going_on kept.counted.began kept.counted.faults_ old new is ends_so (subst (λ (y : CoreValue S C). StandsBeside g y old) (sym seen) beside)

@@ -18,11 +18,8 @@ use Rattle.volume_copy.specs.declared.copier.CopyState.{CopyState}
 use Rattle.volume_copy.specs.declared.copier.CopyState.TheVariants.{Armed, NoVolume, Taking, Whole, Failed}
 use Rattle.volume_copy.specs.declared.taken.TheConstants.{TRACKS}
 use Rattle.volume_copy.specs.Copies.{CopyData, IsCopier, IsCopying, IsTrackOf, IsVolumeIn, LeavesSame, Stands, taken_at, track_of}
+use Rattle.volume_copy.proofs.StepFacts.{none_some}
 use Rattle.volume_copy.specs.Steps.{Guards, is_write_call, number_under, writes}
-
-none_some : {A : Type 0} (o : Option A) → o ≡ None → IsSome o → ⊥
-none_some None is some = absurd cc
-none_some (Some a) is some = absurd cc
 
 -- ---- a call and a track
 
@@ -132,7 +129,7 @@ entry_leaves c s history e kept guards = by_state c.state refl
     by_state NoVolume is stands = stands
     by_state Taking is stands = copying_on c s history e (λ n few none. next_stays c (after s history) e.host e.call guards is n none e refl refl) stands
     by_state Whole is stands = copying_on c s history e (all_taken is) stands
-    by_state (Failed fault) is stands = tt
+    by_state (Failed fault) is stands = stands
 
 -- ---- what a copy is
 

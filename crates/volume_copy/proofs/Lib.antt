@@ -3,3 +3,5 @@ pub mod StepFacts
 pub mod EntryFacts
 pub mod CopyFacts
 pub mod EventFacts
+pub mod BesideFacts
+pub mod FaultFacts

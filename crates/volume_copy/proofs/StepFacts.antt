@@ -18,7 +18,7 @@ some_is : {A : Type 0} (o : Option A) (a : A) → o ≡ Some a → IsSome o
 some_is None a is = absurd cc
 some_is (Some x) a is = refl
 
-none_some : {A : Type 0} (o : Option A) → o ≡ None → IsSome o → ⊥
+pub none_some : {A : Type 0} (o : Option A) → o ≡ None → IsSome o → ⊥
 none_some None is some = absurd cc
 none_some (Some a) is some = absurd cc
 

@@ -3,15 +3,18 @@ use Rattle.std.specs.Prelude.{◌≡◌, ◌≤◌, ◌<◌, ℕ, ◌+◌, ◌*�
 use Rattle.std.specs.Prelude.{◌∷◌, slice_index_or, Option, Some, None, IsSome}
 use Rattle.std.specs.Option.{IsSomeAnd}
 use Rattle.mss_base.specs.Content.{SiteLog}
+use Rattle.mss_base.specs.Counts.{IsFaultWithin}
 use Rattle.mss_base.specs.declared.numbers.TheConstants.{CYLINDERS, HEADS}
 use Rattle.ckd_track.specs.Data.{RecordData, Volumes}
 use Rattle.ckd_track.specs.Track.{reading}
 use Rattle.ckd_plain.specs.Data.{State}
 use Rattle.ckd_plain.specs.History.{EntryData, after}
+use Rattle.fault_queue.specs.Requests.{RequestsData}
+use Rattle.core_state.specs.Counted.{IsLast, fault_asked, fault_at}
 use Rattle.core_state.specs.CoreValue.{CoreValue}
 use Rattle.core_state.specs.IsCore.{opening_of}
 use Rattle.volume_copy.specs.declared.copier.CopyState.{CopyState}
-use Rattle.volume_copy.specs.declared.copier.CopyState.TheVariants.{Armed, NoVolume, Taking, Whole}
+use Rattle.volume_copy.specs.declared.copier.CopyState.TheVariants.{Armed, NoVolume, Taking, Whole, Failed}
 use Rattle.volume_copy.specs.declared.taken.Taken.{Taken}
 use Rattle.volume_copy.specs.declared.taken.Taken.TheVariants as taken
 use Rattle.volume_copy.specs.declared.taken.TheConstants.{TRACKS}
@@ -62,6 +65,14 @@ pub record CopyData : Type 0 where
   pub point : ℕ
   pub tracks : List Taken
 
+-- which copy is asked for: of a volume, behind so many entries
+pub record AskedCopy : Type 0 where
+  pub volume : ℕ
+  pub after_ : ℕ
+
+abbrev pub asked_by : CopyData → AskedCopy
+asked_by c = record { volume = c.volume; after_ = c.after_ }
+
 -- what the type of a copier keeps
 pub record IsCopier (c : CopyData) : Type 0 where
   pub armed : c.state ≡ Armed → AreNoneTaken c.tracks
@@ -84,12 +95,14 @@ pub record IsCopying (c : CopyData) (s : State) (history : List EntryData) : Typ
       (track_of (after s (take c.point history)).volumes c.volume n)
       (track_of (after s history).volumes c.volume n)
 
--- of a history from this start; a copy that hasn't begun, or failed, stands for any
+-- of a history from this start; a copy that hasn't begun stands for any, and of one that failed only
+-- so much is known, that there is such a volume
 abbrev pub Stands : CopyState → CopyData → State → List EntryData → Type 0
+Stands Armed c s history = Unit {0}
 Stands NoVolume c s history = s.volumes.serial c.volume ≡ None
 Stands Taking c s history = IsCopying c s history
 Stands Whole c s history = IsCopying c s history
-Stands _ c s history = Unit {0}
+Stands (Failed fault) c s history = IsSome (s.volumes.serial c.volume)
 
 -- of the session of a core; each copy stands for one that is stopped
 abbrev pub StandsFor : {S C : Type 0} → SiteLog → CopyData → CoreValue S C → Type 0
@@ -104,6 +117,23 @@ pub record IsInTime (c : CopyData) (history : List EntryData) : Type 0 where
 pub record IsOnTime (c : CopyData) (history : List EntryData) : Type 0 where
   pub waits : c.state ≡ Armed → length history < c.after_
   pub began : (c.state ≡ Armed → ⊥) → (c.point ≡ c.after_) × (c.after_ ≤ length history)
+
+-- no entry keeps this fault, and no request, unless the count of faults stands at its last value
+pub record IsOwnFault (history : List EntryData) (requests : RequestsData) (fault : ℕ) : Type 0
+  where
+    pub in_entry : (place : ℕ) → fault_at history place ≡ Some fault → IsLast fault
+    pub in_request : (h : ℕ) → fault_asked requests h ≡ Some fault → IsLast fault
+
+-- a call failed since the session began, and it is none that an entry or a request keeps; faults:
+-- the site's count now
+pub record FailedApart (history : List EntryData) (requests : RequestsData) (first faults fault : ℕ)
+    : Type 0 where
+  pub within : IsFaultWithin first faults fault
+  pub own : IsOwnFault history requests fault
+
+abbrev pub FailedIn : {S C : Type 0} → CoreValue S C → ℕ → CopyState → Type 0
+FailedIn v faults (Failed fault) = FailedApart v.history v.requests v.first_faults faults fault
+FailedIn v faults _ = Unit {0}
 
 -- ---- what that says
 

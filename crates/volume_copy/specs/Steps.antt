@@ -15,7 +15,8 @@ use Rattle.volume_copy.specs.declared.taken.Taken.{Taken}
 use Rattle.mss_base.specs.Sites.{OnlyReads}
 use Rattle.mss_base.specs.declared.site.Site.{Ghosts}
 use Rattle.core_state.specs.CoreValue.{CoreData, CoreValue}
-use Rattle.volume_copy.specs.Copies.{AreAllTaken, CopyData, IsFirstLeft, IsInTime, IsOnTime, StandsFor}
+use Rattle.volume_copy.specs.Copies.{AreAllTaken, CopyData, FailedIn, IsFirstLeft, IsInTime}
+use Rattle.volume_copy.specs.Copies.{IsOnTime, StandsFor}
 use Rattle.volume_copy.specs.Copies.{taken_at, track_number, track_of}
 
 -- ---- its start
@@ -143,6 +144,7 @@ pub record KeepsStanding {S C : Type 0} (g : Ghosts S) (v w : CoreValue S C) (ol
     : Type 0 where
   pub stands : g.tells → StandsFor (g.told v.site) old v → StandsFor (g.told w.site) new w
   pub time : IsOnTime old v.history → IsOnTime new w.history
+  pub failed : FailedIn v (g.faults v.site) old.state → FailedIn w (g.faults w.site) new.state
 
 -- ---- the events
 

@@ -8,13 +8,16 @@ ghost use Rattle.channel_commands.specs.Views.{call_of};
 ghost use Rattle.volume_table.specs.Listed.{listed};
 ghost use Rattle.shown_volumes.specs.Shown.{shown_by};
 ghost use Rattle.core_state.specs.Pins.{host_at};
+ghost use Rattle.volume_copy.specs.Beside.{IsCopied, StandsBeside};
 ghost use Rattle.volume_copy.specs.Copies.{
   AreNoneTaken,
+  FailedIn,
   IsBlockOf,
   IsCopier,
   IsInTime,
   IsOnTime,
   StandsFor,
+  asked_by,
   taken_at,
   track_number,
 };
@@ -188,7 +191,8 @@ impl Copier {
 
     /// Begins behind so many entries, if it hasn't begun.
     fn begin(&mut self, row: &Option<VolumeRow>, entries: u64)
-        ensures { self.new ≡ begun_if_armed row.now entries self.old }
+        ensures begins { self.new ≡ begun_if_armed row.now entries self.old }
+        ensures asked { asked_by self.new ≡ asked_by self.old }
     {
         if !matches!(self.state, CopyState::Armed) {
             return;
@@ -207,6 +211,9 @@ impl Copier {
         ensures time { IsInTime self.old core.now.history → IsOnTime self.new core.now.history }
         ensures stands { S.tells → StandsFor (S.told core.now.site) self.old core.now
             → StandsFor (S.told core.now.site) self.new core.now }
+        ensures asked { asked_by self.new ≡ asked_by self.old }
+        ensures failed { FailedIn core.now (S.faults core.now.site) self.old.state
+            → FailedIn core.now (S.faults core.now.site) self.new.state }
     {
         let entries = core.session.history.as_slice().len() as u64;
         if entries == self.after {
@@ -228,6 +235,7 @@ impl Copier {
             OnOk result (TakesOrFails S.tells shown number
             (S.faults site.old) (S.faults site.new) self.old self.new) }
         ensures memory { OnErr result ((self.new ≡ self.old) × (site.new ≡ site.old)) }
+        ensures asked { asked_by self.new ≡ asked_by self.old }
         ensures site { OnlyReads S.Site site.old site.new }
     {
         let (cylinder, head) = place_of(number);
@@ -250,6 +258,7 @@ impl Copier {
             OnOk result (TakesOnce S.tells shown number
             (S.faults site.old) (S.faults site.new) self.old self.new) }
         ensures memory { OnErr result ((self.new ≡ self.old) × (site.new ≡ site.old)) }
+        ensures asked { asked_by self.new ≡ asked_by self.old }
         ensures site { OnlyReads S.Site site.old site.new }
     {
         if self.tracks.has(number) {
@@ -275,6 +284,7 @@ impl Copier {
         ensures memory { let shown = shown_by (listed rows.now) (content (S.told site.old)) in
             OnErr result ((self.new ≡ self.old ⊎ TakesTracks S.tells shown self.old self.new)
             × (S.faults site.new ≡ S.faults site.old)) }
+        ensures asked { asked_by self.new ≡ asked_by self.old }
         ensures site { OnlyReads S.Site site.old site.new }
     {
         for number in 0..TRACKS {
@@ -327,6 +337,7 @@ impl Copier {
             (Guards self.new (host_at core.old.hosts host) (call_of call.now)) }
         ensures memory { OnErr result ((self.new ≡ self.old) × (core.new ≡ core.old)) }
         ensures keeps { KeepsStanding S.Site core.old core.new self.old self.new }
+        ensures asked { asked_by self.new ≡ asked_by self.old }
         ensures core { ReadsCore S.Site core.old core.new }
     {
         let state = host_at(core.hosts.as_slice(), host);
@@ -348,6 +359,7 @@ impl Copier {
         ensures state { IfOk result (λ state. state ≡ self.new.state) }
         ensures memory { OnErr result ((self.new ≡ self.old) × (core.new ≡ core.old)) }
         ensures keeps { KeepsStanding S.Site core.old core.new self.old self.new }
+        ensures asked { asked_by self.new ≡ asked_by self.old }
         ensures core { ReadsCore S.Site core.old core.new }
     {
         let Some(number) = self.next() else {
@@ -374,7 +386,10 @@ impl Copier {
         ensures kept { OnOk result (IsCopier self.new) }
         ensures stands { OnOk result (S.tells → StandsFor (S.told core.old.site) self.old core.old
             → StandsFor (S.told core.new.site) self.new core.new) }
+        ensures copied { OnOk result (StandsBeside S.Site core.old self.old
+            → IsCopied S.Site core.new self.new) }
         ensures memory { OnErr result (S.faults core.new.site ≡ S.faults core.old.site) }
+        ensures asked { asked_by self.new ≡ asked_by self.old }
         ensures core { ReadsCore S.Site core.old core.new }
     {
         let entries = core.session.history.as_slice().len() as u64;

@@ -6,10 +6,12 @@
 //! there as now. Each call keeps it, and so does each event of a session (`law`).
 #![tactic(auto)]
 
+mod beside;
 mod copier;
 pub mod law;
 mod reading;
 mod taken;
 
+pub use beside::CopiedCore;
 pub use copier::{Copier, CopyState};
 pub use taken::TRACKS;

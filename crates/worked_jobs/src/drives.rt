@@ -105,11 +105,12 @@ fn comes_on<S: Site + Drop, C: Choose + Drop>(
 ) -> bool
     requires { IsUnused core job.now }
 {
-    let Ok(mut drive) = Drive::new(core, job) else {
+    let Ok(mut drive) = Drive::new(core, job, None) else {
         return false;
     };
     let is_so = comes_to(&mut drive, marks);
-    let_go(drive.into_core());
+    let (core, _) = drive.into_core();
+    let_go(core);
     is_so
 }
 

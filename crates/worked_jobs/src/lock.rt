@@ -1,5 +1,5 @@
 // A session under the lock, call by call on one thread.
-ghost use Rattle.std.specs.Prelude.{◌≡◌, [], Contains};
+ghost use Rattle.std.specs.Prelude.{◌≡◌, [], Contains, None};
 ghost use Rattle.core_state.specs.CoreValue.{seen};
 ghost use Rattle.mss_run.specs.Beginning.{OpensWith};
 
@@ -82,7 +82,7 @@ fn closed<N: Setup, S: Site + Drop, C: Choose + Drop>(
         second,
     } = session;
     let list = list_of(alloc, first, second)?;
-    let core = shared.close(list);
+    let (core, _copier) = shared.close(list);
     Some(core.history().as_slice().len())
 }
 
@@ -104,12 +104,13 @@ fn run_named<N: Setup, S: Site + Drop, C: Choose + Drop, R: Wait>(
     requires hosts { Contains N.hosts hosts.0 × Contains N.hosts hosts.1 }
     requires differ { (hosts.0 ≡ 1) × (hosts.1 ≡ 2) }
     requires empty { core.history ≡ [] }
+    requires copy { N.setup.copy ≡ None }
 {
     let (word, book) = start_book::<N>(blank);
     let (book, first) = host_pass(&word, book, hosts.0);
     let (book, second) = host_pass(&word, book, hosts.1);
     let mut session = Passing {
-        shared: Shared::new(word, book, core),
+        shared: Shared::new(word, book, core, None),
         first: Some(first),
         second: Some(second),
     };

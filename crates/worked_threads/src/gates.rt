@@ -8,14 +8,17 @@ use std::thread;
 /// How often a held actor asks at most whether it may go on.
 const TURNS: u64 = 100_000_000;
 
-/// Who passes: a host by its number, a recorder by this and its number, each host, each recorder.
+/// Who passes: a host by its number, a recorder by this and its number, the copier, each host, each recorder.
 pub const RECORDER: u8 = 10;
+
+pub const COPIER: u8 = 18;
 
 pub const HOSTS: u8 = 0;
 
 pub const RECORDERS: u8 = 9;
 
-/// Where: before it is counted in, behind an answer, behind work of any kind, behind a copy, after it was counted out.
+/// Where: before it is counted in, behind an answer, behind work of any kind, behind a recorder's copy, after it was
+/// counted out, behind a track that the copier took.
 pub const ENTER: u8 = 0;
 
 pub const ANSWER: u8 = 1;
@@ -25,6 +28,8 @@ pub const WORK: u8 = 2;
 pub const COPY: u8 = 3;
 
 pub const LEAVE: u8 = 4;
+
+pub const TAKE: u8 = 5;
 
 /// Who, where, the counter that counts it, and the counter that has to come to a number before the actor goes on. Who waits
 /// for nothing waits until a counter comes to 0.
@@ -93,6 +98,7 @@ fn number_of(actor: Actor) -> u8 {
     match actor {
         Actor::Host(host) => host.get(),
         Actor::Recorder(recorder) => RECORDER + recorder.get(),
+        Actor::Copier => COPIER,
     }
 }
 
@@ -102,6 +108,7 @@ fn place_of(point: Point) -> u8 {
         Point::Host(_) => ANSWER,
         Point::Work(WorkKind::Copy) => COPY,
         Point::Work(_) => WORK,
+        Point::Take => TAKE,
         Point::Leave => LEAVE,
     }
 }
@@ -109,7 +116,7 @@ fn place_of(point: Point) -> u8 {
 fn is_for((who, at, _, _, _): Rule, actor: u8, place: u8) -> bool {
     let is_who = match who {
         HOSTS => actor < RECORDER,
-        RECORDERS => actor >= RECORDER,
+        RECORDERS => actor >= RECORDER && actor < COPIER,
         one => actor == one,
     };
     is_who && (at == place || (at == WORK && place == COPY))

@@ -8,6 +8,8 @@
 #[cfg(test)]
 mod alone;
 #[cfg(test)]
+mod copier;
+#[cfg(test)]
 mod copies;
 #[cfg(test)]
 mod gates;

@@ -17,4 +17,5 @@ returns-clause-value c = λ givens rows.
     let o = c.setting-order.ensures.value ∙ ap (setting 18446744073709551615) order in
     let t = c.setting-turns.ensures.value ∙ ap (setting 100000) turns in
     let l = c.load_setting-load.ensures.value ∙ ap load_setting load in
-    c.serial_by.ensures.value ∙ (λ i. serial_by (o i) (t i) (l i))
+    let copied = c.copy_of-copy.ensures.value givens rows in
+    c.serial_by.ensures.value ∙ (λ i. serial_by (o i) (t i) (l i) (copied i))

@@ -8,26 +8,26 @@ use Rattle.mss_run.proofs.event.work_step.Goals as goal
 
 pub returns-clause-history : goal.returns-clause-history
 returns-clause-history g c =
-    let old : CoreData = seen g.S.Site c.args.core.now in
-    let new : CoreData = seen g.S.Site c.work_event.new.core in
-    (c.work_leaves_the_history.ensures c.args.core.now.chooser old c.args.recorder c.work_event.result new c.work_event.ensures.event).history
+    let old : CoreData = seen g.S.Site c.args.copied.now.core in
+    let new : CoreData = seen g.S.Site c.work_event.new.self.core in
+    (c.work_leaves_the_history.ensures c.args.copied.now.core.chooser old c.args.recorder c.work_event.result new c.work_event.ensures.event).history
 
 pub returns-clause-later : goal.returns-clause-later
 returns-clause-later g c =
-    let old : CoreData = seen g.S.Site c.args.core.now in
-    let new : CoreData = seen g.S.Site c.work_event.new.core in
+    let old : CoreData = seen g.S.Site c.args.copied.now.core in
+    let new : CoreData = seen g.S.Site c.work_event.new.self.core in
     let is : IsRecorder old c.args.recorder =
-    record { there = c.requires; kept = λ none. core_seen g.S.Site c.args.core.now (c.entries_of-before.ensures.kept none) } in
-    c.work_is_later.ensures c.args.core.now.chooser old c.args.recorder c.work_event.result new is c.work_event.ensures.event
+    record { there = c.requires; kept = λ none. core_seen g.S.Site c.args.copied.now.core (c.entries_beside-before.ensures.kept none) } in
+    c.work_is_later.ensures c.args.copied.now.core.chooser old c.args.recorder c.work_event.result new is c.work_event.ensures.event
 
 pub returns-clause-idle : goal.returns-clause-idle
 returns-clause-idle g c = λ idle.
-    let old : CoreData = seen g.S.Site c.args.core.now in
-    let new : CoreData = seen g.S.Site c.work_event.new.core in
+    let old : CoreData = seen g.S.Site c.args.copied.now.core in
+    let new : CoreData = seen g.S.Site c.work_event.new.self.core in
     let is : IsRecorder old c.args.recorder =
-    record { there = c.requires; kept = λ none. core_seen g.S.Site c.args.core.now (c.entries_of-before.ensures.kept none) } in
+    record { there = c.requires; kept = λ none. core_seen g.S.Site c.args.copied.now.core (c.entries_beside-before.ensures.kept none) } in
     let says : AnswerSays g.S.Site.tells old c.args.recorder Idle new =
-    subst (λ (a : WorkAnswer). AnswerSays g.S.Site.tells old c.args.recorder a new) idle (c.answers_have_their_causes.ensures.answer c.args.core.now.chooser old c.args.recorder c.work_event.result new is c.work_event.ensures.event) in
+    subst (λ (a : WorkAnswer). AnswerSays g.S.Site.tells old c.args.recorder a new) idle (c.answers_have_their_causes.ensures.answer c.args.copied.now.core.chooser old c.args.recorder c.work_event.result new is c.work_event.ensures.event) in
     says.1
 
 pub returns-clause-sound : goal.returns-clause-sound

@@ -25,12 +25,12 @@ run_all-passes-requires-clause-room g c =
     let room : length c.args.job.now.hosts ≤ c.args.taken.ends.spare = c.requires.ends.room in
     omega (arith, long, room)
 
-pub returns : goal.returns
-returns g c =
+pub returns-clause-leaves : goal.returns-clause-leaves
+returns-clause-leaves g c =
     let old : CoreData = seen g.S.Site c.args.core in
     let closed = c.close-core in
-    let new : CoreData = seen g.S.Site closed.result in
-    let log = closed.result.history in
+    let new : CoreData = seen g.S.Site closed.result.0 in
+    let log = closed.result.0.history in
     let ended = c.run_all-passes.result in
     let job = c.args.job.now in
     let scripts = c.as_slice-scripts.ensures ∙ ap (λ (j : JobData). j.hosts) c.job.view_is in

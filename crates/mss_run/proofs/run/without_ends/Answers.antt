@@ -1,23 +1,24 @@
 use Rattle.std.proofs.Common.{List, length, inr, sym, ◌∙◌, ap, subst}
 use Rattle.std.proofs.lemmas.List.Elements.{All-nil}
 use Rattle.ckd_plain.specs.History.{EntryData, IsLegal}
-use Rattle.core_state.specs.CoreValue.{seen}
+use Rattle.core_state.specs.CoreValue.{CoreValue, seen}
 use Rattle.core_state.specs.IsCore.{opening_of}
 use Rattle.core_state.proofs.Later.{later_none}
 use Rattle.job_text.specs.Jobs.{JobData}
 use Rattle.seen_book.specs.Books.{AreOfThese, IsOfOne}
-use Rattle.mss_run.specs.Runs.{hosts_of, run_answer}
+use Rattle.mss_run.specs.Runs.{LeavesRun, hosts_of, run_answer}
 use Rattle.mss_run.proofs.RunFacts.{asks_nothing}
 use Rattle.mss_run.proofs.run.without_ends.Goals as goal
 
-pub returns : goal.returns
-returns g c =
+pub returns-clause-leaves : goal.returns-clause-leaves
+returns-clause-leaves g c =
     let core = c.args.core in
     let job = c.args.job.now in
     let none = c.requires.empty in
     let scripts = c.as_slice-scripts.ensures ∙ ap (λ (j : JobData). j.hosts) c.job.view_is in
     let ends = c.as_slice-none.ensures in
-    record {
+    subst (λ (after : CoreValue g.row.S.Denot g.row.C.Denot). LeavesRun g.S.Site job core after c.new-ends.result.items c.answer_of-answer.result) (sym (c.into_parts-core.ensures.core ∙ c.new.ensures.core))
+    (record {
       later = later_none g.S.Site.tells (seen g.S.Site core);
       sound = λ but never. never;
       only_reads_fail = λ but never going. going;
@@ -26,4 +27,4 @@ returns g c =
       ends_ = inr (c.new-ends.ensures, none);
       follow = asks_nothing core.history job.hosts none;
       answer_ = c.answer_of-answer.ensures ∙ (λ i. run_answer core.stopped (length core.history) (ap length scripts i) (ends i));
-    }
+    })

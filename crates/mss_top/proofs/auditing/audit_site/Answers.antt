@@ -1,4 +1,4 @@
-use Rattle.std.proofs.Common.{inr, map, string_bytes, Option, Some, ◌∙◌, ap}
+use Rattle.std.proofs.Common.{inr, map, string_bytes, Some, ◌∙◌, ap}
 use Rattle.command_words.specs.Words.{meaning}
 use Rattle.command_words.specs.declared.command.Command.{Command}
 use Rattle.job_runs.specs.Parties.{Devices, devices}

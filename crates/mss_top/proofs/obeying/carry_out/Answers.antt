@@ -1,6 +1,6 @@
 use Rattle.std.proofs.Common.{◌≡◌, inr, Option, Some, refl, sym, ◌∙◌, ap, subst, arith}
 use Rattle.command_words.specs.declared.command.Command.{Command}
-use Rattle.command_words.specs.declared.command.Command.TheVariants.{Show, Threads, Compare}
+use Rattle.command_words.specs.declared.command.Command.TheVariants.{Show, Compare}
 use Rattle.core_state.specs.CoreValue.{seen_site}
 use Rattle.job_runs.specs.Parties.{devices}
 use Rattle.session_report.specs.Parties.{sink_between, source_between}
@@ -50,7 +50,7 @@ returns-in-Threads-clause-unread g c = λ stop.
     subst (λ (k : Command). OutputBrokeOff g.S.Site c.args.site (Some k) p ran.result.run.session) (sym c.in-Threads.is) (ran.ensures.unread stop)
 
 pub returns-in-Threads-clause-one_copy : goal.returns-in-Threads-clause-one_copy
-returns-in-Threads-clause-one_copy g c = λ looks. absurd (let e : ◌≡◌ {A = Option Command} (Some Threads) (Some Show) = sym (ap (λ (k : Command). Some k) c.in-Threads.is) ∙ looks.command in cc)
+returns-in-Threads-clause-one_copy g c = λ looks. absurd (let e : ◌≡◌ {A = Option Command} (Some _) (Some Show) = sym (ap (λ (k : Command). Some k) c.in-Threads.is) ∙ looks.command in cc)
 
 pub returns-in-Show-clause-does : goal.returns-in-Show-clause-does
 returns-in-Show-clause-does g c =

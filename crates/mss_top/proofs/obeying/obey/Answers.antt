@@ -1,4 +1,4 @@
-use Rattle.std.proofs.Common.{rules, ◌≡◌, Option, Some, map, string_bytes, sym, ap, subst}
+use Rattle.std.proofs.Common.{rules, ◌≡◌, Option, Some, map, string_bytes, sym, subst}
 use Rattle.mss_base.specs.Content.{content}
 use Rattle.command_words.specs.Words.{meaning}
 use Rattle.command_words.specs.declared.command.Command.{Command}

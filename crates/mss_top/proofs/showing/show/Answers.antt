@@ -2,7 +2,6 @@ use Rattle.std.proofs.Common.{Option, Some, map, string_bytes, sym, ◌∙◌, a
 use Rattle.mss_base.specs.Content.{content}
 use Rattle.command_words.specs.Words.{meaning}
 use Rattle.command_words.specs.declared.command.Command.{Command}
-use Rattle.command_words.specs.declared.command.Command.TheVariants.{Show}
 use Rattle.job_runs.specs.Parties.{Devices, devices}
 use Rattle.session_report.specs.Parties.{Stream, sink_between}
 use Rattle.mss_top.specs.Showing.{EndsShown, LooksByOneCopy}

@@ -1,6 +1,9 @@
 use Rattle.core_restart.proofs.TakenUp.{both_keep}
-use Rattle.plain_sessions.proofs.PlainFacts.{plain_at, stops_at}
+use Rattle.plain_sessions.proofs.PlainFacts.{opening_is, plain_at, stops_at}
 use Rattle.plain_sessions.proofs.law.sessions_are_plain.Goals as goal
+
+pub returns-clause-begins : goal.returns-clause-begins
+returns-clause-begins g c = λ config was began left t over later told. opening_is config was began over g.S.Site.tells t left later told
 
 pub returns-clause-plain : goal.returns-clause-plain
 returns-clause-plain g c = λ config was began left t over later told. plain_at config was began over g.S.Site.tells t left later told

@@ -6,5 +6,5 @@ use Rattle.mss_run.proofs.held.Held.help.Given as goal
 abbrev pub invariant-loop-number : goal.invariant-loop-number
 invariant-loop-number g l = record {
   present : l.self.present ≡ l.initial.self.present;
-  same : IsSame g.S.Site.tells (seen g.S.Site l.initial.self.session) (seen g.S.Site l.self.session);
+  same : IsSame g.S.Site.tells (seen g.S.Site l.initial.self.session.core) (seen g.S.Site l.self.session.core);
 }

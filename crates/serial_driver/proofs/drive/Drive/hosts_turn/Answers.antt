@@ -3,15 +3,15 @@ use Rattle.core_state.specs.CoreValue.{CoreValue, seen}
 use Rattle.core_state.specs.IsCore.{IsCore}
 use Rattle.host_events.proofs.RuleFacts.{core_seen}
 use Rattle.script_places.specs.Scripts.{calls_of}
-use Rattle.serial_driver.specs.Drives.{hosts_of}
+use Rattle.serial_driver.specs.Drives.{hosts_of, terms_of}
 use Rattle.serial_driver.proofs.EventRuns.{leaves_none}
 use Rattle.serial_driver.proofs.RoundFacts.{someone, hosts_begin, hosts_over, none_yet, run_falls, host_leaves, host_done, host_on, host_halts, host_goes_on}
 use Rattle.serial_driver.proofs.drive.Drive.hosts_turn.Goals as goal
 
 pub loop-number-init : goal.loop-number-init
 loop-number-init g c = record {
-  so_far = hosts_begin g.S.Site.tells (g.C.Choose.may c.args.self.now.core.chooser) c.args.self.now.scripts (seen g.S.Site c.args.self.now.core);
-  goes_on = λ _. none_yet g.S.Site.tells c.args.self.now.scripts (seen g.S.Site c.args.self.now.core);
+  so_far = hosts_begin (terms_of g.S.Site g.C.Choose.may c.args.self.now) c.args.self.now.scripts (seen g.S.Site c.args.self.now.core);
+  goes_on = λ _. none_yet c.args.self.now.scripts (seen g.S.Site c.args.self.now.core);
   leaves = leaves_none g.S.Site c.args.self.now;
 }
 
@@ -37,12 +37,12 @@ returns-in_default g c =
 pub returns-clause-turns : goal.returns-clause-turns
 returns-clause-turns g c =
     let past : length c.args.self.now.scripts ≤ c.loop-number.number = omega (arith, c.loop-number-test.false, c.host_count-hosts.ensures) in
-    hosts_over g.S.Site.tells (g.C.Choose.may c.args.self.now.core.chooser) c.args.self.now.scripts (seen g.S.Site c.args.self.now.core) c.loop-number.number (seen g.S.Site c.loop-number.self.core) past c.loop-number.invariant.so_far
+    hosts_over (terms_of g.S.Site g.C.Choose.may c.args.self.now) c.args.self.now.scripts (seen g.S.Site c.args.self.now.core) c.loop-number.number (seen g.S.Site c.loop-number.self.core) past c.loop-number.invariant.so_far
 
 pub returns-clause-falls : goal.returns-clause-falls
 returns-clause-falls g c = λ _ settled going some.
     let past : length c.args.self.now.scripts ≤ c.loop-number.number = omega (arith, c.loop-number-test.false, c.host_count-hosts.ensures) in
     let kept : c.args.self.now.core.stopped ≡ None → IsCore c.args.self.now.core = subst (λ (v : CoreValue g.row.S.Denot g.row.C.Denot). v.stopped ≡ None → IsCore v) c.core.ensures.value c.look.ensures.kept in
-    let calls = someone g.S.Site.tells (g.C.Choose.may c.args.self.now.core.chooser) (calls_of c.args.self.now.scripts) (hosts_of c.args.self.now.scripts) (seen g.S.Site c.args.self.now.core) some in
-    run_falls g.S.Site.tells c.args.self.now.scripts (seen g.S.Site c.args.self.now.core) c.loop-number.number (seen g.S.Site c.loop-number.self.core) past (c.loop-number.invariant.goes_on going)
+    let calls = someone (calls_of c.args.self.now.scripts) (hosts_of c.args.self.now.scripts) (seen g.S.Site c.args.self.now.core) some in
+    run_falls c.args.self.now.scripts (seen g.S.Site c.args.self.now.core) c.loop-number.number (seen g.S.Site c.loop-number.self.core) past (c.loop-number.invariant.goes_on going)
     (c.settled_cores_go_on.ensures (seen g.S.Site c.args.self.now.core) (calls_of c.args.self.now.scripts c.args.self.now.core.history) (core_seen g.S.Site c.args.self.now.core (kept going)) settled (c.look_at_hosts.ensures.owners going) calls)

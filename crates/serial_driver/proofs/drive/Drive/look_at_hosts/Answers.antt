@@ -14,9 +14,9 @@ returns-clause-scripts g c = subst (λ (d : DriveValue g.row.S.Denot g.row.C.Den
 pub returns-clause-owners : goal.returns-clause-owners
 returns-clause-owners g c =
     subst (λ (d : DriveValue g.row.S.Denot g.row.C.Denot). d.core.stopped ≡ None → OwnersCall (seen g.S.Site d.core) (calls_of d.scripts d.core.history)) c.self.view_is
-    (owners_call g.S.Site c.self.inside.core c.self.inside.scripts.now c.self.inside.places.items c.self.invariant)
+    (owners_call g.S.Site c.self.inside.session.core c.self.inside.scripts.now c.self.inside.places.items c.self.invariant)
 
 pub returns-clause-ended : goal.returns-clause-ended
 returns-clause-ended g c = λ h none.
     subst (λ (d : DriveValue g.row.S.Denot g.row.C.Denot). calls_of d.scripts d.core.history h ≡ None → FollowsToEnd (script_of d.scripts h) (exchanges_of h d.core.history)) c.self.view_is
-    (plays_to_end (script_of c.self.inside.scripts.now h) (exchanges_of h c.self.inside.core.history) (c.self.invariant.plays h)) none
+    (plays_to_end (script_of c.self.inside.scripts.now h) (exchanges_of h c.self.inside.session.core.history) (c.self.invariant.plays h)) none

@@ -15,4 +15,4 @@ loop-event-preserved g c = record {
 }
 
 pub returns-clause-runs : goal.returns-clause-runs
-returns-clause-runs g c = events_over g.S.Site.tells _ _ c.args.events.now c.loop-event.event-index _ _ (omega (arith, c.loop-event-test.false)) c.loop-event.invariant.so_far
+returns-clause-runs g c = events_over _ _ c.args.events.now c.loop-event.event-index _ _ (omega (arith, c.loop-event-test.false)) c.loop-event.invariant.so_far

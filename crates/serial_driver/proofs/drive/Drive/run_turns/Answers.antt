@@ -15,4 +15,4 @@ loop-turn-preserved g c = record {
 }
 
 pub returns-clause-runs : goal.returns-clause-runs
-returns-clause-runs g c = turns_over g.S.Site.tells _ _ c.args.turns.now c.loop-turn.turn-index _ _ (omega (arith, c.loop-turn-test.false)) c.loop-turn.invariant.so_far
+returns-clause-runs g c = turns_over _ _ c.args.turns.now c.loop-turn.turn-index _ _ (omega (arith, c.loop-turn-test.false)) c.loop-turn.invariant.so_far

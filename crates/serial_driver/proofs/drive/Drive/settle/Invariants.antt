@@ -1,13 +1,13 @@
 use Rattle.core_state.specs.CoreValue.{seen}
 use Rattle.core_progress.specs.WorkLeft.{settle_left}
 use Rattle.serial_driver.specs.declared.answer.DriveAnswer.TheVariants.{Done}
-use Rattle.serial_driver.specs.Drives.{Leaves}
+use Rattle.serial_driver.specs.Drives.{Leaves, terms_of}
 use Rattle.serial_driver.proofs.SettleFacts.{SettlesSoFar}
 use Rattle.serial_driver.proofs.drive.Drive.settle.Given as goal
 
 abbrev pub invariant-loop-halted : goal.invariant-loop-halted
 invariant-loop-halted g l = record {
-  so_far : SettlesSoFar g.S.Site.tells (g.C.Choose.may l.initial.self.core.chooser) (seen g.S.Site l.initial.self.core) (seen g.S.Site l.self.core);
+  so_far : SettlesSoFar (terms_of g.S.Site g.C.Choose.may l.initial.self) (seen g.S.Site l.initial.self.core) (seen g.S.Site l.self.core);
   leaves : Leaves g.S.Site l.initial.self l.self Done;
 }
 

@@ -7,5 +7,5 @@ use Rattle.serial_driver.proofs.drive.Drive.some_host_calls.Given as goal
 
 abbrev pub invariant-loop-number : goal.invariant-loop-number
 invariant-loop-number g l =
-    has_call g.S.Site.tells (g.C.Choose.may l.self.core.chooser) (calls_of l.self.scripts) (hosts_of l.self.scripts) (seen g.S.Site l.self.core)
-    ≡ has_call g.S.Site.tells (g.C.Choose.may l.self.core.chooser) (calls_of l.self.scripts) (drop l.number (hosts_of l.self.scripts)) (seen g.S.Site l.self.core)
+    has_call (calls_of l.self.scripts) (hosts_of l.self.scripts) (seen g.S.Site l.self.core)
+    ≡ has_call (calls_of l.self.scripts) (drop l.number (hosts_of l.self.scripts)) (seen g.S.Site l.self.core)

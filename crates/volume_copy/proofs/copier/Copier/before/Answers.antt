@@ -9,5 +9,5 @@ invariant_of-core g c =
 
 pub returns-clause-keeps : goal.returns-clause-keeps
 returns-clause-keeps g c =
-    attended_seen g.S.Site _ _ c.core.view_is c.core.invariant c.take_once.new.site c.take_once.ensures.site c.take_once.result _ _ _ _ _ (c.if-not-may_write_on.ensures.0 refl).taking
+    attended_seen g.S.Site _ _ c.core.view_is c.core.invariant c.take_once.new.site c.take_once.ensures.site c.take_once.result _ _ _ (c.if-not-may_write_on.ensures.0 refl).taking
     c.take_once.ensures.takes c.take_once.ensures.memory

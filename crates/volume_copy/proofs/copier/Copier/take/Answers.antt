@@ -21,7 +21,7 @@ returns-clause-takes g c =
 
 pub returns-clause-keeps : goal.returns-clause-keeps
 returns-clause-keeps g c =
-    track_seen g.S.Site _ _ c.core.view_is c.core.invariant c.take_track.new.site c.take_track.ensures.site _ _ _ _ _ c.in-Some.ensures.0 c.in_ok-take_track.ensures.takes
+    track_seen g.S.Site _ _ c.core.view_is c.core.invariant c.take_track.new.site c.take_track.ensures.site _ _ _ c.in-Some.ensures.0 c.in_ok-take_track.ensures.takes
 
 pub invariant_of-core-2 : goal.invariant_of-core-2
 invariant_of-core-2 g c =

@@ -1,6 +1,6 @@
 use Rattle.std.proofs.Common.{◌∙◌, length, arith, ap}
-use Rattle.serial_driver.proofs.Refused.{refused_full, refused_memory}
-use Rattle.serial_driver.proofs.host.lacking.Goals as goal
+use Rattle.host_events.proofs.RefusedCalls.{refused_full, refused_memory}
+use Rattle.host_events.proofs.refusal.lacking.Goals as goal
 
 pub returns-then-as_slice-ge-ENTRY_LIMIT-clause-event : goal.returns-then-as_slice-ge-ENTRY_LIMIT-clause-event
 returns-then-as_slice-ge-ENTRY_LIMIT-clause-event g c = λ h call.

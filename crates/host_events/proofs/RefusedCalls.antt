@@ -6,15 +6,13 @@ use Rattle.channel_commands.specs.Data.{CallData}
 use Rattle.core_state.specs.declared.rule.HostRule.{HostRule}
 use Rattle.core_state.specs.declared.rule.HostRule.TheVariants.{IsStopped, IsFull, IsBusy, IsMoving, IsHeld, Responds, HasFailed, HasNoSpace, Faults, Marks, Runs}
 use Rattle.core_state.specs.CoreValue.{CoreValue, seen}
-use Rattle.core_state.specs.HostEvents.{halts, at_limit, no_memory, IsSame, HostDoes}
+use Rattle.core_state.specs.HostEvents.{halts, at_limit, no_memory, IsSame, HostDoes, HostEvent}
 use Rattle.core_state.specs.HostRules.{host_rule}
 use Rattle.core_state.specs.IsCore.{IsCore}
 use Rattle.core_state.specs.TheCore.{IsKept}
 use Rattle.core_state.proofs.Limits.{host_stopped}
 use Rattle.host_events.proofs.RuleFacts.{IsLate, rule_seen, rule_stopped, rule_full}
 use Rattle.host_events.proofs.RuleOf.{at_limit as full_rule_met}
-use Rattle.serial_driver.specs.declared.answer.DriveAnswer.TheVariants.{Stopped, CommandLimit, Memory}
-use Rattle.serial_driver.specs.Drives.{HostTakes}
 
 pub kept_by : {S C : Type 0} (tells : Type 0) (site : SiteLog) (writes faults : ℕ) (u v : CoreValue S C) → u ≡ v → IsKept tells site writes faults u → v.stopped ≡ None → IsCore v
 kept_by tells site writes faults u v view kept going = subst (λ c. IsCore c) view (kept.whole.kept (subst (λ c. c.stopped ≡ None) (sym view) going))
@@ -23,13 +21,13 @@ module _ {S C : Type 0} (g : Ghosts S) (v : CoreValue S C) where
   same : IsSame g.tells (seen g v) (seen g v)
   same = (record { told = λ _. refl; unwritten = refl; sound = refl }, refl)
 
-  pub refused_stopped : (fault : ℕ) → v.stopped ≡ Some fault → (h : ℕ) (call : CallData) → HostTakes g.tells h (Some call) (seen g v) (Stopped fault) (seen g v)
+  pub refused_stopped : (fault : ℕ) → v.stopped ≡ Some fault → (h : ℕ) (call : CallData) → HostEvent g.tells (seen g v) h call (halts fault) (seen g v)
   refused_stopped fault is h call =
-      (halts fault, subst (λ (r : HostRule). HostDoes g.tells (seen g v) h call r (halts fault) (seen g v)) (sym (host_stopped (seen g v) fault h call is)) (refl, same), refl)
+      subst (λ (r : HostRule). HostDoes g.tells (seen g v) h call r (halts fault) (seen g v)) (sym (host_stopped (seen g v) fault h call is)) (refl, same)
 
-  pub refused_full : v.stopped ≡ None → 4096 ≤ length v.history → (h : ℕ) (call : CallData) → HostTakes g.tells h (Some call) (seen g v) CommandLimit (seen g v)
+  pub refused_full : v.stopped ≡ None → 4096 ≤ length v.history → (h : ℕ) (call : CallData) → HostEvent g.tells (seen g v) h call at_limit (seen g v)
   refused_full none long h call =
-      (at_limit, subst (λ (r : HostRule). HostDoes g.tells (seen g v) h call r at_limit (seen g v)) (sym (full_rule_met (seen g v) h call (none, long))) (refl, same), refl)
+      subst (λ (r : HostRule). HostDoes g.tells (seen g v) h call r at_limit (seen g v)) (sym (full_rule_met (seen g v) h call (none, long))) (refl, same)
 
   module _ (kept : v.stopped ≡ None → IsCore v) (none : v.stopped ≡ None) (few : length v.history < 4096) (h : ℕ) (call : CallData) where
     late : (rule : HostRule) → host_rule v h call ≡ rule → IsLate rule
@@ -58,6 +56,6 @@ module _ {S C : Type 0} (g : Ghosts S) (v : CoreValue S C) where
     lacks (Marks volume cylinder) l = same
     lacks (Runs c volume frame) l = same
 
-    pub refused_memory : HostTakes g.tells h (Some call) (seen g v) Memory (seen g v)
+    pub refused_memory : HostEvent g.tells (seen g v) h call no_memory (seen g v)
     refused_memory =
-        (no_memory, subst (λ (r : HostRule). HostDoes g.tells (seen g v) h call r no_memory (seen g v)) (sym (rule_seen g v h call)) (lacks (host_rule v h call) (late (host_rule v h call) refl)), refl)
+        subst (λ (r : HostRule). HostDoes g.tells (seen g v) h call r no_memory (seen g v)) (sym (rule_seen g v h call)) (lacks (host_rule v h call) (late (host_rule v h call) refl))
