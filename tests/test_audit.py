@@ -85,6 +85,7 @@ NO_WORDS = [
     "audit --frames 000000000000000000001",
     "audit --frames 1 --frames=1",
     "audit --order 1",
+    "audit --copy 0",
     "show --frames 1",
     "serial --frames 1",
     "policy lru --frames 1",

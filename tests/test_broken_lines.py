@@ -17,6 +17,7 @@ BROKEN = [
     ("test_audit_drawn.DrawnSites.test_site_00", "tests/audited_sites.py", "} gone", "} lost"),
     ("test_check_job.Carets", "tools/formats/jobs.py", 'number("a host number"', 'number("a number"'),
     ("test_commands.Shown", "docs/JOBS.md", "entry 7 host 1 ccw 31", "entry 7 host 1 ccw 71"),
+    ("test_copies.FirstJob", "tests/test_copies.py", '["copy 0 after 3"]', '["copy 0 after 2"]'),
     ("test_documents.Quotes", "docs/PROMISE.md", "pub mid : DevicesSeen", "pub mid : Devices"),
     ("test_edges.Edges", "tests/test_edges.py", "words refused", "words taken"),
     ("test_examples.Examples.test_first", "examples/first.report", "status 4C", "status 0C"),

@@ -9,6 +9,7 @@ import unittest
 from fixtures import CASES, TOOLS, TOP, Test, run, tests_of
 from refused_texts import REFUSED
 from test_audit_drawn import DRAWN as DRAWN_SITES
+from test_copies import RUNS as COPIED_RUNS
 from test_images import UNFIT
 from test_model import DRAWN
 from test_threads import RUNS
@@ -93,6 +94,7 @@ COUNTS = [
     ("drawn jobs", r"(\d+) (?:drawn jobs|jobs drawn)", DRAWN),
     ("drawn sites", r"(\d+) drawn sites", DRAWN_SITES),
     ("runs in threads", r"(\d+) drawn runs of threads", RUNS),
+    ("copies in threads", r"(\d+) copies of drawn jobs in threads", COPIED_RUNS),
     ("refused sites", r"(\d+) (?:are|have to be) refused by their first fault", refused_sites()),
     ("sound sites", r"and (\d+) are sound still", len(SITES) - refused_sites()),
     ("images", r"(\d+) kinds of images that can't be carried", len(UNFIT)),

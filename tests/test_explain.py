@@ -1,5 +1,6 @@
 """tools/explain: on a job and a report whose words were written by hand, on the examples and the other cases, each
-entry of which has to be explained, on lines that stand in place of a report, and on a report of another job."""
+entry of which has to be explained, on copies of a volume, on lines that stand in place of a report, and on a report of
+another job."""
 
 import unittest
 
@@ -16,6 +17,14 @@ LINES = [
     ("a refused job", "job refused line 7 Shape", "the number of words"),
     ("a torn track", "restart refused torn track volume 0 cylinder 5 head 3", "a track's block"),
     ("a want of memory", "want of memory", "there was too little memory"),
+]
+
+# A copy of the first report's volume, and what is said of it.
+COPIES = [
+    ("before an entry", "copy 0 after 0", "volume 0 as it was before entry 1; tracks that aren't told were blank"),
+    ("behind entries", "copy 0 after 3", "volume 0 as it was behind entry 3; tracks that aren't told were blank"),
+    ("of no volume", "copy 9 no volume", "there was no volume 9"),
+    ("that failed", "copy 0 failed fault 1", "a read for the copy of volume 0 failed, so it wasn't taken (fault 1)"),
 ]
 
 
@@ -48,6 +57,26 @@ class Lines(Test):
     def check(self, line, words):
         _, told = explained(FIRST, "-", f"{line}\n")
         self.assertTrue(told.splitlines()[-1].startswith(f"    {words}"), told)
+
+
+@tests_of(COPIES)
+class Copies(Test):
+    """Copies behind the volumes."""
+
+    def check(self, line, words):
+        report = FIRST.with_suffix(".report").read_text()
+        _, due = explained(FIRST, "-", report)
+        status, told = explained(FIRST, "-", report.replace("END\n", f"{line}\nEND\n"))
+        self.assert_told(due.replace("END\n", f"{line}\n    {words}\nEND\n"), told)
+        self.assertEqual(status, 0)
+
+    def test_its_tracks(self):
+        """They are told as those of the volume are."""
+        report = FIRST.with_suffix(".report").read_text()
+        tracks = report[report.index("track ") : report.index("END")]
+        _, told = explained(FIRST, "-", report.replace("END\n", f"copy 0 after 8\n{tracks}END\n"))
+        of_volume, of_copy = told[told.index("track ") : told.index("END")].split("copy 0 after 8\n")
+        self.assert_told(of_volume, of_copy.split("\n", 1)[1])
 
 
 class Explained(Test):

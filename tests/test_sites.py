@@ -124,6 +124,22 @@ REFUSED = [
     "serial x",
     "serial --turns x",
     "serial --turns 5 --turns 5",
+    "serial --after 5",
+    "serial --after 0 --order 1",
+    "serial --copy 32",
+    "serial --copy x",
+    "serial --copy",
+    "serial --copy 0 --load 5",
+    "serial --after 4097 --copy 0",
+    "serial --copy 0 --after",
+    "serial --copy 0 --copy 1",
+    "serial --copy 0 --after 1 --after 2",
+    "threads --after 5",
+    "threads --copy 32",
+    "threads --after 4097 --copy 0",
+    "threads --copy 0 --copy 1",
+    "threads --copy 0 --load 5",
+    "show --copy 0",
 ]
 
 

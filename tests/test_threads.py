@@ -27,13 +27,13 @@ LOOP = "program\nccw 03\ntic 0\nend\n"
 FULL = f"mss 1 frames 1 recorders 1\nvolume 0 VOL001\nhost 1\nmount VOL001\n{LOOP}{LOOP}done\n"
 
 
-def fault(job, ran):
-    """What is wrong with a run of a job; none where nothing is."""
+def fault(job, ran, asked=None):
+    """What is wrong with a run of a job, which took a copy where one was asked for; none where nothing is."""
     if ran.returncode == HUNG:
         return f"it hangs: it was killed behind {LONGEST} seconds"
     try:
         report = read_report(ran.stdout)
-        replay(job, report)
+        replay(job, report, asked=asked)
     except (Differs, ReportFault) as told:
         return str(told)
     if (report.last, ran.returncode) != ("END", 0):

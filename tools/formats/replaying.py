@@ -1,4 +1,5 @@
-"""Whether a report is one that plain volumes give: each reply, each change of the table, and the volumes at the end."""
+"""Whether a report is one that plain volumes give: each reply, each change of the table, the volumes at the end, and the
+copy of one of them where the report has it."""
 
 from dataclasses import dataclass, field
 
@@ -14,6 +15,14 @@ class Differs(Exception):
     """Where a report isn't what plain volumes give."""
 
 
+@dataclass(frozen=True)
+class AskedCopy:
+    """The copy that the words of a run ask for: of a volume, behind so many entries."""
+
+    volume: int
+    after: int
+
+
 @dataclass
 class Table:
     """What the changes so far made of blank devices."""
@@ -24,8 +33,9 @@ class Table:
     staged: dict = field(default_factory=dict)  # by volume and cylinder, where it has a copy, whether that was changed
 
 
-def replay(job, report, watch=quiet):
-    """Goes through a report of a job. What plain volumes don't give is told as Differs."""
+def replay(job, report, watch=quiet, asked=None):
+    """Goes through a report of a job, which has the copy that is asked for where the words of its run are known. What
+    plain volumes don't give is told as Differs."""
     machine = Machine(job.volumes, job.read_only)
     sources, following = followed(job, report)
     if len(sources) < len(report.entries):
@@ -40,6 +50,10 @@ def replay(job, report, watch=quiet):
     replay_changes(job, report)
     if report.last in ("END", "LIMIT"):
         compare_volumes(job, machine, report)
+        if asked is not None:
+            compare_words(report, asked)
+        if report.copy is not None:
+            compare_copy(job, report, sources)
 
 
 def reply(machine, entry, source):
@@ -115,11 +129,43 @@ def compare_volumes(job, machine, report):
             raise Differs(f"volume {volume.number} {volume.serial} isn't of the job")
         if volume.read_only != (number in job.read_only):
             raise Differs(f"volume {number} has another mark")
-        due = {
-            place: [(record.identity, record.key, record.data) for record in track]
-            for place, track in machine.volumes[number].items()
-            if track
-        }
-        told = {(track.cylinder, track.head): track.records for track in volume.tracks}
-        if told != due or list(told) != sorted(told):
+        if not are_tracks(volume.tracks, machine.volumes[number]):
             raise Differs(f"volume {number} has other tracks")
+
+
+def are_tracks(told, volume):
+    """Whether these are the tracks of a plain volume that aren't blank, by cylinder and head."""
+    due = {
+        place: [(record.identity, record.key, record.data) for record in track]
+        for place, track in volume.items()
+        if track
+    }
+    return [((track.cylinder, track.head), track.records) for track in told] == sorted(due.items())
+
+
+def compare_words(report, asked):
+    """The copy is the one that is asked for, or was wanted behind more entries than there are."""
+    copy, point = report.copy, min(asked.after, len(report.entries))
+    if copy is None:
+        raise Differs(f"it has no copy, and one of volume {asked.volume} is asked for")
+    if copy.volume != asked.volume:
+        raise Differs(f"it has {copy.heading()}, and volume {asked.volume} is asked for")
+    if copy.after not in (None, point):
+        raise Differs(f"it has {copy.heading()}, and the copy is due after {point}")
+
+
+def compare_copy(job, report, sources):
+    """The copy is of a volume that is there, and has its tracks as they are after the entries before it."""
+    copy = report.copy
+    if copy.is_absent() == (copy.volume in job.volumes):
+        has = "has" if copy.is_absent() else "has no"
+        raise Differs(f"it has {copy.heading()}, and the job {has} volume {copy.volume}")
+    if copy.after is None:
+        return
+    if copy.after > len(report.entries):
+        raise Differs(f"it has {copy.heading()}, and {len(report.entries)} entries")
+    machine = Machine(job.volumes, job.read_only)
+    for entry, source in list(zip(report.entries, sources))[: copy.after]:
+        reply(machine, entry, source)
+    if not are_tracks(copy.tracks, machine.volumes[copy.volume]):
+        raise Differs(f"{copy.heading()} has other tracks than volume {copy.volume} has there")

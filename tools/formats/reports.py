@@ -1,4 +1,5 @@
-"""The report of a session: its entries, its changes of the table, its volumes. A listing has the volumes alone."""
+"""The report of a session: its entries, its changes of the table, its volumes, and the copy of one of them where that
+was asked for. A listing has the volumes alone."""
 
 import re
 from dataclasses import dataclass, field
@@ -37,6 +38,7 @@ PROTECT = re.compile(r"protect (on|off)")
 VOLUME = re.compile(rf"volume {NUMBER} ([A-Z0-9]{{6}})( readonly)?")
 TRACK = re.compile(rf"track {NUMBER} {NUMBER}")
 RECORD = re.compile(r"record ([0-9A-F]{10}) (-|[0-9A-F]+) (-|[0-9A-F]+)")
+COPY = re.compile(rf"copy {NUMBER} (?:after {NUMBER}|no volume|failed fault {NUMBER})")
 LAST = re.compile(rf"END|LIMIT|STOPPED {NUMBER}")
 
 CYLINDERS_OF_PAGE = 8
@@ -102,11 +104,40 @@ class Volume:
 
 
 @dataclass
+class Copy:
+    """A copy of a volume: with its tracks where it was taken, else with why it wasn't."""
+
+    volume: int
+    after: int = None  # how many entries stand before it, where it was taken
+    fault: int = None  # where a read for it failed; there was no volume where it has neither
+    tracks: list = field(default_factory=list)
+
+    def is_absent(self):
+        """Whether there was no volume to copy."""
+        return self.after is None and self.fault is None
+
+    def heading(self):
+        """Its line."""
+        if self.is_absent():
+            return f"copy {self.volume} no volume"
+        rest = f"after {self.after}" if self.fault is None else f"failed fault {self.fault}"
+        return f"copy {self.volume} {rest}"
+
+
+@dataclass
 class Report:
     entries: list = field(default_factory=list)
     changes: list = field(default_factory=list)
     volumes: list = field(default_factory=list)
+    copy: Copy = None  # where one was asked for
     last: str = ""
+
+    def open_tracks(self):
+        """The tracks that the next one would stand behind: those of the copy, or else of the last volume. None where no
+        track may stand."""
+        if self.copy:
+            return None if self.copy.after is None else self.copy.tracks
+        return self.volumes[-1].tracks if self.volumes else None
 
 
 def read_report(text, watch=quiet):
@@ -140,27 +171,34 @@ def read_volumes(text, watch=quiet):
 
 def take_line(report, line):
     """Takes a line that stands where it may."""
+    is_showing = report.volumes or report.copy
     if match := ENTRY.fullmatch(line):
         entry = entry_of(int(match[1]), int(match[2]), match[3])
-        return not report.changes and not report.volumes and put(report.entries, entry)
+        return not report.changes and not is_showing and put(report.entries, entry)
     if match := CHANGE.fullmatch(line):
-        return not report.volumes and put(report.changes, change_of(int(match[1]), int(match[2]), match[3]))
+        return not is_showing and put(report.changes, change_of(int(match[1]), int(match[2]), match[3]))
+    if match := COPY.fullmatch(line):
+        volume, after, fault = (None if word is None else int(word) for word in match.groups())
+        is_first = report.copy is None
+        report.copy = Copy(volume, after, fault)
+        return is_first
     return take_volume_line(report, line)
 
 
 def take_volume_line(report, line):
-    """Takes a line of what the volumes have, or the last line."""
+    """Takes a line of what the volumes have, or a copy of one, or the last line."""
+    tracks = report.open_tracks()
     if match := VOLUME.fullmatch(line):
         report.volumes.append(Volume(int(match[1]), match[2], match[3] is not None))
+        return report.copy is None
+    if (match := TRACK.fullmatch(line)) and tracks is not None:
+        tracks.append(Track(int(match[1]), int(match[2])))
         return True
-    if (match := TRACK.fullmatch(line)) and report.volumes:
-        report.volumes[-1].tracks.append(Track(int(match[1]), int(match[2])))
-        return True
-    if (match := RECORD.fullmatch(line)) and report.volumes and report.volumes[-1].tracks:
-        return put_record(report.volumes[-1].tracks[-1], [bytes_of(word) for word in match.groups()])
+    if (match := RECORD.fullmatch(line)) and tracks:
+        return put_record(tracks[-1], [bytes_of(word) for word in match.groups()])
     if LAST.fullmatch(line):
         report.last = line
-        return True
+        return report.copy is None or line in ("END", "LIMIT")  # a report that is stopped has no copy
     return False
 
 
