@@ -4,6 +4,7 @@ ghost use Rattle.channel_commands.specs.Data.{CallData};
 ghost use Rattle.core_state.specs.CoreValue.{seen};
 ghost use Rattle.core_state.specs.HostEvents.{HostEvent};
 ghost use Rattle.core_state.specs.IsCore.{IsCore};
+ghost use Rattle.core_state.specs.TheCore.{IsWhole};
 ghost use Rattle.host_events.specs.Answers.{told_of};
 ghost use Rattle.host_events.specs.Parts.{GoesOn};
 
@@ -12,8 +13,9 @@ use core_state::{Core, ENTRY_LIMIT};
 use mss_base::Site;
 use victim_choice::Choose;
 
-/// What every core keeps while it isn't stopped, for the proofs of callers that hold one.
+/// What every core keeps, and what it keeps while it isn't stopped, for the proofs of callers that hold one.
 pub fn look<S: Site, C: Choose>(core: &Core<S, C>)
+    ensures whole { IsWhole S.tells (S.told core.now.site) core.now }
     ensures kept { core.now.stopped ≡ None → IsCore core.now }
 {
     let _site = &core.site;

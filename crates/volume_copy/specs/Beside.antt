@@ -1,6 +1,6 @@
 -- A core, and the copier beside it, if a copy is asked for.
-use Rattle.std.specs.Prelude.{◌≡◌, ◌≤◌, ℕ, min, Bool, true, false, List, length, Option}
-use Rattle.std.specs.Option.{option_map}
+use Rattle.std.specs.Prelude.{◌≡◌, ◌≤◌, ℕ, min, Bool, true, false, List, length, Option, MatchOption}
+use Rattle.std.specs.Option.{IsSomeAnd, option_map}
 use Rattle.mss_base.specs.declared.site.Site.{Ghosts}
 use Rattle.channel_commands.specs.Data.{CallData}
 use Rattle.ckd_plain.specs.History.{EntryData}
@@ -11,7 +11,7 @@ use Rattle.volume_copy.specs.declared.copier.CopyState.{CopyState}
 use Rattle.volume_copy.specs.declared.copier.CopyState.TheVariants.{Armed, Taking}
 use Rattle.volume_copy.specs.Copies.{AskedCopy, CopyData, FailedIn, IsOnTime}
 use Rattle.volume_copy.specs.Copies.{StandsFor, asked_by}
-use Rattle.volume_copy.specs.Steps.{ReadsCore}
+use Rattle.volume_copy.specs.Steps.{ReadsCore, TakesNextFrom}
 
 pub record CopiedValue (S C : Type 0) : Type 0 where
   pub core : CoreValue S C
@@ -57,3 +57,10 @@ HostEventBeside g copies old host call told new =
 abbrev pub ReadsBeside : {S C : Type 0} → Ghosts S → Bool → CoreValue S C → CoreValue S C → Type 0
 ReadsBeside g false old new = new ≡ old
 ReadsBeside g true old new = ReadsCore g old new
+
+-- with a copier the next track of the copy is taken, or its read fails, and the copy with it;
+-- without one nothing changes
+abbrev pub TakesBeside : {S C : Type 0} → Ghosts S → CopiedValue S C → CopiedValue S C → Type 0
+TakesBeside g old new =
+    MatchOption old.copier (new ≡ old)
+    (λ c. IsSomeAnd new.copier (λ d. TakesNextFrom g old.core new.core c d))

@@ -8,10 +8,13 @@ use Rattle.channel_commands.specs.declared.command.Command.{Command}
 use Rattle.ckd_plain.specs.declared.host.HostState.{HostState}
 use Rattle.ckd_track.specs.Data.{RecordData, Volumes}
 use Rattle.core_state.specs.Pins.{is_on}
+use Rattle.volume_table.specs.Listed.{listed}
 use Rattle.volume_table.specs.Row.{RowValue}
+use Rattle.shown_volumes.specs.Shown.{shown_by}
 use Rattle.volume_copy.specs.declared.copier.CopyState.{CopyState}
 use Rattle.volume_copy.specs.declared.copier.CopyState.TheVariants.{Armed, NoVolume, Taking, Whole, Failed}
 use Rattle.volume_copy.specs.declared.taken.Taken.{Taken}
+use Rattle.mss_base.specs.Content.{content}
 use Rattle.mss_base.specs.Sites.{OnlyReads}
 use Rattle.mss_base.specs.declared.site.Site.{Ghosts}
 use Rattle.core_state.specs.CoreValue.{CoreData, CoreValue}
@@ -138,6 +141,13 @@ pub data Finishes (tells : Type 0) (shown : Volumes) (before now : ℕ) (old new
 pub record ReadsCore {S C : Type 0} (g : Ghosts S) (old new : CoreValue S C) : Type 0 where
   pub core : new ≡ record old { site = new.site }
   pub site_ : OnlyReads g old.site new.site
+
+-- the next track of a copy is taken as the devices of a core show it
+abbrev pub TakesNextFrom : {S C : Type 0} → Ghosts S → CoreValue S C → CoreValue S C → CopyData
+    → CopyData → Type 0
+TakesNextFrom g v w old new =
+    TakesNext g.tells (shown_by (listed v.rows) (content (g.told v.site)))
+    (g.faults v.site) (g.faults w.site) old new
 
 -- the copy stands for its session as before, and is as much on time
 pub record KeepsStanding {S C : Type 0} (g : Ghosts S) (v w : CoreValue S C) (old new : CopyData)

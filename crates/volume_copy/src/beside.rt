@@ -6,7 +6,6 @@ ghost use Rattle.mss_base.specs.declared.place.UnitNo.{UnitNo};
 ghost use Rattle.channel_commands.specs.Views.{call_of};
 ghost use Rattle.core_state.specs.CoreValue.{seen};
 ghost use Rattle.core_state.specs.IsCore.{IsCore};
-ghost use Rattle.core_state.specs.TheCore.{IsWhole};
 ghost use Rattle.core_state.specs.WorkEvents.{WorkEvent};
 ghost use Rattle.host_events.specs.Answers.{told_of};
 ghost use Rattle.host_events.specs.Parts.{GoesOn};
@@ -16,18 +15,19 @@ ghost use Rattle.volume_copy.specs.Beside.{
   IsReadyFor,
   ReadsBeside,
   StandsBeside,
+  TakesBeside,
   asked,
 };
 ghost use Rattle.volume_copy.specs.Copies.{asked_by};
 ghost use Rattle.core_state.specs.Pins.{host_at};
-ghost use Rattle.volume_copy.specs.Steps.{Guards, KeepsStanding, ReadsCore};
+ghost use Rattle.volume_copy.specs.Steps.{Guards, KeepsStanding, ReadsCore, TakesNextFrom};
 
 use crate::copier::{Copier, CopyState};
 use crate::law::{host_events_leave_copies, work_leaves_copies};
 use channel_commands::Call;
 use core_state::{Core, WorkAnswer};
 use host_events::law::events_are_later;
-use host_events::{EVENT_ITEMS, HostAnswer, host_event, refused};
+use host_events::{EVENT_ITEMS, HostAnswer, host_event, look, refused};
 use mss_base::{HostNo, NoMemory, RecorderNo, Site};
 use std::marker::Model;
 use victim_choice::Choose;
@@ -52,13 +52,6 @@ impl<S: Site, C: Choose> Model for CopiedCore<S, C> {
     ghost view = { λ c. record { core = c.core; copier = c.copier } };
 
     ghost invariant = { λ c. IfSome c.copier (StandsBeside S.Site c.core) };
-}
-
-/// What every core keeps, for the proofs of callers that hold one.
-fn look<S: Site, C: Choose>(core: &Core<S, C>)
-    ensures whole { IsWhole S.tells (S.told core.now.site) core.now }
-{
-    let _site = &core.site;
 }
 
 /// Takes the track under a host that is about to write on the volume, before its event.
@@ -113,6 +106,9 @@ fn take_beside<S: Site, C: Choose>(
     core: &mut Core<S, C>,
     copier: &mut Copier,
 ) -> Result<CopyState, NoMemory>
+    ensures takes { OnOk result
+        (TakesNextFrom S.Site core.old core.new copier.old copier.new) }
+    ensures memory { OnErr result ((copier.new ≡ copier.old) × (core.new ≡ core.old)) }
     ensures stands { StandsBeside S.Site core.old copier.old
         → StandsBeside S.Site core.new copier.new }
     ensures copier { asked_by copier.new ≡ asked_by copier.old }
@@ -200,7 +196,11 @@ impl<S: Site, C: Choose> CopiedCore<S, C> {
     }
 
     /// Takes the next track for the copy, if there is one, and tells how far it is then.
+    ///
+    /// Where memory is wanting nothing changes.
     pub fn take(&mut self) -> Result<Option<CopyState>, NoMemory>
+        ensures takes { OnOk result (TakesBeside S.Site self.old self.new) }
+        ensures memory { OnErr result (self.new ≡ self.old) }
         ensures core { ReadsBeside S.Site (is_some (asked self.old.copier))
             self.old.core self.new.core }
         ensures copier { asked self.new.copier ≡ asked self.old.copier }

@@ -29,7 +29,7 @@ ghost use Rattle.volume_copy.specs.Steps.{
   KeepsStanding,
   MayWriteOn,
   ReadsCore,
-  TakesNext,
+  TakesNextFrom,
   TakesOnce,
   TakesOrFails,
   TakesTracks,
@@ -352,10 +352,8 @@ impl Copier {
     ///
     /// Where memory runs out the copier and the core are as they were.
     pub fn take<S: Site, C: Choose>(&mut self, core: &mut Core<S, C>) -> Result<CopyState, NoMemory>
-        ensures takes { let shown = shown_by (listed core.old.rows)
-            (content (S.told core.old.site)) in
-            OnOk result (TakesNext S.tells shown
-            (S.faults core.old.site) (S.faults core.new.site) self.old self.new) }
+        ensures takes { OnOk result
+            (TakesNextFrom S.Site core.old core.new self.old self.new) }
         ensures state { IfOk result (λ state. state ≡ self.new.state) }
         ensures memory { OnErr result ((self.new ≡ self.old) × (core.new ≡ core.old)) }
         ensures keeps { KeepsStanding S.Site core.old core.new self.old self.new }
