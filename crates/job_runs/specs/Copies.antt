@@ -1,5 +1,6 @@
 -- A copy of a volume beside a session, and what its report tells of it.
-use Rattle.std.specs.Prelude.{◌≡◌, ℕ, true, is_some, min, List, [], ◌++◌, length, take, Option, Some, None, IsSome, IfSome}
+use Rattle.std.specs.Prelude.{◌≡◌, ℕ, true, is_some, min, List, [], ◌++◌, length, take}
+use Rattle.std.specs.Prelude.{Option, Some, None, IsSome, IfSome}
 use Rattle.mss_base.specs.Counts.{IsFaultWithin}
 use Rattle.mss_base.specs.Configs.{ConfigData}
 use Rattle.mss_base.specs.Content.{SiteLog, content}

@@ -8,9 +8,9 @@
 //
 // A copier finds something as soon as its copy has begun, and has to leave when the last host does, or when the run
 // ends. A copy begins behind an entry, and each hold that adds one is an event, so each of these holds wakes it. Its
-// own takes wake nobody: a read of the devices gives no host and no worker anything to do. A host that waits may have had
-// a track taken before its call, and sleeps all the same: a copier that has begun doesn't sleep. Nor does the copier's
-// leave wake anybody, since nobody waits for it: it isn't counted in.
+// own takes wake nobody: a read of the devices gives no host and no worker anything to do. A host that waits may have
+// had a track taken before its call, and sleeps all the same: a copier that has begun doesn't sleep. Nor does the
+// copier's leave wake anybody, since nobody waits for it: it isn't counted in.
 ghost use Rattle.std.specs.Prelude.{◌≡◌, Some};
 ghost use Rattle.channel_commands.specs.Views.{call_of};
 ghost use Rattle.core_state.specs.declared.rule.WorkAnswer.TheVariants.{Idle};

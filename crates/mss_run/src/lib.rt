@@ -11,8 +11,8 @@
 //! the lock is one event, or a host's wait that changed nothing and one event of a recorder behind it; who is in stands
 //! in the lock beside the core (`specs/Presence.antt`).
 //!
-//! Where a copy of a volume is asked for, a copier stands beside the core under the lock, and is an actor more. It comes
-//! back for the copy that was asked for, and stands for the session.
+//! Where a copy of a volume is asked for, a copier stands beside the core under the lock, and is an actor more. It
+//! comes back for the copy that was asked for, and stands for the session.
 //!
 //! The layers above rely on these clauses, on the laws of `law`, and on what a session began with
 //! (`specs/Beginning.antt`, with `opens_itself` of `proofs/AnswerFacts.antt`). What a hold of the lock keeps is

@@ -34,8 +34,8 @@ pub struct Shared<N: Setup, S: Site, C: Choose> {
 }
 
 impl<N: Setup, S: Site, C: Choose> Shared<N, S, C> {
-    /// Puts a core under a lock, with the book of its history, and with a copier, if a copy is asked for. The name names
-    /// the core's session and the copy.
+    /// Puts a core under a lock, with the book of its history, and with a copier, if a copy is asked for. The name
+    /// names the core's session and the copy.
     pub fn new(word: Word<N>, book: Book<N>, core: Core<S, C>, copier: Option<Copier>) -> Self
         requires opening { OpensWith N.opening N.setup S.tells (S.never_fails_but core.site)
             (seen S.Site core) }
@@ -85,8 +85,8 @@ impl<N: Setup, S: Site, C: Choose> Shared<N, S, C> {
         self.copies
     }
 
-    /// The core, whose session is the one that the name names, and the copier of the copy that it names, which stands for
-    /// that session.
+    /// The core, whose session is the one that the name names, and the copier of the copy that it names, which stands
+    /// for that session.
     ///
     /// Its history is legal, and each entry is of a host of the name's list. Each pass that is handed in has seen a
     /// beginning of it, and has all entries of its host there. A pass that isn't handed in is given up.

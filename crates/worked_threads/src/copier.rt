@@ -38,8 +38,8 @@ const ANSWERED_2: usize = 4;
 /// How many tracks a volume has, but the last.
 const TRACKS_BEFORE: u64 = 7_675;
 
-/// The copier comes when host 1 was answered, and host 2 then. Host 1 stays until host 2 was answered, and that one until
-/// one track is left at most.
+/// The copier comes when host 1 was answered, and host 2 then. Host 1 stays until host 2 was answered, and that one
+/// until one track is left at most.
 const WHOLE: [Rule; 6] = [
     (COPIER, ENTER, ENTERED, ANSWERED, 1),
     (1, ANSWER, ANSWERED, ANSWERED_2, 1),
