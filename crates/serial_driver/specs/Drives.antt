@@ -31,7 +31,7 @@ use Rattle.script_places.specs.declared.place.Place.{Place}
 use Rattle.script_places.specs.Places.{StandsAt}
 use Rattle.script_places.specs.Scripts.{Left, not_begun, next_of, left_after, Plays, script_of}
 use Rattle.script_places.specs.Scripts.{exchanges_of, left_of, calls_of}
-use Rattle.volume_copy.specs.Beside.{asked}
+use Rattle.volume_copy.specs.Beside.{CopiedValue, asked}
 use Rattle.volume_copy.specs.Copies.{CopyData}
 
 -- a core, the copier beside it, if a copy is asked for, and what each host of the job is to do
@@ -39,6 +39,10 @@ pub record DriveValue (S C : Type 0) : Type 0 where
   pub core : CoreValue S C
   pub copier : Option CopyData
   pub scripts : List ScriptData
+
+-- its core with the copier beside it
+abbrev pub copied_of : {S C : Type 0} → DriveValue S C → CopiedValue S C
+copied_of d = record { core = d.core; copier = d.copier }
 
 -- on which terms its events follow each other
 abbrev pub terms_by : {S C : Type 0} → Ghosts S → (C → List Candidate → ℕ → Type 0) → C

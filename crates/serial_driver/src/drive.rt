@@ -1,5 +1,6 @@
 // A serial run: a core, and where each host of its job stands.
 ghost use Rattle.std.specs.Prelude.{◌≡◌, ◌<◌, ℕ, [], length, slice_index_or, is_some, None, IfOk, IfErr, IfSome};
+ghost use Rattle.std.specs.Prelude.{OnErr, OnOk};
 ghost use Rattle.channel_program.specs.Script.{Follows, FollowsToEnd};
 ghost use Rattle.core_state.specs.Chains.{Reading};
 ghost use Rattle.core_state.specs.CoreValue.{seen};
@@ -10,6 +11,7 @@ ghost use Rattle.serial_driver.specs.Answers.{of_work};
 ghost use Rattle.serial_driver.specs.declared.answer.DriveAnswer.TheVariants.{Done};
 ghost use Rattle.std.specs.List.{AllByRecursion};
 ghost use Rattle.serial_driver.specs.Drives.{AllStand, IsNumberOf};
+ghost use Rattle.volume_copy.specs.Beside.{ReadsBeside, TakesBeside, asked};
 ghost use Rattle.script_places.specs.Places.{StandsAt};
 ghost use Rattle.script_places.specs.Scripts.{calls_of, script_of, exchanges_of, not_begun};
 
@@ -98,10 +100,22 @@ pub(crate) fn answer_of(told: WorkAnswer) -> DriveAnswer
     }
 }
 
+/// Takes the next track for the copy beside a core, if there is one. Where memory is wanting nothing changes.
+fn take_next<S: Site, C: Choose>(session: &mut CopiedCore<S, C>) -> Result<(), NoMemory>
+    ensures takes { OnOk result (TakesBeside S.Site session.old session.new) }
+    ensures memory { OnErr result (session.new ≡ session.old) }
+    ensures core { ReadsBeside S.Site (is_some (asked session.old.copier))
+        session.old.core session.new.core }
+    ensures copier { asked session.new.copier ≡ asked session.old.copier }
+{
+    session.take()?;
+    Ok(())
+}
+
 impl<'a, S: Site, C: Choose> Drive<'a, S, C> {
     ghost use Rattle.serial_driver.specs.Drives.{AreScripts, HostTakes, EventTakes, IsConfigured};
-    ghost use Rattle.serial_driver.specs.Drives.{IsUnused, Leaves, RunsEvents, terms_of};
-    ghost use Rattle.volume_copy.specs.Beside.{IsReadyFor, StandsBeside, asked};
+    ghost use Rattle.serial_driver.specs.Drives.{IsUnused, Leaves, RunsEvents, copied_of, terms_of};
+    ghost use Rattle.volume_copy.specs.Beside.{IsReadyFor, StandsBeside};
 
     /// A serial run of a job, on a core in which nothing has happened, of the job's configuration; with a copier beside
     /// it, if a copy is asked for, which begins at once where its time has come. After want of memory it hands both
@@ -214,13 +228,15 @@ impl<'a, S: Site, C: Choose> Drive<'a, S, C> {
         self.session.work_event(recorder)
     }
 
-    /// Takes the next track for the copy, if there is one. Where memory is wanting it is taken later.
-    pub(crate) fn take(&mut self)
+    /// Takes the next track for the copy, if there is one. Where memory is wanting nothing changes.
+    pub(crate) fn take(&mut self) -> Result<(), NoMemory>
+        ensures takes { OnOk result (TakesBeside S.Site (copied_of self.old) (copied_of self.new)) }
+        ensures memory { OnErr result (self.new ≡ self.old) }
         ensures read { Reading (is_some (asked self.old.copier)) S.tells
             (seen S.Site self.old.core) (λ read. seen S.Site self.new.core ≡ read) }
         ensures leaves { Leaves S.Site self.old self.new Done }
     {
-        let _taken = self.session.take();
+        take_next(&mut self.session)
     }
 
     /// An event of a host, if it has a call.

@@ -72,7 +72,8 @@ impl<'a, S: Site, C: Choose> Drive<'a, S, C> {
                 self.look_at_hosts();
                 return DriveAnswer::Done;
             }
-            self.take();
+            // Where memory is wanting the track is taken in a later round.
+            let _ = self.take();
             match self.settle() {
                 DriveAnswer::Done => {}
                 halted => return halted,
