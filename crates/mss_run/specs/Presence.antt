@@ -1,8 +1,10 @@
 -- Who is in a run, and what actors that find nothing to do leave as it was.
 use Rattle.std.specs.Prelude.{◌≡◌, ◌⊎◌, ℕ, Bool, true, false, replicate, slice_set, Option, Some, None}
 use Rattle.std.specs.List.{list_any}
+use Rattle.mss_base.specs.declared.site.Site.{Ghosts}
 use Rattle.core_state.specs.declared.rule.WorkAnswer.{WorkAnswer}
 use Rattle.core_state.specs.declared.rule.WorkAnswer.TheVariants.{Idle}
+use Rattle.volume_copy.specs.Beside.{CopiedValue, TakesBeside}
 use Rattle.volume_copy.specs.declared.copier.CopyState.{CopyState}
 use Rattle.volume_copy.specs.declared.copier.CopyState.TheVariants.{Armed, Taking}
 use Rattle.mss_run.specs.declared.held.CopyTurn.{CopyTurn}
@@ -52,3 +54,12 @@ CopyTurns p turn.Leaves copy =
     (p.ended ≡ true)
     ⊎ ((has_hosts p ≡ false) ⊎ ((copy ≡ Some Armed → ⊥) × (copy ≡ Some Taking → ⊥)))
 CopyTurns p turn.Lacks copy = Unit {0}
+
+-- What it takes in its turn: the next track, while the run goes on and some host is in. Else, and
+-- where memory is wanting, nothing changes.
+abbrev pub TakesInTurn : {S C : Type 0} → Ghosts S → Presence → CopyTurn → CopiedValue S C
+    → CopiedValue S C → Type 0
+TakesInTurn g p turn.Leaves old new =
+    (((p.ended ≡ true) ⊎ (has_hosts p ≡ false)) × (new ≡ old)) ⊎ TakesBeside g old new
+TakesInTurn g p turn.Lacks old new = new ≡ old
+TakesInTurn g p _ old new = TakesBeside g old new

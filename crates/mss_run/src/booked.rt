@@ -1,5 +1,6 @@
 // A core, a copier beside it, and the book of its history.
-ghost use Rattle.std.specs.Prelude.{◌≡◌, ◌≤◌, ◌<◌, IfOk, IfSome, is_some, length, slice_get, true, Some};
+ghost use Rattle.std.specs.Prelude.{◌≡◌, ◌≤◌, ◌<◌, IfOk, IfSome, OnErr, OnOk, is_some, length, slice_get};
+ghost use Rattle.std.specs.Prelude.{true, Some};
 ghost use Rattle.std.specs.Option.{option_map};
 ghost use Rattle.channel_commands.specs.Views.{call_of};
 ghost use Rattle.seen_book.specs.Openings.{IsLegalFrom};
@@ -8,7 +9,7 @@ ghost use Rattle.core_state.specs.CoreValue.{seen};
 ghost use Rattle.core_state.specs.HostEvents.{IsSame};
 ghost use Rattle.core_state.specs.declared.rule.WorkAnswer.TheVariants.{Idle};
 ghost use Rattle.core_state.specs.declared.session.TheConstants.{ENTRY_LIMIT};
-ghost use Rattle.volume_copy.specs.Beside.{IsReadyFor, ReadsBeside, StandsBeside, asked};
+ghost use Rattle.volume_copy.specs.Beside.{IsReadyFor, ReadsBeside, StandsBeside, TakesBeside, asked};
 ghost use Rattle.mss_run.specs.Answers.{Answered};
 ghost use Rattle.mss_run.specs.Beginning.{OpensWith};
 ghost use Rattle.mss_run.specs.Happens.{Happens, IsSameButRead};
@@ -163,8 +164,11 @@ impl<N: Setup, S: Site, C: Choose> BookedCore<N, S, C> {
         work_step(&mut self.copied, recorder)
     }
 
-    /// Takes the next track for the copy, if there is one, and tells how far it is then.
+    /// Takes the next track for the copy, if there is one, and tells how far it is then. Where memory is wanting nothing
+    /// changes.
     pub fn take(&mut self) -> Result<Option<CopyState>, NoMemory>
+        ensures takes { OnOk result (TakesBeside S.Site self.old self.new) }
+        ensures memory { OnErr result (self.new ≡ self.old) }
         ensures core { ReadsBeside S.Site (is_some (asked self.old.copier))
             self.old.core self.new.core }
         ensures copier { asked self.new.copier ≡ asked self.old.copier }

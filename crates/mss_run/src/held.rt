@@ -13,6 +13,7 @@ ghost use Rattle.mss_run.specs.Happens.{IsSameButRead};
 ghost use Rattle.mss_run.specs.Presence.{
   CopyTurns,
   IsRest,
+  TakesInTurn,
   Turns,
   ended,
   nobody,
@@ -177,6 +178,8 @@ impl<N: Setup, S: Site, C: Choose> Held<N, S, C> {
     /// Takes the next track for the copy, while the run goes on and some host is in. It is counted nowhere, so it keeps
     /// nobody in.
     pub fn take(&mut self) -> CopyTurn
+        ensures takes { TakesInTurn S.Site self.old.present result
+            self.old.session self.new.session }
         ensures turns { CopyTurns self.old.present result
             (option_map (λ c. c.state) self.new.session.copier) }
         ensures present { self.new.present ≡ self.old.present }
