@@ -164,8 +164,8 @@ impl<N: Setup, S: Site, C: Choose> BookedCore<N, S, C> {
         work_step(&mut self.copied, recorder)
     }
 
-    /// Takes the next track for the copy, if there is one, and tells how far it is then. Where memory is wanting nothing
-    /// changes.
+    /// Takes the next track for the copy, if there is one, and tells how far it is then. Where memory is wanting
+    /// nothing changes.
     pub fn take(&mut self) -> Result<Option<CopyState>, NoMemory>
         ensures takes { OnOk result (TakesBeside S.Site self.old self.new) }
         ensures memory { OnErr result (self.new ≡ self.old) }
