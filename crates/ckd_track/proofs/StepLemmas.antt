@@ -1,6 +1,6 @@
 -- The writes of formatting, on a site's log.
-use Rattle.std.proofs.Common.{◌≡◌, ◌⊎◌, inl, inr, ℕ, ◌+◌, ◌-◌, ◌≤◌, ◌<◌, false, ◌==◌, List, [], ◌∷◌, length, take, get_or, refl, sym, ◌∙◌, ap, subst, arith}
-use Rattle.std.proofs.lemmas.Bool.{ne_eqb, true≢false}
+use Rattle.std.proofs.Common.{◌≡◌, ◌⊎◌, inl, inr, ℕ, ◌+◌, ◌-◌, ◌≤◌, ◌<◌, true, false, ◌==◌, List, [], ◌∷◌, length, take, get_or, refl, sym, ◌∙◌, ap, subst, arith}
+use Rattle.std.proofs.lemmas.Bool.{ne_eqb, eqb-true, true≢false}
 use Rattle.mss_base.specs.declared.place.UnitNo.{UnitNo}
 use Rattle.mss_base.specs.Content.{SiteLog, content, splice, Adds, Settles, Writes, ChangesBlock}
 use Rattle.mss_base.proofs.ContentLemmas.{get_or-splice_above, get_or-splice_in}
@@ -62,11 +62,23 @@ module _ (unit : UnitNo) (block : ℕ) (s t : SiteLog) where
       | inr done ↦ done
     ]
 
--- the next gate was closed already
-pub next_shut : (n : ℕ) (a b : List ℕ) → get_or b (130 + n) 0 ≡ get_or a (130 + n) 0 → (get_or a (130 + n) 0 ≡ 193 → ⊥) → is_open (n + 2) b ≡ false
+-- an open gate's byte
+pub gate_byte : (n : ℕ) (a : List ℕ) → is_open (n + 1) a ≡ true → get_or a (129 + n) 0 ≡ 193
+gate_byte n a opened =
+    let there : 129 + n ≡ 128 + (n + 1) = omega arith in
+    ap (λ (k : ℕ). get_or a k 0) there ∙ eqb-true (get_or a (128 + (n + 1)) 0) 193 opened
+
+-- the next gate is as it was
+pub next_shut : (n : ℕ) (a b : List ℕ) → get_or b (130 + n) 0 ≡ get_or a (130 + n) 0 → is_open (n + 2) a ≡ false → is_open (n + 2) b ≡ false
 next_shut n a b same shut =
     let there : 128 + (n + 2) ≡ 130 + n = omega arith in
-    ne_eqb (get_or b (128 + (n + 2)) 0) 193 (λ is. shut (sym same ∙ ap (λ (k : ℕ). get_or b k 0) (sym there) ∙ is))
+    ap (λ (k : ℕ). get_or b k 0 == 193) there ∙ ap (λ (x : ℕ). x == 193) same ∙ ap (λ (k : ℕ). get_or a k 0 == 193) (sym there) ∙ shut
+
+-- no later gate is open
+pub none_next : (n : ℕ) (a : List ℕ) → ((i : ℕ) → 130 + n ≤ i → i < 227 → get_or a i 0 ≡ 193 → ⊥) → n ≤ 96 → is_open (n + 2) a ≡ false
+none_next n a none few =
+    let there : 128 + (n + 2) ≡ 130 + n = omega arith in
+    ne_eqb (get_or a (128 + (n + 2)) 0) 193 (none (128 + (n + 2)) (omega arith) (omega arith))
 
 -- the three steps, one after another
 module _ (unit : UnitNo) (block n : ℕ) (a bytes : List ℕ) (few : n ≤ 96) (there : n ≤ length (reading a).records) where

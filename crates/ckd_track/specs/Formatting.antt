@@ -6,6 +6,7 @@ use Rattle.mss_base.specs.declared.place.BlockPlace.{BlockPlace}
 use Rattle.mss_base.specs.Content.{SiteLog, Item, Got, AreWithin}
 use Rattle.ckd_track.specs.Data.{RecordData, cost, cost_of}
 use Rattle.ckd_track.specs.Track.{Reading, reading, reading_of, record_length, record_at, is_open, place_after}
+use Rattle.ckd_track.specs.declared.format.FormatPlace.{FormatPlace}
 use Rattle.ckd_track.specs.declared.layout.TheConstants.{TRACK_COST}
 
 -- a count of eight bytes, and then as many bytes as its lengths say
@@ -20,12 +21,13 @@ pub record MayFormat (number : ℕ) (bytes block : List ℕ) : Type 0 where
   pub whole : IsRecord bytes
   pub fits : cost (take (number - 1) (reading block).records) + cost_of (record_at 0 bytes) ≤ TRACK_COST
 
--- bytes go behind n records: some, to the place where the next one begins, and within the block
-pub record GoBehind (n place : ℕ) (bytes block : List ℕ) : Type 0 where
-  pub few : n ≤ 96
-  pub begins : place ≡ place_after n 256 block
-  pub some : 1 ≤ length bytes
-  pub inside : place + length bytes ≤ BLOCK_BYTES
+-- a look at a block gave this place: it is the one behind so many of its records, and its gates are as they are there
+pub record IsPlaceIn (block : List ℕ) (place : FormatPlace) : Type 0 where
+  pub whole : length block ≡ BLOCK_BYTES
+  pub few : place.before ≤ 96
+  pub begins : place.begins_at ≡ place_after place.before 256 block
+  pub gate : is_open (place.before + 1) block ≡ place.gate_open
+  pub later : place.later_open ≡ false → is_open (place.before + 2) block ≡ false
 
 -- a record of these bytes has room behind the first n, which are there
 pub record FitsBehind (n : ℕ) (bytes block : List ℕ) : Type 0 where

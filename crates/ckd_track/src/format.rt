@@ -1,12 +1,12 @@
 // Formatting a record: at most four writes and three syncs, such that a stop at any moment leaves a track.
 ghost use Rattle.std.specs.Prelude.{◌≡◌, ◌⊎◌, ◌≤◌, ◌<◌, ℕ, ◌+◌, ◌-◌, true, false};
-ghost use Rattle.std.specs.Prelude.{length, slice_index, OnOk};
+ghost use Rattle.std.specs.Prelude.{List, length, slice_index, OnOk};
 ghost use Rattle.mss_base.specs.Blocks.{WritesBlock, block_of};
 ghost use Rattle.mss_base.specs.Content.{Settles};
 ghost use Rattle.mss_base.specs.Sites.{WritesAtMost};
 ghost use Rattle.ckd_track.specs.Data.{IsTrack};
-ghost use Rattle.ckd_track.specs.Track.{reading, reading_of, record_at, is_open, place_after};
-ghost use Rattle.ckd_track.specs.Formatting.{formatted, FitsBehind, GoBehind, IsFormatting, MayFormat};
+ghost use Rattle.ckd_track.specs.Track.{reading, reading_of, record_at, is_open, place_after, AreBytes};
+ghost use Rattle.ckd_track.specs.Formatting.{formatted, FitsBehind, IsFormatting, IsPlaceIn, MayFormat};
 ghost use Rattle.ckd_track.specs.Formatting.{EndsAfter, EndsBefore, StandsShut, WritesBehind};
 
 use crate::layout::{FIRST_PLACE, GATES, GATES_END, TRACK_COST, record_length};
@@ -19,28 +19,32 @@ const BEHIND_ITEMS: u32 = 3;
 /// How many items of the log a format makes at most: four writes, and three syncs.
 pub const FORMAT_ITEMS: u32 = FIRM_ITEMS + BEHIND_ITEMS + FIRM_ITEMS;
 
-/// Closes the gate of the record behind `before` others, where it is open.
-fn close_gate<S: Site>(
-    site: &mut S,
-    at: &BlockPlace,
-    block: &[u8],
-    before: u8,
-) -> Result<(), Failed>
-    requires whole { length block.now ≡ BLOCK_BYTES }
-    requires told { S.tells → block_of (S.told site.old) at.now ≡ block.now }
-    requires few { before ≤ 96 }
+/// What a format has to know of the block that it changes, so that the block need not stay at hand: how many records
+/// stay, where the next one begins, and whether its gate is open, or one of the later gates.
+#[derive(Clone, Copy)]
+pub struct FormatPlace {
+    pub before: u8,
+    pub begins_at: u16,
+    pub gate_open: bool,
+    pub later_open: bool,
+}
+
+/// Closes the gate of the record behind the ones that stay, where it is open.
+fn close_gate<S: Site>(site: &mut S, at: &BlockPlace, place: &FormatPlace) -> Result<(), Failed>
+    ghost block: { List ℕ }
+    requires looked { IsPlaceIn block place.now }
+    requires told { S.tells → block_of (S.told site.old) at.now ≡ block }
     requires room { FIRM_ITEMS ≤ S.spare site.old }
     ensures moments { S.tells → WritesBlock at.now
-        (λ b. (b ≡ block.now) ⊎ EndsAfter before block.now b)
+        (λ b. (b ≡ block) ⊎ EndsAfter place.now.before block b)
         (S.told site.old) (S.told site.new) }
     ensures closed { S.tells →
-        OnOk result (EndsBefore before block.now (block_of (S.told site.new) at.now)) }
+        OnOk result (EndsBefore place.now.before block (block_of (S.told site.new) at.now)) }
     ensures firm { S.tells → OnOk result (Settles (S.told site.old) (S.told site.new)) }
     ensures site_ { WritesAtMost S.Site FIRM_ITEMS site.old site.new result }
 {
-    let gate = GATES + 1 + before as u16;
-    if block[gate as usize] == OPEN {
-        return write_firm(site, at, gate, &[0]);
+    if place.gate_open {
+        return write_firm(site, at, GATES + 1 + place.before as u16, &[0]);
     }
     Ok(())
 }
@@ -72,26 +76,26 @@ fn any_open(block: &[u8], from: usize, to: usize) -> bool
 }
 
 /// Closes the later gates, where one of them is open. That is loose then.
-fn close_later<S: Site>(
-    site: &mut S,
-    at: &BlockPlace,
-    block: &[u8],
-    before: u8,
-) -> Result<(), Failed>
-    requires whole { length block.now ≡ BLOCK_BYTES }
+fn close_later<S: Site>(site: &mut S, at: &BlockPlace, place: &FormatPlace) -> Result<(), Failed>
+    ghost block: { List ℕ }
+    requires looked { IsPlaceIn block place.now }
     requires closed { S.tells →
-        EndsBefore before block.now (block_of (S.told site.old) at.now) }
-    requires few { before ≤ 96 }
+        EndsBefore place.now.before block (block_of (S.told site.old) at.now) }
     requires room { 1 ≤ S.spare site.old }
-    ensures behind { S.tells → WritesBehind before block.now at.now
+    ensures behind { S.tells → WritesBehind place.now.before block at.now
         (S.told site.old) (S.told site.new) }
     ensures next { S.tells →
-        OnOk result (is_open (before + 2) (block_of (S.told site.new) at.now) ≡ false) }
+        OnOk result (is_open (place.now.before + 2) (block_of (S.told site.new) at.now) ≡ false) }
     ensures site_ { WritesAtMost S.Site 1 site.old site.new result }
 {
-    let next = GATES + 2 + before as u16;
-    if any_open(block, next as usize, GATES_END as usize) {
-        return site.write(at.unit, at.block, next, closed_gates(97 - before as usize));
+    if place.later_open {
+        let next = GATES + 2 + place.before as u16;
+        return site.write(
+            at.unit,
+            at.block,
+            next,
+            closed_gates(97 - place.before as usize),
+        );
     }
     Ok(())
 }
@@ -100,24 +104,24 @@ fn close_later<S: Site>(
 fn write_behind<S: Site>(
     site: &mut S,
     at: &BlockPlace,
-    block: &[u8],
-    before: u8,
-    place: u16,
+    place: &FormatPlace,
     bytes: &[u8],
 ) -> Result<(), Failed>
-    requires whole { length block.now ≡ BLOCK_BYTES }
+    ghost block: { List ℕ }
+    requires looked { IsPlaceIn block place.now }
     requires closed { S.tells →
-        EndsBefore before block.now (block_of (S.told site.old) at.now) }
-    requires behind { GoBehind before place bytes.now block.now }
+        EndsBefore place.now.before block (block_of (S.told site.old) at.now) }
+    requires some { 1 ≤ length bytes.now }
+    requires inside { place.now.begins_at + length bytes.now ≤ BLOCK_BYTES }
     requires room { 2 ≤ S.spare site.old }
-    ensures behind { S.tells → WritesBehind before block.now at.now
+    ensures behind { S.tells → WritesBehind place.now.before block at.now
         (S.told site.old) (S.told site.new) }
     ensures stands { S.tells → OnOk result
-        (StandsShut before bytes.now block.now (block_of (S.told site.new) at.now)) }
+        (StandsShut place.now.before bytes.now block (block_of (S.told site.new) at.now)) }
     ensures site_ { WritesAtMost S.Site 2 site.old site.new result }
 {
-    close_later(site, at, block, before)?;
-    site.write(at.unit, at.block, place, bytes)
+    close_later(site, at, place)?;
+    site.write(at.unit, at.block, place.begins_at, bytes)
 }
 
 /// Closes the later gates, and writes the record behind its closed gate: at Ok that is firm.
@@ -125,24 +129,24 @@ fn write_behind<S: Site>(
 fn put_behind<S: Site>(
     site: &mut S,
     at: &BlockPlace,
-    block: &[u8],
-    before: u8,
-    place: u16,
+    place: &FormatPlace,
     bytes: &[u8],
 ) -> Result<(), Failed>
-    requires whole { length block.now ≡ BLOCK_BYTES }
+    ghost block: { List ℕ }
+    requires looked { IsPlaceIn block place.now }
     requires closed { S.tells →
-        EndsBefore before block.now (block_of (S.told site.old) at.now) }
-    requires behind { GoBehind before place bytes.now block.now }
+        EndsBefore place.now.before block (block_of (S.told site.old) at.now) }
+    requires some { 1 ≤ length bytes.now }
+    requires inside { place.now.begins_at + length bytes.now ≤ BLOCK_BYTES }
     requires room { BEHIND_ITEMS ≤ S.spare site.old }
-    ensures moments { S.tells → WritesBlock at.now (EndsAfter before block.now)
+    ensures moments { S.tells → WritesBlock at.now (EndsAfter place.now.before block)
         (S.told site.old) (S.told site.new) }
     ensures stands { S.tells → OnOk result
-        (StandsShut before bytes.now block.now (block_of (S.told site.new) at.now)) }
+        (StandsShut place.now.before bytes.now block (block_of (S.told site.new) at.now)) }
     ensures firm { S.tells → OnOk result (Settles (S.told site.old) (S.told site.new)) }
     ensures site_ { WritesAtMost S.Site BEHIND_ITEMS site.old site.new result }
 {
-    write_behind(site, at, block, before, place, bytes)?;
+    write_behind(site, at, place, bytes)?;
     site.sync(at.unit)
 }
 
@@ -150,26 +154,53 @@ fn put_behind<S: Site>(
 fn open_gate<S: Site>(
     site: &mut S,
     at: &BlockPlace,
-    block: &[u8],
-    before: u8,
+    place: &FormatPlace,
     bytes: &[u8],
 ) -> Result<(), Failed>
+    ghost block: { List ℕ }
+    requires looked { IsPlaceIn block place.now }
     requires stands { S.tells →
-        StandsShut before bytes.now block.now (block_of (S.told site.old) at.now) }
-    requires whole { length block.now ≡ BLOCK_BYTES }
-    requires few { before ≤ 96 }
-    requires fits { FitsBehind before bytes.now block.now }
+        StandsShut place.now.before bytes.now block (block_of (S.told site.old) at.now) }
+    requires fits { FitsBehind place.now.before bytes.now block }
     requires room { FIRM_ITEMS ≤ S.spare site.old }
     ensures moments { S.tells → WritesBlock at.now
-        (λ b. EndsAfter before block.now b ⊎ (reading b
-        ≡ reading_of (formatted before (record_at 0 bytes.now) (reading block.now).records)))
+        (λ b. EndsAfter place.now.before block b ⊎ (reading b ≡ reading_of
+        (formatted place.now.before (record_at 0 bytes.now) (reading block).records)))
         (S.told site.old) (S.told site.new) }
     ensures done { S.tells → OnOk result (reading (block_of (S.told site.new) at.now)
-        ≡ reading_of (formatted before (record_at 0 bytes.now) (reading block.now).records)) }
+        ≡ reading_of (formatted place.now.before (record_at 0 bytes.now)
+        (reading block).records)) }
     ensures firm { S.tells → OnOk result (Settles (S.told site.old) (S.told site.new)) }
     ensures site_ { WritesAtMost S.Site FIRM_ITEMS site.old site.new result }
 {
-    write_firm(site, at, GATES + 1 + before as u16, &[OPEN])
+    write_firm(site, at, GATES + 1 + place.before as u16, &[OPEN])
+}
+
+/// Formats a record at a place that a look at the block gave.
+fn format_at<S: Site>(
+    site: &mut S,
+    at: &BlockPlace,
+    place: &FormatPlace,
+    bytes: &[u8],
+) -> Result<(), Failed>
+    ghost block: { List ℕ }
+    requires looked { IsPlaceIn block place.now }
+    requires told { S.tells → block_of (S.told site.old) at.now ≡ block }
+    requires fits { FitsBehind place.now.before bytes.now block }
+    requires room { FORMAT_ITEMS ≤ S.spare site.old }
+    ensures moments { S.tells → WritesBlock at.now
+        (λ b. IsFormatting place.now.before (record_at 0 bytes.now) (reading block) (reading b))
+        (S.told site.old) (S.told site.new) }
+    ensures done { S.tells → OnOk result (reading (block_of (S.told site.new) at.now)
+        ≡ reading_of (formatted place.now.before (record_at 0 bytes.now)
+        (reading block).records)) }
+    ensures firm { S.tells → OnOk result (Settles (S.told site.old) (S.told site.new)) }
+    ensures site_ { WritesAtMost S.Site FORMAT_ITEMS site.old site.new result }
+{
+    prove!(place.begins_at as usize + bytes.len() <= BLOCK_BYTES);
+    close_gate(site, at, place)?;
+    put_behind(site, at, place, bytes)?;
+    open_gate(site, at, place, bytes)
 }
 
 /// The place of the record behind `before` others.
@@ -185,40 +216,56 @@ fn record_place(block: &[u8], before: u8) -> u16
     place as u16
 }
 
+/// Looks where a record behind `before` others goes.
+fn format_place(block: &[u8], before: u8) -> FormatPlace
+    requires whole { length block.now ≡ BLOCK_BYTES }
+    requires few { before ≤ 96 }
+    requires there { before ≤ length (reading block.now).records }
+    ensures place { IsPlaceIn block.now result }
+    ensures before { result.before ≡ before }
+    ensures bytes { AreBytes block.now }
+{
+    let gate = GATES as usize + 1 + before as usize;
+    let gate_open = block[gate] == OPEN;
+    let later_open = any_open(block, gate + 1, GATES_END as usize);
+    let begins_at = record_place(block, before);
+    FormatPlace {
+        before,
+        begins_at,
+        gate_open,
+        later_open,
+    }
+}
+
 /// Formats record `number`: it becomes the last of its track, behind the records before it.
 ///
-/// `block` is what stands at the place, and `count_key_data` a count of eight bytes (CC HH R KL DL DL),
-/// KL bytes of key and DL bytes of data. It makes at most four writes and three syncs, and at Ok what it wrote is
-/// firm. A stop at any moment leaves the old track, the track ended before the record, or the new track. Where it
-/// fails, the site's count of faults has risen.
+/// The block at the place is the one that was brought last, and `count_key_data` a count of eight bytes
+/// (CC HH R KL DL DL), KL bytes of key and DL bytes of data. It makes at most four writes and three syncs, and at Ok
+/// what it wrote is firm. A stop at any moment leaves the old track, the track ended before the record, or the new
+/// track. Where it fails, the site's count of faults has risen.
 pub fn format_record<S: Site>(
     site: &mut S,
     at: &BlockPlace,
-    block: &[u8],
     number: u8,
     count_key_data: &[u8],
 ) -> Result<(), Failed>
-    requires whole { length block.now ≡ BLOCK_BYTES }
-    requires told { S.tells → block_of (S.told site.old) at.now ≡ block.now }
-    requires fits { MayFormat number count_key_data.now block.now }
+    requires brought { S.tells → block_of (S.told site.old) at.now ≡ S.brought site.old }
+    requires fits { MayFormat number count_key_data.now (S.brought site.old) }
     requires room { FORMAT_ITEMS ≤ S.spare site.old }
 
     ensures moments { S.tells → WritesBlock at.now
         (λ b. IsFormatting (number - 1) (record_at 0 count_key_data.now)
-        (reading block.now) (reading b)) (S.told site.old) (S.told site.new) }
+        (reading (S.brought site.old)) (reading b)) (S.told site.old) (S.told site.new) }
     ensures done { S.tells → OnOk result (reading (block_of (S.told site.new) at.now)
         ≡ reading_of (formatted (number - 1) (record_at 0 count_key_data.now)
-        (reading block.now).records)) }
+        (reading (S.brought site.old)).records)) }
     ensures track { OnOk result (IsTrack (formatted (number - 1)
-        (record_at 0 count_key_data.now) (reading block.now).records)) }
+        (record_at 0 count_key_data.now) (reading (S.brought site.old)).records)) }
     ensures firm { S.tells → OnOk result (Settles (S.told site.old) (S.told site.new)) }
     ensures site_ { WritesAtMost S.Site FORMAT_ITEMS site.old site.new result }
 {
     let before = number - 1;
-    let place = record_place(block, before);
     prove!(before <= 96);
-    prove!(place as usize + count_key_data.len() <= BLOCK_BYTES);
-    close_gate(site, at, block, before)?;
-    put_behind(site, at, block, before, place, count_key_data)?;
-    open_gate(site, at, block, before, count_key_data)
+    let place = format_place(site.brought(), before);
+    format_at(site, at, &place, count_key_data)
 }

@@ -78,11 +78,12 @@ pub fn record_count(block: &Block) -> u8
 }
 
 /// What the first `count` records of a block's track take of it together.
-pub fn cost_of_front(block: &Block, count: u8) -> u32
+pub fn cost_of_front(block: &[u8], count: u8) -> u32
+    requires { length block.now ≡ BLOCK_BYTES }
     ensures cost { result ≡ cost (take count (reading block.now).records) }
     ensures within { result ≤ TRACK_COST }
 {
-    let mut stored = stored_records(block.as_slice());
+    let mut stored = stored_records(block);
     let mut cost = 0;
     for _ in 0..count {
         let Some(record) = stored.next() else {

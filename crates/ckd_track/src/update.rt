@@ -27,36 +27,34 @@ fn bytes_place(block: &[u8], place: u16, key_too: bool) -> u16
 
 /// Updates record `number` with bytes for its data, or with `key_too` for its key and data.
 ///
-/// `block` is what stands there, `place` is where the record begins in it (`find_place`), and `bytes` are as
-/// many as the record has. It makes one write and a sync, or nothing of no bytes, and at Ok what it wrote is firm.
-/// At any moment the track is the old one with some bytes of that length in the record. Where it fails, the site's
-/// count of faults has risen.
+/// The block at the place is the one that was brought last, `place` is where the record begins in it (`find_place`),
+/// and `bytes` are as many as the record has. It makes one write and a sync, or nothing of no bytes, and at Ok what it
+/// wrote is firm. At any moment the track is the old one with some bytes of that length in the record. Where it fails,
+/// the site's count of faults has risen.
 pub fn update_record<S: Site>(
     site: &mut S,
     at: &BlockPlace,
-    block: &[u8],
     number: u8,
     place: u16,
     key_too: bool,
     bytes: &[u8],
 ) -> Result<(), Failed>
-    requires whole { length block.now ≡ BLOCK_BYTES }
-    requires told { S.tells → block_of (S.told site.old) at.now ≡ block.now }
-    requires found { MayUpdate number place key_too bytes.now block.now }
+    requires brought { S.tells → block_of (S.told site.old) at.now ≡ S.brought site.old }
+    requires found { MayUpdate number place key_too bytes.now (S.brought site.old) }
     requires room { UPDATE_ITEMS ≤ S.spare site.old }
 
     ensures moments { S.tells → WritesBlock at.now
-        (λ b. IsUpdating key_too (number - 1) (reading block.now) (reading b))
+        (λ b. IsUpdating key_too (number - 1) (reading (S.brought site.old)) (reading b))
         (S.told site.old) (S.told site.new) }
     ensures done { S.tells → OnOk result (reading (block_of (S.told site.new) at.now)
-        ≡ record (reading block.now) {
-          records = updated key_too (number - 1) bytes.now (reading block.now).records;
+        ≡ record (reading (S.brought site.old)) {
+          records = updated key_too (number - 1) bytes.now (reading (S.brought site.old)).records;
         }) }
     ensures untouched { bytes.now ≡ [] → site.new ≡ site.old }
     ensures firm { S.tells → OnOk result (Settles (S.told site.old) (S.told site.new)) }
     ensures site_ { WritesAtMost S.Site UPDATE_ITEMS site.old site.new result }
 {
-    let offset = bytes_place(block, place, key_too);
+    let offset = bytes_place(site.brought(), place, key_too);
     if bytes.is_empty() {
         return Ok(());
     }

@@ -27,7 +27,7 @@ use Rattle.track_engine.specs.declared.place.EngineFault.{EngineFault}
 use Rattle.track_engine.specs.declared.place.EngineFault.TheVariants.{ReadFailed, WriteFailed, Memory}
 use Rattle.track_engine.specs.Faults.{LeavesSite}
 use Rattle.track_engine.specs.Found.{GivesBut}
-use Rattle.track_engine.specs.Tracks.{AreTracks, tracks_on}
+use Rattle.track_engine.specs.Tracks.{AreTracks, AreTracksOn, IsBlockOn, IsTrackAt, tracks_on}
 use Rattle.track_engine.specs.Writing.{IsStep, Target, target_in, WritesBlock, HoldsWritten, CarriesOut, written_of, effect_as, formatted_behind}
 
 -- ---- formatting a record
@@ -158,3 +158,11 @@ pub carried_over : (given given' : Outcome) (c : Command) (to to' : Target) (old
     → CarriesOut given c to old new result → CarriesOut given' c to' old' new result
 carried_over given given' c to to' old old' new result given_is number_is track_is block_is old_is carried =
     subst (λ (T : Type 0). T) (λ i. CarriesOut (sym given_is i) c (record { block = block_is i; track = track_is i; number = number_is i }) (old_is i) new result) carried
+
+-- the block under a host, once it is brought
+pub track_brought : (place : CylinderPlace) (head : ℕ) (to : BlockPlace) (s mid : SiteLog) (bytes : List ℕ) → IsBlockOn s place head bytes → AreTracksOn s place → head < 19
+    → to ≡ record { unit = place.unit; block = place.first_block + head } → mid ≡ s → IsTrackAt (content mid) to bytes
+track_brought place head to s mid bytes there tracks low to_is same = record {
+  block = (λ i. content (same i) (to_is i).unit (to_is i).block) ∙ sym there.block;
+  good = ap (λ (b : List ℕ). (reading b).bad) there.block ∙ tracks head low;
+}

@@ -17,7 +17,7 @@ use crate::place::{CylinderPlace, EngineFault, NotDone};
 use ckd_plain::steps::{FoundRecord, candidate, pass_index, to_home};
 use ckd_plain::{HostState, Refusal, UnitCheck};
 use ckd_track::{find_place, record_at};
-use mss_base::{BLOCK_BYTES, Block, Failed, Head, Site};
+use mss_base::{BLOCK_BYTES, Failed, Head, Site};
 
 /// How many tracks a command may look at.
 const LOOKS: u8 = 20;
@@ -53,25 +53,6 @@ pub fn bring_block<S: Site>(
             fault: site.faults(),
         }),
     }
-}
-
-/// Copies the block of a head into the buffer, where it stays as it was while the site is written to.
-pub fn copy_block<S: Site>(
-    site: &mut S,
-    place: &CylinderPlace,
-    buffer: &mut Block,
-    head: Head,
-) -> Result<(), EngineFault>
-    ensures block { S.tells → OnOk result (IsBlockOn (S.told site.old) place.now head buffer.new) }
-    ensures reads { OnlyReads S.Site site.old site.new }
-    ensures cause { HasCause (S.faults site.old) (S.faults site.new) result }
-    ensures fault { IfErr result (IsFailedRead (S.faults site.new)) }
-    ensures works { (but : UnitNo → Bool) → S.never_fails_but site.old but
-        → but place.now.unit ≡ false → IsOk result }
-{
-    bring_block(site, place, head)?;
-    buffer.copy_from_slice(site.brought());
-    Ok(())
 }
 
 /// The place of record `number` of the host's track, which is that of the block, where it is there.

@@ -60,7 +60,6 @@ fn carry_out<S: Site>(
     alloc: Global,
     site: &mut S,
     place: &CylinderPlace,
-    buffer: &mut Block,
     host: &HostState,
     left: Prior,
     command: Command,
@@ -84,13 +83,13 @@ fn carry_out<S: Site>(
 {
     match command {
         Command::Write(WriteKind::Data) => {
-            write_data(alloc, site, place, buffer, host, left, false, argument)
+            write_data(alloc, site, place, host, left, false, argument)
         }
         Command::Write(WriteKind::KeyData) => {
-            write_data(alloc, site, place, buffer, host, left, true, argument)
+            write_data(alloc, site, place, host, left, true, argument)
         }
         Command::Write(WriteKind::CountKeyData) => {
-            write_count_key_data(alloc, site, place, buffer, host, left, argument)
+            write_count_key_data(alloc, site, place, host, left, argument)
         }
         _ => look(alloc, site, place, host, command, argument),
     }
@@ -98,13 +97,13 @@ fn carry_out<S: Site>(
 
 /// A search, read or write that passed its checks, on the blocks of the host's cylinder.
 ///
-/// `buffer` is room that a write alone uses. After a fault the host is as it was. When the reply comes,
+/// After a fault the host is as it was. When the reply comes,
 /// all that was written is firm. An update makes one write at most and a sync, and of no bytes nothing.
 pub fn run_command<S: Site>(
     alloc: Global,
     site: &mut S,
     place: &CylinderPlace,
-    buffer: &mut Block,
+    _buffer: &mut Block,
     command: &Command,
     argument: &[u8],
     chained: bool,
@@ -125,9 +124,7 @@ pub fn run_command<S: Site>(
 {
     let now = opened(host);
     let ready = cleared(*command, &now);
-    match carry_out(
-        alloc, site, place, buffer, &ready, now.prior, *command, argument,
-    ) {
+    match carry_out(alloc, site, place, &ready, now.prior, *command, argument) {
         Ok(done) => Ok(finished(host, *command, chained, done)),
         Err(NotDone::Refused(refusal)) => Ok(refused(alloc, host, &refusal)),
         Err(NotDone::Fault(fault)) => Err(fault),

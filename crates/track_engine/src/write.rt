@@ -17,7 +17,7 @@ ghost use Rattle.track_engine.specs.Found.{IsPlaceOf, GivesBut, KeepsVolume};
 ghost use Rattle.track_engine.specs.Writing.{CarriesOut, Spells, formatted_behind, target_in};
 ghost use Rattle.track_engine.specs.Writing.{target_of, update_kind, updated_at};
 
-use crate::find::{RecordPlace, copy_block, found_in, same_record};
+use crate::find::{RecordPlace, bring_block, found_in, same_record};
 use crate::place::{CylinderPlace, EngineFault, NotDone};
 use channel_commands::{Command, WriteKind};
 use ckd_plain::steps::{DONE, DoneCommand, FoundRecord, written};
@@ -26,7 +26,7 @@ use ckd_track::{
     FORMAT_ITEMS, TRACK_COST, UPDATE_ITEMS, cost_at, cost_of_front, format_record, record_length,
     update_record,
 };
-use mss_base::{Block, BlockPlace, Bytes, Failed, NoMemory, Site};
+use mss_base::{BlockPlace, Bytes, Failed, NoMemory, Site};
 use std::alloc::Global;
 
 /// The first bytes of an argument, where it has so many.
@@ -55,33 +55,31 @@ fn padded_record(alloc: Global, argument: &[u8]) -> Result<Bytes, NoMemory>
     Bytes::padded(alloc, record_length(argument, 0), argument)
 }
 
-/// The record behind which the argument's record goes, where that fits. The block of the host's track is in the buffer
-/// then.
+/// The record behind which the argument's record goes, where that fits. The block of the host's track is brought then.
 fn kept_record<S: Site>(
     site: &mut S,
     place: &CylinderPlace,
-    buffer: &mut Block,
     host: &HostState,
     left: Prior,
     argument: &[u8],
 ) -> Result<RecordPlace, NotDone>
     requires long { 8 ≤ length argument.now }
     ensures format { S.tells → GivesBut
-        (formatted_behind (reading buffer.new).records (new_record argument.now)) result
+        (formatted_behind (reading (S.brought site.new)).records (new_record argument.now)) result
         (write_ (tracks_on (S.told site.old) place.now host.now.head)
         host.now left WriteKind.CountKeyData argument.now) }
-    ensures fits { IfOk result (λ at. cost (take at.number (reading buffer.new).records)
+    ensures fits { IfOk result (λ at. cost (take at.number (reading (S.brought site.new)).records)
         + cost_of (new_record argument.now) ≤ TRACK_COST) }
-    ensures itself { IfOk result (IsPlaceOf (prior_number left) host.now buffer.new) }
+    ensures itself { IfOk result (IsPlaceOf (prior_number left) host.now (S.brought site.new)) }
     ensures block { S.tells → OnOk result
-        (IsBlockOn (S.told site.old) place.now host.now.head buffer.new) }
+        (IsBlockOn (S.told site.old) place.now host.now.head (S.brought site.new)) }
     ensures volume { KeepsVolume (λ at. at.host) host.now.mounted result }
     ensures site_ { ReadsDevices S.Site place.now.unit site.old site.new result }
 {
-    copy_block(site, place, buffer, host.head)?;
-    let block = buffer.as_slice();
+    bring_block(site, place, host.head)?;
+    let block = site.brought();
     let at = same_record(block, host, left.number())?;
-    let cost = cost_of_front(buffer, at.number) + cost_at(argument, 0);
+    let cost = cost_of_front(block, at.number) + cost_at(argument, 0);
     if cost > TRACK_COST {
         return Err(NotDone::Refused(Refusal {
             check: UnitCheck::InvalidTrackFormat,
@@ -91,25 +89,24 @@ fn kept_record<S: Site>(
     Ok(at)
 }
 
-/// Formats a record behind the one at a place. `block` is what stands there.
+/// Formats a record behind the one at a place, in the block that was brought last.
 #[tactic(auto, using(ckd_track::proofs::TrackFacts::reading_length), unfolding(ckd_plain::specs::Effects::is_ending))]
 fn format_behind<S: Site>(
     alloc: Global,
     site: &mut S,
     to: &BlockPlace,
-    block: &Block,
     at: &RecordPlace,
     bytes: &[u8],
 ) -> Result<DoneCommand, NotDone>
-    requires track { S.tells → IsTrackAt (content (S.told site.old)) to.now block.now }
-    requires there { at.now.number ≤ length (reading block.now).records }
+    requires track { S.tells → IsTrackAt (content (S.told site.old)) to.now (S.brought site.old) }
+    requires there { at.now.number ≤ length (reading (S.brought site.old)).records }
     requires record { IsRecord bytes.now }
-    requires fits { cost (take at.now.number (reading block.now).records)
+    requires fits { cost (take at.now.number (reading (S.brought site.old)).records)
         + cost_of (record_at 0 bytes.now) ≤ TRACK_COST }
     requires room { FORMAT_ITEMS ≤ S.spare site.old }
     ensures done { S.tells → CarriesOut (Ok
-        (formatted_behind (reading block.now).records (record_at 0 bytes.now) at.now))
-        (Command.Write WriteKind.CountKeyData) (target_in to.now block.now at.now)
+        (formatted_behind (reading (S.brought site.old)).records (record_at 0 bytes.now) at.now))
+        (Command.Write WriteKind.CountKeyData) (target_in to.now (S.brought site.old) at.now)
         (S.told site.old) (S.told site.new) result }
     ensures volume { KeepsVolume (λ done. done.host) at.now.host.mounted result }
     ensures site_ { UsesDevices S.Site FORMAT_ITEMS true to.now.unit site.old site.new result }
@@ -117,11 +114,42 @@ fn format_behind<S: Site>(
         → IfErr result HasNotFailed }
 {
     let number = at.number + 1;
-    match format_record(site, to, block.as_slice(), number, bytes) {
+    match format_record(site, to, number, bytes) {
         Ok(()) => Ok(written(alloc, &at.host, DONE, number, Prior::Wrote(number))),
         Err(Failed) => Err(NotDone::Fault(EngineFault::WriteFailed {
             fault: site.faults(),
         })),
+    }
+}
+
+/// Formats the argument's record behind the one at a place, in the block that was brought last.
+#[tactic(auto, using(crate::proofs::Formats::format_spelled))]
+fn format_argument<S: Site>(
+    alloc: Global,
+    site: &mut S,
+    to: &BlockPlace,
+    at: &RecordPlace,
+    argument: &[u8],
+) -> Result<DoneCommand, NotDone>
+    requires long { 8 ≤ length argument.now }
+    requires track { S.tells → IsTrackAt (content (S.told site.old)) to.now (S.brought site.old) }
+    requires there { at.now.number ≤ length (reading (S.brought site.old)).records }
+    requires fits { cost (take at.now.number (reading (S.brought site.old)).records)
+        + cost_of (new_record argument.now) ≤ TRACK_COST }
+    requires room { FORMAT_ITEMS ≤ S.spare site.old }
+    ensures done { S.tells → CarriesOut (Ok
+        (formatted_behind (reading (S.brought site.old)).records (new_record argument.now) at.now))
+        (Command.Write WriteKind.CountKeyData) (target_in to.now (S.brought site.old) at.now)
+        (S.told site.old) (S.told site.new) result }
+    ensures volume { KeepsVolume (λ done. done.host) at.now.host.mounted result }
+    ensures site_ { UsesDevices S.Site FORMAT_ITEMS true to.now.unit site.old site.new result }
+{
+    match whole_record(argument) {
+        Some(bytes) => format_behind(alloc, site, to, at, bytes),
+        None => {
+            let bytes = padded_record(alloc, argument)?;
+            format_behind(alloc, site, to, at, bytes.as_slice())
+        }
     }
 }
 
@@ -130,7 +158,6 @@ pub fn write_count_key_data<S: Site>(
     alloc: Global,
     site: &mut S,
     place: &CylinderPlace,
-    buffer: &mut Block,
     host: &HostState,
     left: Prior,
     argument: &[u8],
@@ -148,14 +175,8 @@ pub fn write_count_key_data<S: Site>(
     ensures site_ { UsesDevices S.Site FORMAT_ITEMS true place.now.unit site.old site.new result }
 {
     let to = place.block_of(host.head);
-    let at = kept_record(site, place, buffer, host, left, argument)?;
-    match whole_record(argument) {
-        Some(bytes) => format_behind(alloc, site, &to, buffer, &at, bytes),
-        None => {
-            let bytes = padded_record(alloc, argument)?;
-            format_behind(alloc, site, &to, buffer, &at, bytes.as_slice())
-        }
-    }
+    let at = kept_record(site, place, host, left, argument)?;
+    format_argument(alloc, site, &to, &at, argument)
 }
 
 /// How many bytes an update of the record writes: its data, or its key and data.
@@ -170,22 +191,21 @@ fn updated_length(found: &FoundRecord<'_>, key_too: bool) -> usize
     }
 }
 
-/// Updates the record at a place. `block` is what stands there.
+/// Updates the record at a place, in the block that was brought last.
 fn update_at<S: Site>(
     alloc: Global,
     site: &mut S,
     to: &BlockPlace,
-    block: &Block,
     at: &RecordPlace,
     key_too: bool,
     bytes: &[u8],
 ) -> Result<DoneCommand, NotDone>
-    requires track { S.tells → IsTrackAt (content (S.told site.old)) to.now block.now }
-    requires may { MayUpdate at.now.number at.now.begins_at key_too bytes.now block.now }
+    requires track { S.tells → IsTrackAt (content (S.told site.old)) to.now (S.brought site.old) }
+    requires may { MayUpdate at.now.number at.now.begins_at key_too bytes.now (S.brought site.old) }
     requires room { UPDATE_ITEMS ≤ S.spare site.old }
     ensures done { S.tells → CarriesOut (Ok
-        (updated_at key_too (reading block.now).records bytes.now at.now))
-        (Command.Write (update_kind key_too)) (target_in to.now block.now at.now)
+        (updated_at key_too (reading (S.brought site.old)).records bytes.now at.now))
+        (Command.Write (update_kind key_too)) (target_in to.now (S.brought site.old) at.now)
         (S.told site.old) (S.told site.new) result }
     ensures volume { KeepsVolume (λ done. done.host) at.now.host.mounted result }
     ensures untouched { bytes.now ≡ [] → site.new ≡ site.old }
@@ -193,9 +213,8 @@ fn update_at<S: Site>(
     ensures works { (but : UnitNo → Bool) → S.never_fails_but site.old but
         → IfErr result HasNotFailed }
 {
-    let block = block.as_slice();
-    let status = found_in(block, at).status();
-    match update_record(site, to, block, at.number, at.begins_at, key_too, bytes) {
+    let status = found_in(site.brought(), at).status();
+    match update_record(site, to, at.number, at.begins_at, key_too, bytes) {
         Ok(()) => Ok(written(alloc, &at.host, status, at.number, at.host.prior)),
         Err(Failed) => Err(NotDone::Fault(EngineFault::WriteFailed {
             fault: site.faults(),
@@ -208,7 +227,6 @@ pub fn write_data<S: Site>(
     alloc: Global,
     site: &mut S,
     place: &CylinderPlace,
-    buffer: &mut Block,
     host: &HostState,
     left: Prior,
     key_too: bool,
@@ -230,15 +248,15 @@ pub fn write_data<S: Site>(
     ensures site_ { UsesDevices S.Site UPDATE_ITEMS true place.now.unit site.old site.new result }
 {
     let to = place.block_of(host.head);
-    copy_block(site, place, buffer, host.head)?;
-    let block = buffer.as_slice();
+    bring_block(site, place, host.head)?;
+    let block = site.brought();
     let at = same_record(block, host, left.number())?;
     let length = updated_length(&found_in(block, &at), key_too);
     match first_bytes(argument, length) {
-        Some(bytes) => update_at(alloc, site, &to, buffer, &at, key_too, bytes),
+        Some(bytes) => update_at(alloc, site, &to, &at, key_too, bytes),
         None => {
             let bytes = Bytes::padded(alloc, length, argument)?;
-            update_at(alloc, site, &to, buffer, &at, key_too, bytes.as_slice())
+            update_at(alloc, site, &to, &at, key_too, bytes.as_slice())
         }
     }
 }

@@ -32,7 +32,7 @@ fn lies_there(block: &Block) -> bool {
 fn stands_alone(block: &Block) -> bool {
     !is_blank(block)
         && record_count(block) == 1
-        && cost_of_front(block, 1) == 138
+        && cost_of_front(block.as_slice(), 1) == 138
         && find_place(block.as_slice(), 2).is_none()
 }
 

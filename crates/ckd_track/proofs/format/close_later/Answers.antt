@@ -5,25 +5,26 @@ use Rattle.ckd_track.proofs.BehindLemmas.{behind_none, gates_written}
 use Rattle.ckd_track.proofs.LogLemmas.{one_item}
 use Rattle.ckd_track.proofs.format.close_later.Goals as goal
 
-pub returns-then-any_open-clause-behind : goal.returns-then-any_open-clause-behind
-returns-then-any_open-clause-behind g c = λ tells.
+pub returns-then-place-clause-behind : goal.returns-then-place-clause-behind
+returns-then-place-clause-behind g c = λ tells.
     let logged = c.write.ensures.logged tells in
-    gates_written c.args.before c.args.block.now c.args.at.now _ _ (130 + c.args.before) logged.0 (omega arith) (omega (arith, logged.1, c.closed_gates.ensures.count)) logged.2
+    gates_written c.args.place.now.before g.block c.args.at.now _ _ (130 + c.args.place.now.before) logged.0 (omega arith) (omega (arith, logged.1, c.closed_gates.ensures.count, c.requires.1.0.few)) logged.2
 
-pub returns-then-any_open-clause-next : goal.returns-then-any_open-clause-next
-returns-then-any_open-clause-next g c = λ tells.
-    let closed = c.requires.closed tells in
+pub returns-then-place-clause-next : goal.returns-then-place-clause-next
+returns-then-place-clause-next g c = λ tells.
+    let closed = c.requires.1.1.0 tells in
     on_ok_weaker c.write.result
-    (λ got. next_closed _ _ _ _ c.args.before _ (omega (arith, c.closed_gates.ensures.count)) c.closed_gates.ensures.closed (omega (arith, closed.ends.front.long, c.requires.whole)) (inl got))
+    (λ got. next_closed _ _ _ _ c.args.place.now.before _ (omega (arith, c.closed_gates.ensures.count, c.requires.1.0.few)) c.closed_gates.ensures.closed (omega (arith, closed.ends.front.long, c.requires.1.0.whole, c.requires.1.0.few)) (inl got))
     (c.write.ensures.ok tells)
 
-pub returns-then-any_open-clause-site_ : goal.returns-then-any_open-clause-site_
-returns-then-any_open-clause-site_ g c =
+pub returns-then-place-clause-site_ : goal.returns-then-place-clause-site_
+returns-then-place-clause-site_ g c =
     one_item g.S.Site _ _ c.write.result c.write.ensures.spare c.write.ensures.writes c.write.ensures.sound (λ tells. (_, (c.write.ensures.logged tells).2)) c.write.ensures.cause c.write.ensures.works
 
 pub returns-clause-behind : goal.returns-clause-behind
-returns-clause-behind g c = λ tells. behind_none c.args.before c.args.block.now c.args.at.now _
+returns-clause-behind g c = λ tells. behind_none c.args.place.now.before g.block c.args.at.now _
 
 pub returns-clause-next : goal.returns-clause-next
 returns-clause-next g c = λ tells.
-    next_shut c.args.before _ _ ((c.requires.closed tells).later (130 + c.args.before) (omega arith) (omega arith)) (c.any_open.ensures.none c.if-any_open.false (130 + c.args.before) (omega arith) (omega arith))
+    let n = c.args.place.now.before in
+    next_shut n g.block _ ((c.requires.1.1.0 tells).later (130 + n) (omega arith) (omega (arith, c.requires.1.0.few))) (c.requires.1.0.later c.if-place.false)

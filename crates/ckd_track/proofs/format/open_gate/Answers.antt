@@ -6,12 +6,12 @@ use Rattle.ckd_track.proofs.format.open_gate.Goals as goal
 pub returns-clause-moments : goal.returns-clause-moments
 returns-clause-moments g c = λ tells.
     let logged = c.write_firm.ensures.logged tells in
-    open_moments _ _ _ _ c.args.before c.args.block.now c.args.bytes.now c.requires.few c.requires.whole c.requires.fits.there (c.requires.stands tells) c.requires.fits.whole c.requires.fits.fits logged.0 logged.1 logged.2
+    open_moments _ _ _ _ c.args.place.now.before g.block c.args.bytes.now c.requires.1.0.few c.requires.1.0.whole c.requires.1.1.1.0.there (c.requires.1.1.0 tells) c.requires.1.1.1.0.whole c.requires.1.1.1.0.fits logged.0 logged.1 logged.2
 
 pub returns-clause-done : goal.returns-clause-done
 returns-clause-done g c = λ tells.
     on_ok_weaker c.write_firm.result
-    (λ adds. open_done _ _ _ _ c.args.before c.args.block.now c.args.bytes.now c.requires.few c.requires.whole c.requires.fits.there (c.requires.stands tells) c.requires.fits.whole c.requires.fits.fits adds)
+    (λ adds. open_done _ _ _ _ c.args.place.now.before g.block c.args.bytes.now c.requires.1.0.few c.requires.1.0.whole c.requires.1.1.1.0.there (c.requires.1.1.0 tells) c.requires.1.1.1.0.whole c.requires.1.1.1.0.fits adds)
     (c.write_firm.ensures.ok tells)
 
 pub returns-clause-site_ : goal.returns-clause-site_

@@ -6,16 +6,16 @@ use Rattle.ckd_track.proofs.format.put_behind.Goals as goal
 
 pub returns-in_err-write_behind-clause-moments : goal.returns-in_err-write_behind-clause-moments
 returns-in_err-write_behind-clause-moments g c = λ tells.
-    behind_moments c.args.before c.args.block.now c.args.at.now c.requires.behind.few _ _ (c.requires.closed tells).ends (c.write_behind.ensures.behind tells)
+    behind_moments c.args.place.now.before g.block c.args.at.now c.requires.1.0.few _ _ (c.requires.1.1.0 tells).ends (c.write_behind.ensures.behind tells)
 
 pub returns-clause-moments : goal.returns-clause-moments
 returns-clause-moments g c = λ tells.
-    synced_moments c.args.before c.args.block.now c.args.at.now c.requires.behind.few _ _ _ (c.requires.closed tells).ends
+    synced_moments c.args.place.now.before g.block c.args.at.now c.requires.1.0.few _ _ _ (c.requires.1.1.0 tells).ends
     (c.write_behind.ensures.behind tells) (either_way c.sync.result (c.sync.ensures.ok tells) (c.sync.ensures.err tells))
 
 pub returns-clause-stands : goal.returns-clause-stands
 returns-clause-stands g c = λ tells.
-    stands_synced c.args.before c.args.block.now c.args.at.now c.sync.result c.args.bytes.now _ _ (c.in_ok-write_behind.ensures.stands tells) (c.sync.ensures.ok tells)
+    stands_synced c.args.place.now.before g.block c.args.at.now c.sync.result c.args.bytes.now _ _ (c.in_ok-write_behind.ensures.stands tells) (c.sync.ensures.ok tells)
 
 pub returns-in_err-write_behind-clause-site_ : goal.returns-in_err-write_behind-clause-site_
 returns-in_err-write_behind-clause-site_ g c =

@@ -6,13 +6,13 @@ use Rattle.ckd_track.proofs.format.write_behind.Goals as goal
 
 pub returns-clause-behind : goal.returns-clause-behind
 returns-clause-behind g c = λ tells.
-    let put = record_written c.args.before c.args.block.now c.args.at.now _ _ c.args.place _ c.requires.behind.few c.requires.behind.begins (c.write.ensures.logged tells).2 in
-    behind_then c.args.before c.args.block.now c.args.at.now _ _ _ (c.close_later.ensures.behind tells) put
+    let put = record_written c.args.place.now.before g.block c.args.at.now _ _ c.args.place.now.begins_at _ c.requires.1.0.few c.requires.1.0.begins (c.write.ensures.logged tells).2 in
+    behind_then c.args.place.now.before g.block c.args.at.now _ _ _ (c.close_later.ensures.behind tells) put
 
 pub returns-clause-stands : goal.returns-clause-stands
 returns-clause-stands g c = λ tells.
     on_ok_weaker c.write.result
-    (λ put. stands_behind c.args.before c.args.block.now c.args.at.now c.requires.behind.few c.requires.whole c.args.place c.args.bytes.now c.requires.behind.begins c.requires.behind.inside _ _ _ (c.requires.closed tells).ends
+    (λ put. stands_behind c.args.place.now.before g.block c.args.at.now c.requires.1.0.few c.requires.1.0.whole c.args.place.now.begins_at c.args.bytes.now c.requires.1.0.begins c.requires.1.1.1.1.0 _ _ _ (c.requires.1.1.0 tells).ends
     (c.close_later.ensures.behind tells) (c.in_ok-close_later.ensures.next tells) put)
     (c.write.ensures.ok tells)
 

@@ -7,7 +7,7 @@ use Rattle.ckd_track.proofs.in_place.cost_of_front.Goals as goal
 pub loop-init : goal.loop-init
 loop-init c = λ left is.
     let all : left ≡ c.args.count = omega arith in
-    let told : c.stored_records-stored.result ≡ reading c.args.block.now = c.stored_records-stored.ensures.all ∙ ap reading c.as_slice.ensures.bytes in
+    let told : c.stored_records-stored.result ≡ reading c.args.block.now = c.stored_records-stored.ensures.all in
     let same : cost (take left c.stored_records-stored.result.records) ≡ cost (take c.args.count (reading c.args.block.now).records) =
     (λ i. cost (take (all i) (told i).records)) in
     omega (arith, same)
