@@ -134,7 +134,7 @@ fn run_in<S: Site>(
     let bytes = asked.argument.as_slice();
     let chained = asked.chained;
     let place = place_in(row, frame, host);
-    let reply = run_command(alloc, site, &place, buffer, command, bytes, chained, host)?;
+    let reply = run_command(alloc, site, &place, command, bytes, chained, host)?;
     let reply = bare(alloc, command, reply);
     let Ok(copy) = copy_of_reply(alloc, &reply) else {
         return Err(EngineFault::Memory);

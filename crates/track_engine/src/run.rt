@@ -21,7 +21,7 @@ use channel_commands::{Command, Reply, SearchField, WriteKind};
 use ckd_plain::steps::{DoneCommand, cleared, finished, opened, refused};
 use ckd_plain::{HostState, Prior};
 use ckd_track::FORMAT_ITEMS;
-use mss_base::{Block, Site};
+use mss_base::Site;
 use std::alloc::Global;
 
 /// A search or a read.
@@ -103,7 +103,6 @@ pub fn run_command<S: Site>(
     alloc: Global,
     site: &mut S,
     place: &CylinderPlace,
-    _buffer: &mut Block,
     command: &Command,
     argument: &[u8],
     chained: bool,

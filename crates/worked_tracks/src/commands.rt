@@ -13,7 +13,7 @@ use ckd_plain::steps::{is_data, opened, run_control};
 use ckd_plain::{HostState, admitted};
 use ckd_track::FORMAT_ITEMS;
 use memory_devices::SiteFault;
-use mss_base::{Block, Cylinder, Site, UnitNo};
+use mss_base::{Cylinder, Site, UnitNo};
 use std::alloc::Global;
 use track_engine::{CylinderPlace, EngineFault, run_command};
 
@@ -32,7 +32,6 @@ fn place_of(cylinder: Cylinder) -> CylinderPlace {
 fn run_on_tracks(
     alloc: Global,
     bench: &mut Bench,
-    buffer: &mut Block,
     host: &mut HostState,
     command: &Command,
     argument: &[u8],
@@ -42,14 +41,13 @@ fn run_on_tracks(
 {
     bench.reserve(FORMAT_ITEMS).ok()?;
     let place = place_of(host.cylinder);
-    Some(run_command(alloc, bench, &place, buffer, command, argument, true, host))
+    Some(run_command(alloc, bench, &place, command, argument, true, host))
 }
 
 /// A command that no check refuses, in a chain that goes on.
 fn run(
     alloc: Global,
     bench: &mut Bench,
-    buffer: &mut Block,
     host: &mut HostState,
     code: u8,
     argument: &[u8],
@@ -58,7 +56,7 @@ fn run(
         Err(_) => None,
         Ok(command) => {
             if is_data(command) {
-                run_on_tracks(alloc, bench, buffer, host, &command, argument)
+                run_on_tracks(alloc, bench, host, &command, argument)
             } else {
                 Some(Ok(run_control(alloc, command, argument, true, host).ok()?))
             }
@@ -67,16 +65,10 @@ fn run(
 }
 
 /// What the command of a line answers.
-fn answer(
-    alloc: Global,
-    bench: &mut Bench,
-    buffer: &mut Block,
-    host: &mut HostState,
-    line: &str,
-) -> Answer {
+fn answer(alloc: Global, bench: &mut Bench, host: &mut HostState, line: &str) -> Answer {
     let code = byte_at(line, 0)?;
     let argument = bytes_at(alloc, line, 1)?;
-    run(alloc, bench, buffer, host, code, &argument)
+    run(alloc, bench, host, code, &argument)
 }
 
 fn has_data(alloc: Global, line: &str, bytes: &[u8]) -> bool {
@@ -123,7 +115,6 @@ fn is_fault(answer: &Answer, due: EngineFault) -> bool {
 fn is_failed(
     alloc: Global,
     bench: &mut Bench,
-    buffer: &mut Block,
     host: &mut HostState,
     line: &str,
     fault: &str,
@@ -131,31 +122,19 @@ fn is_failed(
     let due = fault_of(fault)?;
     bench.fail(&[SiteFault::Call(u64::from(byte_at(fault, 0)?))])?;
     let before = *host;
-    let told = answer(alloc, bench, buffer, host, line);
+    let told = answer(alloc, bench, host, line);
     Some(is_fault(&told, due) && *host == before)
 }
 
-fn is_answered(
-    alloc: Global,
-    bench: &mut Bench,
-    buffer: &mut Block,
-    host: &mut HostState,
-    line: &str,
-) -> bool {
-    let told = answer(alloc, bench, buffer, host, line);
+fn is_answered(alloc: Global, bench: &mut Bench, host: &mut HostState, line: &str) -> bool {
+    let told = answer(alloc, bench, host, line);
     gives(alloc, &told, line)
 }
 
 /// Whether a command does what its line says.
-pub fn is_run(
-    alloc: Global,
-    bench: &mut Bench,
-    buffer: &mut Block,
-    host: &mut HostState,
-    line: &str,
-) -> Option<bool> {
+pub fn is_run(alloc: Global, bench: &mut Bench, host: &mut HostState, line: &str) -> Option<bool> {
     match line.split_once(" ! ") {
-        Some((command, fault)) => is_failed(alloc, bench, buffer, host, command, fault),
-        None => Some(is_answered(alloc, bench, buffer, host, line)),
+        Some((command, fault)) => is_failed(alloc, bench, host, command, fault),
+        None => Some(is_answered(alloc, bench, host, line)),
     }
 }

@@ -12,7 +12,7 @@ use crate::words::{byte, bytes, number};
 use ckd_plain::steps::sense_of;
 use ckd_plain::{HostState, UnitCheck};
 use memory_devices::{ImageFault, SiteFault, Tear};
-use mss_base::{Block, Bytes, VolumeNo};
+use mss_base::{Bytes, VolumeNo};
 use std::alloc::Global;
 use std::process::Abort;
 
@@ -35,13 +35,7 @@ fn is_call(line: &str) -> bool {
     matches!(line.as_bytes(), [_, b' ', ..])
 }
 
-fn line_is_so(
-    alloc: Global,
-    bench: &mut Bench,
-    buffer: &mut Block,
-    host: &mut HostState,
-    line: &str,
-) -> Option<bool> {
+fn line_is_so(alloc: Global, bench: &mut Bench, host: &mut HostState, line: &str) -> Option<bool> {
     if line.starts_with("#") {
         return Some(true);
     }
@@ -52,18 +46,12 @@ fn line_is_so(
     if is_call(line) {
         return call_is_so(alloc, bench, line);
     }
-    is_run(alloc, bench, buffer, host, line)
+    is_run(alloc, bench, host, line)
 }
 
-fn lines_are_so(
-    alloc: Global,
-    bench: &mut Bench,
-    buffer: &mut Block,
-    host: &mut HostState,
-    text: &str,
-) -> bool {
+fn lines_are_so(alloc: Global, bench: &mut Bench, host: &mut HostState, text: &str) -> bool {
     for line in text.lines() {
-        if line_is_so(alloc, bench, buffer, host, line) != Some(true) {
+        if line_is_so(alloc, bench, host, line) != Some(true) {
             return false;
         }
     }
@@ -137,21 +125,10 @@ fn run_stops(rt: &impl Abort, alloc: Global, bench: &Bench, stops: &str) {
 }
 
 /// Whether the lines that come before a part, and then its own, are so.
-fn part_is_so(
-    alloc: Global,
-    bench: &mut Bench,
-    buffer: &mut Block,
-    before: &str,
-    part: &str,
-) -> Option<bool> {
-    let mut host = HostState::fresh().with_volume(VolumeNo::of(0)?, false, false);
-    let is_begun = lines_are_so(alloc, bench, buffer, &mut host, before);
-    Some(is_begun && lines_are_so(alloc, bench, buffer, &mut host, part))
-}
-
 fn run_on(alloc: Global, bench: &mut Bench, before: &str, part: &str) -> Option<bool> {
-    let mut buffer = Block::zeros(alloc).ok()?;
-    part_is_so(alloc, bench, &mut buffer, before, part)
+    let mut host = HostState::fresh().with_volume(VolumeNo::of(0)?, false, false);
+    let is_begun = lines_are_so(alloc, bench, &mut host, before);
+    Some(is_begun && lines_are_so(alloc, bench, &mut host, part))
 }
 
 fn run_lent(

@@ -1,3 +1,4 @@
+-- Beside a ghost value what is required has no names: `.1.0` is `looked`, and `.1.1.0` is `told`.
 use Rattle.std.proofs.Common.{inl, sym, ◌∙◌, arith}
 use Rattle.std.proofs.lemmas.Result.{on_ok_weaker}
 use Rattle.mss_base.proofs.Moments.{block_started}

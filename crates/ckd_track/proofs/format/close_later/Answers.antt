@@ -1,3 +1,4 @@
+-- Beside a ghost value what is required has no names: `.1.0` is `looked`, and `.1.1.0` is `closed`.
 use Rattle.std.proofs.Common.{◌+◌, inl, arith}
 use Rattle.std.proofs.lemmas.Result.{on_ok_weaker}
 use Rattle.ckd_track.proofs.StepLemmas.{next_closed, next_shut}

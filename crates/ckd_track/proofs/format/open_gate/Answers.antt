@@ -1,3 +1,4 @@
+-- Beside a ghost value what is required has no names: `.1.0` is `looked`, `.1.1.0` is `stands`, and `.1.1.1.0` is `fits`.
 use Rattle.std.proofs.lemmas.Result.{on_ok_weaker}
 use Rattle.ckd_track.proofs.StepLemmas.{open_moments, open_done}
 use Rattle.ckd_track.proofs.LogLemmas.{two_items}

@@ -1,3 +1,4 @@
+-- Beside a ghost value what is required has no names: `.1.0` is `looked`, and `.1.1.0` is `closed`.
 use Rattle.std.proofs.Common.{arith}
 use Rattle.std.proofs.lemmas.Result.{err_from_is_err_and}
 use Rattle.ckd_track.proofs.BehindLemmas.{behind_moments, synced_moments, stands_synced}

@@ -1,3 +1,4 @@
+-- Beside a ghost value what is required has no names: `.1.0` is `looked`, `.1.1.0` is `closed`, and `.1.1.1.1.0` is `inside`.
 use Rattle.std.proofs.Common.{arith}
 use Rattle.std.proofs.lemmas.Result.{on_ok_weaker, err_from_is_err_and}
 use Rattle.ckd_track.proofs.BehindLemmas.{record_written, behind_then, stands_behind}
