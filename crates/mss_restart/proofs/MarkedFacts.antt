@@ -12,15 +12,13 @@ use Rattle.volume_table.specs.Listed.{listed}
 use Rattle.volume_table.specs.declared.changes.Change.TheVariants.{Protect}
 use Rattle.table_pair.specs.declared.copy.SlotsUsed.{SlotsUsed}
 use Rattle.table_pair.specs.Pair.{HoldsRow, ChangesRow, OldOrNew}
-use Rattle.table_pair.specs.Slots.{HasSlots, used_after, used_at}
+use Rattle.table_pair.specs.Slots.{HasSlots, IsDue, used_after, used_at}
 use Rattle.table_pair.proofs.PairFacts.{held_row}
 use Rattle.shown_volumes.specs.Shown.{RowsOf, rows_of, shown}
 use Rattle.shown_volumes.specs.Sound.{IsSound}
 use Rattle.shown_volumes.specs.Changing.{with_row}
 use Rattle.shown_volumes.proofs.MarkFacts.{marked_new, marking_moments}
 use Rattle.mss_restart.specs.Opening.{AreKnown, AreHeld, RowsAre, IsOpeningDone, BeforeOrAfter, marked}
-use Rattle.mss_restart.specs.Creations.{MakesRow}
-use Rattle.mss_restart.specs.declared.steps.OpeningStep.{OpeningStep}
 use Rattle.mss_restart.proofs.CreatedFacts.{listed_set, held_with}
 use Rattle.mss_restart.proofs.FreshFacts.{rows_with}
 use Rattle.mss_restart.proofs.KnownRows.{rows_listed}
@@ -59,16 +57,12 @@ module _ (before : List (Option RowValue)) (used : List SlotsUsed) (s t : SiteLo
         shows = λ frames sound. marked_new frames (content s) volume on r sound has_row (content t) P within (held_row (with_mark on r) volume (content t) holds);
       }
 
--- the listed rows have the mark, which is told
-pub makes_marked : (before rows : List (Option RowValue)) (volume : ℕ) (on : Bool) (r : RowValue) (step : OpeningStep) (writes : ℕ) → length before ≡ 32 → volume < 32 → listed before volume ≡ Some r → r.read_only ≢ on → rows ≡ set before volume (Some (with_mark on r))
-    → step.volume ≡ volume → step.change ≡ Protect on → step.writes ≡ writes → MakesRow (marked volume on) step (listed before) (listed rows) writes
-makes_marked before rows volume on r step writes long low there other set_is named change count = record {
-  row = with_mark on r;
-  is_row = record { old = r; there = there; other = other; becomes = (λ i. with_mark on r) };
-  now = ap listed set_is ∙ listed_set before volume (with_mark on r) (omega (arith, long, low));
-  tells = record { volume_ = named; change_ = change };
-  count = count;
-}
+-- the change of a mark is due: both copies hold the row that they tell, and so many of their slots are in use
+pub marking_due : (before : List (Option RowValue)) (used : List SlotsUsed) (s mid : SiteLog) → mid ≡ s → AreKnown before used (content s) → (volume : ℕ) (on : Bool) (r row : RowValue) (slots : SlotsUsed) → volume < 32 → listed before volume ≡ Some r → r.read_only ≢ on
+    → row ≡ with_mark on r → slots ≡ used_at used volume → IsDue volume (Protect on) row slots (content mid)
+marking_due before used s mid same known volume on r row slots low there other becomes slots_is =
+    subst (λ (x : SiteLog × SlotsUsed). IsDue volume (Protect on) row x.1 (content x.0)) (λ i. (sym same i, sym slots_is i))
+    (record { old = r; holds = known.held volume r there; allowed = other; becomes = becomes; slots_ = known.slots_ volume low })
 
 -- who had a row has one still
 pub still_there : (rows after : RowsOf) (volume : ℕ) (row : RowValue) → after ≡ with_row volume row rows → (vs : List VolumeData) → AllByRecursion (λ v. IsSome (rows v.0)) vs → AllByRecursion (λ v. IsSome (after v.0)) vs

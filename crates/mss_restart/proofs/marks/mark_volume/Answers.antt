@@ -1,10 +1,11 @@
-use Rattle.std.proofs.Common.{rules, ◌≡◌, ◌<◌, ◌∙◌, [], ◌∷◌, refl, sym, ap, subst, Option, Some, Result, set}
+use Rattle.std.proofs.Common.{rules, ◌≡◌, ◌<◌, ◌∙◌, [], ◌∷◌, refl, sym, ap, subst, Option, Some, Result, set, get_or}
 use Rattle.std.proofs.lemmas.Result.{err_from_is_err_and}
 use Rattle.std.specs.Option.{option_map}
 use Rattle.mss_base.specs.Content.{SiteLog, content, Writes}
 use Rattle.table_pair.specs.Pair.{ChangesRow, OldOrNew}
 use Rattle.table_pair.specs.Repairs.{KeepsMarks}
-use Rattle.table_pair.specs.Slots.{IsChanged, used_after, used_at}
+use Rattle.table_pair.specs.declared.copy.SlotsUsed.{SlotsUsed}
+use Rattle.table_pair.specs.Slots.{IsChanged, no_slots, used_after, used_at}
 use Rattle.volume_table.specs.Row.{RowValue}
 use Rattle.volume_table.specs.Changes.{effect, with_mark}
 use Rattle.volume_table.specs.declared.changes.Change.TheVariants.{Protect}
@@ -13,7 +14,7 @@ use Rattle.mss_restart.specs.Opening.{marked}
 use Rattle.mss_restart.specs.Creations.{DoesChange}
 use Rattle.mss_restart.specs.declared.steps.OpeningStep.{OpeningStep}
 use Rattle.mss_restart.proofs.CreatedFacts.{now_set}
-use Rattle.mss_restart.proofs.MarkedFacts.{moments_of, marked_of}
+use Rattle.mss_restart.proofs.MarkedFacts.{moments_of, marked_of, marking_due}
 use Rattle.mss_restart.proofs.Creating.{none_made}
 use Rattle.mss_restart.proofs.OtherRows.{marked_others, nothing_else}
 use Rattle.mss_restart.proofs.marks.mark_volume.Goals as goal
@@ -65,8 +66,8 @@ returns-clause-does g c = λ tells.
     let w = subst (λ (x : SiteLog × RowValue). Writes (ChangesRow volume (OldOrNew volume x.1 (content x.0)) (content x.0)) x.0 t) (λ i. (c.reserve.ensures.told tells i, row i)) (c.change_row.ensures.moments tells) in
     let set_is : c.change.new.self ≡ set before volume (Some (with_mark on there.0)) =
     c.change.ensures.rows ∙ ap (λ (x : Option RowValue). set before volume (option_map (effect (Protect on)) x)) there.1 in
-    let changed = subst (λ (x : SiteLog × RowValue). IsChanged x.1 (used_after (used_at c.args.used.now.items volume)) volume x.0 t) (λ i. (c.reserve.ensures.told tells i, row i))
-    (let is : IsChanged c.in-Some.row (used_after (used_at c.args.used.now.items volume)) volume mid t = search rules in is) in
+    let slots : get_or c.as_slice.result.now c.from-at.result no_slots ≡ used_at c.args.used.now.items volume = λ i. get_or (c.as_slice.ensures i) ((c.from-at.ensures ∙ c.get.ensures.value) i) no_slots in
+    let changed = subst (λ (x : SiteLog × (RowValue × SlotsUsed)). IsChanged x.1.0 (used_after x.1.1) volume x.0 t) (λ i. (c.reserve.ensures.told tells i, (row i, slots i))) (c.in-Ok.ensures.done tells) in
     record {
       moments = moments_of before c.args.used.now.items s t (c.requires.known tells) c.look.ensures.places volume on there.0 low there.1 w;
       others = marked_others volume on (OldOrNew volume (with_mark on there.0) (content s)) s t w
@@ -83,3 +84,15 @@ returns-clause-does g c = λ tells.
         count = c.writes.ensures ∙ g.met.S.Site.counted c.change_row.new.site tells;
       };
     }
+
+pub change-requires : goal.change-requires
+change-requires g c = c.requires.there
+
+pub change_row-requires-clause-due : goal.change_row-requires-clause-due
+change_row-requires-clause-due g c = λ tells.
+    let on = c.args.on in
+    let there = c.requires.there in
+    let o : ◌≡◌ {A = Option RowValue} (Some c.in-Some.row) (Some (with_mark on there.0)) = sym c.in-Some.is ∙ c.row.ensures ∙ c.change.ensures.row ∙ ap (option_map (effect (Protect on))) there.1 in
+    let row : c.in-Some.row ≡ with_mark on there.0 = cc in
+    marking_due c.args.rows.now c.args.used.now.items _ _ (c.reserve.ensures.told tells) (c.requires.known tells) c.args.volume on there.0 _ _ (let low : c.args.volume < 32 = search rules in low) there.1 there.2 row
+    (λ i. get_or (c.as_slice.ensures i) ((c.from-at.ensures ∙ c.get.ensures.value) i) no_slots)
