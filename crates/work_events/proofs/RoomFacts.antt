@@ -8,7 +8,7 @@ use Rattle.fault_queue.specs.Requests.{request_of}
 use Rattle.fault_queue.specs.declared.queue.Request.{Request}
 use Rattle.core_state.specs.CoreValue.{CoreValue, seen}
 use Rattle.core_state.specs.HostEvents.{IsSame}
-use Rattle.core_state.specs.SessionData.{SessionData, of_parts}
+use Rattle.core_state.specs.SessionData.{SessionData, data_of, of_parts}
 use Rattle.work_events.specs.Steps.{FailsNone}
 use Rattle.work_events.proofs.RowSteps.{HasRoom, IsKeptOn}
 
@@ -81,3 +81,20 @@ module _ {S C : Type 0} (g : Ghosts S) {inside v : CoreValue S C} {site : S} {se
     record { told = has.reserves.log; unwritten = has.reserves.unwritten; sound = has.reserves.same },
     (λ i. seen g (of_parts (has.is i) site (has.is i).rows (has.is i).owners (has.is i).moving (has.is i).requests (has.is i).tasks (has.is i).hosts (has.same i))),
   )
+
+-- an event that got no room for what it tells: nothing of it changed
+module _ {S C : Type 0} (g : Ghosts S) {inside v : CoreValue S C} (is : inside ≡ v) (session : SessionData) (same : session ≡ data_of inside) where
+  pub told_same : IsSame g.tells (seen g v) (seen g (of_parts inside inside.site inside.rows inside.owners inside.moving inside.requests inside.tasks inside.hosts session))
+  told_same =
+      let told = same ∙ ap (λ (z : CoreValue S C). data_of z) is in (
+        record {
+          told = λ tl. ap (λ (z : CoreValue S C). g.told z.site) is;
+          unwritten = ap (λ (z : CoreValue S C). g.writes z.site) is;
+          sound = ap (λ (z : CoreValue S C). g.faults z.site) is;
+        },
+        (λ i. seen g (of_parts (is i) inside.site (is i).rows (is i).owners (is i).moving (is i).requests (is i).tasks (is i).hosts (told i))),
+      )
+
+  pub told_kept : IsKeptOn g inside.site inside → IsKeptOn g inside.site (of_parts inside inside.site inside.rows inside.owners inside.moving inside.requests inside.tasks inside.hosts session)
+  told_kept kept =
+      subst (λ (d : SessionData). IsKeptOn g inside.site (of_parts inside inside.site inside.rows inside.owners inside.moving inside.requests inside.tasks inside.hosts d)) (sym same) kept

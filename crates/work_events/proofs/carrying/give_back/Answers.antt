@@ -11,6 +11,7 @@ use Rattle.core_state.specs.Sessions.{session_data}
 use Rattle.core_state.specs.TheCore.{IsKept}
 use Rattle.work_events.proofs.DoesFacts.{gives_back_does}
 use Rattle.work_events.proofs.KeptFacts.{kept_at}
+use Rattle.work_events.proofs.RoomFacts.{told_kept, told_same, when_ok}
 use Rattle.work_events.proofs.RuleFacts.{rule_returns}
 use Rattle.work_events.proofs.CarryWhole.{cell_is_free, kept_given_back}
 use Rattle.work_events.proofs.carrying.give_back.Goals as goal
@@ -60,3 +61,28 @@ returns-clause-event g c =
     let path : ◌≡◌ {A = CoreValue g.row.S.Denot g.row.C.Denot} _ (record now { site = c.core.inside.site; recorders = slice_set now.recorders c.args.recorder None; store = with_place c.args.cartridge (home_of c.args.cartridge) now.store; rail = moved_from_to (recorder_place c.args.recorder) (cell_place c.args.cartridge) now.rail; events = now.events ++ Work c.args.recorder ∷ [] }) =
     λ i. record (of_parts (is i) c.core.inside.site (is i).rows (is i).owners (is i).moving (is i).requests (is i).tasks (is i).hosts (told i)) { recorders = recorders i; store = store i; rail = rail i } in
     gives_back_does g.S.Site (g.C.Choose.may now.chooser) now _ c.args.recorder c.args.cartridge c.did.result c.did.ensures.answer (ap (λ (z : CoreValue g.row.S.Denot g.row.C.Denot). z.site) is) path
+
+-- ---- there is room for what it tells
+
+pub did-requires : goal.did-requires
+did-requires g c = let room = when_ok c.reserve.result (sym c.is_err.ensures.value ∙ c.if-is_err.false) c.reserve.ensures.room in room.event
+
+-- ---- without room nothing changed, and its chooser and site stay
+
+pub invariant_of-core : goal.invariant_of-core
+invariant_of-core g c = told_kept g.S.Site c.core.view_is (session_data c.reserve.new.self) c.reserve.ensures.same.told c.core.invariant
+
+pub returns-then-is_err-clause-event : goal.returns-then-is_err-clause-event
+returns-then-is_err-clause-event g c = told_same g.S.Site c.core.view_is (session_data c.reserve.new.self) c.reserve.ensures.same.told
+
+pub returns-then-is_err-clause-chooser : goal.returns-then-is_err-clause-chooser
+returns-then-is_err-clause-chooser g c = ap (λ (z : CoreValue g.row.S.Denot g.row.C.Denot). z.chooser) c.core.view_is
+
+pub returns-then-is_err-clause-site : goal.returns-then-is_err-clause-site
+returns-then-is_err-clause-site g c = ap (λ (z : CoreValue g.row.S.Denot g.row.C.Denot). z.site) c.core.view_is
+
+pub returns-clause-chooser : goal.returns-clause-chooser
+returns-clause-chooser g c = ap (λ (z : CoreValue g.row.S.Denot g.row.C.Denot). z.chooser) c.core.view_is
+
+pub returns-clause-site : goal.returns-clause-site
+returns-clause-site g c = ap (λ (z : CoreValue g.row.S.Denot g.row.C.Denot). z.site) c.core.view_is

@@ -1,8 +1,10 @@
 use Rattle.std.proofs.Common.{◌≡◌, inl, inr, ℕ, length, refl, ◌∙◌, ap, sym, subst, arith}
+use Rattle.std.specs.Prelude.{is_err}
 use Rattle.mss_base.specs.Counts.{Rises}
 use Rattle.core_state.specs.CoreValue.{CoreValue}
 use Rattle.work_events.proofs.KeptFacts.{kept_at}
 use Rattle.work_events.proofs.RowSteps.{has_room, kept_room}
+use Rattle.work_events.proofs.RoomFacts.{its_place, its_request, room_same, room_spares, room_writes, when_ok, works_always}
 use Rattle.work_events.proofs.RuleFacts.{rule_copies}
 use Rattle.work_events.proofs.CopySteps.{copied_is, copy_does, copy_kept, copy_undone, copy_unkept}
 use Rattle.work_events.proofs.FailedSteps.{failed_is}
@@ -101,3 +103,70 @@ returns-in-Err-clause-unread g c = λ but never.
     let sound : g.S.Site.faults c.make_room.new.site ≡ g.S.Site.faults c.args.core.now.site = room.same ∙ ap (λ (y : CoreValue g.row.S.Denot g.row.C.Denot). g.S.Site.faults y.site) is in
     let failed : Rises (g.S.Site.faults c.args.core.now.site) (g.S.Site.faults c.copy_track.new.site) = subst (λ (k : ℕ). Rises k (g.S.Site.faults c.copy_track.new.site)) sound c.in-Err.ensures.copies.cause.failed in
     inr (record { told = told; unwritten = unwritten; failed = failed })
+
+-- ---- there is room, and the recorder and its host have their places
+
+pub copy_track-requires-clause-room : goal.copy_track-requires-clause-room
+copy_track-requires-clause-room g c = when_ok c.make_room.result (sym c.is_err.ensures.value ∙ c.if-is_err.false) c.make_room.ensures.room_site
+
+pub put_task-requires : goal.put_task-requires
+put_task-requires g c = its_place g.S.Site c.args.recorder c.core.view_is c.core.invariant c.requires.fits
+
+pub did-requires : goal.did-requires
+did-requires g c = when_ok c.make_room.result (sym c.is_err.ensures.value ∙ c.if-is_err.false) c.make_room.ensures.room_events
+
+pub end_failed-requires-clause-asked : goal.end_failed-requires-clause-asked
+end_failed-requires-clause-asked g c = its_request c.served-task.result.0.host c.served-task.result.1 c.core.view_is c.served-task.ensures.serves.asked
+
+pub end_failed-requires-clause-fits : goal.end_failed-requires-clause-fits
+end_failed-requires-clause-fits g c = its_place g.S.Site c.args.recorder c.core.view_is c.core.invariant c.requires.fits
+
+pub end_failed-requires-clause-room : goal.end_failed-requires-clause-room
+end_failed-requires-clause-room g c = when_ok c.make_room.result (sym c.is_err.ensures.value ∙ c.if-is_err.false) c.make_room.ensures.room_events
+
+-- ---- what it leaves of the site, and that no request fails where no call does
+
+pub returns-then-is_err-clause-event : goal.returns-then-is_err-clause-event
+returns-then-is_err-clause-event g c =
+    let has = has_room g.S.Site c.args.core.now c.core.view_is c.core.invariant c.make_room.new.site _ c.make_room.ensures.session c.make_room.ensures.site in
+    room_same g.S.Site has
+
+pub returns-then-is_err-clause-devices : goal.returns-then-is_err-clause-devices
+returns-then-is_err-clause-devices g c =
+    let has = has_room g.S.Site c.args.core.now c.core.view_is c.core.invariant c.make_room.new.site _ c.make_room.ensures.session c.make_room.ensures.site in
+    room_spares g.S.Site has 1
+
+pub returns-then-is_err-clause-works : goal.returns-then-is_err-clause-works
+returns-then-is_err-clause-works g c = λ but never readable. ap (λ (z : CoreValue g.row.S.Denot g.row.C.Denot). z.requests) c.core.view_is
+
+pub returns-then-is_err-clause-unread : goal.returns-then-is_err-clause-unread
+returns-then-is_err-clause-unread g c = λ but never. inl (ap (λ (z : CoreValue g.row.S.Denot g.row.C.Denot). z.requests) c.core.view_is)
+
+pub returns-in-Ok-clause-devices : goal.returns-in-Ok-clause-devices
+returns-in-Ok-clause-devices g c =
+    let has = has_room g.S.Site c.args.core.now c.core.view_is c.core.invariant c.make_room.new.site _ c.make_room.ensures.session c.make_room.ensures.site in
+    room_writes g.S.Site has 1 c.copy_track.ensures.copies.devices (omega arith)
+
+pub returns-in-Ok-clause-works : goal.returns-in-Ok-clause-works
+returns-in-Ok-clause-works g c = λ but never readable. ap (λ (z : CoreValue g.row.S.Denot g.row.C.Denot). z.requests) c.core.view_is
+
+pub returns-in-Err-clause-devices : goal.returns-in-Err-clause-devices
+returns-in-Err-clause-devices g c =
+    let has = has_room g.S.Site c.args.core.now c.core.view_is c.core.invariant c.make_room.new.site _ c.make_room.ensures.session c.make_room.ensures.site in
+    room_writes g.S.Site has 1 c.copy_track.ensures.copies.devices (omega arith)
+
+pub returns-in-Err-clause-works : goal.returns-in-Err-clause-works
+returns-in-Err-clause-works g c =
+    let has = has_room g.S.Site c.args.core.now c.core.view_is c.core.invariant c.make_room.new.site _ c.make_room.ensures.session c.make_room.ensures.site in
+    λ but never readable. works_always c.copy_track.result (c.copy_track.ensures.copies.works but (has.reserves.sound but never) readable) (ap is_err c.in-Err.is)
+
+-- ---- its chooser stays
+
+pub returns-then-is_err-clause-chooser : goal.returns-then-is_err-clause-chooser
+returns-then-is_err-clause-chooser g c = ap (λ (z : CoreValue g.row.S.Denot g.row.C.Denot). z.chooser) c.core.view_is
+
+pub returns-in-Ok-clause-chooser : goal.returns-in-Ok-clause-chooser
+returns-in-Ok-clause-chooser g c = ap (λ (z : CoreValue g.row.S.Denot g.row.C.Denot). z.chooser) c.core.view_is
+
+pub returns-in-Err-clause-chooser : goal.returns-in-Err-clause-chooser
+returns-in-Err-clause-chooser g c = ap (λ (z : CoreValue g.row.S.Denot g.row.C.Denot). z.chooser) c.core.view_is

@@ -1,16 +1,18 @@
-use Rattle.std.proofs.Common.{◌≡◌, length, None, Some, refl, ◌∙◌, ap, arith}
-use Rattle.std.specs.Prelude.{slice_set}
+use Rattle.std.proofs.Common.{◌≡◌, ◌≤◌, length, None, Some, refl, sym, ◌∙◌, ap, subst, arith}
+use Rattle.std.specs.Prelude.{is_err, slice_set}
+use Rattle.table_pair.specs.declared.change.TheConstants.{CHANGE_ITEMS}
 use Rattle.volume_table.specs.declared.changes.Change.TheVariants.{Free}
 use Rattle.core_state.specs.declared.session.Event.TheVariants.{Work}
 use Rattle.core_state.specs.CoreValue.{CoreValue}
 use Rattle.core_state.specs.declared.rule.WorkAnswer.TheVariants.{Stopped}
-use Rattle.core_state.specs.SessionData.{data_of, of_parts, with_last_event, with_last_message}
+use Rattle.core_state.specs.SessionData.{SessionData, data_of, of_parts, with_last_event, with_last_message}
 use Rattle.core_state.specs.Sessions.{session_data}
 use Rattle.core_state.specs.Agrees.{message_of}
 use Rattle.volume_table.specs.Listed.{listed}
 use Rattle.core_state.specs.Working.{MayFree}
 use Rattle.work_events.proofs.KeptFacts.{kept_at}
 use Rattle.work_events.proofs.RowSteps.{has_room, kept_as, kept_room, row_changed, row_failed, row_held, row_stopped, row_there, slots_counted, stopped_is}
+use Rattle.work_events.proofs.RoomFacts.{its_place, room_going, room_same, room_spares, room_writes, when_ok, works_always}
 use Rattle.work_events.proofs.RuleFacts.{rule_frees}
 use Rattle.work_events.proofs.FreeWhole.{due_freed, freed, freed_does, kept_freed, unfreed_does}
 use Rattle.work_events.proofs.frames.free.Goals as goal
@@ -112,10 +114,70 @@ returns-in-Err-clause-event g c =
 -- ---- the recorder has its place
 
 pub put_task-requires : goal.put_task-requires
-put_task-requires g c =
-    let now = c.args.core.now in
-    let is = c.core.view_is in
-    let kept = kept_at g.S.Site _ now is c.core.invariant in
-    let size : length c.core.inside.tasks.items ≡ now.config.recorders = ap (λ (z : CoreValue g.row.S.Denot g.row.C.Denot). length z.tasks) is ∙ kept.whole.shaped.tasks_ in
-    let fits = c.requires.fits in
-    omega (arith, size, fits)
+put_task-requires g c = its_place g.S.Site c.args.recorder c.core.view_is c.core.invariant c.requires.fits
+
+-- ---- there is room
+
+pub write_change-requires-clause-room : goal.write_change-requires-clause-room
+write_change-requires-clause-room g c =
+    when_ok c.make_room.result (sym c.is_err.ensures.value ∙ c.if-is_err.false) c.make_room.ensures.room_site
+
+pub write_change-requires-clause-room_console : goal.write_change-requires-clause-room_console
+write_change-requires-clause-room_console g c =
+    when_ok c.make_room.result (sym c.is_err.ensures.value ∙ c.if-is_err.false) c.make_room.ensures.room_console
+
+pub did-requires : goal.did-requires
+did-requires g c =
+    subst (λ (e : _). 1 ≤ e.spare) (sym c.write_change.ensures.session.events_) (when_ok c.make_room.result (sym c.is_err.ensures.value ∙ c.if-is_err.false) c.make_room.ensures.room_events)
+
+pub stop-requires : goal.stop-requires
+stop-requires g c =
+    subst (λ (e : _). 1 ≤ e.spare) (sym c.write_change.ensures.session.events_) (when_ok c.make_room.result (sym c.is_err.ensures.value ∙ c.if-is_err.false) c.make_room.ensures.room_events)
+
+-- ---- what it leaves of the site, and that it goes on where no write fails
+
+pub returns-then-is_err-clause-event : goal.returns-then-is_err-clause-event
+returns-then-is_err-clause-event g c =
+    let has = has_room g.S.Site c.args.core.now c.core.view_is c.core.invariant c.make_room.new.site _ c.make_room.ensures.session c.make_room.ensures.site in
+    room_same g.S.Site has
+
+pub returns-then-is_err-clause-devices : goal.returns-then-is_err-clause-devices
+returns-then-is_err-clause-devices g c =
+    let has = has_room g.S.Site c.args.core.now c.core.view_is c.core.invariant c.make_room.new.site _ c.make_room.ensures.session c.make_room.ensures.site in
+    room_spares g.S.Site has CHANGE_ITEMS
+
+pub returns-then-is_err-clause-works : goal.returns-then-is_err-clause-works
+returns-then-is_err-clause-works g c =
+    let has = has_room g.S.Site c.args.core.now c.core.view_is c.core.invariant c.make_room.new.site _ c.make_room.ensures.session c.make_room.ensures.site in
+    λ but never. room_going g.S.Site has
+
+pub returns-in-Ok-clause-devices : goal.returns-in-Ok-clause-devices
+returns-in-Ok-clause-devices g c =
+    let has = has_room g.S.Site c.args.core.now c.core.view_is c.core.invariant c.make_room.new.site _ c.make_room.ensures.session c.make_room.ensures.site in
+    room_writes g.S.Site has CHANGE_ITEMS c.write_change.ensures.site_.devices (omega arith)
+
+pub returns-in-Ok-clause-works : goal.returns-in-Ok-clause-works
+returns-in-Ok-clause-works g c =
+    let has = has_room g.S.Site c.args.core.now c.core.view_is c.core.invariant c.make_room.new.site _ c.make_room.ensures.session c.make_room.ensures.site in
+    λ but never. ap (λ (d : SessionData). d.stopped) (c.did.ensures.told ∙ ap (with_last_event (Work c.args.recorder)) c.in-Ok.ensures.session.told) ∙ room_going g.S.Site has
+
+pub returns-in-Err-clause-devices : goal.returns-in-Err-clause-devices
+returns-in-Err-clause-devices g c =
+    let has = has_room g.S.Site c.args.core.now c.core.view_is c.core.invariant c.make_room.new.site _ c.make_room.ensures.session c.make_room.ensures.site in
+    room_writes g.S.Site has CHANGE_ITEMS c.write_change.ensures.site_.devices (omega arith)
+
+pub returns-in-Err-clause-works : goal.returns-in-Err-clause-works
+returns-in-Err-clause-works g c =
+    let has = has_room g.S.Site c.args.core.now c.core.view_is c.core.invariant c.make_room.new.site _ c.make_room.ensures.session c.make_room.ensures.site in
+    λ but never. works_always c.write_change.result (c.write_change.ensures.site_.works but (has.reserves.sound but never)) (ap is_err c.in-Err.is)
+
+-- ---- its chooser stays
+
+pub returns-then-is_err-clause-chooser : goal.returns-then-is_err-clause-chooser
+returns-then-is_err-clause-chooser g c = ap (λ (z : CoreValue g.row.S.Denot g.row.C.Denot). z.chooser) c.core.view_is
+
+pub returns-in-Ok-clause-chooser : goal.returns-in-Ok-clause-chooser
+returns-in-Ok-clause-chooser g c = ap (λ (z : CoreValue g.row.S.Denot g.row.C.Denot). z.chooser) c.core.view_is
+
+pub returns-in-Err-clause-chooser : goal.returns-in-Err-clause-chooser
+returns-in-Err-clause-chooser g c = ap (λ (z : CoreValue g.row.S.Denot g.row.C.Denot). z.chooser) c.core.view_is

@@ -9,6 +9,7 @@ use Rattle.core_state.specs.Sessions.{session_data}
 use Rattle.core_state.specs.TheCore.{IsKept}
 use Rattle.work_events.proofs.DoesFacts.{abandons_does}
 use Rattle.work_events.proofs.KeptFacts.{kept_at}
+use Rattle.work_events.proofs.RoomFacts.{its_place, its_request, told_kept, told_same, when_ok}
 use Rattle.work_events.proofs.RuleFacts.{rule_abandons}
 use Rattle.work_events.proofs.PickWhole.{kept_abandoned}
 use Rattle.work_events.proofs.picking.abandon.Goals as goal
@@ -59,3 +60,34 @@ returns-clause-event g c =
     let path : ◌≡◌ {A = CoreValue g.row.S.Denot g.row.C.Denot} _ (record now { site = c.core.inside.site; moving = slice_set now.moving c.served-task.result.0.frame false; requests = with_state c.served-task.result.0.host Queued now.requests; tasks = slice_set now.tasks c.args.recorder None; events = now.events ++ Work c.args.recorder ∷ [] }) =
     λ i. of_parts (is i) c.core.inside.site (is i).rows (owners i) (moving i) (requests i) (tasks i) (is i).hosts (told i) in
     abandons_does g.S.Site (g.C.Choose.may now.chooser) now _ c.args.recorder c.served-task.result.0 c.did.result c.did.ensures.answer c.served-task.ensures.serves.at (ap (λ (z : CoreValue g.row.S.Denot g.row.C.Denot). z.site) is) path
+
+-- ---- there is room for what it tells
+
+pub did-requires : goal.did-requires
+did-requires g c = let room = when_ok c.reserve.result (sym c.is_err.ensures.value ∙ c.if-is_err.false) c.reserve.ensures.room in room.event
+
+pub end_task-requires-clause-fits : goal.end_task-requires-clause-fits
+end_task-requires-clause-fits g c = its_place g.S.Site c.args.recorder c.core.view_is c.core.invariant c.requires.fits
+
+pub end_task-requires-clause-asked : goal.end_task-requires-clause-asked
+end_task-requires-clause-asked g c = its_request c.served-task.result.0.host c.served-task.result.1 c.core.view_is c.served-task.ensures.serves.asked
+
+-- ---- without room nothing changed, and its chooser and site stay
+
+pub invariant_of-core : goal.invariant_of-core
+invariant_of-core g c = told_kept g.S.Site c.core.view_is (session_data c.reserve.new.self) c.reserve.ensures.same.told c.core.invariant
+
+pub returns-then-is_err-clause-event : goal.returns-then-is_err-clause-event
+returns-then-is_err-clause-event g c = told_same g.S.Site c.core.view_is (session_data c.reserve.new.self) c.reserve.ensures.same.told
+
+pub returns-then-is_err-clause-chooser : goal.returns-then-is_err-clause-chooser
+returns-then-is_err-clause-chooser g c = ap (λ (z : CoreValue g.row.S.Denot g.row.C.Denot). z.chooser) c.core.view_is
+
+pub returns-then-is_err-clause-site : goal.returns-then-is_err-clause-site
+returns-then-is_err-clause-site g c = ap (λ (z : CoreValue g.row.S.Denot g.row.C.Denot). z.site) c.core.view_is
+
+pub returns-clause-chooser : goal.returns-clause-chooser
+returns-clause-chooser g c = ap (λ (z : CoreValue g.row.S.Denot g.row.C.Denot). z.chooser) c.core.view_is
+
+pub returns-clause-site : goal.returns-clause-site
+returns-clause-site g c = ap (λ (z : CoreValue g.row.S.Denot g.row.C.Denot). z.site) c.core.view_is

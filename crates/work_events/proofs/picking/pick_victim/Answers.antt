@@ -11,6 +11,7 @@ use Rattle.core_state.specs.Sessions.{session_data}
 use Rattle.core_state.specs.TheCore.{IsKept}
 use Rattle.work_events.proofs.DoesFacts.{picks_victim_does}
 use Rattle.work_events.proofs.KeptFacts.{kept_at}
+use Rattle.work_events.proofs.RoomFacts.{its_place, told_kept, told_same, when_ok}
 use Rattle.work_events.proofs.RuleFacts.{rule_picks_victim, task_for}
 use Rattle.work_events.proofs.PickWhole.{kept_picked}
 use Rattle.work_events.proofs.picking.pick_victim.Goals as goal
@@ -92,3 +93,31 @@ returns-clause-event g c =
     λ i. of_parts (is i) c.core.inside.site (is i).rows (owners i) (moving i) (requests i) (tasks i) (is i).hosts (told i) in
     let may_ : g.C.Choose.may now.chooser (candidates now) answer.0 = subst (λ (x : (List Candidate → ℕ → Type 0) × List Candidate). x.0 x.1 answer.0) (λ i. (g.C.Choose.may (is i).chooser, list i)) answer.1 in
     picks_victim_does g.S.Site (g.C.Choose.may now.chooser) now _ c.args.recorder c.args.host answer.0 c.chosen-choice.result c.did.result may_ (ap (λ (l : List Candidate). slice_get l answer.0) (sym list) ∙ answer.2) c.did.ensures.answer (ap (λ (z : CoreValue g.row.S.Denot g.row.C.Denot). z.site) is) path
+
+-- ---- there is room for what it tells
+
+pub did-requires : goal.did-requires
+did-requires g c = let room = when_ok c.reserve.result (sym c.is_err.ensures.value ∙ c.if-is_err.false) c.reserve.ensures.room in room.event
+
+pub begin_task-requires-clause-fits : goal.begin_task-requires-clause-fits
+begin_task-requires-clause-fits g c = its_place g.S.Site c.args.recorder c.core.view_is c.core.invariant c.requires.fits
+
+-- ---- without room nothing changed, and its chooser and site stay
+
+pub invariant_of-core : goal.invariant_of-core
+invariant_of-core g c = told_kept g.S.Site c.core.view_is (session_data c.reserve.new.self) c.reserve.ensures.same.told c.core.invariant
+
+pub returns-then-is_err-clause-event : goal.returns-then-is_err-clause-event
+returns-then-is_err-clause-event g c = told_same g.S.Site c.core.view_is (session_data c.reserve.new.self) c.reserve.ensures.same.told
+
+pub returns-then-is_err-clause-chooser : goal.returns-then-is_err-clause-chooser
+returns-then-is_err-clause-chooser g c = ap (λ (z : CoreValue g.row.S.Denot g.row.C.Denot). z.chooser) c.core.view_is
+
+pub returns-then-is_err-clause-site : goal.returns-then-is_err-clause-site
+returns-then-is_err-clause-site g c = ap (λ (z : CoreValue g.row.S.Denot g.row.C.Denot). z.site) c.core.view_is
+
+pub returns-clause-chooser : goal.returns-clause-chooser
+returns-clause-chooser g c = ap (λ (z : CoreValue g.row.S.Denot g.row.C.Denot). z.chooser) c.core.view_is
+
+pub returns-clause-site : goal.returns-clause-site
+returns-clause-site g c = ap (λ (z : CoreValue g.row.S.Denot g.row.C.Denot). z.site) c.core.view_is
