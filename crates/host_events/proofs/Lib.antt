@@ -24,6 +24,7 @@ pub mod WholeRun
 pub mod RanFacts
 pub mod UpheldRun
 pub mod Prepared
+pub mod RoomLeft
 pub mod RunDoes
 pub mod RunKept
 pub mod WholeMark

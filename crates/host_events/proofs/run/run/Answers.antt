@@ -4,6 +4,7 @@ use Rattle.std.specs.Prelude.{Err}
 use Rattle.volume_table.specs.Listed.{listed}
 use Rattle.channel_commands.specs.Data.{ReplyData, equipment_check, stopped}
 use Rattle.channel_commands.specs.Views.{call_of, reply_of}
+use Rattle.ckd_track.specs.declared.format.TheConstants.{FORMAT_ITEMS}
 use Rattle.mss_base.specs.Places.{frame_block}
 use Rattle.track_engine.specs.declared.place.EngineFault.{EngineFault}
 use Rattle.track_engine.specs.declared.place.EngineFault.TheVariants.{ReadFailed, WriteFailed}
@@ -19,6 +20,7 @@ use Rattle.host_events.specs.Parts.{IsUnfailed}
 use Rattle.host_events.specs.Replies.{with_reply}
 use Rattle.host_events.specs.Runs.{run_by, Comes}
 use Rattle.host_events.proofs.Prepared.{prepared_kept}
+use Rattle.host_events.proofs.RoomLeft.{left_room, left_spares, left_writes}
 use Rattle.host_events.proofs.RunDoes.{done_is_unfailed}
 use Rattle.host_events.proofs.RunKept.{has_row, in_frame, is_staged, is_asked, is_data_, touches, passes_, tracks_, room_event, still_kept, still_event, run_kept, run_event, check_kept, check_event, stop_kept, stop_event}
 use Rattle.host_events.proofs.run.run.Goals as goal
@@ -254,3 +256,52 @@ enter-requires-clause-room_marks g c = c.in-Ok.ensures.room_marks
 
 pub enter-requires-clause-room_events : goal.enter-requires-clause-room_events
 enter-requires-clause-room_events g c = c.in-Ok.ensures.room_events
+
+pub run_in-requires-clause-room : goal.run_in-requires-clause-room
+run_in-requires-clause-room g c = c.in-Ok.ensures.room_site
+
+-- ---- what it leaves of the site
+
+pub returns-in_default-clause-devices : goal.returns-in_default-clause-devices
+returns-in_default-clause-devices g c = left_spares g.S.Site c.core.view_is c.prepare.ensures.site FORMAT_ITEMS
+
+pub returns-in_default-clause-room : goal.returns-in_default-clause-room
+returns-in_default-clause-room g c = λ untold. left_room g.S.Site c.core.view_is c.prepare.ensures.site
+
+pub returns-in-Ok-run_in-clause-devices : goal.returns-in-Ok-run_in-clause-devices
+returns-in-Ok-run_in-clause-devices g c = left_writes g.S.Site c.core.view_is c.prepare.ensures.site FORMAT_ITEMS c.run_in.ensures.site_
+
+pub returns-in-Err-ReadFailed-clause-devices : goal.returns-in-Err-ReadFailed-clause-devices
+returns-in-Err-ReadFailed-clause-devices g c = left_writes g.S.Site c.core.view_is c.prepare.ensures.site FORMAT_ITEMS c.run_in.ensures.site_
+
+pub returns-in-Err-WriteFailed-clause-devices : goal.returns-in-Err-WriteFailed-clause-devices
+returns-in-Err-WriteFailed-clause-devices g c = left_writes g.S.Site c.core.view_is c.prepare.ensures.site FORMAT_ITEMS c.run_in.ensures.site_
+
+pub returns-in-Err-Memory-clause-devices : goal.returns-in-Err-Memory-clause-devices
+returns-in-Err-Memory-clause-devices g c = left_writes g.S.Site c.core.view_is c.prepare.ensures.site FORMAT_ITEMS c.run_in.ensures.site_
+
+pub returns-in-Ok-run_in-clause-room : goal.returns-in-Ok-run_in-clause-room
+returns-in-Ok-run_in-clause-room g c = λ untold. absurd untold
+
+pub returns-in-Err-ReadFailed-clause-room : goal.returns-in-Err-ReadFailed-clause-room
+returns-in-Err-ReadFailed-clause-room g c = λ untold. absurd untold
+
+pub returns-in-Err-WriteFailed-clause-room : goal.returns-in-Err-WriteFailed-clause-room
+returns-in-Err-WriteFailed-clause-room g c = λ untold. absurd untold
+
+-- ---- its chooser stays
+
+pub returns-in_default-clause-chooser : goal.returns-in_default-clause-chooser
+returns-in_default-clause-chooser g c = ap (λ (z : CoreValue g.row.S.Denot g.row.C.Denot). z.chooser) c.core.view_is
+
+pub returns-in-Ok-run_in-clause-chooser : goal.returns-in-Ok-run_in-clause-chooser
+returns-in-Ok-run_in-clause-chooser g c = ap (λ (z : CoreValue g.row.S.Denot g.row.C.Denot). z.chooser) c.core.view_is
+
+pub returns-in-Err-ReadFailed-clause-chooser : goal.returns-in-Err-ReadFailed-clause-chooser
+returns-in-Err-ReadFailed-clause-chooser g c = ap (λ (z : CoreValue g.row.S.Denot g.row.C.Denot). z.chooser) c.core.view_is
+
+pub returns-in-Err-WriteFailed-clause-chooser : goal.returns-in-Err-WriteFailed-clause-chooser
+returns-in-Err-WriteFailed-clause-chooser g c = ap (λ (z : CoreValue g.row.S.Denot g.row.C.Denot). z.chooser) c.core.view_is
+
+pub returns-in-Err-Memory-clause-chooser : goal.returns-in-Err-Memory-clause-chooser
+returns-in-Err-Memory-clause-chooser g c = ap (λ (z : CoreValue g.row.S.Denot g.row.C.Denot). z.chooser) c.core.view_is
