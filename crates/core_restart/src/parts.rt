@@ -132,6 +132,25 @@ fn own_parts(alloc: Global, config: &Config) -> Result<(Block, Config), NoMemory
     Ok((buffer, config))
 }
 
+/// The frames and the recorders of a configuration, each at its start.
+fn machine_parts(
+    alloc: Global,
+    config: &Config,
+) -> Result<((Frames, Recency), (TaskList, RecorderList, Store)), NoMemory>
+    ensures frames { IfOk result (λ parts. parts.0.0 ≡ free_frames config.now.frames) }
+    ensures recency { IfOk result (λ parts. parts.0.1 ≡ untouched config.now.frames) }
+    ensures tasks { IfOk result (λ parts.
+        parts.1.0.items ≡ replicate config.now.recorders None) }
+    ensures recorders { IfOk result (λ parts.
+        parts.1.1.items ≡ replicate config.now.recorders None) }
+    ensures at_home { IfOk result (λ parts.
+        (cartridge : ℕ) → place_of parts.1.2 cartridge ≡ home_of cartridge) }
+{
+    let frames = frame_parts(alloc, config.frames)?;
+    let devices = device_parts(alloc, config.recorders)?;
+    Ok((frames, devices))
+}
+
 impl Parts {
     ghost use Rattle.core_restart.specs.Parts.{AreParts};
 
@@ -140,14 +159,12 @@ impl Parts {
         ensures { IfOk result (AreParts config.now) }
     {
         // Each group stays together until all are there: so an exit lets few things go.
-        let frames = frame_parts(alloc, config.frames)?;
-        let devices = device_parts(alloc, config.recorders)?;
-        let hosts = host_parts(alloc, config.volumes.as_slice())?;
         let own = own_parts(alloc, config)?;
-        let (frames, recency) = frames;
-        let (tasks, recorders, store) = devices;
-        let (hosts, requests, console) = hosts;
+        let hosts = host_parts(alloc, config.volumes.as_slice())?;
+        let machine = machine_parts(alloc, config)?;
         let (buffer, config) = own;
+        let (hosts, requests, console) = hosts;
+        let ((frames, recency), (tasks, recorders, store)) = machine;
         Ok(Parts {
             config,
             buffer,
