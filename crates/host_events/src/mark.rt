@@ -11,7 +11,7 @@ ghost use Rattle.host_events.specs.Parts.{ready_for, asked_for, made_ready, give
 
 use crate::answer::HostAnswer;
 use crate::prepare::prepare;
-use crate::reply::enter;
+use crate::reply::{Told, enter};
 use channel_commands::{Call, Reply};
 use core_state::{Core, Event, touch_all, write_change};
 use fault_queue::{Queue, Request, RequestState};
@@ -112,8 +112,12 @@ pub fn mark<S: Site, C: Choose>(
             give_up(&mut core.requests, host, had);
             let fault = core.site.faults();
             let mark = core.site.writes();
-            let reply = Reply::Stopped;
-            enter(&mut core.session, host, copy, reply, Some(fault), mark);
+            let entry = Told {
+                reply: Reply::Stopped,
+                fault: Some(fault),
+                mark,
+            };
+            enter(&mut core.session, host, copy, entry);
             HostAnswer::Stopped { fault }
         }
     }

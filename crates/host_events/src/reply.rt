@@ -16,23 +16,25 @@ use core_state::{Core, Event, Session};
 use mss_base::{HostNo, Site};
 use victim_choice::Choose;
 
+/// What the entry of a call tells: its reply, the count of faults where a call of the site failed, and how many writes
+/// the site had counted then.
+pub struct Told {
+    pub reply: Reply,
+    pub fault: Option<u64>,
+    pub mark: u64,
+}
+
 /// Puts the entry of a call last, with its mark, and the event, into the room that the session has.
-pub fn enter(
-    session: &mut Session,
-    host: HostNo,
-    call: Call,
-    reply: Reply,
-    fault: Option<u64>,
-    mark: u64,
-)
+pub fn enter(session: &mut Session, host: HostNo, call: Call, told: Told)
     requires few { length session.old.history.items ≤ ENTRY_LIMIT }
     requires entries { AreEntries session.old.history.items }
     requires room { 1 ≤ session.old.history.spare }
     requires room_marks { 1 ≤ session.old.marks.spare }
     requires room_events { 1 ≤ session.old.events.spare }
-    ensures { session_data session.new
-        ≡ with_reply host (call_of call) (reply_of reply) fault mark (session_data session.old) }
+    ensures { session_data session.new ≡ with_reply host (call_of call)
+        (reply_of told.reply) told.fault told.mark (session_data session.old) }
 {
+    let Told { reply, fault, mark } = told;
     let number = next_number(session.history.as_slice(), host);
     let entry = Entry {
         host,
@@ -76,7 +78,8 @@ pub fn reply<S: Site, C: Choose>(
     }
     let index = core.session.history.as_slice().len() as u64;
     let mark = core.site.writes();
-    enter(&mut core.session, host, call, reply, fault, mark);
+    let entry = Told { reply, fault, mark };
+    enter(&mut core.session, host, call, entry);
     core.hosts.set(usize::from(host.get()) - 1, *now);
     core.requests.end(host);
     HostAnswer::Replied { index, reply: told }

@@ -5,6 +5,7 @@ ghost use Rattle.mss_base.specs.Places.{frame_block};
 ghost use Rattle.mss_base.specs.Sites.{MayWrite};
 ghost use Rattle.mss_base.specs.declared.place.UnitNo.{UnitNo};
 ghost use Rattle.volume_table.specs.Listed.{listed};
+ghost use Rattle.channel_commands.specs.Data.{stopped};
 ghost use Rattle.channel_commands.specs.Views.{call_of, reply_of};
 ghost use Rattle.ckd_plain.specs.Plain.{IsDone};
 ghost use Rattle.track_engine.specs.Faults.{IsNoFailure, IsNoFailedWrite};
@@ -14,6 +15,7 @@ ghost use Rattle.core_state.specs.CoreValue.{seen_site};
 ghost use Rattle.core_state.specs.HostRules.{host_rule};
 ghost use Rattle.core_state.specs.Counted.{AreEntries};
 ghost use Rattle.core_state.specs.Pins.{host_at, put_host};
+ghost use Rattle.core_state.specs.SessionData.{with_stop};
 ghost use Rattle.core_state.specs.Sessions.{session_data};
 ghost use Rattle.core_state.specs.Tasks.{tasks_after};
 ghost use Rattle.core_state.specs.declared.session.TheConstants.{ENTRY_LIMIT};
@@ -26,7 +28,7 @@ ghost use Rattle.host_events.specs.Runs.{run_by, bare_write, Comes, IsStagedIn, 
 use crate::answer::HostAnswer;
 use crate::copies::copy_of_reply;
 use crate::prepare::prepare;
-use crate::reply::enter;
+use crate::reply::{Told, enter};
 use crate::requests::end_request;
 use channel_commands::{Call, Command, Reply};
 use ckd_plain::steps::checked;
@@ -160,9 +162,7 @@ fn close(
     requests: &mut Queue,
     host: HostNo,
     call: Call,
-    reply: Reply,
-    fault: Option<u64>,
-    mark: u64,
+    told: Told,
     now: HostState,
 )
     requires few { length session.old.history.items ≤ ENTRY_LIMIT }
@@ -171,14 +171,34 @@ fn close(
     requires room_marks { 1 ≤ session.old.marks.spare }
     requires room_events { 1 ≤ session.old.events.spare }
     requires hosts { length hosts.old.items ≡ 8 }
-    ensures session { session_data session.new
-        ≡ with_reply host (call_of call) (reply_of reply) fault mark (session_data session.old) }
+    ensures session { session_data session.new ≡ with_reply host (call_of call)
+        (reply_of told.reply) told.fault told.mark (session_data session.old) }
     ensures hosts { hosts.new.items ≡ put_host hosts.old.items host now }
     ensures requests { requests.new ≡ without_request host requests.old }
 {
-    enter(session, host, call, reply, fault, mark);
+    enter(session, host, call, told);
     hosts.set(usize::from(host.get()) - 1, now);
     end_request(requests, host);
+}
+
+/// Stops a session in a call a write of which failed, with the count of faults: the entry of the
+/// call tells so.
+fn halt(session: &mut Session, host: HostNo, call: Call, fault: u64, mark: u64)
+    requires few { length session.old.history.items ≤ ENTRY_LIMIT }
+    requires entries { AreEntries session.old.history.items }
+    requires room { 1 ≤ session.old.history.spare }
+    requires room_marks { 1 ≤ session.old.marks.spare }
+    requires room_events { 1 ≤ session.old.events.spare }
+    ensures { session_data session.new ≡ with_stop fault
+        (with_reply host (call_of call) stopped (Some fault) mark (session_data session.old)) }
+{
+    let entry = Told {
+        reply: Reply::Stopped,
+        fault: Some(fault),
+        mark,
+    };
+    enter(session, host, call, entry);
+    session.stopped = Some(fault);
 }
 
 /// Runs a command on the frame of the host's cylinder.
@@ -204,51 +224,36 @@ pub fn run<S: Site, C: Choose>(
 {
     let old = standing(core.hosts.as_slice(), host);
     let alloc = core.alloc;
-    let Ok(copy) = prepare(alloc, &mut core.session, &mut core.site, call, FORMAT_ITEMS) else {
+    let session = &mut core.session;
+    let site = &mut core.site;
+    let Ok(copy) = prepare(alloc, session, site, call, FORMAT_ITEMS) else {
         return HostAnswer::Memory;
     };
-    let index = core.session.history.as_slice().len() as u64;
+    let index = session.history.as_slice().len() as u64;
     let mut now = old;
     let row = row_of(&core.rows, volume);
-    let site = &mut core.site;
     let buffer = &mut core.buffer;
+    let hosts = &mut core.hosts;
+    let requests = &mut core.requests;
     match run_in(alloc, site, buffer, row, frame, call, command, &mut now) {
         Ok((reply, told)) => {
-            let mark = core.site.writes();
-            let session = &mut core.session;
-            let hosts = &mut core.hosts;
-            let requests = &mut core.requests;
-            close(session, hosts, requests, host, copy, reply, None, mark, now);
+            let (fault, mark) = (None, site.writes());
+            let entry = Told { reply, fault, mark };
+            close(session, hosts, requests, host, copy, entry, now);
             touch_after(command, &mut core.tasks, volume, old.cylinder.page());
             core.recency.touch(frame);
             HostAnswer::Replied { index, reply: told }
         }
         Err(EngineFault::ReadFailed { fault }) => {
-            let mark = core.site.writes();
-            let reply = Reply::EquipmentCheck;
+            let (reply, fault, mark) = (Reply::EquipmentCheck, Some(fault), site.writes());
+            let entry = Told { reply, fault, mark };
             let now = checked(UnitCheck::EquipmentCheck, &old);
-            let session = &mut core.session;
-            let hosts = &mut core.hosts;
-            let requests = &mut core.requests;
-            close(
-                session,
-                hosts,
-                requests,
-                host,
-                copy,
-                reply,
-                Some(fault),
-                mark,
-                now,
-            );
+            close(session, hosts, requests, host, copy, entry, now);
             let reply = Reply::EquipmentCheck;
             HostAnswer::Replied { index, reply }
         }
         Err(EngineFault::WriteFailed { fault }) => {
-            let mark = core.site.writes();
-            let reply = Reply::Stopped;
-            enter(&mut core.session, host, copy, reply, Some(fault), mark);
-            core.session.stopped = Some(fault);
+            halt(session, host, copy, fault, site.writes());
             HostAnswer::Stopped { fault }
         }
         Err(EngineFault::Memory) => {

@@ -94,7 +94,7 @@ invariant_of-core-in-Err-WriteFailed g c =
     stop_kept g.row.S.Denot S c.args.core.now c.core.view_is c.core.invariant c.args.host (call_of c.args.call.now) c.args.command.now
     c.args.volume c.args.frame c.requires.rule c.standing-old.result (c.standing-old.ensures.state ∙ ap (λ l. host_at l c.args.host) c.as_slice.ensures) c.standing-old.ensures.cylinder c.standing-old.ensures.head
     c.prepare.new.site c.prepare.ensures.site c.run_in.new.site c.run_in.ensures.site_ (λ tl. g.met.S.Site.counted c.run_in.new.site tl)
-    c.in-Err-WriteFailed.fault comes (with_stop _ (session_data c.enter.new.session)) (λ i. with_stop (c.in-Err-WriteFailed.fault-is i) ((c.enter.ensures ∙ (λ i. with_reply c.args.host (c.in-Ok.ensures.copy i) stopped (Some (c.in-Err-WriteFailed.fault-is i)) (c.writes-mark-in-Err-WriteFailed.ensures i) (c.prepare.ensures.session i))) i))
+    c.in-Err-WriteFailed.fault comes (session_data c.halt.new.session) (c.halt.ensures ∙ (λ i. with_stop (c.in-Err-WriteFailed.fault-is i) (with_reply c.args.host (c.in-Ok.ensures.copy i) stopped (Some (c.in-Err-WriteFailed.fault-is i)) (c.writes.ensures i) (c.prepare.ensures.session i))))
 
 pub invariant_of-core-in-Err-Memory : goal.invariant_of-core-in-Err-Memory
 invariant_of-core-in-Err-Memory g c =
@@ -159,7 +159,7 @@ returns-in-Err-WriteFailed-clause-event g c =
     stop_event g.row.S.Denot S c.args.core.now c.core.view_is c.core.invariant c.args.host (call_of c.args.call.now) c.args.command.now
     c.args.volume c.args.frame c.requires.rule c.standing-old.result (c.standing-old.ensures.state ∙ ap (λ l. host_at l c.args.host) c.as_slice.ensures) c.standing-old.ensures.cylinder c.standing-old.ensures.head
     c.prepare.new.site c.prepare.ensures.site c.run_in.new.site c.run_in.ensures.site_ (λ tl. g.met.S.Site.counted c.run_in.new.site tl)
-    c.in-Err-WriteFailed.fault comes (with_stop _ (session_data c.enter.new.session)) (λ i. with_stop (c.in-Err-WriteFailed.fault-is i) ((c.enter.ensures ∙ (λ i. with_reply c.args.host (c.in-Ok.ensures.copy i) stopped (Some (c.in-Err-WriteFailed.fault-is i)) (c.writes-mark-in-Err-WriteFailed.ensures i) (c.prepare.ensures.session i))) i))
+    c.in-Err-WriteFailed.fault comes (session_data c.halt.new.session) (c.halt.ensures ∙ (λ i. with_stop (c.in-Err-WriteFailed.fault-is i) (with_reply c.args.host (c.in-Ok.ensures.copy i) stopped (Some (c.in-Err-WriteFailed.fault-is i)) (c.writes.ensures i) (c.prepare.ensures.session i))))
     _ c.in-Err-WriteFailed.fault-is
 
 pub row_of-row-requires : goal.row_of-row-requires
@@ -218,11 +218,11 @@ close-requires-in-Err-ReadFailed-clause-few g c = subst (λ (d : SessionData). l
 pub close-requires-in-Err-ReadFailed-clause-entries : goal.close-requires-in-Err-ReadFailed-clause-entries
 close-requires-in-Err-ReadFailed-clause-entries g c = subst (λ (d : SessionData). AreEntries d.history) (sym c.prepare.ensures.session) c.core.invariant.counted.entries
 
-pub enter-requires-clause-few : goal.enter-requires-clause-few
-enter-requires-clause-few g c = subst (λ (d : SessionData). length d.history ≤ ENTRY_LIMIT) (sym c.prepare.ensures.session) c.core.invariant.whole.shaped.few
+pub halt-requires-clause-few : goal.halt-requires-clause-few
+halt-requires-clause-few g c = subst (λ (d : SessionData). length d.history ≤ ENTRY_LIMIT) (sym c.prepare.ensures.session) c.core.invariant.whole.shaped.few
 
-pub enter-requires-clause-entries : goal.enter-requires-clause-entries
-enter-requires-clause-entries g c = subst (λ (d : SessionData). AreEntries d.history) (sym c.prepare.ensures.session) c.core.invariant.counted.entries
+pub halt-requires-clause-entries : goal.halt-requires-clause-entries
+halt-requires-clause-entries g c = subst (λ (d : SessionData). AreEntries d.history) (sym c.prepare.ensures.session) c.core.invariant.counted.entries
 
 pub close-requires-clause-room : goal.close-requires-clause-room
 close-requires-clause-room g c = c.in-Ok.ensures.room
@@ -248,14 +248,14 @@ close-requires-in-Err-ReadFailed-clause-room_events g c = c.in-Ok.ensures.room_e
 pub close-requires-in-Err-ReadFailed-clause-hosts : goal.close-requires-in-Err-ReadFailed-clause-hosts
 close-requires-in-Err-ReadFailed-clause-hosts g c = c.core.invariant.whole.shaped.hosts_
 
-pub enter-requires-clause-room : goal.enter-requires-clause-room
-enter-requires-clause-room g c = c.in-Ok.ensures.room
+pub halt-requires-clause-room : goal.halt-requires-clause-room
+halt-requires-clause-room g c = c.in-Ok.ensures.room
 
-pub enter-requires-clause-room_marks : goal.enter-requires-clause-room_marks
-enter-requires-clause-room_marks g c = c.in-Ok.ensures.room_marks
+pub halt-requires-clause-room_marks : goal.halt-requires-clause-room_marks
+halt-requires-clause-room_marks g c = c.in-Ok.ensures.room_marks
 
-pub enter-requires-clause-room_events : goal.enter-requires-clause-room_events
-enter-requires-clause-room_events g c = c.in-Ok.ensures.room_events
+pub halt-requires-clause-room_events : goal.halt-requires-clause-room_events
+halt-requires-clause-room_events g c = c.in-Ok.ensures.room_events
 
 pub run_in-requires-clause-room : goal.run_in-requires-clause-room
 run_in-requires-clause-room g c = c.in-Ok.ensures.room_site
