@@ -32,12 +32,12 @@ right_plan rail from to = record {
 }
 
 -- the plan of a move
-abbrev pub planned : RailData → ℕ → ℕ → MovePlan
-planned rail from to = if is_left_nearer rail from then left_plan rail from to else right_plan rail from to
+abbrev pub plan_of : RailData → ℕ → ℕ → MovePlan
+plan_of rail from to = if is_left_nearer rail from then left_plan rail from to else right_plan rail from to
 
 -- it is the plan that the rule gives for its move
 pub record IsPlan (rail : RailData) (plan : MovePlan) : Type 0 where
-  pub rule : plan ≡ planned rail plan.from plan.to
+  pub rule : plan ≡ plan_of rail plan.from plan.to
   pub from : IsServed plan.from
   pub to : IsServed plan.to
 
@@ -69,12 +69,12 @@ other_at Left place rail = record rail { right = place }
 other_at Right place rail = record rail { left = place }
 
 -- the rail after a move
-abbrev pub moved : MovePlan → RailData → RailData
-moved plan rail = served_at plan.serving plan.to (cleared_for plan.serving plan.other_to rail)
+abbrev pub rail_after : MovePlan → RailData → RailData
+rail_after plan rail = served_at plan.serving plan.to (cleared_for plan.serving plan.other_to rail)
 
 -- the rail after a move from one place to another
 abbrev pub moved_from_to : ℕ → ℕ → RailData → RailData
-moved_from_to from to rail = moved (planned rail from to) rail
+moved_from_to from to rail = rail_after (plan_of rail from to) rail
 
 -- a place on the way from one to another
 abbrev pub IsOnWay : ℕ → ℕ → ℕ → Type 0

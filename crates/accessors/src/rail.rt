@@ -1,7 +1,7 @@
 // The rail, and moves on it.
 ghost use Rattle.std.specs.Prelude.{◌≡◌};
 ghost use Rattle.accessors.specs.Rails.{IsServed, rail_start};
-ghost use Rattle.accessors.specs.Moves.{IsPlan, NeverMeets, moved, planned};
+ghost use Rattle.accessors.specs.Moves.{IsPlan, NeverMeets, rail_after, plan_of};
 
 use crate::places::RAIL_END;
 use std::marker::Model;
@@ -48,7 +48,7 @@ impl Model for Rail {
 pub fn plan_move(rail: &Rail, from: u8, to: u8) -> MovePlan
     requires from { IsServed from }
     requires to { IsServed to }
-    ensures plan { result ≡ planned rail.now from to }
+    ensures plan { result ≡ plan_of rail.now from to }
     ensures apart { NeverMeets rail.now result }
 {
     let (left, right) = (rail.left, rail.right);
@@ -85,7 +85,7 @@ impl Rail {
     /// Notes that a move was done by the plan that the rule gives for it.
     pub fn done(&mut self, plan: &MovePlan)
         requires { IsPlan self.old plan.now }
-        ensures { self.new ≡ moved plan.now self.old }
+        ensures { self.new ≡ rail_after plan.now self.old }
     {
         match plan.serving {
             Accessor::Left => {

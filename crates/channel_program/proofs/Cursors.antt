@@ -5,7 +5,7 @@ use Rattle.std.proofs.lemmas.List.{length-map}
 use Rattle.channel_commands.specs.declared.ccw.Ccw.{Ccw}
 use Rattle.channel_commands.specs.Views.{ccw_of}
 use Rattle.channel_commands.specs.Data.{CcwData, device, transfer}
-use Rattle.channel_program.specs.Script.{Standing, Reached, reached, reached_by, command_in, is_last, CHAIN_LIMIT}
+use Rattle.channel_program.specs.Script.{Standing, Reached, word_reached, reached_by, command_in, is_last, CHAIN_LIMIT}
 use Rattle.channel_program.specs.Views.{IsNextCommand}
 
 command_in-there : (words : List CcwData) (w : ℕ) (word : Option CcwData) (at : Reached)
@@ -29,7 +29,7 @@ reached_by-there words w None at is same = absurd (cc)
 
 -- a command that is reached below the limit is the next call
 below_limit : (words : List CcwData) (w executed word : ℕ) (at : Option Reached)
-    → reached words w ≡ at → Some word ≡ option_map (λ (r : Reached). r.word) at → executed < CHAIN_LIMIT
+    → word_reached words w ≡ at → Some word ≡ option_map (λ (r : Reached). r.word) at → executed < CHAIN_LIMIT
     → IsNextCommand words (record { word = Some w; executed = executed }) word (not (is_last words word))
 below_limit words w executed word None leads same few = absurd (cc)
 below_limit words w executed word (Some at) leads same few =
@@ -41,8 +41,8 @@ below_limit words w executed word (Some at) leads same few =
 
 pub next_command : (words : List CcwData) (slice : List Ccw) (at : Standing) (next : Option ℕ) (w executed word : ℕ)
     → map ccw_of slice ≡ words → at ≡ record { word = next; executed = executed } → next ≡ Some w
-    → Some word ≡ option_map (λ (r : Reached). r.word) (reached words w) → executed < CHAIN_LIMIT
+    → Some word ≡ option_map (λ (r : Reached). r.word) (word_reached words w) → executed < CHAIN_LIMIT
     → IsNextCommand words at word (not (word + 1 == length slice))
 next_command words slice at next w executed word whole stands goes leads few =
     let long : length words ≡ length slice = ap length (sym whole) ∙ length-map slice ccw_of in
-    rw (stands, goes, ← long) (below_limit words w executed word (reached words w) refl leads few)
+    rw (stands, goes, ← long) (below_limit words w executed word (word_reached words w) refl leads few)

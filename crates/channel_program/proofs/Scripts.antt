@@ -3,13 +3,13 @@ use Rattle.std.proofs.Common.{◌≡◌, ◌⊎◌, ℕ, ◌+◌, ◌≤◌, Boo
 use Rattle.std.proofs.lemmas.Bool.Decides.{leb_tells}
 use Rattle.std.proofs.lemmas.List.Sums.{sum_by-cons}
 use Rattle.channel_commands.specs.Data.{CallData, is_command, ReplyData, CcwData}
-use Rattle.channel_program.specs.Script.{ItemData, mounting, demounting, program, Exchange, Standing, Reached, reached, call_for, word_from, next_call, moved, Runs, at_start, Gives, Follows, FollowsToEnd, commands, CHAIN_LIMIT}
+use Rattle.channel_program.specs.Script.{ItemData, mounting, demounting, program, Exchange, Standing, Reached, word_reached, call_for, word_from, next_call, standing_after, RunsWords, at_start, Gives, Follows, FollowsToEnd, commands, CHAIN_LIMIT}
 
 pub Runs-push : (words : List CcwData) (from to : Standing) (xs : List Exchange) (x : Exchange)
-    → Runs words from xs to → next_call words to ≡ Some x.0 → Runs words from (xs ++ x ∷ []) (moved words to x.1)
+    → RunsWords words from xs to → next_call words to ≡ Some x.0 → RunsWords words from (xs ++ x ∷ []) (standing_after words to x.1)
 Runs-push words from to [] x run next =
-    subst (λ (at : Standing). (next_call words at ≡ Some x.0) × (moved words at x.1 ≡ moved words to x.1)) (sym run) (next, refl)
-Runs-push words from to (y ∷ ys) x run next = (run.0, Runs-push words (moved words from y.1) to ys x run.1 next)
+    subst (λ (at : Standing). (next_call words at ≡ Some x.0) × (standing_after words at x.1 ≡ standing_after words to x.1)) (sym run) (next, refl)
+Runs-push words from to (y ∷ ys) x run next = (run.0, Runs-push words (standing_after words from y.1) to ys x run.1 next)
 
 pub FollowsToEnd-follows : (items : List ItemData) (xs : List Exchange) → FollowsToEnd items xs → Follows items xs
 FollowsToEnd-follows [] xs all = all
@@ -39,10 +39,10 @@ Follows-begun (first ∷ items) rest item xs ys finished (front, behind, is, giv
     inr (front, behind ++ ys, rw (is, append_assoc) refl, gives, Follows-begun items rest item behind ys finished all given)
 
 -- with no word to go to there is no further call
-none_after : (words : List CcwData) (from to : Standing) (xs : List Exchange) → from.word ≡ None → Runs words from xs to → commands xs ≡ 0
+none_after : (words : List CcwData) (from to : Standing) (xs : List Exchange) → from.word ≡ None → RunsWords words from xs to → commands xs ≡ 0
 none_after words from to [] finished run = refl
 none_after words from to (x ∷ xs) finished run =
-    let no : next_call words from ≡ None = ap (option_map (λ w. call_for words from.executed (reached words w))) finished in
+    let no : next_call words from ≡ None = ap (option_map (λ w. call_for words from.executed (word_reached words w))) finished in
     let some : next_call words from ≡ Some x.0 = run.0 in absurd (cc)
 
 -- the call for what a word leads to is a command, of which there may be one more, or breaks the program off
@@ -64,24 +64,24 @@ commands-cons x xs = sum_by-cons (λ (y : Exchange). cond (is_command y.0) 1 0) 
 
 -- the count goes on over one exchange
 counted : (words : List CcwData) (from to : Standing) (x : Exchange) (xs : List Exchange) (word : Option ℕ) → from.word ≡ word
-    → option_map (λ w. call_for words from.executed (reached words w)) word ≡ Some x.0 → from.executed ≤ CHAIN_LIMIT
-    → ((moved words from x.1).executed ≤ CHAIN_LIMIT → (moved words from x.1).executed + commands xs ≤ CHAIN_LIMIT)
-    → Runs words (moved words from x.1) xs to → from.executed + commands (x ∷ xs) ≤ CHAIN_LIMIT
+    → option_map (λ w. call_for words from.executed (word_reached words w)) word ≡ Some x.0 → from.executed ≤ CHAIN_LIMIT
+    → ((standing_after words from x.1).executed ≤ CHAIN_LIMIT → (standing_after words from x.1).executed + commands xs ≤ CHAIN_LIMIT)
+    → RunsWords words (standing_after words from x.1) xs to → from.executed + commands (x ∷ xs) ≤ CHAIN_LIMIT
 counted words from to x xs None is next few more run = absurd (cc)
 counted words from to x xs (Some w) is next few more run =
-    let same : call_for words from.executed (reached words w) ≡ x.0 = cc in
-    rw commands-cons (elim (is_counted words from.executed (reached words w) x.1) [
+    let same : call_for words from.executed (word_reached words w) ≡ x.0 = cc in
+    rw commands-cons (elim (is_counted words from.executed (word_reached words w) x.1) [
       | inl (command_, below) ↦
           let yes_ : is_command x.0 ≡ true = sym (ap is_command same) ∙ command_ in
           rw yes_ (omega (arith, more below))
       | inr (broken, finished) ↦
           let no_ : is_command x.0 ≡ false = sym (ap is_command same) ∙ broken in
-          let end_ : (moved words from x.1).word ≡ None = rw is finished in
-          rw (no_, none_after words (moved words from x.1) to xs end_ run) (omega arith)
+          let end_ : (standing_after words from x.1).word ≡ None = rw is finished in
+          rw (no_, none_after words (standing_after words from x.1) to xs end_ run) (omega arith)
     ])
 
 pub commands-few : (words : List CcwData) (from to : Standing) (xs : List Exchange)
-    → from.executed ≤ CHAIN_LIMIT → Runs words from xs to → from.executed + commands xs ≤ CHAIN_LIMIT
+    → from.executed ≤ CHAIN_LIMIT → RunsWords words from xs to → from.executed + commands xs ≤ CHAIN_LIMIT
 commands-few words from to [] few run = omega arith
 commands-few words from to (x ∷ xs) few run =
-    counted words from to x xs from.word refl run.0 few (λ below. commands-few words (moved words from x.1) to xs below run.1) run.1
+    counted words from to x xs from.word refl run.0 few (λ below. commands-few words (standing_after words from x.1) to xs below run.1) run.1

@@ -31,8 +31,8 @@ reached_by words w (Some (device code argument)) = Some (record { word = w; code
 reached_by words w (Some (transfer to)) = if w == 0 then None else command_in to (slice_get words to)
 reached_by words w None = None
 
-abbrev pub reached : List CcwData → ℕ → Option Reached
-reached words w = reached_by words w (slice_get words w)
+abbrev pub word_reached : List CcwData → ℕ → Option Reached
+word_reached words w = reached_by words w (slice_get words w)
 
 abbrev pub is_last : List CcwData → ℕ → Bool
 is_last words w = w + 1 == length words
@@ -67,7 +67,7 @@ call_for words executed (Some at) =
 
 -- the call that a program makes next; none where it is finished
 abbrev pub next_call : List CcwData → Standing → Option CallData
-next_call words at = option_map (λ w. call_for words at.executed (reached words w)) at.word
+next_call words at = option_map (λ w. call_for words at.executed (word_reached words w)) at.word
 
 -- the word to go to after a reply to the call for what a word leads to; a break finishes the program
 abbrev pub word_from : List CcwData → ℕ → Option Reached → ReplyData → Option ℕ
@@ -76,16 +76,18 @@ word_from words executed (Some at) reply = if nat_le CHAIN_LIMIT executed then N
 
 abbrev pub word_from_standing : List CcwData → ℕ → Option ℕ → ReplyData → Option ℕ
 word_from_standing words executed None reply = None
-word_from_standing words executed (Some w) reply = word_from words executed (reached words w) reply
+word_from_standing words executed (Some w) reply = word_from words executed (word_reached words w) reply
 
 -- where the program stands after a reply to its next call
-abbrev pub moved : List CcwData → Standing → ReplyData → Standing
-moved words at reply = record { word = word_from_standing words at.executed at.word reply; executed = at.executed + 1 }
+abbrev pub standing_after : List CcwData → Standing → ReplyData → Standing
+standing_after words at reply =
+    record { word = word_from_standing words at.executed at.word reply; executed = at.executed + 1 }
 
 -- the exchanges are those of a program that goes from one standing to another
-abbrev pub Runs : List CcwData → Standing → List Exchange → Standing → Type 0
-Runs words from [] to = from ≡ to
-Runs words from (x ∷ xs) to = (next_call words from ≡ Some x.0) × Runs words (moved words from x.1) xs to
+abbrev pub RunsWords : List CcwData → Standing → List Exchange → Standing → Type 0
+RunsWords words from [] to = from ≡ to
+RunsWords words from (x ∷ xs) to =
+    (next_call words from ≡ Some x.0) × RunsWords words (standing_after words from x.1) xs to
 
 -- the exchanges of one item; the flag says whether it is finished
 abbrev pub Gives : ItemData → List Exchange → Bool → Type 0
@@ -93,7 +95,8 @@ Gives (mounting volume bind) [] finished = finished ≡ false
 Gives (mounting volume bind) (x ∷ xs) finished = (x.0 ≡ mount volume bind) × (xs ≡ []) × (finished ≡ true)
 Gives demounting [] finished = finished ≡ false
 Gives demounting (x ∷ xs) finished = (x.0 ≡ demount) × (xs ≡ []) × (finished ≡ true)
-Gives (program words) xs finished = (to : Standing) × Runs words at_start xs to × (finished ≡ not (is_some to.word))
+Gives (program words) xs finished =
+    (to : Standing) × RunsWords words at_start xs to × (finished ≡ not (is_some to.word))
 
 -- the exchanges follow the items: item after item what each gives, and only the last may be unfinished
 abbrev pub Follows : List ItemData → List Exchange → Type 0

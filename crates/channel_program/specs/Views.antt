@@ -5,7 +5,7 @@ use Rattle.channel_commands.specs.Data.{command, break, ReplyData, CcwData, devi
 use Rattle.channel_program.specs.declared.cursor.Cursor.{Cursor}
 use Rattle.channel_program.specs.declared.cursor.NextCall.{NextCall}
 use Rattle.channel_program.specs.declared.cursor.NextCall.TheVariants as given
-use Rattle.channel_program.specs.Script.{Standing, at_start, word_after, next_call, moved}
+use Rattle.channel_program.specs.Script.{Standing, at_start, word_after, next_call, standing_after}
 
 -- where a program stands after the reply to its last call; with no reply it is at its start
 abbrev pub standing_of : List CcwData → Cursor → Option ReplyData → Standing
@@ -32,5 +32,5 @@ Says words at given.ChainLimit = next_call words at ≡ Some (break cause.Limit)
 
 -- what becomes of the cursor: after a command the program stands, whatever the reply, where it moved; else it stays
 abbrev pub Moves : List CcwData → Standing → NextCall → Cursor → Cursor → Type 0
-Moves words at (given.Command word chained) old new = (reply : ReplyData) → standing_of words new (Some reply) ≡ moved words at reply
+Moves words at (given.Command word chained) old new = (reply : ReplyData) → standing_of words new (Some reply) ≡ standing_after words at reply
 Moves words at _ old new = new ≡ old

@@ -3,7 +3,7 @@ ghost use Rattle.std.specs.Prelude.{◌≡◌, Bool, map, slice_get};
 ghost use Rattle.std.specs.Option.{option_map};
 ghost use Rattle.channel_commands.specs.Data.{device, command};
 ghost use Rattle.channel_commands.specs.Views.{ccw_of, reply_of};
-ghost use Rattle.channel_program.specs.Script.{Standing, next_call, reached, command_in, word_after};
+ghost use Rattle.channel_program.specs.Script.{Standing, next_call, word_reached, command_in, word_after};
 ghost use Rattle.channel_program.specs.Views.{standing_of, Says, Moves, HoldsCommand, IsNextCommand};
 
 use crate::program::Program;
@@ -84,7 +84,7 @@ fn command_word(words: &[Ccw], word: usize) -> Option<usize>
 
 /// The word with the command that a word leads to.
 fn reached(words: &[Ccw], word: usize) -> Option<usize>
-    ensures { result ≡ option_map (λ at. at.word) (reached (map ccw_of words.now) word) }
+    ensures { result ≡ option_map (λ at. at.word) (word_reached (map ccw_of words.now) word) }
 {
     match words.get(word) {
         Some(Ccw::Device { .. }) => Some(word),

@@ -3,6 +3,8 @@
 //! `next` gives the next call of a program by a cursor, and equals the definition of `specs/Script.antt`; `command_call`
 //! makes a command a `Call`. All is said over plain lists of exchanges, a call and its reply each. How a script ends is
 //! `specs/Items.antt`. That lists which grow call by call and item by item follow a script are the laws of `law`.
+//!
+//! Layers above cite lemmas of `proofs/`: items by number (`ItemFacts`).
 #![tactic(auto)]
 
 mod calls;

@@ -13,7 +13,7 @@ use Rattle.ckd_plain.specs.declared.host.HostState.{HostState}
 use Rattle.ckd_plain.specs.declared.host.Prior.{Prior}
 use Rattle.ckd_plain.specs.declared.host.Prior.TheVariants as prior
 use Rattle.ckd_plain.specs.declared.unit_check.UnitCheck.TheVariants as check
-use Rattle.ckd_plain.specs.Checks.{◌>>=◌, demand, known, is_seek_allowed, is_write_allowed, is_prior_permitted, is_change_allowed, is_address, admitted, Passes}
+use Rattle.ckd_plain.specs.Checks.{◌>>=◌, demand, command_or_reject, is_seek_allowed, is_write_allowed, is_prior_permitted, is_change_allowed, is_address, admitted_command, Passes}
 
 -- the last five checks of a command
 last_checks : (long seek written changed address : Bool) (c d : Command)
@@ -29,7 +29,7 @@ last_checks false seek written changed address c d is = absurd cc
 
 -- all of them, as they depend on the command
 all_checks : (there : Bool) (o : Option Command) (long seek written changed address : Command → Bool) (d : Command)
-    → (demand there check.InterventionRequired >>= λ _. known o >>= λ c. demand (long c) check.CommandReject >>= λ _. demand (seek c) check.FileProtected
+    → (demand there check.InterventionRequired >>= λ _. command_or_reject o >>= λ c. demand (long c) check.CommandReject >>= λ _. demand (seek c) check.FileProtected
     >>= λ _. demand (written c) check.CommandReject >>= λ _. demand (changed c) check.FileProtected
     >>= λ _. demand (address c) check.CommandReject >>= λ _. Ok c) ≡ Ok d
     → (long d ≡ true) × (written d ≡ true) × (changed d ≡ true) × (address d ≡ true) × (o ≡ Some d)
@@ -47,8 +47,8 @@ pub record IsAdmitted (host : HostState) (code : ℕ) (argument : List ℕ) (c :
   pub known_ : command_of code ≡ Some c
   pub passes : Passes host c argument
 
-pub admitted_is : (host : HostState) (code : ℕ) (argument : List ℕ) (c : Command) → admitted host code argument ≡ Ok c → IsAdmitted host code argument c
-unfolding admitted
+pub admitted_is : (host : HostState) (code : ℕ) (argument : List ℕ) (c : Command) → admitted_command host code argument ≡ Ok c → IsAdmitted host code argument c
+unfolding admitted_command
 admitted_is host code argument c is =
     let p = all_checks (is_some host.mounted || (code == 0x04)) (command_of code) (λ c. not (nat_lt (length argument) (least c))) (λ c. is_seek_allowed host.mask c)
     (λ c. is_prior_permitted host.prior c && is_write_allowed host.mask c) (λ c. is_change_allowed host.protected c) (λ c. is_address c argument) c is in
@@ -58,11 +58,11 @@ admitted_is host code argument c is =
 -- a command that passes each check is admitted
 pub admits : (host : HostState) (code : ℕ) (argument : List ℕ) (c : Command) → (is_some host.mounted || (code == 0x04)) ≡ true → command_of code ≡ Some c → least c ≤ length argument
     → is_seek_allowed host.mask c ≡ true → (is_prior_permitted host.prior c && is_write_allowed host.mask c) ≡ true → is_change_allowed host.protected c ≡ true
-    → is_address c argument ≡ true → admitted host code argument ≡ Ok c
-unfolding admitted
+    → is_address c argument ≡ true → admitted_command host code argument ≡ Ok c
+unfolding admitted_command
 admits host code argument c there is long seek written changed address =
     let is_long : not (nat_lt (length argument) (least c)) ≡ true = ap not (le-ltb _ _ long) in
-    (λ i. demand (there i) check.InterventionRequired >>= λ _. known (is i) >>= λ d. demand (not (nat_lt (length argument) (least d))) check.CommandReject
+    (λ i. demand (there i) check.InterventionRequired >>= λ _. command_or_reject (is i) >>= λ d. demand (not (nat_lt (length argument) (least d))) check.CommandReject
     >>= λ _. demand (is_seek_allowed host.mask d) check.FileProtected >>= λ _. demand (is_prior_permitted host.prior d && is_write_allowed host.mask d) check.CommandReject
     >>= λ _. demand (is_change_allowed host.protected d) check.FileProtected >>= λ _. demand (is_address d argument) check.CommandReject >>= λ _. Ok d)
     ∙ (λ i. demand (is_long i) check.CommandReject >>= λ _. demand (seek i) check.FileProtected >>= λ _. demand (written i) check.CommandReject
@@ -80,7 +80,7 @@ sense_permitted (prior.KeyEqual k) = refl
 sense_permitted (prior.Wrote k) = refl
 
 -- sense is always admitted
-pub sense_admitted : (host : HostState) (argument : List ℕ) → admitted host 0x04 argument ≡ Ok command.Sense
+pub sense_admitted : (host : HostState) (argument : List ℕ) → admitted_command host 0x04 argument ≡ Ok command.Sense
 sense_admitted host argument = admits host 0x04 argument command.Sense (or-true (is_some host.mounted)) refl (omega arith) refl (ap (λ (b : Bool). b && true) (sense_permitted host.prior))
     (no_change host.protected command.Sense refl) refl
 
@@ -97,12 +97,12 @@ read_permitted (prior.KeyEqual k) = refl
 read_permitted (prior.Wrote k) = refl
 
 -- search ID equal and read data are admitted, where a volume is mounted
-pub search_admitted : (host : HostState) (argument : List ℕ) → is_some host.mounted ≡ true → 5 ≤ length argument → admitted host 0x31 argument ≡ Ok (command.Search field.Id test.Equal false)
+pub search_admitted : (host : HostState) (argument : List ℕ) → is_some host.mounted ≡ true → 5 ≤ length argument → admitted_command host 0x31 argument ≡ Ok (command.Search field.Id test.Equal false)
 search_admitted host argument there long =
     admits host 0x31 argument (command.Search field.Id test.Equal false) (ap (λ (b : Bool). b || false) there) refl long refl (ap (λ (b : Bool). b && true) (search_permitted host.prior))
     (no_change host.protected (command.Search field.Id test.Equal false) refl) refl
 
-pub read_admitted : (host : HostState) (argument : List ℕ) → is_some host.mounted ≡ true → admitted host 0x06 argument ≡ Ok (command.Read what.Data false)
+pub read_admitted : (host : HostState) (argument : List ℕ) → is_some host.mounted ≡ true → admitted_command host 0x06 argument ≡ Ok (command.Read what.Data false)
 read_admitted host argument there =
     admits host 0x06 argument (command.Read what.Data false) (ap (λ (b : Bool). b || false) there) refl (omega arith) refl (ap (λ (b : Bool). b && true) (read_permitted host.prior))
     (no_change host.protected (command.Read what.Data false) refl) refl

@@ -19,10 +19,10 @@ use Rattle.ckd_plain.specs.declared.host.Prior.{Prior}
 use Rattle.ckd_plain.specs.declared.host.Prior.TheVariants as prior
 use Rattle.ckd_plain.specs.declared.unit_check.Refusal.{Refusal}
 use Rattle.ckd_plain.specs.declared.unit_check.UnitCheck.{UnitCheck}
-use Rattle.ckd_plain.specs.Checks.{◌>>=◌, admitted}
-use Rattle.ckd_plain.specs.Index.{Tracks, Found, pass_index, looked, next_within, next_record, itself, same_record, home_from, to_home}
-use Rattle.ckd_plain.specs.Effects.{Effect, Outcome, is_data, at_hand, this_or_next, search, read, formatted, write_, effect}
-use Rattle.ckd_plain.specs.Plain.{opened, cleared, answered, performed, judged, run}
+use Rattle.ckd_plain.specs.Checks.{◌>>=◌, admitted_command}
+use Rattle.ckd_plain.specs.Index.{Tracks, Found, pass_index, look_or_past, next_within, next_record, itself, same_record, home_from, to_home}
+use Rattle.ckd_plain.specs.Effects.{Effect, Outcome, is_data, at_hand, this_or_next, search, read_outcome, format_outcome, write_, effect}
+use Rattle.ckd_plain.specs.Plain.{with_open_chain, host_for_command, outcome_answer, command_answer, answer_by_checks, answer_on_tracks}
 
 -- ---- what holds of whatever a step gives
 
@@ -47,8 +47,8 @@ NoWrite o = Holds (λ (e : Effect). e.written ≡ None) (λ e. Unit {0}) o
 no_write_after : {X : Type 0} (r : Result X Refusal) (f : X → Effect) → ((x : X) → (f x).written ≡ None) → NoWrite (r >>= λ x. Ok (f x))
 no_write_after {X} r f none = after_step (λ (x : X). Unit {0}) (λ (e : Effect). e.written ≡ None) (λ e. Unit {0}) r (λ x. Ok (f x)) (anything r) (λ x u. none x)
 
-no_write_read : (tracks : Tracks) (host : HostState) (kind : ReadWhat) (multi : Bool) → NoWrite (read tracks host kind multi)
-unfolding read
+no_write_read : (tracks : Tracks) (host : HostState) (kind : ReadWhat) (multi : Bool) → NoWrite (read_outcome tracks host kind multi)
+unfolding read_outcome
 no_write_read tracks host what.Data multi = no_write_after _ _ (λ x. refl)
 no_write_read tracks host what.KeyData multi = no_write_after _ _ (λ x. refl)
 no_write_read tracks host what.CountKeyData multi = no_write_after _ _ (λ x. refl)
@@ -70,13 +70,13 @@ no_write tracks host left (command.Search field.Key test multi) argument isn't =
 no_write tracks host left (command.Read kind multi) argument isn't = no_write_read tracks host kind multi
 no_write tracks host left (command.Write kind) argument isn't = absurd cc
 
-nothing_written : (c : Command) (chained : Bool) (o : Outcome) → NoWrite o → (answered c chained o).written ≡ None
+nothing_written : (c : Command) (chained : Bool) (o : Outcome) → NoWrite o → (outcome_answer c chained o).written ≡ None
 nothing_written c chained (Ok e) none = none
 nothing_written c chained (Err r) none = refl
 
-pub only_writes : (tracks : Tracks) (host : HostState) (c : Command) (argument : List ℕ) (chained : Bool) → is_write c ≡ false → (performed tracks host c argument chained).written ≡ None
-unfolding performed
-only_writes tracks host c argument chained isn't = nothing_written c chained _ (no_write tracks (cleared c host) host.prior c argument isn't)
+pub only_writes : (tracks : Tracks) (host : HostState) (c : Command) (argument : List ℕ) (chained : Bool) → is_write c ≡ false → (command_answer tracks host c argument chained).written ≡ None
+unfolding command_answer
+only_writes tracks host c argument chained isn't = nothing_written c chained _ (no_write tracks (host_for_command c host) host.prior c argument isn't)
 
 -- ---- a control command sees no track
 
@@ -92,9 +92,9 @@ same_effect a b host left (command.Search field test multi) argument isn't = abs
 same_effect a b host left (command.Read what multi) argument isn't = absurd cc
 same_effect a b host left (command.Write kind) argument isn't = absurd cc
 
-pub control_sees_none : (a b : Tracks) (host : HostState) (c : Command) (argument : List ℕ) (chained : Bool) → is_data c ≡ false → performed a host c argument chained ≡ performed b host c argument chained
-unfolding performed
-control_sees_none a b host c argument chained isn't = ap (λ (o : Outcome). answered c chained o) (same_effect a b (cleared c host) host.prior c argument isn't)
+pub control_sees_none : (a b : Tracks) (host : HostState) (c : Command) (argument : List ℕ) (chained : Bool) → is_data c ≡ false → command_answer a host c argument chained ≡ command_answer b host c argument chained
+unfolding command_answer
+control_sees_none a b host c argument chained isn't = ap (λ (o : Outcome). outcome_answer c chained o) (same_effect a b (host_for_command c host) host.prior c argument isn't)
 
 -- ---- what a command does leaves the volume that is mounted, what the host knows of it, and the sense
 
@@ -118,7 +118,7 @@ module _ (m : Option (ℕ × Bool)) (sense_ : List ℕ) (mark : Bool) where
   Finds r = Holds (λ (f : Found). Has f.host) Refuses r
 
   looked-finds : (k : ℕ) (host : HostState) (multi : Bool) (o : Option RecordData) (past : HostState → Result Found Refusal) → Has host
-      → ((passed : HostState) → Has passed → Finds (past passed)) → Finds (looked k host multi o past)
+      → ((passed : HostState) → Has passed → Finds (past passed)) → Finds (look_or_past k host multi o past)
   looked-finds k host multi (Some r) past has then = has
   looked-finds k host multi None past has then = after_step Has (λ (f : Found). Has f.host) Refuses (pass_index host multi) past (pass_index-has host multi has) then
 
@@ -167,8 +167,8 @@ module _ (m : Option (ℕ × Bool)) (sense_ : List ℕ) (mark : Bool) where
   from_home : (host : HostState) (multi : Bool) (f : HostState → Effect) → Has host → ((x : HostState) → Has x → Has (f x).host) → Leaves (to_home host multi >>= λ x. Ok (f x))
   from_home host multi f has keeps = after_step Has (λ (e : Effect). Has e.host) Refuses (to_home host multi) (λ x. Ok (f x)) (to_home-has host multi has) keeps
 
-  read-leaves : (tracks : Tracks) (host : HostState) (kind : ReadWhat) (multi : Bool) → Has host → Leaves (read tracks host kind multi)
-  unfolding read
+  read-leaves : (tracks : Tracks) (host : HostState) (kind : ReadWhat) (multi : Bool) → Has host → Leaves (read_outcome tracks host kind multi)
+  unfolding read_outcome
   read-leaves tracks host what.Data multi has = from_found _ _ (this_or_next-finds (at_hand what.Data host.position) tracks host multi has) (λ x has'. has')
   read-leaves tracks host what.KeyData multi has = from_found _ _ (this_or_next-finds (at_hand what.KeyData host.position) tracks host multi has) (λ x has'. has')
   read-leaves tracks host what.CountKeyData multi has = from_found _ _ (this_or_next-finds (at_hand what.CountKeyData host.position) tracks host multi has) (λ x has'. has')
@@ -176,7 +176,7 @@ module _ (m : Option (ℕ × Bool)) (sense_ : List ℕ) (mark : Bool) where
   read-leaves tracks host what.RecordZero multi has = from_home host multi _ has (λ x has'. has')
   read-leaves tracks host what.Home multi has = from_home host multi _ has (λ x has'. has')
 
-  formatted-leaves : (fits : Bool) (track : List RecordData) (f : Found) → Has f.host → Leaves (formatted fits track f)
+  formatted-leaves : (fits : Bool) (track : List RecordData) (f : Found) → Has f.host → Leaves (format_outcome fits track f)
   formatted-leaves true track f has = has
   formatted-leaves false track f has = has
 
@@ -214,35 +214,35 @@ HaveSameVolume a b = (a.mounted ≡ b.mounted) × (a.protected ≡ b.protected)
 
 -- a unit check changes the sense, and leaves the volume
 answered_volume : (host : HostState) (sense_ : List ℕ) (c : Command) (chained : Bool) (o : Outcome) → Leaves host.mounted sense_ host.protected o
-    → HaveSameVolume (answered c chained o).host host
+    → HaveSameVolume (outcome_answer c chained o).host host
 answered_volume host sense_ c chained (Ok e) leaves = (leaves.0, leaves.2)
 answered_volume host sense_ c chained (Err r) leaves = (leaves.0, leaves.2)
 
-performed_volume : (tracks : Tracks) (host : HostState) (c : Command) (argument : List ℕ) (chained : Bool) → HaveSameVolume (performed tracks host c argument chained).host host
-unfolding performed
+performed_volume : (tracks : Tracks) (host : HostState) (c : Command) (argument : List ℕ) (chained : Bool) → HaveSameVolume (command_answer tracks host c argument chained).host host
+unfolding command_answer
 performed_volume tracks host c argument chained =
-    answered_volume host (cleared c host).sense c chained _
-    (effect-leaves host.mounted (cleared c host).sense host.protected tracks (cleared c host) host.prior c argument (refl, refl, refl))
+    answered_volume host (host_for_command c host).sense c chained _
+    (effect-leaves host.mounted (host_for_command c host).sense host.protected tracks (host_for_command c host) host.prior c argument (refl, refl, refl))
 
-judged_volume : (tracks : Tracks) (host : HostState) (argument : List ℕ) (chained : Bool) (r : Result Command UnitCheck) → HaveSameVolume (judged tracks host argument chained r).host host
+judged_volume : (tracks : Tracks) (host : HostState) (argument : List ℕ) (chained : Bool) (r : Result Command UnitCheck) → HaveSameVolume (answer_by_checks tracks host argument chained r).host host
 judged_volume tracks host argument chained (Ok c) = performed_volume tracks host c argument chained
 judged_volume tracks host argument chained (Err check) = (refl, refl)
 
-opened_volume : (host : HostState) → HaveSameVolume (opened host) host
+opened_volume : (host : HostState) → HaveSameVolume (with_open_chain host) host
 opened_volume host =
     elim host.chain_open as (λ (b : Bool). HaveSameVolume (cond b host (record host { chain_open = true; mask = 0; position = position.Start; passes = 0; prior = prior.Nothing })) host)
     [ true ↦ (refl, refl) | false ↦ (refl, refl) ]
 
-pub opened_mounted : (host : HostState) → (opened host).mounted ≡ host.mounted
+pub opened_mounted : (host : HostState) → (with_open_chain host).mounted ≡ host.mounted
 opened_mounted host = (opened_volume host).0
 
-pub opened_protected : (host : HostState) → (opened host).protected ≡ host.protected
+pub opened_protected : (host : HostState) → (with_open_chain host).protected ≡ host.protected
 opened_protected host = (opened_volume host).1
 
-pub volume_stays : (tracks : Tracks) (host : HostState) (code : ℕ) (argument : List ℕ) (chained : Bool) → (run tracks host code argument chained).host.mounted ≡ host.mounted
-unfolding run
-volume_stays tracks host code argument chained = (judged_volume tracks (opened host) argument chained (admitted (opened host) code argument)).0 ∙ opened_mounted host
+pub volume_stays : (tracks : Tracks) (host : HostState) (code : ℕ) (argument : List ℕ) (chained : Bool) → (answer_on_tracks tracks host code argument chained).host.mounted ≡ host.mounted
+unfolding answer_on_tracks
+volume_stays tracks host code argument chained = (judged_volume tracks (with_open_chain host) argument chained (admitted_command (with_open_chain host) code argument)).0 ∙ opened_mounted host
 
-pub mark_stays : (tracks : Tracks) (host : HostState) (code : ℕ) (argument : List ℕ) (chained : Bool) → (run tracks host code argument chained).host.protected ≡ host.protected
-unfolding run
-mark_stays tracks host code argument chained = (judged_volume tracks (opened host) argument chained (admitted (opened host) code argument)).1 ∙ opened_protected host
+pub mark_stays : (tracks : Tracks) (host : HostState) (code : ℕ) (argument : List ℕ) (chained : Bool) → (answer_on_tracks tracks host code argument chained).host.protected ≡ host.protected
+unfolding answer_on_tracks
+mark_stays tracks host code argument chained = (judged_volume tracks (with_open_chain host) argument chained (admitted_command (with_open_chain host) code argument)).1 ∙ opened_protected host

@@ -19,11 +19,11 @@ use Rattle.ckd_plain.specs.declared.host.Prior.{Prior}
 use Rattle.ckd_plain.specs.declared.host.Prior.TheVariants as prior
 use Rattle.ckd_plain.specs.declared.unit_check.Refusal.{Refusal}
 use Rattle.ckd_plain.specs.declared.unit_check.UnitCheck.{UnitCheck}
-use Rattle.ckd_plain.specs.Data.{padded, record_zero, State}
+use Rattle.ckd_plain.specs.Data.{padded_bytes, record_zero, State}
 use Rattle.ckd_plain.specs.Checks.{◌>>=◌, number_at, is_prior_permitted, Passes}
 use Rattle.ckd_plain.specs.Index.{Tracks, Found, record_at, itself, same_record}
-use Rattle.ckd_plain.specs.Effects.{Effect, Outcome, prior_number, with_body, with_key_body, new_record, fits, formatted, write_, effect}
-use Rattle.ckd_plain.specs.Plain.{opened, cleared, answered, performed, judged, run, plain, tracks_mounted, written_to}
+use Rattle.ckd_plain.specs.Effects.{Effect, Outcome, prior_number, with_body, with_key_body, new_record, fits, format_outcome, write_, effect}
+use Rattle.ckd_plain.specs.Plain.{with_open_chain, host_for_command, outcome_answer, command_answer, answer_by_checks, answer_on_tracks, plain, tracks_mounted, written_to}
 use Rattle.ckd_plain.specs.Laws.{IsWithinCost, HasTracks, HasBytes}
 use Rattle.ckd_plain.proofs.CommandFacts.{Holds, after_step, only_writes}
 use Rattle.ckd_plain.proofs.CheckFacts.{admitted_is}
@@ -32,7 +32,7 @@ use Rattle.ckd_plain.proofs.VolumeFacts.{kept, mount_leaves, demount_leaves}
 
 -- ---- what a write makes of a record
 
-length-padded : (n : ℕ) (bytes : List ℕ) → length (padded n bytes) ≡ n
+length-padded : (n : ℕ) (bytes : List ℕ) → length (padded_bytes n bytes) ≡ n
 length-padded n bytes = omega (arith, length-append (take n bytes) (replicate (n - length bytes) 0), length-take n bytes, length-replicate {A = ℕ} (n - length bytes) 0)
 
 -- a record with the ID and the lengths of another
@@ -46,11 +46,11 @@ body_alike r argument = record { id = refl; key = refl; body = length-padded (le
 
 key_body_alike : (r : RecordData) (argument : List ℕ) → IsAlike r (with_key_body r argument)
 key_body_alike r argument =
-    let whole : length (padded (length r.key + length r.body) argument) ≡ length r.key + length r.body = length-padded _ _ in
+    let whole : length (padded_bytes (length r.key + length r.body) argument) ≡ length r.key + length r.body = length-padded _ _ in
     record {
       id = refl;
-      key = omega (arith, whole, length-take (length r.key) (padded (length r.key + length r.body) argument));
-      body = omega (arith, whole, length-drop (length r.key) (padded (length r.key + length r.body) argument));
+      key = omega (arith, whole, length-take (length r.key) (padded_bytes (length r.key + length r.body) argument));
+      body = omega (arith, whole, length-drop (length r.key) (padded_bytes (length r.key + length r.body) argument));
     }
 
 -- ---- what is kept of a track by each write
@@ -95,7 +95,7 @@ module _ (P : List RecordData → Type 0) where
   after_same : (track : List RecordData) (host : HostState) (k : ℕ) (f : Found → Outcome) → ((found : Found) → IsFound track host k found → Writes (f found)) → Writes (same_record track host k >>= f)
   after_same track host k f then = after_step (IsFound track host k) (λ (e : Effect). IfSome e.written P) (λ (r : Refusal). Unit {0}) (same_record track host k) f (same_record_is track host k) then
 
-  answered_writes : (c : Command) (chained : Bool) (o : Outcome) → Writes o → IfSome (answered c chained o).written P
+  answered_writes : (c : Command) (chained : Bool) (o : Outcome) → Writes o → IfSome (outcome_answer c chained o).written P
   answered_writes c chained (Ok e) writes = writes
   answered_writes c chained (Err r) writes = tt
 
@@ -106,7 +106,7 @@ module _ (P : List RecordData → Type 0) where
         keeps.updated_ track (found.number - 1) found.item new good (rw is.1 (behind_zero (record_zero host) track k found.item later is.0)) alike
 
     formatted_writes : (track : List RecordData) (k : ℕ) (b : Bool) (found : Found) → P track → 8 ≤ length argument → fits (take k track ++ new_record argument ∷ []) ≡ b
-        → Writes (formatted b (take k track ++ new_record argument ∷ []) found)
+        → Writes (format_outcome b (take k track ++ new_record argument ∷ []) found)
     formatted_writes track k true found good long is = keeps.formatted_ track k good long is
     formatted_writes track k false found good long is = tt
 
@@ -121,10 +121,10 @@ module _ (P : List RecordData → Type 0) where
         (λ found is. formatted_writes track found.number (fits (take found.number track ++ new_record argument ∷ [])) found good long refl)
 
     write_performed : (tracks : Tracks) (host : HostState) (c : Command) (chained : Bool) → P (tracks host.head) → Passes host c argument → is_write c ≡ true
-        → IfSome (performed tracks host c argument chained).written P
-    unfolding performed effect
+        → IfSome (command_answer tracks host c argument chained).written P
+    unfolding command_answer effect
     write_performed tracks host (ask.Write kind) chained good passes writes =
-        answered_writes (ask.Write kind) chained _ (write_writes (tracks host.head) (cleared (ask.Write kind) host) host.prior kind good passes.prior_ passes.long)
+        answered_writes (ask.Write kind) chained _ (write_writes (tracks host.head) (host_for_command (ask.Write kind) host) host.prior kind good passes.prior_ passes.long)
     write_performed tracks host ask.NoOp chained good passes writes = absurd cc
     write_performed tracks host ask.Sense chained good passes writes = absurd cc
     write_performed tracks host (ask.Seek kind) chained good passes writes = absurd cc
@@ -134,20 +134,20 @@ module _ (P : List RecordData → Type 0) where
     write_performed tracks host (ask.Search field test multi) chained good passes writes = absurd cc
     write_performed tracks host (ask.Read what multi) chained good passes writes = absurd cc
 
-    performed_writes : (tracks : Tracks) (host : HostState) (c : Command) (chained : Bool) → P (tracks host.head) → Passes host c argument → IfSome (performed tracks host c argument chained).written P
+    performed_writes : (tracks : Tracks) (host : HostState) (c : Command) (chained : Bool) → P (tracks host.head) → Passes host c argument → IfSome (command_answer tracks host c argument chained).written P
     performed_writes tracks host c chained good passes = elim (cases_Bool (is_write c)) [
       | inl writes ↦ write_performed tracks host c chained good passes writes
       | inr isn't ↦ rw (only_writes tracks host c argument chained isn't) tt
     ]
 
     judged_writes : (tracks : Tracks) (host : HostState) (chained : Bool) (r : Result Command UnitCheck) → P (tracks host.head) → ((c : Command) → r ≡ Ok c → Passes host c argument)
-        → IfSome (judged tracks host argument chained r).written P
+        → IfSome (answer_by_checks tracks host argument chained r).written P
     judged_writes tracks host chained (Ok c) good passes = performed_writes tracks host c chained good (passes c refl)
     judged_writes tracks host chained (Err check) good passes = tt
 
-    run_writes : (tracks : Tracks) (host : HostState) (code : ℕ) (chained : Bool) → ((head : ℕ) → P (tracks head)) → IfSome (run tracks host code argument chained).written P
-    unfolding run
-    run_writes tracks host code chained good = judged_writes tracks (opened host) chained _ (good (opened host).head) (λ c is. (admitted_is (opened host) code argument c is).passes)
+    run_writes : (tracks : Tracks) (host : HostState) (code : ℕ) (chained : Bool) → ((head : ℕ) → P (tracks head)) → IfSome (answer_on_tracks tracks host code argument chained).written P
+    unfolding answer_on_tracks
+    run_writes tracks host code chained good = judged_writes tracks (with_open_chain host) chained _ (good (with_open_chain host).head) (λ c is. (admitted_is (with_open_chain host) code argument c is).passes)
 
     -- all tracks are as P says
     abbrev AllTracks : Volumes → Type 0
@@ -219,11 +219,11 @@ new_counted argument bytes long =
     let low : slice_index argument 7 < 256 = bytes 7 0 (omega (arith, long)) in
     let data_length : ℕ = number_at argument 6 in
     let small : number_at argument 6 < 65536 = omega (arith, high, low) in
-    let whole : length (padded (slice_index argument 5 + number_at argument 6) (drop 8 argument)) ≡ slice_index argument 5 + number_at argument 6 = length-padded _ _ in
+    let whole : length (padded_bytes (slice_index argument 5 + number_at argument 6) (drop 8 argument)) ≡ slice_index argument 5 + number_at argument 6 = length-padded _ _ in
     record {
       id = omega (arith, length-take 5 argument, long);
-      key = omega (arith, whole, key_small, length-take (slice_index argument 5) (padded (slice_index argument 5 + number_at argument 6) (drop 8 argument)));
-      body = omega (arith, whole, small, length-drop (slice_index argument 5) (padded (slice_index argument 5 + number_at argument 6) (drop 8 argument)));
+      key = omega (arith, whole, key_small, length-take (slice_index argument 5) (padded_bytes (slice_index argument 5 + number_at argument 6) (drop 8 argument)));
+      body = omega (arith, whole, small, length-drop (slice_index argument 5) (padded_bytes (slice_index argument 5 + number_at argument 6) (drop 8 argument)));
     }
 
 tracks_kept : (argument : List ℕ) → All (λ b. b < 256) argument → IsKept IsTrack argument

@@ -10,8 +10,8 @@ use Rattle.ckd_plain.specs.declared.unit_check.UnitCheck.TheVariants as check
 use Rattle.ckd_plain.specs.Data.{State}
 use Rattle.ckd_plain.specs.Index.{Tracks}
 use Rattle.ckd_plain.specs.Effects.{Outcome}
-use Rattle.ckd_plain.specs.Plain.{opened, answered, performed, judged, run, plain, responded, mark_for, mounted_by}
-use Rattle.ckd_plain.specs.History.{EntryData, IsAnswered, IsNextEntry, IsAlone, IsDataCommand, IsWriteCommand, keeps_fault, excepted, left_by, next}
+use Rattle.ckd_plain.specs.Plain.{with_open_chain, outcome_answer, command_answer, answer_by_checks, answer_on_tracks, plain, response_to, mark_for, mounted_by}
+use Rattle.ckd_plain.specs.History.{EntryData, IsAnswered, IsNextEntry, IsAlone, IsDataCommand, IsWriteCommand, keeps_fault, state_after_check, left_by, state_after}
 
 -- ---- the plain machine gives no exception
 
@@ -25,12 +25,12 @@ chosen : (b : Bool) (x y : ReplyData × HostState) → IsPlain x.0 ≡ true → 
 chosen true x y p q = p
 chosen false x y p q = q
 
-answered_plain : (c : Command) (chained : Bool) (o : Outcome) → IsPlain (answered c chained o).reply ≡ true
+answered_plain : (c : Command) (chained : Bool) (o : Outcome) → IsPlain (outcome_answer c chained o).reply ≡ true
 answered_plain c chained (Ok e) = refl
 answered_plain c chained (Err r) = refl
 
-judged_plain : (tracks : Tracks) (host : HostState) (argument : List ℕ) (chained : Bool) (r : Result Command UnitCheck) → IsPlain (judged tracks host argument chained r).reply ≡ true
-unfolding performed
+judged_plain : (tracks : Tracks) (host : HostState) (argument : List ℕ) (chained : Bool) (r : Result Command UnitCheck) → IsPlain (answer_by_checks tracks host argument chained r).reply ≡ true
+unfolding command_answer
 judged_plain tracks host argument chained (Ok c) = answered_plain c chained _
 judged_plain tracks host argument chained (Err check) = refl
 
@@ -39,11 +39,11 @@ mounted_plain host volume bind (Some read_only) = refl
 mounted_plain host volume bind None = refl
 
 plain_is_plain : (s : State) (h : ℕ) (c : CallData) → IsPlain (plain s h c).0 ≡ true
-unfolding plain responded run
+unfolding plain response_to answer_on_tracks
 plain_is_plain s h (mount volume bind) =
     chosen (s.host h).chain_open _ _ refl (chosen (is_some (s.host h).mounted) _ _ refl (mounted_plain (s.host h) volume bind (mark_for s.volumes (mount volume bind))))
 plain_is_plain s h demount = chosen (s.host h).chain_open _ _ refl (chosen (is_some (s.host h).mounted) _ _ refl refl)
-plain_is_plain s h (command code argument chained) = judged_plain _ (opened (s.host h)) argument chained _
+plain_is_plain s h (command code argument chained) = judged_plain _ (with_open_chain (s.host h)) argument chained _
 plain_is_plain s h (break cause.Program) = refl
 plain_is_plain s h (break cause.Limit) = refl
 
@@ -70,8 +70,8 @@ says s e no_space p = absurd cc
 says s e stopped p = absurd cc
 
 pub plain_entry : (s : State) (before : ℕ) (e : EntryData) → e.reply ≡ (plain s e.host e.call).0 → e.number ≡ before + 1 → e.fault ≡ None → IsAlone s e.host e.call
-    → IsNextEntry s before e × (next s e ≡ (plain s e.host e.call).1)
-unfolding next
+    → IsNextEntry s before e × (state_after s e ≡ (plain s e.host e.call).1)
+unfolding state_after
 plain_entry s before e q number none alone =
     let facts = says s e e.reply (ap IsPlain q ∙ plain_is_plain s e.host e.call) in
     let fault : is_some e.fault ≡ keeps_fault e.reply = ap is_some none ∙ sym facts.no_fault in
@@ -85,15 +85,15 @@ module _ (s : State) (before : ℕ) (e : EntryData) (number : e.number ≡ befor
       let fault : is_some e.fault ≡ keeps_fault e.reply = f ∙ ap keeps_fault (sym q) in
       record { number = number; answered = subst (λ (x : ReplyData). IsAnswered s e x) (sym q) answered; fault = ((λ f. sym fault ∙ f), (λ k. fault ∙ k)); alone = alone }
 
-  left : (r : ReplyData) → e.reply ≡ r → next s e ≡ left_by r s e.host e.call
-  unfolding next
+  left : (r : ReplyData) → e.reply ≡ r → state_after s e ≡ left_by r s e.host e.call
+  unfolding state_after
   left r q = ap (λ (x : ReplyData). left_by x s e.host e.call) q
 
-  pub equipment_entry : e.reply ≡ equipment_check → IsSome e.fault → IsDataCommand s e.host e.call → IsNextEntry s before e × (next s e ≡ excepted check.EquipmentCheck s e.host)
+  pub equipment_entry : e.reply ≡ equipment_check → IsSome e.fault → IsDataCommand s e.host e.call → IsNextEntry s before e × (state_after s e ≡ state_after_check check.EquipmentCheck s e.host)
   equipment_entry q fault asked = (exception equipment_check q fault asked, left equipment_check q)
 
-  pub no_space_entry : e.reply ≡ no_space → e.fault ≡ None → IsDataCommand s e.host e.call → IsNextEntry s before e × (next s e ≡ excepted check.NoSpace s e.host)
+  pub no_space_entry : e.reply ≡ no_space → e.fault ≡ None → IsDataCommand s e.host e.call → IsNextEntry s before e × (state_after s e ≡ state_after_check check.NoSpace s e.host)
   no_space_entry q none asked = (exception no_space q (ap is_some none) asked, left no_space q)
 
-  pub stopped_entry : e.reply ≡ stopped → IsSome e.fault → IsWriteCommand s e.host e.call → IsNextEntry s before e × (next s e ≡ s)
+  pub stopped_entry : e.reply ≡ stopped → IsSome e.fault → IsWriteCommand s e.host e.call → IsNextEntry s before e × (state_after s e ≡ s)
   stopped_entry q fault asked = (exception stopped q fault asked, left stopped q)

@@ -5,7 +5,7 @@ use Rattle.std.proofs.lemmas.Bool.Decides.{eqb_tells}
 use Rattle.channel_commands.specs.Data.{CallData, mount, demount, command, break, ReplyData}
 use Rattle.ckd_plain.specs.declared.host.HostState.{HostState}
 use Rattle.ckd_plain.specs.Data.{State}
-use Rattle.ckd_plain.specs.Plain.{Replied, Answer, plain, responded, mark_for, with_response, run, with_host, tracks_under, written_to}
+use Rattle.ckd_plain.specs.Plain.{Replied, Answer, plain, response_to, mark_for, with_response, answer_on_tracks, with_host, tracks_under, written_to}
 use Rattle.ckd_plain.specs.Laws.{IsSameFor}
 
 pub host_itself : (hosts : ℕ → HostState) (h : ℕ) (x : HostState) → cond (h == h) x (hosts h) ≡ x
@@ -24,10 +24,10 @@ module _ (h : ℕ) where
   with_same s t x y volumes e = record { volumes = volumes; host = host_itself s.host h x ∙ e ∙ sym (host_itself t.host h y) }
 
   response_same : (s t : State) (call : CallData) → IsSameFor h s t
-      → AreSame h (with_response s h (responded (s.host h) (mark_for s.volumes call) call)) (with_response t h (responded (t.host h) (mark_for t.volumes call) call))
+      → AreSame h (with_response s h (response_to (s.host h) (mark_for s.volumes call) call)) (with_response t h (response_to (t.host h) (mark_for t.volumes call) call))
   response_same s t call p =
-      let same : responded (s.host h) (mark_for s.volumes call) call ≡ responded (t.host h) (mark_for t.volumes call) call =
-      (λ i. responded (p.host i) (mark_for (p.volumes i) call) call) in
+      let same : response_to (s.host h) (mark_for s.volumes call) call ≡ response_to (t.host h) (mark_for t.volumes call) call =
+      (λ i. response_to (p.host i) (mark_for (p.volumes i) call) call) in
       (ap (λ (r : ReplyData × HostState). r.0) same, with_same s t _ _ p.volumes (ap (λ (r : ReplyData × HostState). r.1) same))
 
   pub plain_same : (s t : State) (call : CallData) → IsSameFor h s t → AreSame h (plain s h call) (plain t h call)
@@ -35,8 +35,8 @@ module _ (h : ℕ) where
   plain_same s t (mount volume bind) p = response_same s t (mount volume bind) p
   plain_same s t demount p = response_same s t demount p
   plain_same s t (command code argument chained) p =
-      let answer : run (tracks_under s.volumes (s.host h)) (s.host h) code argument chained ≡ run (tracks_under t.volumes (t.host h)) (t.host h) code argument chained =
-      (λ i. run (tracks_under (p.volumes i) (p.host i)) (p.host i) code argument chained) in (
+      let answer : answer_on_tracks (tracks_under s.volumes (s.host h)) (s.host h) code argument chained ≡ answer_on_tracks (tracks_under t.volumes (t.host h)) (t.host h) code argument chained =
+      (λ i. answer_on_tracks (tracks_under (p.volumes i) (p.host i)) (p.host i) code argument chained) in (
         ap (λ (a : Answer). a.reply) answer,
         with_same _ _ _ _ (λ i. written_to (p.volumes i) (p.host i) (answer i).written) (ap (λ (a : Answer). a.host) answer),
       )

@@ -7,11 +7,11 @@ use Rattle.ckd_plain.specs.declared.unit_check.UnitCheck.TheVariants as check
 use Rattle.ckd_plain.specs.Checks.{◌>>=◌}
 use Rattle.ckd_plain.specs.declared.found.FoundRecord.{FoundRecord}
 use Rattle.ckd_plain.specs.Views.{item_of, found_of, IsFound}
-use Rattle.ckd_plain.specs.Index.{Tracks, Found, candidate, pass_index, record_at, looked, next_within}
+use Rattle.ckd_plain.specs.Index.{Tracks, Found, candidate, pass_index, record_at, look_or_past, next_within}
 
 pub next_within-suc : (looks : ℕ) (tracks : Tracks) (host : HostState) (m : ℕ) (multi : Bool)
     → next_within (suc looks) tracks host m multi
-    ≡ looked (candidate host.position m) host multi (record_at (tracks host.head) host (candidate host.position m)) (λ passed. next_within looks tracks passed m multi)
+    ≡ look_or_past (candidate host.position m) host multi (record_at (tracks host.head) host (candidate host.position m)) (λ passed. next_within looks tracks passed m multi)
 unfolding next_within
 next_within-suc looks tracks host m multi = refl
 
@@ -21,14 +21,14 @@ found_as f k host = Ok (record { number = k; item = item_of f; host = host })
 -- One look, with as many left as looks + 1: at the place number, where the record is or isn't.
 module _ (left looks number : ℕ) (tracks : Tracks) (host : HostState) (m : ℕ) (multi : Bool)
     (falls : left ≡ looks + 1) (place : number ≡ candidate host.position m) where
-  looks_at : next_within left tracks host m multi ≡ looked number host multi (record_at (tracks host.head) host number) (λ passed. next_within looks tracks passed m multi)
+  looks_at : next_within left tracks host m multi ≡ look_or_past number host multi (record_at (tracks host.head) host number) (λ passed. next_within looks tracks passed m multi)
   looks_at =
       let e : left ≡ suc looks = omega arith in
       ap (λ (n : ℕ). next_within n tracks host m multi) e ∙ next_within-suc looks tracks host m multi
-      ∙ ap (λ (k : ℕ). looked k host multi (record_at (tracks host.head) host k) (λ passed. next_within looks tracks passed m multi)) (sym place)
+      ∙ ap (λ (k : ℕ). look_or_past k host multi (record_at (tracks host.head) host k) (λ passed. next_within looks tracks passed m multi)) (sym place)
 
-  looks_there : (o : Option RecordData) → record_at (tracks host.head) host number ≡ o → next_within left tracks host m multi ≡ looked number host multi o (λ passed. next_within looks tracks passed m multi)
-  looks_there o e = looks_at ∙ ap (λ (o : Option RecordData). looked number host multi o (λ passed. next_within looks tracks passed m multi)) e
+  looks_there : (o : Option RecordData) → record_at (tracks host.head) host number ≡ o → next_within left tracks host m multi ≡ look_or_past number host multi o (λ passed. next_within looks tracks passed m multi)
+  looks_there o e = looks_at ∙ ap (λ (o : Option RecordData). look_or_past number host multi o (λ passed. next_within looks tracks passed m multi)) e
 
   pub look_finds : (f : FoundRecord) → IsFound number host f (record_at (tracks host.head) host number) → next_within left tracks host m multi ≡ Ok (found_of f)
   look_finds f is = looks_there (Some (item_of f)) is.item ∙ ap (λ (k : ℕ). found_as f k host) (sym is.number_) ∙ ap (λ (h : HostState). found_as f f.number h) (sym is.host_)

@@ -8,7 +8,7 @@ use Rattle.ckd_plain.specs.declared.host.Position.TheVariants as position
 use Rattle.ckd_plain.specs.declared.unit_check.Refusal.{Refusal}
 use Rattle.mss_base.specs.declared.numbers.TheConstants.{HEADS}
 use Rattle.ckd_plain.specs.Checks.{◌>>=◌}
-use Rattle.ckd_plain.specs.Index.{Tracks, Found, pass_index, looked, next_within, next_record}
+use Rattle.ckd_plain.specs.Index.{Tracks, Found, pass_index, look_or_past, next_within, next_record}
 use Rattle.ckd_plain.proofs.IndexFacts.{next_within-suc}
 
 -- what a pass of the index tells of the host before it and after it
@@ -39,7 +39,7 @@ bind_same (Ok x) f g same = same x refl
 bind_same (Err e) f g same = refl
 
 looked_same : (k : ℕ) (host : HostState) (multi : Bool) (o : Option RecordData) (f g : HostState → Result Found Refusal)
-    → ((x : HostState) → pass_index host multi ≡ Ok x → f x ≡ g x) → looked k host multi o f ≡ looked k host multi o g
+    → ((x : HostState) → pass_index host multi ≡ Ok x → f x ≡ g x) → look_or_past k host multi o f ≡ look_or_past k host multi o g
 looked_same k host multi (Some r) f g same = refl
 looked_same k host multi None f g same = bind_same (pass_index host multi) f g same
 

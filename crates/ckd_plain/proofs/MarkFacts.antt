@@ -10,8 +10,8 @@ use Rattle.ckd_plain.specs.declared.unit_check.UnitCheck.{UnitCheck}
 use Rattle.ckd_plain.specs.declared.unit_check.UnitCheck.TheVariants as check
 use Rattle.ckd_plain.specs.Data.{State}
 use Rattle.ckd_plain.specs.Checks.{is_change_allowed}
-use Rattle.ckd_plain.specs.Plain.{opened, run, plain, responded, mounted_by, with_host, tracks_under, written_to, checked, start_of}
-use Rattle.ckd_plain.specs.History.{EntryData, IsWriteCommand, left_by, next}
+use Rattle.ckd_plain.specs.Plain.{with_open_chain, answer_on_tracks, plain, response_to, mounted_by, with_host, tracks_under, written_to, host_after_check, start_of}
+use Rattle.ckd_plain.specs.History.{EntryData, IsWriteCommand, left_by, state_after}
 use Rattle.ckd_plain.specs.Laws.{IsUnderHead, KnowsMark, KnowMarks}
 use Rattle.ckd_plain.proofs.CheckFacts.{admitted_is}
 use Rattle.ckd_plain.proofs.CommandFacts.{opened_protected, volume_stays, mark_stays}
@@ -52,28 +52,28 @@ module _ (volumes : Volumes) (host : HostState) (knows : KnowsMark volumes host)
   mounted_knows volume bind None = knows
 
   mount_knows : (volume : ℕ) (bind : Bool)
-      → KnowsMark volumes (responded host (option_map (λ (serial : List ℕ). volumes.read_only volume) (volumes.serial volume)) (mount volume bind)).1
-  unfolding responded
+      → KnowsMark volumes (response_to host (option_map (λ (serial : List ℕ). volumes.read_only volume) (volumes.serial volume)) (mount volume bind)).1
+  unfolding response_to
   mount_knows volume bind =
       either_knows host.chain_open _ _ knows (either_knows (is_some host.mounted) _ _ knows (mounted_knows volume bind (volumes.serial volume)))
 
   none_knows : KnowsMark volumes (record host { mounted = None })
   none_knows v bind is = absurd cc
 
-  demount_knows : (mark : Option Bool) → KnowsMark volumes (responded host mark demount).1
-  unfolding responded
+  demount_knows : (mark : Option Bool) → KnowsMark volumes (response_to host mark demount).1
+  unfolding response_to
   demount_knows mark = either_knows host.chain_open _ _ knows (either_knows (is_some host.mounted) _ _ none_knows knows)
 
 -- ---- every call
 
 plain_keeps : (s : State) (h : ℕ) (call : CallData) → KeepsMarks s (plain s h call).1
-unfolding plain responded
+unfolding plain response_to
 plain_keeps s h (mount volume bind) = record { marks_ = refl; known = λ knows. put_knows s h _ knows (mount_knows s.volumes (s.host h) (knows h) volume bind) }
 plain_keeps s h demount = record { marks_ = refl; known = λ knows. put_knows s h _ knows (demount_knows s.volumes (s.host h) (knows h) None) }
 plain_keeps s h (break cause) = record { marks_ = refl; known = λ knows. put_knows s h _ knows (knows h) }
 plain_keeps s h (command code argument chained) =
     let host : HostState = s.host h in
-    let a = run (tracks_under s.volumes host) host code argument chained in
+    let a = answer_on_tracks (tracks_under s.volumes host) host code argument chained in
     let new : Volumes = written_to s.volumes host a.written in
     let labels = labels_stay s.volumes host host.mounted a.written in
     let same : (v : ℕ) (bind : Bool) → a.host.mounted ≡ Some (v, bind) → KnowsMark s.volumes host → a.host.protected ≡ s.volumes.read_only v =
@@ -85,7 +85,7 @@ plain_keeps s h (command code argument chained) =
           (λ v bind is. same v bind is (knows h) ∙ ap (λ (mark : ℕ → Bool). mark v) (sym labels.1));
     }
 
-excepted_keeps : (s : State) (h : ℕ) (why : UnitCheck) → KeepsMarks s (with_host s h (checked why (s.host h)))
+excepted_keeps : (s : State) (h : ℕ) (why : UnitCheck) → KeepsMarks s (with_host s h (host_after_check why (s.host h)))
 excepted_keeps s h why = record { marks_ = refl; known = λ knows. put_knows s h _ knows (knows h) }
 
 left_keeps : (s : State) (h : ℕ) (call : CallData) (r : ReplyData) → KeepsMarks s (left_by r s h call)
@@ -102,17 +102,17 @@ left_keeps s h call equipment_check = excepted_keeps s h check.EquipmentCheck
 left_keeps s h call no_space = excepted_keeps s h check.NoSpace
 left_keeps s h call stopped = record { marks_ = refl; known = λ knows. knows }
 
-next_keeps : (s : State) (e : EntryData) → KeepsMarks s (next s e)
-unfolding next
+next_keeps : (s : State) (e : EntryData) → KeepsMarks s (state_after s e)
+unfolding state_after
 next_keeps s e = left_keeps s e.host e.call e.reply
 
-pub marks : (s : State) (e : EntryData) → (next s e).volumes.read_only ≡ s.volumes.read_only
+pub marks : (s : State) (e : EntryData) → (state_after s e).volumes.read_only ≡ s.volumes.read_only
 marks s e = (next_keeps s e).marks_
 
 pub starts_known : (volumes : Volumes) → KnowMarks (start_of volumes)
 starts_known volumes h v bind is = absurd cc
 
-pub stays_known : (s : State) (e : EntryData) → KnowMarks s → KnowMarks (next s e)
+pub stays_known : (s : State) (e : EntryData) → KnowMarks s → KnowMarks (state_after s e)
 stays_known s e knows = (next_keeps s e).known knows
 
 -- ---- read-only volumes
@@ -121,8 +121,8 @@ module _ (s : State) (h : ℕ) (call : CallData) (v c head : ℕ) (knows : KnowM
   -- a host that knows of a read-only volume writes nothing
   writes_nothing : (k : CallData) → (s.host h).protected ≡ true → IsWriteCommand s h k → ⊥
   writes_nothing (command code argument chained) protected is =
-      let allowed : is_change_allowed (opened (s.host h)).protected is.0 ≡ true = (admitted_is (opened (s.host h)) code argument is.0 is.1).passes.change_ in
-      let refused : is_change_allowed (opened (s.host h)).protected is.0 ≡ false = (λ i. is_change_allowed ((opened_protected (s.host h) ∙ protected) i) is.0) ∙ ap not is.2 in
+      let allowed : is_change_allowed (with_open_chain (s.host h)).protected is.0 ≡ true = (admitted_is (with_open_chain (s.host h)) code argument is.0 is.1).passes.change_ in
+      let refused : is_change_allowed (with_open_chain (s.host h)).protected is.0 ≡ false = (λ i. is_change_allowed ((opened_protected (s.host h) ∙ protected) i) is.0) ∙ ap not is.2 in
       absurd cc
   writes_nothing (mount volume bind) protected is = is
   writes_nothing demount protected is = is
@@ -155,6 +155,6 @@ module _ (s : State) (h : ℕ) (call : CallData) (v c head : ℕ) (knows : KnowM
   left_stays stopped = refl
 
 pub read_only_stays : (s : State) (e : EntryData) (v c head : ℕ) → KnowMarks s → IsTrue (s.volumes.read_only v)
-    → (next s e).volumes.track v c head ≡ s.volumes.track v c head
-unfolding next
+    → (state_after s e).volumes.track v c head ≡ s.volumes.track v c head
+unfolding state_after
 read_only_stays s e v c head knows marked = left_stays s e.host e.call v c head knows marked e.reply

@@ -23,10 +23,10 @@ use Rattle.ckd_plain.specs.declared.host.Prior.TheVariants as prior
 use Rattle.ckd_plain.specs.declared.unit_check.Refusal.{Refusal}
 use Rattle.ckd_plain.specs.declared.unit_check.UnitCheck.{UnitCheck}
 use Rattle.ckd_plain.specs.Data.{State, two_bytes, records_of}
-use Rattle.ckd_plain.specs.Checks.{◌>>=◌, admitted}
-use Rattle.ckd_plain.specs.Index.{Tracks, Found, candidate, record_at, looked, next_within, next_record, itself, same_record}
-use Rattle.ckd_plain.specs.Effects.{DONE, MET, is_met, search_status, status_of, id_searched, this_or_next, at_hand, record_given, search, read, effect}
-use Rattle.ckd_plain.specs.Plain.{Answer, Replied, opened, cleared, answered, finished, performed, judged, run, plain, replies_of, tracks_under, tracks_mounted, written_to}
+use Rattle.ckd_plain.specs.Checks.{◌>>=◌, admitted_command}
+use Rattle.ckd_plain.specs.Index.{Tracks, Found, candidate, record_at, look_or_past, next_within, next_record, itself, same_record}
+use Rattle.ckd_plain.specs.Effects.{DONE, MET, is_met, search_status, status_of, id_searched, this_or_next, at_hand, record_given, search, read_outcome, effect}
+use Rattle.ckd_plain.specs.Plain.{Answer, Replied, with_open_chain, host_for_command, outcome_answer, effect_answer, command_answer, answer_by_checks, answer_on_tracks, plain, replies_of, tracks_under, tracks_mounted, written_to}
 use Rattle.ckd_plain.specs.Laws.{record_under, IsFirst, IsAtIndex, search_and_read, met_and_read, IsReadBack}
 use Rattle.ckd_plain.proofs.CheckFacts.{search_admitted, read_admitted}
 use Rattle.ckd_plain.proofs.HostFacts.{host_itself}
@@ -48,25 +48,25 @@ pub next_finds : (tracks : Tracks) (host : HostState) (k : ℕ) (r : RecordData)
 unfolding next_record
 next_finds tracks host k r is there =
     next_within-suc 19 tracks host 0 false
-    ∙ ap (λ (n : ℕ). looked n host false (record_at (tracks host.head) host n) (λ passed. next_within 19 tracks passed 0 false)) is
-    ∙ ap (λ (o : Option RecordData). looked k host false o (λ passed. next_within 19 tracks passed 0 false)) there
+    ∙ ap (λ (n : ℕ). look_or_past n host false (record_at (tracks host.head) host n) (λ passed. next_within 19 tracks passed 0 false)) is
+    ∙ ap (λ (o : Option RecordData). look_or_past k host false o (λ passed. next_within 19 tracks passed 0 false)) there
 
 search_is : (tracks : Tracks) (host : HostState) (id : List ℕ) (k : ℕ) (r : RecordData) → candidate host.position 0 ≡ k → record_at (tracks host.head) host k ≡ Some r
-    → performed tracks host Searches id true ≡ finished Searches true (id_searched test.Equal id (found_as k r (cleared Searches host)))
-unfolding performed effect search
+    → command_answer tracks host Searches id true ≡ effect_answer Searches true (id_searched test.Equal id (found_as k r (host_for_command Searches host)))
+unfolding command_answer effect search
 search_is tracks host id k r is there =
-    ap (λ (o : Result Found Refusal). answered Searches true (o >>= λ found. Ok (id_searched test.Equal id found))) (next_finds tracks (cleared Searches host) k r is there)
+    ap (λ (o : Result Found Refusal). outcome_answer Searches true (o >>= λ found. Ok (id_searched test.Equal id found))) (next_finds tracks (host_for_command Searches host) k r is there)
 
 read_is : (tracks : Tracks) (host : HostState) (k : ℕ) (r : RecordData) → host.position ≡ position.Count k → record_at (tracks host.head) host k ≡ Some r
-    → performed tracks host Reads [] false ≡ finished Reads false (record_given what.Data (found_as k r (cleared Reads host)))
-unfolding performed effect read same_record
+    → command_answer tracks host Reads [] false ≡ effect_answer Reads false (record_given what.Data (found_as k r (host_for_command Reads host)))
+unfolding command_answer effect read_outcome same_record
 read_is tracks host k r is there =
-    ap (λ (p : Position). answered Reads false (this_or_next (at_hand what.Data p) tracks (cleared Reads host) false >>= λ found. Ok (record_given what.Data found))) is
-    ∙ ap (λ (o : Option RecordData). answered Reads false (itself k (cleared Reads host) o >>= λ found. Ok (record_given what.Data found))) there
+    ap (λ (p : Position). outcome_answer Reads false (this_or_next (at_hand what.Data p) tracks (host_for_command Reads host) false >>= λ found. Ok (record_given what.Data found))) is
+    ∙ ap (λ (o : Option RecordData). outcome_answer Reads false (itself k (host_for_command Reads host) o >>= λ found. Ok (record_given what.Data found))) there
 
 -- ---- the host whose chain is opened, or is open
 
-opened_open : (host : HostState) → host.chain_open ≡ true → opened host ≡ host
+opened_open : (host : HostState) → host.chain_open ≡ true → with_open_chain host ≡ host
 opened_open host open_ = ap (λ (b : Bool). cond b host (record host { chain_open = true; mask = 0; position = position.Start; passes = 0; prior = prior.Nothing })) open_
 
 -- what opening a chain leaves of a host
@@ -75,7 +75,7 @@ pub record IsPlaced (from to : HostState) : Type 0 where
   pub cylinder_ : to.cylinder ≡ from.cylinder
   pub head_ : to.head ≡ from.head
 
-pub opened_placed : (host : HostState) → IsPlaced host (opened host)
+pub opened_placed : (host : HostState) → IsPlaced host (with_open_chain host)
 opened_placed host =
     elim host.chain_open as (λ (b : Bool). IsPlaced host (cond b host (record host { chain_open = true; mask = 0; position = position.Start; passes = 0; prior = prior.Nothing }))) [
       | true ↦ record { mounted_ = refl; cylinder_ = refl; head_ = refl }
@@ -116,18 +116,18 @@ module _ (s : State) (h : ℕ) (there : is_some (s.host h).mounted ≡ true) whe
   tracks = tracks_under s.volumes (s.host h)
 
   abbrev ready : HostState
-  ready = opened (s.host h)
+  ready = with_open_chain (s.host h)
 
   opened_there : is_some ready.mounted ≡ true
   opened_there = ap is_some (opened_placed (s.host h)).mounted_ ∙ there
 
   searched : (k : ℕ) (r : RecordData) (id : List ℕ) → 5 ≤ length id → candidate ready.position 0 ≡ k → record_under s h k ≡ Some r → IsSearched s h k r id (plain s h (command 0x31 id true))
-  unfolding plain run
+  unfolding plain answer_on_tracks
   searched k r id long is found =
       let under : record_at (tracks ready.head) ready k ≡ Some r = record_at-placed tracks (s.host h) ready k (opened_placed (s.host h)) ∙ found in
-      let answer : run tracks (s.host h) 0x31 id true ≡ finished Searches true (id_searched test.Equal id (found_as k r (cleared Searches ready))) =
-      ap (λ (c : Result Command UnitCheck). judged tracks ready id true c) (search_admitted ready id opened_there long) ∙ search_is tracks ready id k r is under in
-      let host : cond (h == h) (run tracks (s.host h) 0x31 id true).host (s.host h) ≡ (finished Searches true (id_searched test.Equal id (found_as k r (cleared Searches ready)))).host =
+      let answer : answer_on_tracks tracks (s.host h) 0x31 id true ≡ effect_answer Searches true (id_searched test.Equal id (found_as k r (host_for_command Searches ready))) =
+      ap (λ (c : Result Command UnitCheck). answer_by_checks tracks ready id true c) (search_admitted ready id opened_there long) ∙ search_is tracks ready id k r is under in
+      let host : cond (h == h) (answer_on_tracks tracks (s.host h) 0x31 id true).host (s.host h) ≡ (effect_answer Searches true (id_searched test.Equal id (found_as k r (host_for_command Searches ready)))).host =
       host_itself s.host h _ ∙ ap (λ (a : Answer). a.host) answer in
       let placed = opened_placed (s.host h) in
       record {
@@ -146,10 +146,10 @@ module _ (s : State) (h : ℕ) (there : is_some (s.host h).mounted ≡ true) whe
 
   -- the data of the record behind whose count the host stands
   read_gives : (k : ℕ) (r : RecordData) → (s.host h).chain_open ≡ true → (s.host h).position ≡ position.Count k → record_under s h k ≡ Some r → (plain s h (command 0x06 [] false)).0 ≡ done (status_of r) r.body
-  unfolding plain run
+  unfolding plain answer_on_tracks
   read_gives k r open_ is found =
-      ap (λ (x : HostState). (judged tracks x [] false (admitted x 0x06 [])).reply) (opened_open (s.host h) open_)
-      ∙ ap (λ (c : Result Command UnitCheck). (judged tracks (s.host h) [] false c).reply) (read_admitted (s.host h) [] there)
+      ap (λ (x : HostState). (answer_by_checks tracks x [] false (admitted_command x 0x06 [])).reply) (opened_open (s.host h) open_)
+      ∙ ap (λ (c : Result Command UnitCheck). (answer_by_checks tracks (s.host h) [] false c).reply) (read_admitted (s.host h) [] there)
       ∙ ap (λ (a : Answer). a.reply) (read_is tracks (s.host h) k r is found)
 
 -- ---- the whole chain
@@ -177,7 +177,7 @@ not_met id other long differ =
     unequal _ (λ same. differ (exact_bytes other (take 5 id) same ∙ whole))
 
 -- the host reads what it met
-met_is_read : (s : State) (h k : ℕ) (r : RecordData) → is_some (s.host h).mounted ≡ true → candidate (opened (s.host h)).position 0 ≡ k → record_under s h k ≡ Some r → length r.id ≡ 5
+met_is_read : (s : State) (h k : ℕ) (r : RecordData) → is_some (s.host h).mounted ≡ true → candidate (with_open_chain (s.host h)).position 0 ≡ k → record_under s h k ≡ Some r → length r.id ≡ 5
     → replies_of s (search_and_read h 0 r.id) ≡ met_and_read 0 r
 unfolding replies_of
 met_is_read s h k r there is found long =
@@ -193,7 +193,7 @@ earlier_there : (rs : List RecordData) (j k : ℕ) (r : RecordData) → j < k �
 earlier_there rs j k r below is = (get_or rs j blank_record, slice_get-get_or rs j blank_record (omega (arith, below, slice_get_within rs k r is)))
 
 -- after j searches, so many more until the record is met
-searches_meet : (times : ℕ) (s : State) (h j k : ℕ) (r : RecordData) → times + j ≡ k → is_some (s.host h).mounted ≡ true → candidate (opened (s.host h)).position 0 ≡ j → IsFirst s h k r
+searches_meet : (times : ℕ) (s : State) (h j k : ℕ) (r : RecordData) → times + j ≡ k → is_some (s.host h).mounted ≡ true → candidate (with_open_chain (s.host h)).position 0 ≡ j → IsFirst s h k r
     → replies_of s (search_and_read h times r.id) ≡ met_and_read times r
 unfolding replies_of
 searches_meet zero s h j k r e there is first = met_is_read s h j r there is (let same : j ≡ k = omega (arith, e) in rw same first.there) first.long
@@ -206,7 +206,7 @@ searches_meet (suc times) s h j k r e there is first =
     let still : is_some (t.host h).mounted ≡ true = ap is_some p.on.placed.mounted_ ∙ there in
     let differ : other.id ≢ r.id = first.earlier j other (omega (arith, e)) found in
     let status : search_status (is_met test.Equal (slice_cmp nat_cmp other.id (take 5 r.id))) ≡ DONE = ap search_status (not_met r.id other.id first.long differ) in
-    let next : candidate (opened (t.host h)).position 0 ≡ j + 1 = ap (λ (x : HostState). candidate x.position 0) (opened_open (t.host h) p.open_) ∙ ap (λ (x : Position). candidate x 0) p.position_ in
+    let next : candidate (with_open_chain (t.host h)).position 0 ≡ j + 1 = ap (λ (x : HostState). candidate x.position 0) (opened_open (t.host h) p.open_) ∙ ap (λ (x : Position). candidate x 0) p.position_ in
     let first_there : IsFirst t h k r = record {
       there = record_under-same h k s t p.on ∙ first.there;
       long = first.long;

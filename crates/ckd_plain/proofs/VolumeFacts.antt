@@ -10,9 +10,9 @@ use Rattle.ckd_track.specs.Data.{RecordData, Volumes}
 use Rattle.ckd_plain.specs.declared.host.HostState.{HostState}
 use Rattle.ckd_plain.specs.declared.unit_check.UnitCheck.{UnitCheck}
 use Rattle.ckd_plain.specs.Data.{State}
-use Rattle.ckd_plain.specs.Checks.{admitted}
+use Rattle.ckd_plain.specs.Checks.{admitted_command}
 use Rattle.ckd_plain.specs.Index.{Tracks}
-use Rattle.ckd_plain.specs.Plain.{Replied, opened, judged, run, plain, tracks_under, written_there, written_mounted, written_to}
+use Rattle.ckd_plain.specs.Plain.{Replied, with_open_chain, answer_by_checks, answer_on_tracks, plain, tracks_under, written_there, written_mounted, written_to}
 use Rattle.ckd_plain.specs.History.{IsWriteCommand}
 use Rattle.ckd_plain.specs.Laws.{IsUnderHead}
 use Rattle.ckd_plain.proofs.CommandFacts.{only_writes}
@@ -81,19 +81,19 @@ module _ (volumes : Volumes) (host : HostState) where
 -- ---- which calls write
 
 judged_writes : (tracks : Tracks) (host : HostState) (argument : List ℕ) (chained : Bool) (r : Result Command UnitCheck)
-    → ((c : Command) → r ≡ Ok c → IsTrue (is_write c) → ⊥) → (judged tracks host argument chained r).written ≡ None
+    → ((c : Command) → r ≡ Ok c → IsTrue (is_write c) → ⊥) → (answer_by_checks tracks host argument chained r).written ≡ None
 judged_writes tracks host argument chained (Err check) isn't = refl
 judged_writes tracks host argument chained (Ok c) isn't =
     elim (cases_Bool (is_write c)) [ inl writes ↦ absurd (isn't c refl writes) | inr writes ↦ only_writes tracks host c argument chained writes ]
 
 pub no_write : (s : State) (h : ℕ) (call : CallData) → (IsWriteCommand s h call → ⊥) → Leaves s.volumes (plain s h call)
-unfolding plain run
+unfolding plain answer_on_tracks
 no_write s h (mount volume bind) isn't = mount_leaves s h volume bind
 no_write s h demount isn't = demount_leaves s h
 no_write s h (break cause) isn't = refl
 no_write s h (command code argument chained) isn't =
     ap (λ (o : Option (List RecordData)). written_to s.volumes (s.host h) o)
-    (judged_writes (tracks_under s.volumes (s.host h)) (opened (s.host h)) argument chained (admitted (opened (s.host h)) code argument) (λ c is writes. isn't (c, is, writes)))
+    (judged_writes (tracks_under s.volumes (s.host h)) (with_open_chain (s.host h)) argument chained (admitted_command (with_open_chain (s.host h)) code argument) (λ c is writes. isn't (c, is, writes)))
     ∙ unwritten s.volumes (s.host h) (s.host h).mounted
 
 pub elsewhere_stays : (s : State) (h : ℕ) (call : CallData) (v c head : ℕ) → (IsUnderHead (s.host h) v c head → ⊥) → (plain s h call).1.volumes.track v c head ≡ s.volumes.track v c head

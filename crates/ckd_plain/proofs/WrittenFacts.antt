@@ -13,10 +13,10 @@ use Rattle.ckd_plain.specs.declared.host.Position.TheVariants as position
 use Rattle.ckd_plain.specs.declared.host.Prior.TheVariants as prior
 use Rattle.ckd_plain.specs.declared.unit_check.UnitCheck.{UnitCheck}
 use Rattle.ckd_plain.specs.Data.{State, record_zero, records_of}
-use Rattle.ckd_plain.specs.Checks.{◌>>=◌, admitted}
+use Rattle.ckd_plain.specs.Checks.{◌>>=◌, admitted_command}
 use Rattle.ckd_plain.specs.Index.{Tracks, Found, record_at, itself, same_record}
-use Rattle.ckd_plain.specs.Effects.{Outcome, DONE, prior_number, new_record, fits, formatted, write_, effect}
-use Rattle.ckd_plain.specs.Plain.{Answer, UNIT_CHECK, opened, cleared, answered, performed, judged, run, plain, tracks_under, tracks_mounted, with_track, written_to, written_mounted, written_there}
+use Rattle.ckd_plain.specs.Effects.{Outcome, DONE, prior_number, new_record, fits, format_outcome, write_, effect}
+use Rattle.ckd_plain.specs.Plain.{Answer, UNIT_CHECK, with_open_chain, host_for_command, outcome_answer, command_answer, answer_by_checks, answer_on_tracks, plain, tracks_under, tracks_mounted, with_track, written_to, written_mounted, written_there}
 use Rattle.ckd_plain.specs.Laws.{track_under, record_under, HasVolume, met_by, IsPutBehind, IsNewId, IsReadBack}
 use Rattle.ckd_plain.proofs.CheckFacts.{IsAdmitted, admitted_is}
 use Rattle.ckd_plain.proofs.HostFacts.{host_itself}
@@ -37,8 +37,8 @@ module _ (track : List RecordData) (host : HostState) (argument : List ℕ) (cha
   ends_with k = take k track ++ new_record argument ∷ []
 
   format_puts : (k : ℕ) (b : Bool) (r : RecordData) → record_at track host k ≡ Some r
-      → (answered Writes chained (formatted b (ends_with k) (record { number = k; item = r; host = host }))).reply ≡ done DONE []
-      → IsPut track host k (new_record argument) chained (answered Writes chained (formatted b (ends_with k) (record { number = k; item = r; host = host })))
+      → (outcome_answer Writes chained (format_outcome b (ends_with k) (record { number = k; item = r; host = host }))).reply ≡ done DONE []
+      → IsPut track host k (new_record argument) chained (outcome_answer Writes chained (format_outcome b (ends_with k) (record { number = k; item = r; host = host })))
   format_puts k true r is replied = record {
     there = (r, is);
     written_ = refl;
@@ -48,27 +48,27 @@ module _ (track : List RecordData) (host : HostState) (argument : List ℕ) (cha
   format_puts k false r is replied = absurd (let n : UNIT_CHECK ≡ DONE = cc in omega (arith, n))
 
   abbrev formats : Found → Outcome
-  formats found = let new = take found.number track ++ new_record argument ∷ [] in formatted (fits new) new found
+  formats found = let new = take found.number track ++ new_record argument ∷ [] in format_outcome (fits new) new found
 
-  itself_puts : (k : ℕ) (o : Option RecordData) → record_at track host k ≡ o → (answered Writes chained (itself k host o >>= formats)).reply ≡ done DONE []
-      → IsPut track host k (new_record argument) chained (answered Writes chained (itself k host o >>= formats))
+  itself_puts : (k : ℕ) (o : Option RecordData) → record_at track host k ≡ o → (outcome_answer Writes chained (itself k host o >>= formats)).reply ≡ done DONE []
+      → IsPut track host k (new_record argument) chained (outcome_answer Writes chained (itself k host o >>= formats))
   itself_puts k (Some r) is replied = format_puts k (fits (ends_with k)) r is replied
   itself_puts k None is replied = absurd (let n : UNIT_CHECK ≡ DONE = cc in omega (arith, n))
 
 module _ (tracks : Tracks) (host : HostState) (argument : List ℕ) (chained : Bool) where
-  pub performed_puts : (performed tracks host Writes argument chained).reply ≡ done DONE []
-      → IsPut (tracks host.head) (cleared Writes host) (prior_number host.prior) (new_record argument) chained (performed tracks host Writes argument chained)
-  unfolding performed effect write_ same_record
-  performed_puts replied = itself_puts (tracks host.head) (cleared Writes host) argument chained (prior_number host.prior) (record_at (tracks host.head) (cleared Writes host) (prior_number host.prior)) refl replied
+  pub performed_puts : (command_answer tracks host Writes argument chained).reply ≡ done DONE []
+      → IsPut (tracks host.head) (host_for_command Writes host) (prior_number host.prior) (new_record argument) chained (command_answer tracks host Writes argument chained)
+  unfolding command_answer effect write_ same_record
+  performed_puts replied = itself_puts (tracks host.head) (host_for_command Writes host) argument chained (prior_number host.prior) (record_at (tracks host.head) (host_for_command Writes host) (prior_number host.prior)) refl replied
 
   abbrev IsDone : Answer → Type 0
-  IsDone a = IsPut (tracks host.head) (cleared Writes host) (prior_number host.prior) (new_record argument) chained a × (8 ≤ length argument)
+  IsDone a = IsPut (tracks host.head) (host_for_command Writes host) (prior_number host.prior) (new_record argument) chained a × (8 ≤ length argument)
 
-  judged_puts : (r : Result Command UnitCheck) → ((c : Command) → r ≡ Ok c → IsAdmitted host 0x1D argument c) → (judged tracks host argument chained r).reply ≡ done DONE [] → IsDone (judged tracks host argument chained r)
+  judged_puts : (r : Result Command UnitCheck) → ((c : Command) → r ≡ Ok c → IsAdmitted host 0x1D argument c) → (answer_by_checks tracks host argument chained r).reply ≡ done DONE [] → IsDone (answer_by_checks tracks host argument chained r)
   judged_puts (Ok c) is replied =
       let admitted_ : IsAdmitted host 0x1D argument c = is c refl in
       let same : Writes ≡ c = let e : Some Writes ≡ Some c = admitted_.known_ in cc in
-      subst (λ (d : Command). IsAdmitted host 0x1D argument d → (performed tracks host d argument chained).reply ≡ done DONE [] → IsDone (performed tracks host d argument chained)) same
+      subst (λ (d : Command). IsAdmitted host 0x1D argument d → (command_answer tracks host d argument chained).reply ≡ done DONE [] → IsDone (command_answer tracks host d argument chained)) same
       (λ i q. (performed_puts q, i.passes.long)) admitted_ replied
   judged_puts (Err check) is replied = absurd (let n : UNIT_CHECK ≡ DONE = cc in omega (arith, n))
 
@@ -114,7 +114,7 @@ module _ (s : State) (h : ℕ) (argument : List ℕ) (chained : Bool) (volume : 
   after = (plain s h (command 0x1D argument chained)).1
 
   abbrev answer : Answer
-  answer = run (tracks_under s.volumes host) host 0x1D argument chained
+  answer = answer_on_tracks (tracks_under s.volumes host) host 0x1D argument chained
 
   -- the track under a host that is placed as it was
   track_written : (w : List RecordData) (there : HostState) → answer.written ≡ Some w → IsPlaced host there → tracks_under (written_to s.volumes host answer.written) there there.head ≡ w
@@ -134,20 +134,20 @@ module _ (s : State) (h : ℕ) (argument : List ℕ) (chained : Bool) (volume : 
     chain_ : chained ≡ false → (after.host h).chain_open ≡ false
 
   puts : (plain s h (command 0x1D argument chained)).0 ≡ done DONE [] → IsDoneThen
-  unfolding plain run
+  unfolding plain answer_on_tracks
   puts replied =
       let tracks : Tracks = tracks_under s.volumes host in
-      let d : IsDone tracks (opened host) argument chained answer = judged_puts tracks (opened host) argument chained (admitted (opened host) 0x1D argument) (λ c is. admitted_is (opened host) 0x1D argument c is) replied in
+      let d : IsDone tracks (with_open_chain host) argument chained answer = judged_puts tracks (with_open_chain host) argument chained (admitted_command (with_open_chain host) 0x1D argument) (λ c is. admitted_is (with_open_chain host) 0x1D argument c is) replied in
       let there : (after.host h) ≡ answer.host = host_itself s.host h answer.host in
       let opening = opened_placed host in
       let placed : IsPlaced host answer.host = record { mounted_ = d.0.placed.mounted_ ∙ opening.mounted_; cylinder_ = d.0.placed.cylinder_ ∙ opening.cylinder_; head_ = d.0.placed.head_ ∙ opening.head_ } in
-      let same_track : tracks (opened host).head ≡ track_under s h = ap (λ (n : ℕ). tracks n) opening.head_ in
-      let inside : met_by s h < length (records_of (cleared Writes (opened host)) (tracks (opened host).head)) = slice_get_within (records_of (cleared Writes (opened host)) (tracks (opened host).head)) (met_by s h) d.0.there.0 d.0.there.1 in
+      let same_track : tracks (with_open_chain host).head ≡ track_under s h = ap (λ (n : ℕ). tracks n) opening.head_ in
+      let inside : met_by s h < length (records_of (host_for_command Writes (with_open_chain host)) (tracks (with_open_chain host).head)) = slice_get_within (records_of (host_for_command Writes (with_open_chain host)) (tracks (with_open_chain host).head)) (met_by s h) d.0.there.0 d.0.there.1 in
       record {
         put = record {
           inside = omega (arith, inside, ap length same_track);
           track_ = ap (λ (x : HostState). tracks_under (written_to s.volumes host answer.written) x x.head) there
-              ∙ track_written (take (met_by s h) (tracks (opened host).head) ++ new_record argument ∷ []) answer.host d.0.written_ placed
+              ∙ track_written (take (met_by s h) (tracks (with_open_chain host).head) ++ new_record argument ∷ []) answer.host d.0.written_ placed
               ∙ ap (λ (track : List RecordData). take (met_by s h) track ++ new_record argument ∷ []) same_track;
         };
         placed = subst (λ (x : HostState). IsPlaced host x) (sym there) placed;
@@ -159,7 +159,7 @@ pub put_behind : (s : State) (h : ℕ) (argument : List ℕ) (chained : Bool) �
     → IsPutBehind h (met_by s h) (new_record argument) s (plain s h (command 0x1D argument chained)).1
 put_behind s h argument chained volume replied = (puts s h argument chained volume replied).put
 
-index_after : (host : HostState) → host.chain_open ≡ false → (opened host).position ≡ position.Start
+index_after : (host : HostState) → host.chain_open ≡ false → (with_open_chain host).position ≡ position.Start
 index_after host closed = ap (λ (b : Bool). (cond b host (record host { chain_open = true; mask = 0; position = position.Start; passes = 0; prior = prior.Nothing })).position) closed
 
 pub written_back : (s : State) (h : ℕ) (argument : List ℕ) → HasVolume s h → (plain s h (command 0x1D argument false)).0 ≡ done DONE [] → IsNewId s h (met_by s h) (new_record argument).id

@@ -28,9 +28,9 @@ abbrev pub number_at : List ℕ → ℕ → ℕ
 number_at argument i = slice_index argument i * 256 + slice_index argument (i + 1)
 
 -- the command of a code
-abbrev pub known : Option Command → Result Command UnitCheck
-known (Some command) = Ok command
-known None = Err check.CommandReject
+abbrev pub command_or_reject : Option Command → Result Command UnitCheck
+command_or_reject (Some command) = Ok command
+command_or_reject None = Err check.CommandReject
 
 -- Bits 3 and 4 of the file mask: 00 all seeks, 01 seek cylinder and seek head, 10 seek head, 11 no seek.
 abbrev pub is_seek_allowed : ℕ → Command → Bool
@@ -73,10 +73,10 @@ is_address (command.Seek _) argument =
 is_address _ argument = true
 
 -- the command, where it passes the checks, and else what the first that fails gives; sense alone needs no volume
-unfoldable pub admitted : HostState → ℕ → List ℕ → Result Command UnitCheck
-admitted host code argument = do
+unfoldable pub admitted_command : HostState → ℕ → List ℕ → Result Command UnitCheck
+admitted_command host code argument = do
   volume_is_there ← demand (is_some host.mounted || (code == 0x04)) check.InterventionRequired
-  command ← known (command_of code)
+  command ← command_or_reject (command_of code)
   is_long_enough ← demand (not (nat_lt (length argument) (least command))) check.CommandReject
   may_seek ← demand (is_seek_allowed host.mask command) check.FileProtected
   may_write ← demand (is_prior_permitted host.prior command && is_write_allowed host.mask command) check.CommandReject

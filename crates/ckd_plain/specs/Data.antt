@@ -24,8 +24,8 @@ abbrev pub records_of : HostState → List RecordData → List RecordData
 records_of host track = record_zero host ∷ track
 
 -- bytes cut, or padded with zeros, to n
-abbrev pub padded : ℕ → List ℕ → List ℕ
-padded n bytes = take n bytes ++ replicate (n - length bytes) 0
+abbrev pub padded_bytes : ℕ → List ℕ → List ℕ
+padded_bytes n bytes = take n bytes ++ replicate (n - length bytes) 0
 
 -- the state of the plain machine: the volumes, and each host by its number
 pub record State : Type 0 where

@@ -25,7 +25,7 @@ use Rattle.ckd_plain.specs.declared.host.Prior.{Prior}
 use Rattle.ckd_plain.specs.declared.host.Prior.TheVariants as prior
 use Rattle.ckd_plain.specs.declared.unit_check.Refusal.{Refusal}
 use Rattle.ckd_plain.specs.declared.unit_check.UnitCheck.TheVariants as check
-use Rattle.ckd_plain.specs.Data.{count_of, home_of, record_zero, padded}
+use Rattle.ckd_plain.specs.Data.{count_of, home_of, record_zero, padded_bytes}
 use Rattle.ckd_plain.specs.Checks.{◌>>=◌, number_at}
 use Rattle.ckd_plain.specs.Index.{Tracks, Found, next_record, same_record, to_home}
 
@@ -69,8 +69,8 @@ abbrev pub seek_done : SeekKind → HostState → List ℕ → HostState
 seek_done seek.Head host argument = record host { head = number_at argument 4; position = position.Start }
 seek_done _ host argument = record host { cylinder = number_at argument 2; head = number_at argument 4; position = position.Start }
 
-abbrev pub recalibrated : HostState → HostState
-recalibrated host = record host { cylinder = 0; head = 0; position = position.Start }
+abbrev pub at_cylinder_zero : HostState → HostState
+at_cylinder_zero host = record host { cylinder = 0; head = 0; position = position.Start }
 
 -- ---- the record at hand, behind whose count or key the host stands
 
@@ -152,10 +152,10 @@ record_zero_read there = effect_with DONE (count_of (record_zero there) ++ (reco
 abbrev pub home_read : HostState → Effect
 home_read there = effect_with DONE (home_of there) (record there { position = position.Home })
 
-unfoldable pub read : Tracks → HostState → ReadWhat → Bool → Outcome
-read tracks host what.Home multi = to_home host multi >>= λ there. Ok (home_read there)
-read tracks host what.RecordZero multi = to_home host multi >>= λ there. Ok (record_zero_read there)
-read tracks host what multi = this_or_next (at_hand what host.position) tracks host multi >>= λ found. Ok (record_given what found)
+unfoldable pub read_outcome : Tracks → HostState → ReadWhat → Bool → Outcome
+read_outcome tracks host what.Home multi = to_home host multi >>= λ there. Ok (home_read there)
+read_outcome tracks host what.RecordZero multi = to_home host multi >>= λ there. Ok (record_zero_read there)
+read_outcome tracks host what multi = this_or_next (at_hand what host.position) tracks host multi >>= λ found. Ok (record_given what found)
 
 -- ---- writes
 
@@ -171,23 +171,23 @@ abbrev pub with_record : List RecordData → ℕ → RecordData → List RecordD
 with_record track k r = slice_set track (k - 1) r
 
 abbrev pub with_body : RecordData → List ℕ → RecordData
-with_body r argument = record r { body = padded (length r.body) argument }
+with_body r argument = record r { body = padded_bytes (length r.body) argument }
 
 abbrev pub with_key_body : RecordData → List ℕ → RecordData
 with_key_body r argument =
-    let bytes = padded (length r.key + length r.body) argument in
+    let bytes = padded_bytes (length r.key + length r.body) argument in
     record r { key = take (length r.key) bytes; body = drop (length r.key) bytes }
 
 -- the record that a count, a key and data spell
 abbrev pub new_record : List ℕ → RecordData
 new_record argument =
     let key_length = slice_index argument 5 in
-    let bytes = padded (key_length + number_at argument 6) (drop 8 argument) in
+    let bytes = padded_bytes (key_length + number_at argument 6) (drop 8 argument) in
     record { id = take 5 argument; key = take key_length bytes; body = drop key_length bytes }
 
 -- record k becomes another of the same lengths
-abbrev pub updated : List RecordData → Found → RecordData → Outcome
-updated track found new = Ok (record {
+abbrev pub update_outcome : List RecordData → Found → RecordData → Outcome
+update_outcome track found new = Ok (record {
   status = status_of found.item;
   bytes = [];
   host = record found.host { position = position.Done found.number };
@@ -198,24 +198,25 @@ abbrev pub fits : List RecordData → Bool
 fits track = not (nat_lt TRACK_COST (cost track))
 
 -- the track ends with a new record behind record k
-abbrev pub formatted : Bool → List RecordData → Found → Outcome
-formatted true track found = Ok (record {
+abbrev pub format_outcome : Bool → List RecordData → Found → Outcome
+format_outcome true track found = Ok (record {
   status = DONE;
   bytes = [];
   host = record found.host { position = position.Done (found.number + 1); prior = prior.Wrote (found.number + 1) };
   written = Some track;
 })
-formatted false track found = Err (record { check = check.InvalidTrackFormat; host = found.host })
+format_outcome false track found = Err (record { check = check.InvalidTrackFormat; host = found.host })
 
 -- the track written, with the record that the command before left
 unfoldable pub write_ : List RecordData → HostState → Prior → WriteKind → List ℕ → Outcome
 write_ track host left write.Data argument =
-    same_record track host (prior_number left) >>= λ found. updated track found (with_body found.item argument)
+    same_record track host (prior_number left) >>= λ found. update_outcome track found (with_body found.item argument)
 write_ track host left write.KeyData argument =
-    same_record track host (prior_number left) >>= λ found. updated track found (with_key_body found.item argument)
+    same_record track host (prior_number left) >>= λ found.
+    update_outcome track found (with_key_body found.item argument)
 write_ track host left write.CountKeyData argument =
     same_record track host (prior_number left) >>= λ found.
-    let new = take found.number track ++ new_record argument ∷ [] in formatted (fits new) new found
+    let new = take found.number track ++ new_record argument ∷ [] in format_outcome (fits new) new found
 
 -- ---- every command
 
@@ -233,7 +234,7 @@ effect tracks host left command.SetSector argument = Ok (effect_with DONE [] hos
 effect tracks host left command.Sense argument = Ok (effect_with DONE host.sense host)
 effect tracks host left command.SetMask argument = Ok (effect_with DONE [] (record host { mask = slice_index argument 0 }))
 effect tracks host left (command.Seek kind) argument = Ok (effect_with DONE [] (seek_done kind host argument))
-effect tracks host left command.Recalibrate argument = Ok (effect_with DONE [] (recalibrated host))
+effect tracks host left command.Recalibrate argument = Ok (effect_with DONE [] (at_cylinder_zero host))
 effect tracks host left (command.Search field test multi) argument = search tracks host field test multi argument
-effect tracks host left (command.Read what multi) argument = read tracks host what multi
+effect tracks host left (command.Read what multi) argument = read_outcome tracks host what multi
 effect tracks host left (command.Write kind) argument = write_ (tracks host.head) host left kind argument

@@ -6,9 +6,9 @@ use Rattle.channel_commands.specs.Data.{CallData, command as ask, ReplyData, equ
 use Rattle.ckd_plain.specs.declared.unit_check.UnitCheck.{UnitCheck}
 use Rattle.ckd_plain.specs.declared.unit_check.UnitCheck.TheVariants as check
 use Rattle.ckd_plain.specs.Data.{State}
-use Rattle.ckd_plain.specs.Checks.{admitted}
+use Rattle.ckd_plain.specs.Checks.{admitted_command}
 use Rattle.ckd_plain.specs.Effects.{is_data}
-use Rattle.ckd_plain.specs.Plain.{opened, plain, checked, with_host}
+use Rattle.ckd_plain.specs.Plain.{with_open_chain, plain, host_after_check, with_host}
 
 -- an entry of a history: a host's call, which of its calls it is, from 1, the reply, and the fault behind the reply
 pub record EntryData : Type 0 where
@@ -22,7 +22,7 @@ pub record EntryData : Type 0 where
 
 -- the call is a command that passes the checks, of a kind that the test holds of
 abbrev pub Admits : (Command → Bool) → State → ℕ → CallData → Type 0
-Admits test s h (ask code argument chained) = (c : Command) × (admitted (opened (s.host h)) code argument ≡ Ok c) × IsTrue (test c)
+Admits test s h (ask code argument chained) = (c : Command) × (admitted_command (with_open_chain (s.host h)) code argument ≡ Ok c) × IsTrue (test c)
 Admits test s h _ = ⊥
 
 abbrev pub IsDataCommand : State → ℕ → CallData → Type 0
@@ -34,18 +34,18 @@ IsWriteCommand = Admits is_write
 -- ---- one entry
 
 -- the state after a reply that plain volumes don't give
-abbrev pub excepted : UnitCheck → State → ℕ → State
-excepted why s h = with_host s h (checked why (s.host h))
+abbrev pub state_after_check : UnitCheck → State → ℕ → State
+state_after_check why s h = with_host s h (host_after_check why (s.host h))
 
 abbrev pub left_by : ReplyData → State → ℕ → CallData → State
-left_by equipment_check s h call = excepted check.EquipmentCheck s h
-left_by no_space s h call = excepted check.NoSpace s h
+left_by equipment_check s h call = state_after_check check.EquipmentCheck s h
+left_by no_space s h call = state_after_check check.NoSpace s h
 left_by stopped s h call = s
 left_by _ s h call = (plain s h call).1
 
 -- the state after an entry
-unfoldable pub next : State → EntryData → State
-next s e = left_by e.reply s e.host e.call
+unfoldable pub state_after : State → EntryData → State
+state_after s e = left_by e.reply s e.host e.call
 
 -- the reply is the plain one, or one of the three exceptions in its place
 abbrev pub IsAnswered : State → EntryData → ReplyData → Type 0
@@ -80,7 +80,7 @@ count_of_host h entries = count_by (λ (e : EntryData). e.host == h) entries
 -- the state after a history
 abbrev pub after : State → List EntryData → State
 after s [] = s
-after s (e ∷ es) = after (next s e) es
+after s (e ∷ es) = after (state_after s e) es
 
 abbrev pub IsStopped : ReplyData → Type 0
 IsStopped stopped = Unit {0}
@@ -90,7 +90,7 @@ IsStopped _ = ⊥
 abbrev pub IsLegalAfter : List EntryData → State → List EntryData → Type 0
 IsLegalAfter before s [] = Unit {0}
 IsLegalAfter before s (e ∷ es) =
-    IsNextEntry s (count_of_host e.host before) e × (IsStopped e.reply → es ≡ []) × IsLegalAfter (before ++ e ∷ []) (next s e) es
+    IsNextEntry s (count_of_host e.host before) e × (IsStopped e.reply → es ≡ []) × IsLegalAfter (before ++ e ∷ []) (state_after s e) es
 
 abbrev pub IsLegal : State → List EntryData → Type 0
 IsLegal s entries = IsLegalAfter [] s entries

@@ -44,16 +44,17 @@ abbrev pub record_at : List RecordData → HostState → ℕ → Option RecordDa
 record_at track host k = slice_get (records_of host track) k
 
 -- a look at a track: the record, or what the looks past the index find
-abbrev pub looked : ℕ → HostState → Bool → Option RecordData → (HostState → Result Found Refusal) → Result Found Refusal
-looked k host multi (Some r) past = Ok (record { number = k; item = r; host = host })
-looked k host multi None past = pass_index host multi >>= past
+abbrev pub look_or_past : ℕ → HostState → Bool → Option RecordData
+    → (HostState → Result Found Refusal) → Result Found Refusal
+look_or_past k host multi (Some r) past = Ok (record { number = k; item = r; host = host })
+look_or_past k host multi None past = pass_index host multi >>= past
 
 -- the next record from m, where so many tracks may be looked at
 unfoldable pub next_within : ℕ → Tracks → HostState → ℕ → Bool → Result Found Refusal
 next_within zero tracks host m multi = Err (record { check = check.NoRecordFound; host = host })
 next_within (suc looks) tracks host m multi =
     let k = candidate host.position m in
-    looked k host multi (record_at (tracks host.head) host k) (λ passed. next_within looks tracks passed m multi)
+    look_or_past k host multi (record_at (tracks host.head) host k) (λ passed. next_within looks tracks passed m multi)
 
 -- 20 looks are as good as any number: a cylinder has HEADS tracks, and one track is looked at twice at most
 unfoldable pub next_record : Tracks → HostState → ℕ → Bool → Result Found Refusal

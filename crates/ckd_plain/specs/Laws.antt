@@ -8,10 +8,10 @@ use Rattle.ckd_plain.specs.declared.host.HostState.{HostState}
 use Rattle.ckd_plain.specs.declared.host.Position.TheVariants as position
 use Rattle.ckd_plain.specs.declared.unit_check.UnitCheck.{UnitCheck}
 use Rattle.ckd_plain.specs.Data.{State}
-use Rattle.ckd_plain.specs.Checks.{admitted}
+use Rattle.ckd_plain.specs.Checks.{admitted_command}
 use Rattle.ckd_plain.specs.Index.{Tracks, record_at}
 use Rattle.ckd_plain.specs.Effects.{Outcome, DONE, MET, status_of, prior_number, effect}
-use Rattle.ckd_plain.specs.Plain.{Replied, replies_of, UNIT_CHECK, sense_of, opened, cleared, tracks_under}
+use Rattle.ckd_plain.specs.Plain.{Replied, replies_of, UNIT_CHECK, sense_of, with_open_chain, host_for_command, tracks_under}
 
 -- ---- hosts and volumes
 
@@ -61,13 +61,13 @@ refusal_in (Ok e) = None
 refusal_in (Err r) = Some r.check
 
 abbrev pub check_of : Tracks → HostState → List ℕ → Result Command UnitCheck → Option UnitCheck
-check_of tracks host argument (Ok command) = refusal_in (effect tracks (cleared command host) host.prior command argument)
+check_of tracks host argument (Ok command) = refusal_in (effect tracks (host_for_command command host) host.prior command argument)
 check_of tracks host argument (Err check) = Some check
 
 -- the unit check that a host's command ends with, where it ends with one
 abbrev pub unit_check_of : State → ℕ → ℕ → List ℕ → Option UnitCheck
 unit_check_of s h code argument =
-    let host = opened (s.host h) in check_of (tracks_under s.volumes (s.host h)) host argument (admitted host code argument)
+    let host = with_open_chain (s.host h) in check_of (tracks_under s.volumes (s.host h)) host argument (admitted_command host code argument)
 
 -- host h was told of a unit check: its chain has ended, and its sense says which
 pub record IsChecked (check : UnitCheck) (h : ℕ) (replied : Replied) : Type 0 where
@@ -94,7 +94,7 @@ pub record IsFirst (s : State) (h k : ℕ) (r : RecordData) : Type 0 where
 -- host h has a volume, and its next command begins at the index
 pub record IsAtIndex (s : State) (h : ℕ) : Type 0 where
   pub mounted_ : IsSome (s.host h).mounted
-  pub index_ : (opened (s.host h)).position ≡ position.Start
+  pub index_ : (with_open_chain (s.host h)).position ≡ position.Start
 
 -- host h searches so often for an ID, once more, and reads data, in one chain
 abbrev pub search_and_read : ℕ → ℕ → List ℕ → List (ℕ × CallData)
@@ -117,7 +117,7 @@ pub record HasVolume (s : State) (h : ℕ) : Type 0 where
 
 -- the record behind which host h's next write count key data puts its own
 abbrev pub met_by : State → ℕ → ℕ
-met_by s h = prior_number (opened (s.host h)).prior
+met_by s h = prior_number (with_open_chain (s.host h)).prior
 
 -- between s and t the track under host h got this record behind record k, and ends with it
 pub record IsPutBehind (h k : ℕ) (new : RecordData) (s t : State) : Type 0 where

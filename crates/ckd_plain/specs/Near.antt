@@ -6,9 +6,9 @@ use Rattle.channel_commands.specs.declared.command.WriteKind.TheVariants as writ
 use Rattle.channel_commands.specs.Data.{CallData, command as ask, done}
 use Rattle.ckd_track.specs.Data.{RecordData, Volumes}
 use Rattle.ckd_plain.specs.Data.{State}
-use Rattle.ckd_plain.specs.Checks.{admitted}
+use Rattle.ckd_plain.specs.Checks.{admitted_command}
 use Rattle.ckd_plain.specs.Effects.{prior_number, with_record}
-use Rattle.ckd_plain.specs.Plain.{opened, plain, with_track, UNIT_CHECK}
+use Rattle.ckd_plain.specs.Plain.{with_open_chain, plain, with_track, UNIT_CHECK}
 
 -- other bytes of the same lengths in one record, in its data alone or in its key too
 pub record IsOverwritten (key_too : Bool) (old new : RecordData) : Type 0 where
@@ -37,7 +37,7 @@ WithTrackUnder s h V Leads =
 -- the plain machine does the write that the host's call asks for
 abbrev pub DoesWrite : State → ℕ → CallData → WriteKind → Type 0
 DoesWrite s h (ask code argument chained) kind =
-    (admitted (opened (s.host h)) code argument ≡ Ok (command.Write kind)) × ((plain s h (ask code argument chained)).0 ≢ done UNIT_CHECK [])
+    (admitted_command (with_open_chain (s.host h)) code argument ≡ Ok (command.Write kind)) × ((plain s h (ask code argument chained)).0 ≢ done UNIT_CHECK [])
 DoesWrite s h _ kind = ⊥
 
 -- What volumes a stop within a host's call may leave: those before it, those after it, or those with the record that

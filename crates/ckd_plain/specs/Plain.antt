@@ -16,7 +16,7 @@ use Rattle.ckd_plain.specs.declared.unit_check.Refusal.{Refusal}
 use Rattle.ckd_plain.specs.declared.unit_check.UnitCheck.{UnitCheck}
 use Rattle.ckd_plain.specs.declared.unit_check.UnitCheck.TheVariants as check
 use Rattle.ckd_plain.specs.Data.{State}
-use Rattle.ckd_plain.specs.Checks.{admitted}
+use Rattle.ckd_plain.specs.Checks.{admitted_command}
 use Rattle.ckd_plain.specs.Index.{Tracks}
 use Rattle.ckd_plain.specs.Effects.{Effect, Outcome, effect, is_data, END_OF_FILE}
 
@@ -48,8 +48,8 @@ abbrev pub UNIT_CHECK : ℕ
 UNIT_CHECK = 0x0E
 
 -- a chain opens where none is open
-abbrev pub opened : HostState → HostState
-opened host = if host.chain_open then host else record host { chain_open = true; mask = 0; position = position.Start; passes = 0; prior = prior.Nothing }
+abbrev pub with_open_chain : HostState → HostState
+with_open_chain host = if host.chain_open then host else record host { chain_open = true; mask = 0; position = position.Start; passes = 0; prior = prior.Nothing }
 
 abbrev pub keeps_sense : Command → Bool
 keeps_sense command.NoOp = true
@@ -57,8 +57,8 @@ keeps_sense command.Sense = true
 keeps_sense _ = false
 
 -- the prior is for one command, and so is the sense but with no-op and sense
-abbrev pub cleared : Command → HostState → HostState
-cleared command host = record host { prior = prior.Nothing; sense = (if keeps_sense command then host.sense else no_sense) }
+abbrev pub host_for_command : Command → HostState → HostState
+host_for_command command host = record host { prior = prior.Nothing; sense = (if keeps_sense command then host.sense else no_sense) }
 
 -- the commands that count the passes of a chain; each other one that ends without unit check sets them to 0
 abbrev pub keeps_passes : Command → Bool
@@ -68,24 +68,24 @@ keeps_passes (command.Read what.Count _) = true
 keeps_passes _ = false
 
 -- unit check ends the chain
-abbrev pub refused : Refusal → Answer
-refused r = record { reply = done UNIT_CHECK []; host = record r.host { chain_open = false; sense = sense_of r.check }; written = None }
+abbrev pub refusal_answer : Refusal → Answer
+refusal_answer r = record { reply = done UNIT_CHECK []; host = record r.host { chain_open = false; sense = sense_of r.check }; written = None }
 
 -- a command that a check refuses does nothing, but it was one command
 abbrev pub refused_by : UnitCheck → HostState → Answer
-refused_by check host = refused (record { check = check; host = record host { prior = prior.Nothing } })
+refused_by check host = refusal_answer (record { check = check; host = record host { prior = prior.Nothing } })
 
 -- the chain goes on where the call is chained and the status has no unit exception
-abbrev pub finished : Command → Bool → Effect → Answer
-finished command chained e = record {
+abbrev pub effect_answer : Command → Bool → Effect → Answer
+effect_answer command chained e = record {
   reply = done e.status e.bytes;
   host = record e.host { chain_open = chained && not (e.status == END_OF_FILE); passes = (if keeps_passes command then e.host.passes else 0) };
   written = e.written;
 }
 
-abbrev pub answered : Command → Bool → Outcome → Answer
-answered command chained (Ok e) = finished command chained e
-answered command chained (Err r) = refused r
+abbrev pub outcome_answer : Command → Bool → Outcome → Answer
+outcome_answer command chained (Ok e) = effect_answer command chained e
+outcome_answer command chained (Err r) = refusal_answer r
 
 -- the reply of a command that was carried out, with unit check or without
 abbrev pub IsDone : ReplyData → Type 0
@@ -103,16 +103,18 @@ pub record KeepsChain (chained : Bool) (reply : ReplyData) (host : HostState) : 
   pub smooth : host.chain_open ≡ true → IsSmooth reply
 
 -- a command that the checks admitted, of a host whose chain is open, on the tracks of its cylinder
-unfoldable pub performed : Tracks → HostState → Command → List ℕ → Bool → Answer
-performed tracks host command argument chained = answered command chained (effect tracks (cleared command host) host.prior command argument)
+unfoldable pub command_answer : Tracks → HostState → Command → List ℕ → Bool → Answer
+command_answer tracks host command argument chained =
+    outcome_answer command chained (effect tracks (host_for_command command host) host.prior command argument)
 
-abbrev pub judged : Tracks → HostState → List ℕ → Bool → Result Command UnitCheck → Answer
-judged tracks host argument chained (Ok command) = performed tracks host command argument chained
-judged tracks host argument chained (Err check) = refused_by check host
+abbrev pub answer_by_checks : Tracks → HostState → List ℕ → Bool → Result Command UnitCheck → Answer
+answer_by_checks tracks host argument chained (Ok command) = command_answer tracks host command argument chained
+answer_by_checks tracks host argument chained (Err check) = refused_by check host
 
 -- a command on the tracks of the host's cylinder
-unfoldable pub run : Tracks → HostState → ℕ → List ℕ → Bool → Answer
-run tracks host code argument chained = judged tracks (opened host) argument chained (admitted (opened host) code argument)
+unfoldable pub answer_on_tracks : Tracks → HostState → ℕ → List ℕ → Bool → Answer
+answer_on_tracks tracks host code argument chained =
+    answer_by_checks tracks (with_open_chain host) argument chained (admitted_command (with_open_chain host) code argument)
 
 -- ---- the state
 
@@ -145,8 +147,8 @@ written_to volumes host written = written_mounted volumes host.mounted host writ
 abbrev pub Replied : Type 0
 Replied = ReplyData × State
 
-abbrev pub commanded : State → ℕ → Answer → Replied
-commanded s h a = (a.reply, with_host (record s { volumes = written_to s.volumes (s.host h) a.written }) h a.host)
+abbrev pub reply_and_state : State → ℕ → Answer → Replied
+reply_and_state s h a = (a.reply, with_host (record s { volumes = written_to s.volumes (s.host h) a.written }) h a.host)
 
 -- the host with this volume mounted, which is read-only or not
 abbrev pub with_volume : HostState → ℕ → Bool → Bool → HostState
@@ -166,7 +168,7 @@ mark_for volumes _ = None
 
 -- the call looks at no track: it is no command, or one that the checks refuse, or no search, read or write
 abbrev pub NeedsNoTrack : HostState → CallData → Type 0
-NeedsNoTrack host (ask code argument chained) = (c : Command) → admitted (opened host) code argument ≡ Ok c → is_data c ≡ false
+NeedsNoTrack host (ask code argument chained) = (c : Command) → admitted_command (with_open_chain host) code argument ≡ Ok c → is_data c ≡ false
 NeedsNoTrack host _ = Unit {0}
 
 -- a mount of a volume that is read-only or not, where it is there
@@ -176,32 +178,32 @@ mounted_by host volume bind None = (no_volume, host)
 
 -- The reply to a call, and its host then, where no track has records; the mark says whether the volume that the call asks for
 -- is read-only, where it is there. The first reason against a mount stands.
-unfoldable pub responded : HostState → Option Bool → CallData → ReplyData × HostState
-responded host mark (mount volume bind) =
+unfoldable pub response_to : HostState → Option Bool → CallData → ReplyData × HostState
+response_to host mark (mount volume bind) =
     if host.chain_open then (in_chain, host)
     else if is_some host.mounted then (already_mounted, host)
     else mounted_by host volume bind mark
-responded host mark demount =
+response_to host mark demount =
     if host.chain_open then (in_chain, host)
     else if is_some host.mounted then (demounted, record host { mounted = None })
     else (not_mounted, host)
-responded host mark (break cause) = (break_reply cause, record host { chain_open = false })
-responded host mark (ask code argument chained) = let a = run (λ head. []) host code argument chained in (a.reply, a.host)
+response_to host mark (break cause) = (break_reply cause, record host { chain_open = false })
+response_to host mark (ask code argument chained) = let a = answer_on_tracks (λ head. []) host code argument chained in (a.reply, a.host)
 
 -- the state with a host's response
 abbrev pub with_response : State → ℕ → ReplyData × HostState → Replied
 with_response s h r = (r.0, with_host s h r.1)
 
 -- the host after a reply that plain volumes don't give: its chain ends, and its sense says why
-abbrev pub checked : UnitCheck → HostState → HostState
-checked why host = record host { chain_open = false; prior = prior.Nothing; sense = sense_of why }
+abbrev pub host_after_check : UnitCheck → HostState → HostState
+host_after_check why host = record host { chain_open = false; prior = prior.Nothing; sense = sense_of why }
 
 -- ---- every call
 
 -- the plain machine
 unfoldable pub plain : State → ℕ → CallData → Replied
-plain s h (ask code argument chained) = commanded s h (run (tracks_under s.volumes (s.host h)) (s.host h) code argument chained)
-plain s h call = with_response s h (responded (s.host h) (mark_for s.volumes call) call)
+plain s h (ask code argument chained) = reply_and_state s h (answer_on_tracks (tracks_under s.volumes (s.host h)) (s.host h) code argument chained)
+plain s h call = with_response s h (response_to (s.host h) (mark_for s.volumes call) call)
 
 -- ---- a session's start
 

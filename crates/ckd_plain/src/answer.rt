@@ -1,7 +1,7 @@
 // The steps round every command: what opens it, and what makes its reply.
 ghost use Rattle.std.specs.Prelude.{◌≡◌};
 ghost use Rattle.channel_commands.specs.Views.{reply_of};
-ghost use Rattle.ckd_plain.specs.Plain.{sense_of, opened, keeps_sense, cleared, keeps_passes, refused, refused_by, finished, KeepsChain};
+ghost use Rattle.ckd_plain.specs.Plain.{sense_of, with_open_chain, keeps_sense, host_for_command, keeps_passes, refusal_answer, refused_by, effect_answer, KeepsChain};
 ghost use Rattle.ckd_plain.specs.Views.{effect_of};
 
 use crate::done::{DoneCommand, END_OF_FILE, UNIT_CHECK};
@@ -32,7 +32,7 @@ pub fn sense_of(check: UnitCheck) -> [u8; 24]
 
 /// The host with a chain open: a new one, where none is.
 pub fn opened(host: &HostState) -> HostState
-    ensures { result ≡ opened host.now }
+    ensures { result ≡ with_open_chain host.now }
 {
     if host.chain_open {
         return *host;
@@ -55,7 +55,7 @@ fn keeps_sense(command: Command) -> bool
 
 /// The host as an admitted command finds it: no prior, and no sense but for no-op and sense.
 pub fn cleared(command: Command, host: &HostState) -> HostState
-    ensures { result ≡ cleared command host.now }
+    ensures { result ≡ host_for_command command host.now }
 {
     HostState {
         prior: Prior::Nothing,
@@ -80,8 +80,8 @@ fn keeps_passes(command: Command) -> bool
 
 /// The reply of a command that ended with unit check; the host's chain ends.
 pub fn refused(alloc: Global, host: &mut HostState, refusal: &Refusal) -> Reply
-    ensures reply_ { reply_of result ≡ (refused refusal.now).reply }
-    ensures host_ { host.new ≡ (refused refusal.now).host }
+    ensures reply_ { reply_of result ≡ (refusal_answer refusal.now).reply }
+    ensures host_ { host.new ≡ (refusal_answer refusal.now).host }
 {
     *host = HostState {
         chain_open: false,
@@ -110,8 +110,8 @@ pub fn refused_by(alloc: Global, check: UnitCheck, host: &mut HostState) -> Repl
 }
 
 fn finish(host: &mut HostState, command: Command, chained: bool, done: DoneCommand) -> Reply
-    ensures reply_ { reply_of result ≡ (finished command chained (effect_of done)).reply }
-    ensures host_ { host.new ≡ (finished command chained (effect_of done)).host }
+    ensures reply_ { reply_of result ≡ (effect_answer command chained (effect_of done)).reply }
+    ensures host_ { host.new ≡ (effect_answer command chained (effect_of done)).host }
 {
     let DoneCommand {
         status,
@@ -133,8 +133,8 @@ fn finish(host: &mut HostState, command: Command, chained: bool, done: DoneComma
 /// The reply of a command that ended without unit check; the host's chain goes on where it is chained and met no end
 /// of file.
 pub fn finished(host: &mut HostState, command: Command, chained: bool, done: DoneCommand) -> Reply
-    ensures reply_ { reply_of result ≡ (finished command chained (effect_of done)).reply }
-    ensures host_ { host.new ≡ (finished command chained (effect_of done)).host }
+    ensures reply_ { reply_of result ≡ (effect_answer command chained (effect_of done)).reply }
+    ensures host_ { host.new ≡ (effect_answer command chained (effect_of done)).host }
     ensures chain { KeepsChain chained (reply_of result) host.new }
 {
     finish(host, command, chained, done)

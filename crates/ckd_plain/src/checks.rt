@@ -1,7 +1,7 @@
 // The checks that a command passes before it does anything.
 ghost use Rattle.std.specs.Prelude.{◌≡◌, ◌+◌, ◌<◌, ◌≤◌, length, IfOk};
 ghost use Rattle.channel_commands.specs.Codes.{least};
-ghost use Rattle.ckd_plain.specs.Checks.{number_at, is_seek_allowed, is_write_allowed, is_prior_permitted, is_change_allowed, is_address, admitted, Passes};
+ghost use Rattle.ckd_plain.specs.Checks.{number_at, is_seek_allowed, is_write_allowed, is_prior_permitted, is_change_allowed, is_address, admitted_command, Passes};
 
 use crate::host::{HostState, Prior};
 use crate::unit_check::UnitCheck;
@@ -74,9 +74,9 @@ fn is_address(command: Command, argument: &[u8]) -> bool
 
 /// The command of a code, where it passes the checks for a host whose chain is open; else what the first check that
 /// fails gives.
-#[tactic(auto, unfolding(crate::specs::Checks::admitted))]
+#[tactic(auto, unfolding(crate::specs::Checks::admitted_command))]
 pub fn admitted(host: &HostState, code: u8, argument: &[u8]) -> Result<Command, UnitCheck>
-    ensures value { result ≡ admitted host.now code argument.now }
+    ensures value { result ≡ admitted_command host.now code argument.now }
     ensures passes { IfOk result (λ command. Passes host.now command argument.now) }
 {
     if host.mounted.is_none() && code != 0x04 {

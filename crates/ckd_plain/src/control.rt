@@ -6,7 +6,7 @@ ghost use Rattle.ckd_plain.specs.declared.host.Prior.{Prior};
 ghost use Rattle.ckd_plain.specs.Checks.{is_address, Passes};
 ghost use Rattle.ckd_plain.specs.Effects.{is_data, effect, seek_done};
 ghost use Rattle.ckd_plain.specs.Index.{Tracks};
-ghost use Rattle.ckd_plain.specs.Plain.{opened, performed, IsDone, KeepsChain};
+ghost use Rattle.ckd_plain.specs.Plain.{with_open_chain, command_answer, IsDone, KeepsChain};
 ghost use Rattle.ckd_plain.specs.Views.{Responds};
 ghost use Rattle.ckd_plain.specs.Views.{effect_of};
 
@@ -96,7 +96,7 @@ pub fn control(
 /// A control command or a sense that passed its checks, with its reply.
 ///
 /// After want of memory the host is as it was.
-#[tactic(auto, unfolding(crate::specs::Plain::performed))]
+#[tactic(auto, unfolding(crate::specs::Plain::command_answer))]
 pub fn run_control(
     alloc: Global,
     command: Command,
@@ -104,13 +104,13 @@ pub fn run_control(
     chained: bool,
     host: &mut HostState,
 ) -> Result<Reply, NoMemory>
-    requires passes { Passes (opened host.old) command argument.now }
+    requires passes { Passes (with_open_chain host.old) command argument.now }
     requires no_track { is_data command ≡ false }
     ensures answer { IfOk result (λ reply. (tracks : Tracks)
-        → Responds (performed tracks (opened host.old) command argument.now chained) host.new
+        → Responds (command_answer tracks (with_open_chain host.old) command argument.now chained) host.new
         reply) }
     ensures unwritten { IfOk result (λ reply. (tracks : Tracks)
-        → (performed tracks (opened host.old) command argument.now chained).written ≡ None) }
+        → (command_answer tracks (with_open_chain host.old) command argument.now chained).written ≡ None) }
     ensures done { IfOk result (λ reply. IsDone (reply_of reply)) }
     ensures chain { IfOk result (λ reply. KeepsChain chained (reply_of reply) host.new) }
     ensures mounted { host.new.mounted ≡ host.old.mounted }

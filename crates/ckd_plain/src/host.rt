@@ -1,6 +1,6 @@
 // What the plain machine keeps of a host.
 ghost use Rattle.std.specs.Prelude.{◌≡◌};
-ghost use Rattle.ckd_plain.specs.Effects.{recalibrated, prior_number};
+ghost use Rattle.ckd_plain.specs.Effects.{at_cylinder_zero, prior_number};
 ghost use Rattle.ckd_plain.specs.Plain.{fresh_host, with_volume};
 
 use mss_base::{Cylinder, Head, VolumeNo};
@@ -102,7 +102,7 @@ impl HostState {
 
     /// The host at the start of its volume's first track.
     pub fn recalibrated(&self) -> HostState
-        ensures { result ≡ recalibrated self.now }
+        ensures { result ≡ at_cylinder_zero self.now }
     {
         let (cylinder, head) = origin();
         HostState {

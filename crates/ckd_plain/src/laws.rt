@@ -4,16 +4,16 @@ ghost use Rattle.std.specs.Prelude.{◌≡◌, ◌≢◌, ◌+◌, ◌≤◌, �
 ghost use Rattle.channel_commands.specs.Data.{CallData, command, done, equipment_check, no_space, stopped};
 ghost use Rattle.ckd_track.specs.Data.{RecordData, Volumes};
 ghost use Rattle.ckd_plain.specs.Data.{State};
-ghost use Rattle.ckd_plain.specs.History.{EntryData, IsLegal, IsNextEntry, IsAlone, IsStopped, HasNoStop, IsDataCommand, IsWriteCommand, after, next, excepted, count_of_host};
+ghost use Rattle.ckd_plain.specs.History.{EntryData, IsLegal, IsNextEntry, IsAlone, IsStopped, HasNoStop, IsDataCommand, IsWriteCommand, after, state_after, state_after_check, count_of_host};
 ghost use Rattle.channel_commands.specs.Codes.{is_write};
 ghost use Rattle.channel_commands.specs.declared.command.Command.{Command};
 ghost use Rattle.ckd_plain.specs.declared.host.HostState.{HostState};
 ghost use Rattle.ckd_plain.specs.declared.unit_check.UnitCheck.{UnitCheck};
-ghost use Rattle.ckd_plain.specs.Checks.{admitted, Passes};
+ghost use Rattle.ckd_plain.specs.Checks.{admitted_command, Passes};
 ghost use Rattle.ckd_plain.specs.Effects.{DONE, new_record, is_data};
 ghost use Rattle.ckd_plain.specs.Index.{Tracks, next_within, next_record};
 ghost use Rattle.ckd_plain.specs.Laws.{IsSameFor, IsUnderHead, IsWithinCost, HasTracks, HasBytes, unit_check_of, IsChecked, IsAtIndex, IsFirst, IsReadBack, HasVolume, met_by, IsPutBehind, IsNewId, HasNoBytes, KnowMarks};
-ghost use Rattle.ckd_plain.specs.Plain.{UNIT_CHECK, sense_of, no_sense, keeps_sense, opened, performed, run, plain, NeedsNoTrack, responded, mark_for, with_response, start_of};
+ghost use Rattle.ckd_plain.specs.Plain.{UNIT_CHECK, sense_of, no_sense, keeps_sense, with_open_chain, command_answer, answer_on_tracks, plain, NeedsNoTrack, response_to, mark_for, with_response, start_of};
 
 use crate::unit_check::UnitCheck;
 use mss_base::HEADS;
@@ -45,7 +45,7 @@ pub fn plain_entry_is_next()
     ensures { (s : State) (before : ℕ) (e : EntryData) → e.reply ≡ (plain s e.host e.call).0
         → e.number ≡ before + 1 → e.fault ≡ None
         → IsAlone s e.host e.call
-        → IsNextEntry s before e × (next s e ≡ (plain s e.host e.call).1) }
+        → IsNextEntry s before e × (state_after s e ≡ (plain s e.host e.call).1) }
 {}
 
 /// An equipment check with its fault may come next in place of a data command's reply. It leaves the volumes, ends the
@@ -54,7 +54,7 @@ pub fn equipment_entry_is_next()
     ensures { (s : State) (before : ℕ) (e : EntryData) → e.reply ≡ equipment_check
         → e.number ≡ before + 1 → IsSome e.fault
         → IsDataCommand s e.host e.call → IsAlone s e.host e.call
-        → IsNextEntry s before e × (next s e ≡ excepted UnitCheck.EquipmentCheck s e.host) }
+        → IsNextEntry s before e × (state_after s e ≡ state_after_check UnitCheck.EquipmentCheck s e.host) }
 {}
 
 /// The same of no-space, which has no fault.
@@ -62,7 +62,7 @@ pub fn no_space_entry_is_next()
     ensures { (s : State) (before : ℕ) (e : EntryData) → e.reply ≡ no_space → e.number ≡ before + 1
         → e.fault ≡ None
         → IsDataCommand s e.host e.call → IsAlone s e.host e.call
-        → IsNextEntry s before e × (next s e ≡ excepted UnitCheck.NoSpace s e.host) }
+        → IsNextEntry s before e × (state_after s e ≡ state_after_check UnitCheck.NoSpace s e.host) }
 {}
 
 /// A stopped write with its fault may come next, and leaves the state.
@@ -70,7 +70,7 @@ pub fn stopped_entry_is_next()
     ensures { (s : State) (before : ℕ) (e : EntryData) → e.reply ≡ stopped → e.number ≡ before + 1
         → IsSome e.fault
         → IsWriteCommand s e.host e.call → IsAlone s e.host e.call
-        → IsNextEntry s before e × (next s e ≡ s) }
+        → IsNextEntry s before e × (state_after s e ≡ s) }
 {}
 
 /// The definition looks at twenty tracks for the next record; more looks find the same.
@@ -84,41 +84,41 @@ pub fn twenty_looks_suffice()
 pub fn only_writes_write()
     ensures { (tracks : Tracks) (host : HostState) (c : Command) (argument : List ℕ)
         (chained : Bool) → is_write c ≡ false
-        → (performed tracks host c argument chained).written ≡ None }
+        → (command_answer tracks host c argument chained).written ≡ None }
 {}
 
 /// An admitted command that is no search, read or write answers the same on all tracks.
 pub fn control_sees_no_track()
     ensures { (a b : Tracks) (host : HostState) (c : Command) (argument : List ℕ) (chained : Bool)
         → is_data c ≡ false
-        → performed a host c argument chained ≡ performed b host c argument chained }
+        → command_answer a host c argument chained ≡ command_answer b host c argument chained }
 {}
 
 /// A call that needs no track is answered by its host and by which volumes there are, and leaves the volumes.
 pub fn call_without_track()
     ensures { (s : State) (h : ℕ) (call : CallData) → NeedsNoTrack (s.host h) call
         → plain s h call ≡ with_response s h
-        (responded (s.host h) (mark_for s.volumes call) call) }
+        (response_to (s.host h) (mark_for s.volumes call) call) }
 {}
 
 /// The reply to a write has no bytes.
 pub fn write_gives_no_bytes()
     ensures { (tracks : Tracks) (host : HostState) (c : Command) (argument : List ℕ)
         (chained : Bool) → is_write c ≡ true
-        → HasNoBytes (performed tracks host c argument chained).reply }
+        → HasNoBytes (command_answer tracks host c argument chained).reply }
 {}
 
 /// A write that passes its checks is in an open chain, so opening one changes nothing.
 pub fn writes_are_in_chain()
-    ensures { (host : HostState) (c : Command) (argument : List ℕ) → Passes (opened host) c argument
+    ensures { (host : HostState) (c : Command) (argument : List ℕ) → Passes (with_open_chain host) c argument
         → is_write c ≡ true
-        → opened host ≡ host }
+        → with_open_chain host ≡ host }
 {}
 
 /// A command leaves its host's volume mounted.
 pub fn volume_stays_mounted()
     ensures { (tracks : Tracks) (host : HostState) (code : ℕ) (argument : List ℕ) (chained : Bool)
-        → (run tracks host code argument chained).host.mounted ≡ host.mounted }
+        → (answer_on_tracks tracks host code argument chained).host.mounted ≡ host.mounted }
 {}
 
 /// A call sees the volumes and its own host alone: two states that have the same of both give the same reply, and have
@@ -147,16 +147,16 @@ pub fn only_the_track_under_a_write_changes()
 /// changes which volumes are.
 pub fn hosts_know_their_marks()
     ensures marks { (s : State) (e : EntryData)
-        → (next s e).volumes.read_only ≡ s.volumes.read_only }
+        → (state_after s e).volumes.read_only ≡ s.volumes.read_only }
     ensures start { (volumes : Volumes) → KnowMarks (start_of volumes) }
-    ensures kept { (s : State) (e : EntryData) → KnowMarks s → KnowMarks (next s e) }
+    ensures kept { (s : State) (e : EntryData) → KnowMarks s → KnowMarks (state_after s e) }
 {}
 
 /// Nothing in a history changes a track of a read-only volume.
 pub fn read_only_volumes_stay()
     ensures { (s : State) (e : EntryData) (v c head : ℕ) → KnowMarks s
         → IsTrue (s.volumes.read_only v)
-        → (next s e).volumes.track v c head ≡ s.volumes.track v c head }
+        → (state_after s e).volumes.track v c head ≡ s.volumes.track v c head }
 {}
 
 /// No track ever costs more than 13,165, and where arguments are bytes, tracks stay tracks.
@@ -193,7 +193,7 @@ pub fn sense_tells_the_unit_check()
 /// A command that ends without unit check clears the sense, but for no-op and sense, which leave it.
 pub fn next_command_clears_the_sense()
     ensures { (s : State) (h code : ℕ) (argument : List ℕ) (chained : Bool) (c : Command)
-        → admitted (opened (s.host h)) code argument ≡ Ok c → unit_check_of s h code argument ≡ None
+        → admitted_command (with_open_chain (s.host h)) code argument ≡ Ok c → unit_check_of s h code argument ≡ None
         → ((plain s h (command code argument chained)).1.host h).sense
         ≡ (if keeps_sense c then (s.host h).sense else no_sense) }
 {}

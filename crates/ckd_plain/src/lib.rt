@@ -8,6 +8,10 @@
 //! Of the proofs the layers above may cite: `Entries` and `Histories`, on which entries may come next and what a history
 //! leaves; `CommandFacts`, `WriteFacts` and `SenseFacts`, on what a command never does, what a write needs and what sense
 //! tells; `ResponseFacts`, on calls that need no track.
+//!
+//! Layers above also cite lemmas of `proofs/`: when a chain goes on (`ChainFacts`), what the checks say of an
+//! admitted command (`CheckFacts`), what a call leaves of the other hosts (`HostFacts`) and of the volumes
+//! (`VolumeFacts`), one look of a search (`IndexFacts`), and how many records a track has (`TrackFacts`).
 #![tactic(auto)]
 
 mod answer;

@@ -1,7 +1,7 @@
 // Reads.
 ghost use Rattle.std.specs.Prelude.{◌≡◌, ◌++◌, IfOk, true};
 ghost use Rattle.ckd_track.specs.Data.{HasCount};
-ghost use Rattle.ckd_plain.specs.Effects.{at_hand, record_given, record_zero_read, home_read, read};
+ghost use Rattle.ckd_plain.specs.Effects.{at_hand, record_given, record_zero_read, home_read, read_outcome};
 ghost use Rattle.ckd_plain.specs.Views.{item_of, found_of, effect_of};
 
 use crate::done::{DONE, DoneCommand};

@@ -2,7 +2,7 @@
 ghost use Rattle.std.specs.Prelude.{◌≡◌, Bool, Option, None, false, [], IfOk, OnErr};
 ghost use Rattle.channel_commands.specs.Data.{mount, demount, is_command};
 ghost use Rattle.channel_commands.specs.Views.{asked_of, call_of, reply_of};
-ghost use Rattle.ckd_plain.specs.Plain.{NeedsNoTrack, responded, break_reply, checked};
+ghost use Rattle.ckd_plain.specs.Plain.{NeedsNoTrack, response_to, break_reply, host_after_check};
 
 use crate::answer::{opened, refused_by, sense_of};
 use crate::checks::admitted;
@@ -15,7 +15,7 @@ use std::alloc::Global;
 
 /// The host after a reply that plain volumes don't give: its chain is over, and its sense says why.
 pub fn checked(check: UnitCheck, host: &HostState) -> HostState
-    ensures { result ≡ checked check host.now }
+    ensures { result ≡ host_after_check check host.now }
 {
     HostState {
         chain_open: false,
@@ -25,9 +25,9 @@ pub fn checked(check: UnitCheck, host: &HostState) -> HostState
     }
 }
 
-#[tactic(auto, unfolding(crate::specs::Plain::responded))]
+#[tactic(auto, unfolding(crate::specs::Plain::response_to))]
 fn mount(host: &HostState, mark: Option<bool>, volume: VolumeNo, bind: bool) -> (Reply, HostState)
-    ensures { (reply_of result.0, result.1) ≡ responded host.now mark (mount volume bind) }
+    ensures { (reply_of result.0, result.1) ≡ response_to host.now mark (mount volume bind) }
 {
     if host.chain_open {
         return (Reply::InChain, *host);
@@ -41,9 +41,9 @@ fn mount(host: &HostState, mark: Option<bool>, volume: VolumeNo, bind: bool) -> 
     }
 }
 
-#[tactic(auto, unfolding(crate::specs::Plain::responded))]
+#[tactic(auto, unfolding(crate::specs::Plain::response_to))]
 fn demount(host: &HostState) -> (Reply, HostState)
-    ensures { (reply_of result.0, result.1) ≡ responded host.now None demount }
+    ensures { (reply_of result.0, result.1) ≡ response_to host.now None demount }
 {
     if host.chain_open {
         return (Reply::InChain, *host);
@@ -69,10 +69,10 @@ fn break_reply(cause: BreakCause) -> Reply
 
 /// The reply to a call that is no command, and the host then; `mark` says whether the volume that the call asks for is
 /// read-only, and is None where there is no such volume.
-#[tactic(auto, unfolding(crate::specs::Plain::responded))]
+#[tactic(auto, unfolding(crate::specs::Plain::response_to))]
 pub fn respond(host: &HostState, mark: Option<bool>, call: &Call) -> (Reply, HostState)
     requires { is_command (call_of call.now) ≡ false }
-    ensures { (reply_of result.0, result.1) ≡ responded host.now mark (call_of call.now) }
+    ensures { (reply_of result.0, result.1) ≡ response_to host.now mark (call_of call.now) }
 {
     match call {
         Call::Mount { volume, bind } => mount(host, mark, *volume, *bind),
@@ -99,7 +99,7 @@ pub fn respond_command(
     requires { NeedsNoTrack host.old (asked_of command.now) }
     ensures answer { IfOk result (λ reply. (mark : Option Bool)
         → (reply_of reply, host.new)
-        ≡ responded host.old mark (asked_of command.now)) }
+        ≡ response_to host.old mark (asked_of command.now)) }
     ensures host_stays { OnErr result (host.new ≡ host.old) }
 {
     let mut now = opened(host);

@@ -5,8 +5,8 @@ use Rattle.std.proofs.lemmas.Bool.{le-ltb, cases_lt, cases_Bool, eqb-true}
 use Rattle.mss_base.specs.Content.{splice, length-splice}
 use Rattle.mss_base.proofs.ContentLemmas.{get_or-splice_below, get_or-splice_above, get_or-splice_in}
 use Rattle.ckd_track.specs.Data.{RecordData, cost, cost_of, cost_of_lengths}
-use Rattle.ckd_track.specs.Track.{reading_of, key_length, data_length, record_length, record_at, cost_at, is_open, before, reached, reading_from, reading, place_after}
-use Rattle.ckd_track.specs.Formatting.{IsRecord, formatted, Front, EndsAfter, Holds}
+use Rattle.ckd_track.specs.Track.{reading_of, key_length, data_length, record_length, record_at, cost_at, is_open, before, reading_by_gate, reading_from, reading, place_after}
+use Rattle.ckd_track.specs.Formatting.{IsRecord, formatted_records, Front, EndsAfter, Holds}
 use Rattle.ckd_track.proofs.ReadLemmas.{closed_ends, prepend, prepend-nil}
 use Rattle.ckd_track.proofs.TrackFacts.{cost_of_lengths-ge, own_cost}
 use Rattle.ckd_track.proofs.FrontLemmas.{reading_front, place_after-ge, front_inside}
@@ -18,7 +18,7 @@ unfolding reading_from
 one_more most number place spent b opened inside cheap closed =
     let runs : nat_lt (length b) (place + record_length place b) ≡ false = le-ltb _ _ inside in
     let over : nat_lt 13165 (spent + cost_at place b) ≡ false = le-ltb _ _ cheap in
-    (λ i. reached (opened i) (runs i) (over i) number (record_at place b) (reading_from most (number + 1) (place + record_length place b) (spent + cost_at place b) b))
+    (λ i. reading_by_gate (opened i) (runs i) (over i) number (record_at place b) (reading_from most (number + 1) (place + record_length place b) (spent + cost_at place b) b))
     ∙ ap (before (record_at place b)) (closed_ends most (number + 1) (place + record_length place b) (spent + cost_at place b) b closed)
 
 module _ (n left : ℕ) (small : suc left + n ≡ 98) (a b : List ℕ) (there : n ≤ length (reading a).records) where
@@ -34,7 +34,7 @@ module _ (n left : ℕ) (small : suc left + n ≡ 98) (a b : List ℕ) (there : 
       ∙ prepend-nil (take n (reading a).records)
 
   ends_with : (r : RecordData) → Front n a b → is_open (n + 1) b ≡ true → is_open (n + 2) b ≡ false → record_at (place_after n 256 a) b ≡ r
-      → place_after n 256 a + record_length (place_after n 256 a) b ≤ length b → cost (take n (reading a).records) + cost_at (place_after n 256 a) b ≤ 13165 → reading b ≡ reading_of (formatted n r (reading a).records)
+      → place_after n 256 a + record_length (place_after n 256 a) b ≤ length b → cost (take n (reading a).records) + cost_at (place_after n 256 a) b ≤ 13165 → reading b ≡ reading_of (formatted_records n r (reading a).records)
   ends_with r front opened next is inside cheap =
       let second : n + 1 + 1 ≡ n + 2 = omega arith in
       front_is front ∙ ap (prepend (take n (reading a).records)) (one_more left (n + 1) (place_after n 256 a) (cost (take n (reading a).records)) b opened inside cheap (ap (λ (k : ℕ). is_open k b) second ∙ next))
@@ -143,7 +143,7 @@ holds_written place bytes b inside = λ j lt. get_or-splice_in place bytes b (pl
 -- opening the gate: the track ends before the record, or with it
 pub opening : (n left : ℕ) (bytes a b gate_bytes : List ℕ) → suc left + n ≡ 98 → n ≤ length (reading a).records → length a ≡ 16384 → EndsAfter n a b → is_open (n + 2) b ≡ false
     → IsRecord bytes → Holds (place_after n 256 a) bytes b → cost (take n (reading a).records) + cost_of (record_at 0 bytes) ≤ 13165 → length gate_bytes ≡ 1
-    → EndsAfter n a (splice (129 + n) gate_bytes b) ⊎ (reading (splice (129 + n) gate_bytes b) ≡ reading_of (formatted n (record_at 0 bytes) (reading a).records))
+    → EndsAfter n a (splice (129 + n) gate_bytes b) ⊎ (reading (splice (129 + n) gate_bytes b) ≡ reading_of (formatted_records n (record_at 0 bytes) (reading a).records))
 opening n left bytes a b gate_bytes small there long ends next is holds cheap one =
     let new = splice (129 + n) gate_bytes b in
     let len_b : length b ≡ 16384 = ends.front.long ∙ long in

@@ -4,7 +4,7 @@ use Rattle.std.proofs.lemmas.List.{ext_get_or, get_or-take, get_or-drop, length-
 use Rattle.std.proofs.lemmas.List.Sums.{sum_by-cons}
 use Rattle.std.proofs.lemmas.Bool.{ltb-false}
 use Rattle.ckd_track.specs.Data.{RecordData, cost, cost_of, cost_of_lengths}
-use Rattle.ckd_track.specs.Track.{Reading, key_length, data_length, record_length, record_at, cost_at, is_open, before, reached, reading_from, reading, place_after}
+use Rattle.ckd_track.specs.Track.{Reading, key_length, data_length, record_length, record_at, cost_at, is_open, before, reading_by_gate, reading_from, reading, place_after}
 use Rattle.ckd_track.specs.Formatting.{SameBytes}
 use Rattle.ckd_track.proofs.ReadLemmas.{prepend}
 use Rattle.ckd_track.proofs.TrackFacts.{cost_of-record_at, cost_of_lengths-ge, cost-ge_length}
@@ -21,7 +21,7 @@ unfolding place_after
 place_after-ge zero place a = omega arith
 place_after-ge (suc n) place a = omega (arith, place_after-ge n (place + record_length place a) a)
 
-reached_has : (open_gate past over : Bool) (number : ℕ) (r : RecordData) (rest : Reading) (n : ℕ) → suc n ≤ length (reached open_gate past over number r rest).records
+reached_has : (open_gate past over : Bool) (number : ℕ) (r : RecordData) (rest : Reading) (n : ℕ) → suc n ≤ length (reading_by_gate open_gate past over number r rest).records
     → (open_gate ≡ true) × (past ≡ false) × (over ≡ false)
 reached_has false past over number r rest n le = absurd (omega arith)
 reached_has true true over number r rest n le = absurd (omega arith)
@@ -75,7 +75,7 @@ module _ (most number place spent : ℕ) (a : List ℕ) (m : ℕ) (has : suc m �
 
   pub first_read : reading_from (suc most) number place spent a ≡ before (record_at place a) rest
   unfolding reading_from
-  first_read = (λ i. reached (good.0 i) (good.1 i) (good.2 i) number (record_at place a) rest)
+  first_read = (λ i. reading_by_gate (good.0 i) (good.1 i) (good.2 i) number (record_at place a) rest)
 
   pub rest_has : m ≤ length rest.records
   rest_has = omega (arith, has, ap (λ (r : Reading). length r.records) first_read)
@@ -116,7 +116,7 @@ reading_front (suc n) (suc most) left number last place spent a b is_most is_las
     let front = reading_front n most left (number + 1) last next (spent + cost_at place a) a b (omega arith) (omega arith) (rest_has most number place spent a n there) long
     (λ i from to. gates i (omega arith) to) (λ i from to. area i (omega arith) to) in
     let spent_is : spent + cost_at place a + cost (take n (behind_first most number place spent a).records) ≡ spent + cost (take (suc n) (reading_from (suc most) number place spent a).records) = omega (arith, costs) in
-    (λ i. reached (open_is i) (runs_is i) (over_is i) number (record_is i) (reading_from most (number + 1) (place + len_is i) (spent + cost_is i) b))
+    (λ i. reading_by_gate (open_is i) (runs_is i) (over_is i) number (record_is i) (reading_from most (number + 1) (place + len_is i) (spent + cost_is i) b))
     ∙ ap (before (record_at place a)) front
     ∙ (λ i. prepend (take (suc n) (sym of_a i).records) (reading_from left last (place_after n next a) (spent_is i) b))
 

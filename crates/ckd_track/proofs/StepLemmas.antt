@@ -7,7 +7,7 @@ use Rattle.mss_base.proofs.ContentLemmas.{get_or-splice_above, get_or-splice_in}
 use Rattle.mss_base.proofs.Moments.{block_write, block_written, block_then, block_weaker}
 use Rattle.ckd_track.specs.Data.{cost, cost_of}
 use Rattle.ckd_track.specs.Track.{Reading, reading, reading_of, record_at, is_open}
-use Rattle.ckd_track.specs.Formatting.{formatted, IsRecord, IsFormatting, as_it_was, cut_short, completed, EndsAfter, EndsBefore, StandsShut, Holds}
+use Rattle.ckd_track.specs.Formatting.{formatted_records, IsRecord, IsFormatting, as_it_was, cut_short, completed, EndsAfter, EndsBefore, StandsShut, Holds}
 use Rattle.ckd_track.proofs.FormatLemmas.{ends_after, shut_after, closing, opening, holds_written, gate_below, gate_written}
 
 module _ (unit : UnitNo) (block : ℕ) (s t : SiteLog) where
@@ -48,7 +48,7 @@ module _ (unit : UnitNo) (block : ℕ) (s t : SiteLog) where
   module _ (n : ℕ) (a bytes : List ℕ) (few : n ≤ 96) (long : length a ≡ 16384) (there : n ≤ length (reading a).records)
       (stands : StandsShut n bytes a (content s unit block)) (is : IsRecord bytes) (cheap : cost (take n (reading a).records) + cost_of (record_at 0 bytes) ≤ 13165) where
     abbrev Opened : List ℕ → Type 0
-    Opened b = EndsAfter n a b ⊎ (reading b ≡ reading_of (formatted n (record_at 0 bytes) (reading a).records))
+    Opened b = EndsAfter n a b ⊎ (reading b ≡ reading_of (formatted_records n (record_at 0 bytes) (reading a).records))
 
     open_any : (left : List ℕ) → length left ≡ 1 → Opened (splice (129 + n) left (content s unit block))
     open_any left one = opening n (97 - n) bytes a (content s unit block) left (omega arith) there long stands.ends stands.next is stands.holds cheap one
@@ -56,7 +56,7 @@ module _ (unit : UnitNo) (block : ℕ) (s t : SiteLog) where
     pub open_moments : (left : List ℕ) → length left ≡ 1 → Adds (record { unit = unit; block = block; offset = 129 + n; bytes = left }) s t → Writes (ChangesBlock unit block Opened (content s)) s t
     open_moments left one adds = block_write unit block (129 + n) left Opened s t adds (inl stands.ends) (λ other long_other. open_any other (long_other ∙ one))
 
-    pub open_done : Adds (record { unit = unit; block = block; offset = 129 + n; bytes = 193 ∷ [] }) s t → reading (content t unit block) ≡ reading_of (formatted n (record_at 0 bytes) (reading a).records)
+    pub open_done : Adds (record { unit = unit; block = block; offset = 129 + n; bytes = 193 ∷ [] }) s t → reading (content t unit block) ≡ reading_of (formatted_records n (record_at 0 bytes) (reading a).records)
     open_done adds = ap reading (block_written unit block (129 + n) (193 ∷ []) s t adds) ∙ elim (open_any (193 ∷ []) refl) [
       | inl shut ↦ absurd (true≢false (sym (gate_written n (193 ∷ []) (content s unit block) refl (omega (arith, stands.ends.front.long))) ∙ shut.closed))
       | inr done ↦ done
@@ -86,7 +86,7 @@ module _ (unit : UnitNo) (block n : ℕ) (a bytes : List ℕ) (few : n ≤ 96) (
   Closing b = (b ≡ a) ⊎ EndsAfter n a b
 
   abbrev Opening : List ℕ → Type 0
-  Opening b = EndsAfter n a b ⊎ (reading b ≡ reading_of (formatted n (record_at 0 bytes) (reading a).records))
+  Opening b = EndsAfter n a b ⊎ (reading b ≡ reading_of (formatted_records n (record_at 0 bytes) (reading a).records))
 
   abbrev Formats : List ℕ → Type 0
   Formats b = IsFormatting n (record_at 0 bytes) (reading a) (reading b)

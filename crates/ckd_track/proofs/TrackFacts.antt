@@ -9,8 +9,8 @@ use Rattle.std.proofs.lemmas.Bool.Decides.{nat_tests}
 use Rattle.mss_base.specs.Zeros.{zeros}
 use Rattle.mss_base.proofs.AllFacts.{all_take, all_push}
 use Rattle.ckd_track.specs.Data.{RecordData, cost, cost_of, cost_of_lengths, HasCount, IsTrack}
-use Rattle.ckd_track.specs.Track.{Reading, reading_of, key_length, data_length, record_length, record_at, cost_at, is_open, reached, reading_from, reading, AreBytes}
-use Rattle.ckd_track.specs.Formatting.{IsRecord, formatted}
+use Rattle.ckd_track.specs.Track.{Reading, reading_of, key_length, data_length, record_length, record_at, cost_at, is_open, reading_by_gate, reading_from, reading, AreBytes}
+use Rattle.ckd_track.specs.Formatting.{IsRecord, formatted_records}
 use Rattle.ckd_track.proofs.ReadLemmas.{closed_byte_ends}
 
 -- a record costs more than its bytes, and at least 135
@@ -71,7 +71,7 @@ module _ (place : ℕ) (b : List ℕ) (inside : place + record_length place b �
   }
 
 reached_cost : (open_gate past over : Bool) (number : ℕ) (r : RecordData) (rest : Reading) (spent : ℕ) → spent ≤ 13165
-    → (past ≡ false → over ≡ false → spent + (cost_of r + cost rest.records) ≤ 13165) → spent + cost (reached open_gate past over number r rest).records ≤ 13165
+    → (past ≡ false → over ≡ false → spent + (cost_of r + cost rest.records) ≤ 13165) → spent + cost (reading_by_gate open_gate past over number r rest).records ≤ 13165
 reached_cost false past over number r rest spent cheap go = omega arith
 reached_cost true true over number r rest spent cheap go = omega arith
 reached_cost true false true number r rest spent cheap go = omega arith
@@ -86,7 +86,7 @@ from_cost (suc most) number place spent b cheap =
     (λ runs over. omega (arith, cost_of-record_at place b (ltb-false _ _ runs), from_cost most (number + 1) (place + record_length place b) (spent + cost_at place b) b (ltb-false _ _ over)))
 
 reached_each : (open_gate past over : Bool) (number : ℕ) (r : RecordData) (rest : Reading) → (past ≡ false → HasCount r) → AllByRecursion HasCount rest.records
-    → AllByRecursion HasCount (reached open_gate past over number r rest).records
+    → AllByRecursion HasCount (reading_by_gate open_gate past over number r rest).records
 reached_each false past over number r rest here all = tt
 reached_each true true over number r rest here all = tt
 reached_each true false true number r rest here all = tt
@@ -148,6 +148,6 @@ module _ (bytes : List ℕ) (is : IsRecord bytes) where
 
   -- formatted behind the first records of a block where it fits, it makes a track with them
   pub formatted_track : (n : ℕ) (block : List ℕ) → AreBytes block → AreBytes bytes → cost (take n (reading block).records) + cost_of (record_at 0 bytes) ≤ 13165
-      → IsTrack (formatted n (record_at 0 bytes) (reading block).records)
+      → IsTrack (formatted_records n (record_at 0 bytes) (reading block).records)
   formatted_track n block block_bytes record_bytes fits =
       track_push (take n (reading block).records) (record_at 0 bytes) (track_take n (reading block).records (reading_track block block_bytes)) (own_counted record_bytes) fits

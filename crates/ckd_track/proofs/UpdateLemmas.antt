@@ -4,8 +4,8 @@ use Rattle.std.proofs.lemmas.List.{take_all}
 use Rattle.mss_base.specs.Content.{splice, length-splice}
 use Rattle.mss_base.proofs.ContentLemmas.{get_or-splice_below, get_or-splice_above, get_or-splice_in}
 use Rattle.ckd_track.specs.Data.{RecordData, blank_record}
-use Rattle.ckd_track.specs.Track.{Reading, key_length, data_length, record_length, record_at, cost_at, is_open, before, reached, reading_from, reading, place_after}
-use Rattle.ckd_track.specs.Updating.{updated_length, with_bytes, record_behind, updated, bytes_place}
+use Rattle.ckd_track.specs.Track.{Reading, key_length, data_length, record_length, record_at, cost_at, is_open, before, reading_by_gate, reading_from, reading, place_after}
+use Rattle.ckd_track.specs.Updating.{updated_length, with_bytes, record_behind, updated_records, bytes_place}
 use Rattle.ckd_track.proofs.TrackFacts.{length-key, length-body}
 use Rattle.ckd_track.proofs.FrontLemmas.{place_after-ge, data_length_same, record_length_same, cost_at_same, record_at_same, good, first_read, rest_has, nothing, record_room}
 use Rattle.ckd_track.proofs.FormatLemmas.{moved_part}
@@ -31,9 +31,9 @@ module _ (from to : ℕ) (a b : List ℕ) (long : length b ≡ length a) (high :
       let len_is : record_length place b ≡ record_length place a = record_length_same place a b long here in
       let cost_is : cost_at place b ≡ cost_at place a = cost_at_same place a b long here in
       let record_is : record_at place b ≡ record_at place a = record_at_same place a b long (λ i least below. same i (inr (omega arith))) in
-      (λ i. reached (gate_same number (omega arith) i) (nat_lt (long i) (place + len_is i)) (nat_lt 13165 (spent + cost_is i)) number (record_is i)
+      (λ i. reading_by_gate (gate_same number (omega arith) i) (nat_lt (long i) (place + len_is i)) (nat_lt 13165 (spent + cost_is i)) number (record_is i)
       (reading_from most (number + 1) (place + len_is i) (spent + cost_is i) b))
-      ∙ ap (reached (is_open number a) (nat_lt (length a) (place + record_length place a)) (nat_lt 13165 (spent + cost_at place a)) number (record_at place a))
+      ∙ ap (reading_by_gate (is_open number a) (nat_lt (length a) (place + record_length place a)) (nat_lt 13165 (spent + cost_at place a)) number (record_at place a))
       (tail_same most (number + 1) (place + record_length place a) (spent + cost_at place a) (omega arith) (omega arith))
 
   -- the range lies in the key and data of the record behind n others
@@ -50,7 +50,7 @@ module _ (from to : ℕ) (a b : List ℕ) (long : length b ≡ length a) (high :
       let open_is : is_open number b ≡ true = gate_same number (omega arith) ∙ is_good.0 in
       let runs_is : nat_lt (length b) (place + record_length place b) ≡ false = (λ i. nat_lt (long i) (place + len_is i)) ∙ is_good.1 in
       let over_is : nat_lt 13165 (spent + cost_at place b) ≡ false = (λ i. nat_lt 13165 (spent + cost_is i)) ∙ is_good.2 in
-      (λ i. reached (open_is i) (runs_is i) (over_is i) number (record_at place b) (reading_from most (number + 1) (place + len_is i) (spent + cost_is i) b))
+      (λ i. reading_by_gate (open_is i) (runs_is i) (over_is i) number (record_at place b) (reading_from most (number + 1) (place + len_is i) (spent + cost_is i) b))
       ∙ ap (before (record_at place b)) (tail_same most (number + 1) (place + record_length place a) (spent + cost_at place a) (omega arith) most_)
       ∙ ap (with_record zero (record_at place b)) (sym (first_read most number place spent a zero there))
   middle (suc n) (suc most) number place spent few there least most_ =
@@ -65,7 +65,7 @@ module _ (from to : ℕ) (a b : List ℕ) (long : length b ≡ length a) (high :
       let runs_is : nat_lt (length b) (place + record_length place b) ≡ false = (λ i. nat_lt (long i) (place + len_is i)) ∙ is_good.1 in
       let over_is : nat_lt 13165 (spent + cost_at place b) ≡ false = (λ i. nat_lt 13165 (spent + cost_is i)) ∙ is_good.2 in
       let rest_is = middle n most (number + 1) next (spent + cost_at place a) (omega arith) (rest_has most number place spent a (suc n) there) least most_ in
-      (λ i. reached (open_is i) (runs_is i) (over_is i) number (record_is i) (reading_from most (number + 1) (place + len_is i) (spent + cost_is i) b))
+      (λ i. reading_by_gate (open_is i) (runs_is i) (over_is i) number (record_is i) (reading_from most (number + 1) (place + len_is i) (spent + cost_is i) b))
       ∙ ap (before (record_at place a)) rest_is
       ∙ ap (with_record (suc n) (record_at (place_after n next a) b)) (sym (first_read most number place spent a (suc n) there))
 
@@ -173,7 +173,7 @@ module _ (n : ℕ) (a left : List ℕ) (there : n < length (reading a).records) 
 
   -- the block with them
   pub reading-updated : (key_too : Bool) → length left ≡ updated_length key_too (record_behind n (reading a).records)
-      → reading (splice (bytes_place key_too place a) left a) ≡ record (reading a) { records = updated key_too n left (reading a).records }
+      → reading (splice (bytes_place key_too place a) left a) ≡ record (reading a) { records = updated_records key_too n left (reading a).records }
   unfolding reading
   reading-updated key_too fits =
       middle (at key_too fits) (at key_too fits + length left) a (now key_too fits) (length-splice (at key_too fits) left a) (omega (arith, low, at_least key_too fits key_too)) (outside key_too fits)

@@ -5,7 +5,7 @@ use Rattle.mss_base.specs.declared.place.UnitNo.{UnitNo}
 use Rattle.mss_base.specs.Content.{Write, SiteLog, content, splice, Adds, Writes, ChangesBlock}
 use Rattle.mss_base.proofs.Moments.{block_write, block_written, block_started}
 use Rattle.ckd_track.specs.Track.{reading, place_after}
-use Rattle.ckd_track.specs.Updating.{IsUpdating, updated_length, record_behind, updated, bytes_place}
+use Rattle.ckd_track.specs.Updating.{IsUpdating, updated_length, record_behind, updated_records, bytes_place}
 use Rattle.ckd_track.proofs.FrontLemmas.{record_room}
 use Rattle.ckd_track.proofs.FormatLemmas.{splice_same}
 use Rattle.ckd_track.proofs.UpdateLemmas.{left_length, reading-updated}
@@ -38,7 +38,7 @@ module _ (n : ℕ) (a : List ℕ) (key_too : Bool) (bytes : List ℕ) (there : n
       subst Updates same (any_updates standing length-standing)
 
   -- no bytes to put
-  pub none_updated : bytes ≡ [] → reading a ≡ record (reading a) { records = updated key_too n bytes (reading a).records }
+  pub none_updated : bytes ≡ [] → reading a ≡ record (reading a) { records = updated_records key_too n bytes (reading a).records }
   none_updated none =
       let same : splice at bytes a ≡ a = splice_same at bytes a (λ j lt. let no_bytes : length bytes ≡ 0 = ap length none in absurd (omega (arith, no_bytes))) put_inside in
       ap reading (sym same) ∙ reading-updated n a bytes there key_too fits
@@ -53,7 +53,7 @@ module _ (n : ℕ) (a : List ℕ) (key_too : Bool) (bytes : List ℕ) (there : n
         (λ other long_other. subst (λ (d : List ℕ). Updates (splice at other d)) (sym told) (any_updates other (long_other ∙ long)))
 
     pub update_done : (offset : ℕ) → offset ≡ at → Adds (put_at offset bytes) s t
-        → reading (content t unit block) ≡ record (reading a) { records = updated key_too n bytes (reading a).records }
+        → reading (content t unit block) ≡ record (reading a) { records = updated_records key_too n bytes (reading a).records }
     update_done offset there_is adds = ap reading (block_written unit block at bytes s t (subst (λ (o : ℕ). Adds (put_at o bytes) s t) there_is adds) ∙ ap (λ (d : List ℕ). splice at bytes d) told) ∙ reading-updated n a bytes there key_too fits
 
 -- nothing is written

@@ -36,8 +36,8 @@ pub record FitsBehind (n : ℕ) (bytes block : List ℕ) : Type 0 where
   pub fits : cost (take n (reading block).records) + cost_of (record_at 0 bytes) ≤ TRACK_COST
 
 -- the first n records, and this one as the last
-abbrev pub formatted : ℕ → RecordData → List RecordData → List RecordData
-formatted n r old = take n old ++ r ∷ []
+abbrev pub formatted_records : ℕ → RecordData → List RecordData → List RecordData
+formatted_records n r old = take n old ++ r ∷ []
 
 -- a stop leaves the old one, that one ended before the record, or the new one
 pub data OldEndedOrNew {A : Type 0} (old ended new now : A) : Type 0 where
@@ -47,10 +47,10 @@ pub data OldEndedOrNew {A : Type 0} (old ended new now : A) : Type 0 where
 
 -- what a block reads as while the record after the first n is formatted
 pub record IsFormatting (n : ℕ) (r : RecordData) (old now : Reading) : Type 0 where
-  pub reading : OldEndedOrNew old (reading_of (take n old.records)) (reading_of (formatted n r old.records)) now
+  pub reading : OldEndedOrNew old (reading_of (take n old.records)) (reading_of (formatted_records n r old.records)) now
   -- a track stays a track
   pub track : old.bad ≡ None → now.bad ≡ None
-  pub records : OldEndedOrNew old.records (take n old.records) (formatted n r old.records) now.records
+  pub records : OldEndedOrNew old.records (take n old.records) (formatted_records n r old.records) now.records
 
 -- b has the bytes of a in this range
 abbrev pub SameBytes : ℕ → ℕ → List ℕ → List ℕ → Type 0

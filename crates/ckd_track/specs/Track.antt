@@ -53,17 +53,17 @@ abbrev pub stopped_at : BadRecord → Reading
 stopped_at b = record { records = []; bad = Some b }
 
 -- by whether its gate is open, it runs past the block, it costs too much
-abbrev pub reached : Bool → Bool → Bool → ℕ → RecordData → Reading → Reading
-reached false runs_past overfull number r rest = reading_of []
-reached true true overfull number r rest = stopped_at (record { number = number; cause = RunsPast })
-reached true false true number r rest = stopped_at (record { number = number; cause = Overfull })
-reached true false false number r rest = before r rest
+abbrev pub reading_by_gate : Bool → Bool → Bool → ℕ → RecordData → Reading → Reading
+reading_by_gate false runs_past overfull number r rest = reading_of []
+reading_by_gate true true overfull number r rest = stopped_at (record { number = number; cause = RunsPast })
+reading_by_gate true false true number r rest = stopped_at (record { number = number; cause = Overfull })
+reading_by_gate true false false number r rest = before r rest
 
 -- the records from this number on, at most so many, where the first has this place and those before it this cost
 unfoldable pub reading_from : ℕ → ℕ → ℕ → ℕ → List ℕ → Reading
 reading_from zero number place spent block = reading_of []
 reading_from (suc most) number place spent block =
-    reached (is_open number block) (nat_lt (length block) (place + record_length place block))
+    reading_by_gate (is_open number block) (nat_lt (length block) (place + record_length place block))
     (nat_lt TRACK_COST (spent + cost_at place block)) number (record_at place block)
     (reading_from most (number + 1) (place + record_length place block) (spent + cost_at place block) block)
 

@@ -26,14 +26,14 @@ pub record MayUpdate (number place : ℕ) (key_too : Bool) (bytes block : List �
   pub long : length bytes ≡ updated_length key_too (record_behind (number - 1) (reading block).records)
 
 -- the same records, but the one behind the first n has these bytes
-abbrev pub updated : Bool → ℕ → List ℕ → List RecordData → List RecordData
-updated key_too n bytes records = slice_set records n (with_bytes key_too bytes (record_behind n records))
+abbrev pub updated_records : Bool → ℕ → List ℕ → List RecordData → List RecordData
+updated_records key_too n bytes records = slice_set records n (with_bytes key_too bytes (record_behind n records))
 
 -- what a block reads as while the record behind the first n is updated: with some bytes of the same lengths in it
 pub record IsUpdating (key_too : Bool) (n : ℕ) (old now : Reading) : Type 0 where
   pub bytes : List ℕ
   pub long : length bytes ≡ updated_length key_too (record_behind n old.records)
-  pub reading : now ≡ record old { records = updated key_too n bytes old.records }
+  pub reading : now ≡ record old { records = updated_records key_too n bytes old.records }
 
 -- where the bytes of an update go, in a block where the record has this place
 abbrev pub bytes_place : Bool → ℕ → List ℕ → ℕ

@@ -6,7 +6,7 @@ ghost use Rattle.mss_base.specs.Content.{Settles};
 ghost use Rattle.mss_base.specs.Sites.{WritesAtMost};
 ghost use Rattle.ckd_track.specs.Data.{IsTrack};
 ghost use Rattle.ckd_track.specs.Track.{reading, reading_of, record_at, is_open, place_after, AreBytes};
-ghost use Rattle.ckd_track.specs.Formatting.{formatted, FitsBehind, IsFormatting, IsPlaceIn, MayFormat};
+ghost use Rattle.ckd_track.specs.Formatting.{formatted_records, FitsBehind, IsFormatting, IsPlaceIn, MayFormat};
 ghost use Rattle.ckd_track.specs.Formatting.{EndsAfter, EndsBefore, StandsShut, WritesBehind};
 
 use crate::layout::{FIRST_PLACE, GATES, GATES_END, TRACK_COST, record_length};
@@ -165,10 +165,10 @@ fn open_gate<S: Site>(
     requires room { FIRM_ITEMS ≤ S.spare site.old }
     ensures moments { S.tells → WritesBlock at.now
         (λ b. EndsAfter place.now.before block b ⊎ (reading b ≡ reading_of
-        (formatted place.now.before (record_at 0 bytes.now) (reading block).records)))
+        (formatted_records place.now.before (record_at 0 bytes.now) (reading block).records)))
         (S.told site.old) (S.told site.new) }
     ensures done { S.tells → OnOk result (reading (block_of (S.told site.new) at.now)
-        ≡ reading_of (formatted place.now.before (record_at 0 bytes.now)
+        ≡ reading_of (formatted_records place.now.before (record_at 0 bytes.now)
         (reading block).records)) }
     ensures firm { S.tells → OnOk result (Settles (S.told site.old) (S.told site.new)) }
     ensures site_ { WritesAtMost S.Site FIRM_ITEMS site.old site.new result }
@@ -192,7 +192,7 @@ fn format_at<S: Site>(
         (λ b. IsFormatting place.now.before (record_at 0 bytes.now) (reading block) (reading b))
         (S.told site.old) (S.told site.new) }
     ensures done { S.tells → OnOk result (reading (block_of (S.told site.new) at.now)
-        ≡ reading_of (formatted place.now.before (record_at 0 bytes.now)
+        ≡ reading_of (formatted_records place.now.before (record_at 0 bytes.now)
         (reading block).records)) }
     ensures firm { S.tells → OnOk result (Settles (S.told site.old) (S.told site.new)) }
     ensures site_ { WritesAtMost S.Site FORMAT_ITEMS site.old site.new result }
@@ -257,9 +257,9 @@ pub fn format_record<S: Site>(
         (λ b. IsFormatting (number - 1) (record_at 0 count_key_data.now)
         (reading (S.brought site.old)) (reading b)) (S.told site.old) (S.told site.new) }
     ensures done { S.tells → OnOk result (reading (block_of (S.told site.new) at.now)
-        ≡ reading_of (formatted (number - 1) (record_at 0 count_key_data.now)
+        ≡ reading_of (formatted_records (number - 1) (record_at 0 count_key_data.now)
         (reading (S.brought site.old)).records)) }
-    ensures track { OnOk result (IsTrack (formatted (number - 1)
+    ensures track { OnOk result (IsTrack (formatted_records (number - 1)
         (record_at 0 count_key_data.now) (reading (S.brought site.old)).records)) }
     ensures firm { S.tells → OnOk result (Settles (S.told site.old) (S.told site.new)) }
     ensures site_ { WritesAtMost S.Site FORMAT_ITEMS site.old site.new result }

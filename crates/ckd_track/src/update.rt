@@ -4,7 +4,7 @@ ghost use Rattle.mss_base.specs.Blocks.{WritesBlock, block_of};
 ghost use Rattle.mss_base.specs.Content.{Settles};
 ghost use Rattle.mss_base.specs.Sites.{WritesAtMost};
 ghost use Rattle.ckd_track.specs.Track.{reading, record_length};
-ghost use Rattle.ckd_track.specs.Updating.{IsUpdating, MayUpdate, updated, bytes_place};
+ghost use Rattle.ckd_track.specs.Updating.{IsUpdating, MayUpdate, updated_records, bytes_place};
 
 use crate::layout::key_length;
 use mss_base::{BLOCK_BYTES, BlockPlace, FIRM_ITEMS, Failed, Site, write_firm};
@@ -48,7 +48,7 @@ pub fn update_record<S: Site>(
         (S.told site.old) (S.told site.new) }
     ensures done { S.tells → OnOk result (reading (block_of (S.told site.new) at.now)
         ≡ record (reading (S.brought site.old)) {
-          records = updated key_too (number - 1) bytes.now (reading (S.brought site.old)).records;
+          records = updated_records key_too (number - 1) bytes.now (reading (S.brought site.old)).records;
         }) }
     ensures untouched { bytes.now ≡ [] → site.new ≡ site.old }
     ensures firm { S.tells → OnOk result (Settles (S.told site.old) (S.told site.new)) }

@@ -13,7 +13,7 @@ use Rattle.command_words.specs.declared.command.Command.{Command}
 use Rattle.command_words.specs.declared.command.Command.TheVariants.{Show}
 use Rattle.command_words.specs.Options.{Given, Text, given_in}
 use Rattle.command_words.specs.Parser.{CommandForm, audit, expected_by, expected_top, row_for, serial, show, threads}
-use Rattle.command_words.specs.Words.{audit_of, audit_options, command_by, serial_of, serial_options, text_of, threads_of, threads_options, unruled}
+use Rattle.command_words.specs.Words.{audit_of, audit_options, command_by, serial_of, serial_options, text_of, threads_of, threads_options, command_without_rules}
 
 -- the text of an option, by its row
 pub text_by_row : (name : Text) (givens : List Given) → first_of name (map row_for givens) ≡ text_of name givens
@@ -67,7 +67,7 @@ module _ (name : Text) (rows : List Row) (result : Option Command)
   by_name words false false false true e = by_form audit (given_in audit_options words) e
   by_name words false false false false e = absurd cc
 
-  pub meant : (words : List Text) → expected_top words ≡ Some (Some (name, rows)) → result ≡ unruled words
+  pub meant : (words : List Text) → expected_top words ≡ Some (Some (name, rows)) → result ≡ command_without_rules words
   meant [] e = absurd cc
   meant (word ∷ words) e =
       by_name words (bytes_eq (codes "serial") word) (bytes_eq (codes "threads") word) (bytes_eq (codes "show") word) (bytes_eq (codes "audit") word) e

@@ -8,7 +8,7 @@ use Rattle.command_words.specs.declared.command.CommandFault.{CommandFault}
 use Rattle.command_words.specs.declared.command.CommandFault.TheVariants.{Refused, Memory}
 use Rattle.command_words.specs.Options.{Text}
 use Rattle.command_words.specs.Outcomes.{Reads}
-use Rattle.command_words.specs.Words.{asks_compare, asks_policy, meaning, one_word_or_more, policy_by, policy_of, unruled, with_rules}
+use Rattle.command_words.specs.Words.{asks_compare, asks_policy, meaning, one_word_or_more, policy_by, policy_of, command_without_rules, with_rules}
 use Rattle.victim_rules.specs.declared.reading.RulesFault.{RulesFault}
 use Rattle.victim_rules.specs.declared.rule.Rule.{Rule}
 
@@ -43,5 +43,5 @@ module _ {W : Type 0} (bytes : W → Text) (words : List W) where
   pub means_compare : asks_policy (map bytes words) ≡ false → asks_compare (map bytes words) ≡ true → meaning (map bytes words) ≡ Some Compare
   means_compare asks compares = means_other asks ∙ cond-true (asks_compare (map bytes words)) _ _ compares
 
-  pub means_unruled : asks_policy (map bytes words) ≡ false → asks_compare (map bytes words) ≡ false → meaning (map bytes words) ≡ unruled (map bytes words)
+  pub means_unruled : asks_policy (map bytes words) ≡ false → asks_compare (map bytes words) ≡ false → meaning (map bytes words) ≡ command_without_rules (map bytes words)
   means_unruled asks compares = means_other asks ∙ cond-false (asks_compare (map bytes words)) _ _ compares

@@ -9,7 +9,7 @@ use Rattle.clap.specs.Walk.{Held, Row, Rule, Walk, finished, is_empty, nothing_h
 use Rattle.clap.specs.Faults.{check_fault, defaults_fault, fault_of, settle_fault, walk_fault}
 use Rattle.clap.specs.Simple.{Shape, new_shape, subcommand_of}
 use Rattle.command_words.specs.Options.{Text}
-use Rattle.command_words.specs.Parser.{app, expected, expected_top, rule_for}
+use Rattle.command_words.specs.Parser.{app, expected_rows, expected_top, rule_for}
 
 abbrev pub rules_for : List Text → List Rule
 rules_for = map rule_for
@@ -45,7 +45,7 @@ IsSpelled word = (flags : Text) → short_of word ≡ Some flags → (x : ℕ) �
 -- the walk of a command's words has the options that they spell, each once, and else a fault
 abbrev pub LeafLaw : Type 0
 LeafLaw = (name : Text) (names words : List Text) → AllByRecursion IsSpelled words
-    → outcome (leaf name names) (walk_from nothing_held) words ≡ expected names words
+    → outcome (leaf name names) (walk_from nothing_held) words ≡ expected_rows names words
 
 -- the walk of all words has the command that they name with its options, and else a fault
 abbrev pub TopLaw : Type 0

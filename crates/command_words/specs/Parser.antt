@@ -83,12 +83,12 @@ row_for given = record {
 }
 
 -- the rows of the options in a command's words
-abbrev pub expected : List Text → List Text → Option (List Row)
-expected names words = option_map (map row_for) (given_in names words)
+abbrev pub expected_rows : List Text → List Text → Option (List Row)
+expected_rows names words = option_map (map row_for) (given_in names words)
 
 abbrev pub expected_by : Option CommandForm → List Text → Option (Option (Text × List Row))
 expected_by None words = None
-expected_by (Some form) words = option_map (λ rows. Some (form.0, rows)) (expected form.1 words)
+expected_by (Some form) words = option_map (λ rows. Some (form.0, rows)) (expected_rows form.1 words)
 
 -- the command that the first word names, with the rows of the options in the words behind it
 abbrev pub expected_top : List Text → Option (Option (Text × List Row))

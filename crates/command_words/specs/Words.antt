@@ -116,9 +116,9 @@ command_by name givens =
     else (if bytes_eq name (codes "show") then Some Show else audit_of givens))
 
 -- what words without rules mean, if anything: a command's name, and then its options
-abbrev pub unruled : List Text → Option Command
-unruled [] = None
-unruled (name ∷ words) =
+abbrev pub command_without_rules : List Text → Option Command
+command_without_rules [] = None
+command_without_rules (name ∷ words) =
     if bytes_eq (codes "serial") name then option_and_then serial_of (given_in serial_options words)
     else (if bytes_eq (codes "threads") name
     then option_and_then threads_of (given_in threads_options words)
@@ -138,7 +138,7 @@ policy_by (Err fault) asked = None
 
 -- the text of rules, and then options as behind `serial`
 abbrev pub policy_of : Text → List Text → Option Command
-policy_of rules options = policy_by (rules_of rules) (unruled (codes "serial" ∷ options))
+policy_of rules options = policy_by (rules_of rules) (command_without_rules (codes "serial" ∷ options))
 
 -- the first of two or more words is `policy`
 abbrev pub asks_policy : List Text → Bool
@@ -150,7 +150,7 @@ asks_compare words = (length words == 1) && bytes_eq (get_or words 0 []) (codes 
 
 -- what words without rules mean, or the one word `compare`
 abbrev pub one_word_or_more : List Text → Option Command
-one_word_or_more words = if asks_compare words then Some Compare else unruled words
+one_word_or_more words = if asks_compare words then Some Compare else command_without_rules words
 
 -- what the words mean, if anything
 unfoldable pub meaning : List Text → Option Command

@@ -7,7 +7,7 @@ ghost use Rattle.clap.specs.Walk.{rows_of};
 ghost use Rattle.command_words.specs.Options.{Given};
 ghost use Rattle.command_words.specs.Outcomes.{Reads};
 ghost use Rattle.command_words.specs.Parser.{expected_top, row_for};
-ghost use Rattle.command_words.specs.Words.{IsWithin, command_by, load_setting, unruled};
+ghost use Rattle.command_words.specs.Words.{IsWithin, command_by, load_setting, command_without_rules};
 ghost use Rattle.command_words.specs.Words.{audit_by, audit_of, frames_setting};
 ghost use Rattle.command_words.specs.Words.{IsCopyWithin, copy_by, copy_of, copy_setting};
 ghost use Rattle.command_words.specs.Words.{serial_by, serial_of, serial_with, setting};
@@ -248,7 +248,7 @@ fn command_by(name: &str, options: &ArgMatches<'_>) -> Option<Command>
 /// What the parsed words mean.
 fn meaning(matches: &ArgMatches<'_>) -> Option<Command>
     ensures value { (words : List (List ℕ))
-        → expected_top words ≡ Some (subcommand_rows_of matches.now) → result ≡ unruled words }
+        → expected_top words ≡ Some (subcommand_rows_of matches.now) → result ≡ command_without_rules words }
     ensures within { IfSome result IsWithin }
 {
     match matches.subcommand() {
@@ -259,7 +259,7 @@ fn meaning(matches: &ArgMatches<'_>) -> Option<Command>
 
 /// The command that words without rules ask for.
 pub fn read_unruled(alloc: Global, words: &[String]) -> Result<Command, CommandFault>
-    ensures meaning { Reads result (unruled (map string_bytes words.now)) }
+    ensures meaning { Reads result (command_without_rules (map string_bytes words.now)) }
     ensures within { IfOk result IsWithin }
 {
     let matches = match parse(alloc, words) {

@@ -2,7 +2,7 @@
 ghost use Rattle.std.specs.Prelude.{◌≡◌, ◌≤◌, ◌∷◌, true, codes, length, map, string_bytes, Some, IfOk};
 ghost use Rattle.command_words.specs.Outcomes.{Reads};
 ghost use Rattle.command_words.specs.Words.{IsWithin, asks_compare, asks_policy, meaning, policy_of};
-ghost use Rattle.command_words.specs.Words.{unruled, with_rules};
+ghost use Rattle.command_words.specs.Words.{command_without_rules, with_rules};
 
 use crate::command::{Command, CommandFault};
 use crate::read::read_unruled;
@@ -39,7 +39,7 @@ fn serial_words(alloc: Global, options: &[String]) -> Result<Vec<String>, AllocE
 
 /// What options ask for behind `serial`.
 fn read_settings(alloc: Global, options: &[String]) -> Result<Command, CommandFault>
-    ensures meaning { Reads result (unruled (codes "serial" ∷ map string_bytes options.now)) }
+    ensures meaning { Reads result (command_without_rules (codes "serial" ∷ map string_bytes options.now)) }
     ensures within { IfOk result IsWithin }
 {
     let words = serial_words(alloc, options)?;

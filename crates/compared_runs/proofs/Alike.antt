@@ -26,7 +26,7 @@ use Rattle.serial_driver.specs.Drives.{IsFull}
 use Rattle.shown_volumes.specs.Shown.{rows_of}
 use Rattle.compared_runs.specs.Alone.{IsAlone}
 use Rattle.compared_runs.specs.Comparing.{Chooses, Compares, Named, may_of}
-use Rattle.compared_runs.specs.Same.{AreAlike, IsOfOneHost, exchanged}
+use Rattle.compared_runs.specs.Same.{AreAlike, IsOfOneHost, exchanges_of_all}
 use Rattle.compared_runs.proofs.Plainly.{AllOf, KeepsNoFault, OthersHaveNone, Unbound, all_of, answered}
 use Rattle.compared_runs.proofs.Playing.{AnsweredBy, IsAnywhere, PlaysInto, begins_of, played_binds, played_same, plays_of}
 
@@ -64,26 +64,26 @@ module _ (job : JobData) (one : IsOfOneHost job) where
     others : OthersHaveNone h s.history
     others other differ = subst (λ (l : List ItemData). Follows l (exchanges_of other s.history)) (none_for other differ) (follows other)
 
-    abbrev all : (exchanges_of h s.history ≡ exchanged s.history) × AllOf h s.history
+    abbrev all : (exchanges_of h s.history ≡ exchanges_of_all s.history) × AllOf h s.history
     all = all_of h s.history others
 
-    pub begins : PlaysInto IsAnywhere (not_begun items) (exchanged s.history)
-    begins = begins_of items (exchanged s.history)
+    pub begins : PlaysInto IsAnywhere (not_begun items) (exchanges_of_all s.history)
+    begins = begins_of items (exchanges_of_all s.history)
         (subst (λ (p : List ItemData × List Exchange). Follows p.0 p.1) (λ i. (itself i, all.0 i)) (follows h))
 
-    pub ends : FollowToEnd job.hosts s.history → FollowsToEnd items (exchanged s.history)
+    pub ends : FollowToEnd job.hosts s.history → FollowsToEnd items (exchanges_of_all s.history)
     ends to_end =
         let here : FollowToEnd (one.host ∷ []) s.history = subst (λ (hosts : List ScriptData). FollowToEnd hosts s.history) one.alone to_end in
         subst (λ (p : List ItemData × List Exchange). FollowsToEnd p.0 p.1) (λ i. (itself i, all.0 i)) (here h)
 
     -- only its own host may have more to do
-    pub unended : IsFull job.hosts s.history → FollowsToEnd items (exchanged s.history) → ⊥
+    pub unended : IsFull job.hosts s.history → FollowsToEnd items (exchanges_of_all s.history) → ⊥
     unended full to_end =
         let more : FollowsToEnd (script_of (one.host ∷ []) full.host) (exchanges_of full.host s.history) → ⊥ =
         subst (λ (hosts : List ScriptData). FollowsToEnd (script_of hosts full.host) (exchanges_of full.host s.history) → ⊥) one.alone full.unfinished in
         elim (eqb_tells full.host h) [
           | inl t ↦
-              let whose : (full.host, items, exchanged s.history) ≡ (full.host, script_of (one.host ∷ []) full.host, exchanges_of full.host s.history) =
+              let whose : (full.host, items, exchanges_of_all s.history) ≡ (full.host, script_of (one.host ∷ []) full.host, exchanges_of full.host s.history) =
               λ i. (full.host, (sym itself ∙ ap (λ (k : ℕ). script_of (one.host ∷ []) k) (sym t.1)) i, (sym all.0 ∙ ap (λ (k : ℕ). exchanges_of k s.history) (sym t.1)) i) in
               more (subst (λ (p : ℕ × List ItemData × List Exchange). FollowsToEnd p.1 p.2) whose to_end)
           | inr t ↦ more (subst (λ (l : List ItemData). FollowsToEnd l (exchanges_of full.host s.history)) (sym (none_for full.host t.1)) (others full.host t.1))
@@ -98,23 +98,23 @@ module _ (job : JobData) (one : IsOfOneHost job) where
     began : content is.was.told ≡ blank
     began i unit block = is.blank.zeros_ unit block i
 
-    pub answers : AnsweredBy machine start (exchanged s.history)
+    pub answers : AnsweredBy machine start (exchanges_of_all s.history)
     answers =
         let session = is.played.promised.plain tt in
         let was = content is.was.told in
-        subst (λ (c : Content). AnsweredBy machine (plain_start job.config c) (exchanged s.history)) began
+        subst (λ (c : Content). AnsweredBy machine (plain_start job.config c) (exchanges_of_all s.history)) began
         (answered job.config.frames (is.played.driven.begun.over tt).whole.some_frames h (rows_at (rows_of was) s.console) [] (plain_start job.config was) s.history s.marks
-        all.1 session.legal none_kept session.agrees.entries is.played.promised.marked.each (fresh was) (played_binds (not_begun items) (exchanged s.history) one.unbound begins.plays))
+        all.1 session.legal none_kept session.agrees.entries is.played.promised.marked.each (fresh was) (played_binds (not_begun items) (exchanges_of_all s.history) one.unbound begins.plays))
 
   module _ (may other : Chooses) (s t : SessionData) (a : IsAlone (Unit {0}) may job Done s) where
     -- of one that came to its end, and one that isn't shorter
-    not_longer : (end : DriveAnswer) → IsAlone (Unit {0}) other job end t → length (exchanged s.history) ≤ length (exchanged t.history) → exchanged s.history ≡ exchanged t.history
-    not_longer end b long = played_same machine start (not_begun items) (exchanged s.history) (exchanged t.history)
-        (plays_of items (exchanged s.history) (ends may Done s a (a.played.reach refl))) (begins other end t b).plays (answers may Done s a) (answers other end t b) long
+    not_longer : (end : DriveAnswer) → IsAlone (Unit {0}) other job end t → length (exchanges_of_all s.history) ≤ length (exchanges_of_all t.history) → exchanges_of_all s.history ≡ exchanges_of_all t.history
+    not_longer end b long = played_same machine start (not_begun items) (exchanges_of_all s.history) (exchanges_of_all t.history)
+        (plays_of items (exchanges_of_all s.history) (ends may Done s a (a.played.reach refl))) (begins other end t b).plays (answers may Done s a) (answers other end t b) long
 
   -- sessions that came to their ends
-  pub alike : (may other : Chooses) (s t : SessionData) → IsAlone (Unit {0}) may job Done s → IsAlone (Unit {0}) other job Done t → exchanged s.history ≡ exchanged t.history
-  alike may other s t a b = elim (leb_tells (length (exchanged s.history)) (length (exchanged t.history))) [
+  pub alike : (may other : Chooses) (s t : SessionData) → IsAlone (Unit {0}) may job Done s → IsAlone (Unit {0}) other job Done t → exchanges_of_all s.history ≡ exchanges_of_all t.history
+  alike may other s t a b = elim (leb_tells (length (exchanges_of_all s.history)) (length (exchanges_of_all t.history))) [
     | inl shorter ↦ not_longer may other s t a Done b shorter.1
     | inr longer ↦ sym (not_longer other may t s b Done a (omega (arith, longer.1)))
   ]
@@ -123,7 +123,7 @@ module _ (job : JobData) (one : IsOfOneHost job) where
   pub never_limited : (may other : Chooses) (s t : SessionData) → IsAlone (Unit {0}) may job Done s → IsAlone (Unit {0}) other job CommandLimit t → ⊥
   never_limited may other s t a b =
       let full = b.played.full refl in
-      let short : length (exchanged s.history) ≤ length (exchanged t.history) =
+      let short : length (exchanges_of_all s.history) ≤ length (exchanges_of_all t.history) =
       omega (arith, length-map {B = Exchange} s.history (λ (e : EntryData). (e.call, e.reply)), length-map {B = Exchange} t.history (λ (e : EntryData). (e.call, e.reply)), a.played.promised.marked.few, full.entries) in
       let same = not_longer may other s t a CommandLimit b short in
       unended other CommandLimit t b full (subst (λ (l : List Exchange). FollowsToEnd items l) same (ends may Done s a (a.played.reach refl)))

@@ -8,15 +8,15 @@ use Rattle.channel_commands.specs.Data.{CallData, mount, demount, command, break
 use Rattle.channel_program.specs.Script.{Exchange}
 use Rattle.ckd_plain.specs.declared.host.HostState.{HostState}
 use Rattle.ckd_plain.specs.Data.{State}
-use Rattle.ckd_plain.specs.History.{EntryData, IsAnswered, IsLegalAfter, keeps_fault, left_by, next}
-use Rattle.ckd_plain.specs.Plain.{mark_for, mounted_by, plain, responded, tracks_under}
+use Rattle.ckd_plain.specs.History.{EntryData, IsAnswered, IsLegalAfter, keeps_fault, left_by, state_after}
+use Rattle.ckd_plain.specs.Plain.{mark_for, mounted_by, plain, response_to, tracks_under}
 use Rattle.ckd_plain.proofs.CommandFacts.{volume_stays}
 use Rattle.ckd_plain.proofs.HostFacts.{host_itself, other_stays}
 use Rattle.script_places.specs.Scripts.{exchanges_of}
 use Rattle.core_state.specs.Counted.{fault_at}
 use Rattle.core_state.specs.Agrees.{AllAgree, EntryAgrees}
 use Rattle.shown_volumes.specs.Shown.{RowsOf}
-use Rattle.compared_runs.specs.Same.{exchanged}
+use Rattle.compared_runs.specs.Same.{exchanges_of_all}
 use Rattle.compared_runs.proofs.Playing.{AnsweredBy, CallBindsNone}
 
 -- ---- whose entries there are
@@ -34,7 +34,7 @@ module _ (h : ℕ) where
   none_put true x xs is = absurd cc
   none_put false x xs is = (refl, is)
 
-  pub all_of : (es : List EntryData) → OthersHaveNone es → (exchanges_of h es ≡ exchanged es) × AllOf h es
+  pub all_of : (es : List EntryData) → OthersHaveNone es → (exchanges_of h es ≡ exchanges_of_all es) × AllOf h es
   all_of [] none = (refl, tt)
   all_of (e ∷ es) none = elim (eqb_tells e.host h) [
     | inl here ↦
@@ -71,8 +71,8 @@ module _ (host : HostState) (unbound : HostUnbound host) where
   demounted_unbound false true = λ v is. cc
   demounted_unbound false false = unbound
 
-  response_unbound : (mark : Option Bool) (call : CallData) → CallBindsNone call → HostUnbound (responded host mark call).1
-  unfolding responded
+  response_unbound : (mark : Option Bool) (call : CallData) → CallBindsNone call → HostUnbound (response_to host mark call).1
+  unfolding response_to
   response_unbound mark (mount volume bind) none = mounted_unbound volume bind none host.chain_open (is_some host.mounted) mark
   response_unbound mark demount none = demounted_unbound host.chain_open (is_some host.mounted)
   response_unbound mark (break cause) none = unbound
@@ -120,15 +120,15 @@ module _ (frames : ℕ) (some : 1 ≤ frames) where
 
   module _ (h : ℕ) (rows : ℕ → RowsOf) where
     pub answered : (before : List EntryData) (s : State) (es : List EntryData) (marks : List ℕ) → AllOf h es → IsLegalAfter before s es → KeepsNoFault es → AllAgree frames rows s es marks
-        → length marks ≡ length es → Unbound s → AllByRecursion (λ (x : Exchange). CallBindsNone x.0) (exchanged es) → AnsweredBy (λ (t : State) (c : CallData). plain t h c) s (exchanged es)
-    unfolding next
+        → length marks ≡ length es → Unbound s → AllByRecursion (λ (x : Exchange). CallBindsNone x.0) (exchanges_of_all es) → AnsweredBy (λ (t : State) (c : CallData). plain t h c) s (exchanges_of_all es)
+    unfolding state_after
     answered before s [] marks all legal none agree long unbound binds = tt
     answered before s (e ∷ es) [] all legal none agree long unbound binds = absurd cc
     answered before s (e ∷ es) (m ∷ marks) all legal none agree long unbound binds =
         let never : IsTrue (keeps_fault e.reply) → ⊥ = λ keeps. some_fault e.fault (none 0) (legal.0.fault.1 keeps) in
         let one = one_reply (rows m) s e e.reply legal.0.answered never agree.0 unbound in
         let reply : e.reply ≡ (plain s h e.call).0 = one.0 ∙ ap (λ (k : ℕ). (plain s k e.call).0) all.0 in
-        let state : next s e ≡ (plain s h e.call).1 = one.1 ∙ ap (λ (k : ℕ). (plain s k e.call).1) all.0 in
-        let still : Unbound (next s e) = subst Unbound (sym state) (plain_unbound h s unbound e.call binds.0) in
-        let rest = answered (before ++ e ∷ []) (next s e) es marks all.1 legal.2 (λ place. none (suc place)) agree.1 (suc_same (length marks) (length es) long) still binds.1 in
-        (reply, subst (λ (t : State). AnsweredBy (λ (t : State) (c : CallData). plain t h c) t (exchanged es)) state rest)
+        let state : state_after s e ≡ (plain s h e.call).1 = one.1 ∙ ap (λ (k : ℕ). (plain s k e.call).1) all.0 in
+        let still : Unbound (state_after s e) = subst Unbound (sym state) (plain_unbound h s unbound e.call binds.0) in
+        let rest = answered (before ++ e ∷ []) (state_after s e) es marks all.1 legal.2 (λ place. none (suc place)) agree.1 (suc_same (length marks) (length es) long) still binds.1 in
+        (reply, subst (λ (t : State). AnsweredBy (λ (t : State) (c : CallData). plain t h c) t (exchanges_of_all es)) state rest)

@@ -4,7 +4,7 @@ use Rattle.std.specs.Prelude.{not, is_some, nat_le, if◌then◌else◌}
 use Rattle.std.specs.List.{AllByRecursion}
 use Rattle.channel_commands.specs.declared.call.BreakCause.TheVariants as cause
 use Rattle.channel_commands.specs.Data.{CallData, mount, demount, command, break, ReplyData, CcwData}
-use Rattle.channel_program.specs.Script.{ItemData, mounting, demounting, program, Exchange, Reached, Standing, at_start, next_call, call_for, is_last, reached, moved, Runs, Gives, Follows, FollowsToEnd, CHAIN_LIMIT}
+use Rattle.channel_program.specs.Script.{ItemData, mounting, demounting, program, Exchange, Reached, Standing, at_start, next_call, call_for, is_last, word_reached, standing_after, RunsWords, Gives, Follows, FollowsToEnd, CHAIN_LIMIT}
 use Rattle.script_places.specs.Scripts.{Left, Plays, left_after, left_by, next_of, not_begun, program_left}
 use Rattle.compared_runs.specs.Same.{BindsNone}
 
@@ -25,7 +25,7 @@ IsAnywhere left = Unit {0}
 -- a program that is finished asks for nothing
 finished_asks : (words : List CcwData) (at : Standing) (call : CallData) → at.word ≡ None → next_call words at ≡ Some call → ⊥
 finished_asks words at call finished asks =
-    let none : next_call words at ≡ None = ap (option_map (λ w. call_for words at.executed (reached words w))) finished in absurd cc
+    let none : next_call words at ≡ None = ap (option_map (λ w. call_for words at.executed (word_reached words w))) finished in absurd cc
 
 word_none : (w : Option ℕ) → true ≡ not (is_some w) → w ≡ None
 word_none None is = refl
@@ -34,17 +34,17 @@ word_none (Some w) is = absurd cc
 module _ (Q : Left → Type 0) where
   module _ (words : List CcwData) (more : List ItemData) (rest : List Exchange) (follow_on : PlaysInto Q (not_begun more) rest) where
     -- behind a reply: the program has a word to go to, or it is finished, and the items behind it follow
-    behind : (at to : Standing) (xs : List Exchange) → Runs words at xs to → ((w : ℕ) → at.word ≡ Some w → PlaysInto Q (record { items = program words ∷ more; at = at }) (xs ++ rest))
+    behind : (at to : Standing) (xs : List Exchange) → RunsWords words at xs to → ((w : ℕ) → at.word ≡ Some w → PlaysInto Q (record { items = program words ∷ more; at = at }) (xs ++ rest))
         → (o : Option ℕ) → at.word ≡ o → PlaysInto Q (program_left words more at o) (xs ++ rest)
     behind at to xs run goes_on (Some w) is = goes_on w is
     behind at to [] run goes_on None is = follow_on
     behind at to (x ∷ xs) run goes_on None is = absurd (finished_asks words at x.0 is run.0)
 
-    program_plays : (at to : Standing) (xs : List Exchange) → Runs words at xs to → to.word ≡ None → (w : ℕ) → at.word ≡ Some w
+    program_plays : (at to : Standing) (xs : List Exchange) → RunsWords words at xs to → to.word ≡ None → (w : ℕ) → at.word ≡ Some w
         → PlaysInto Q (record { items = program words ∷ more; at = at }) (xs ++ rest)
     program_plays at to [] run end w goes = absurd (let e : None ≡ Some w = sym end ∙ sym (ap (λ (s : Standing). s.word) run) ∙ goes in cc)
     program_plays at to (x ∷ xs) run end w goes =
-        let next = behind (moved words at x.1) to xs run.1 (program_plays (moved words at x.1) to xs run.1 end) (moved words at x.1).word refl in
+        let next = behind (standing_after words at x.1) to xs run.1 (program_plays (standing_after words at x.1) to xs run.1 end) (standing_after words at x.1).word refl in
         record { plays = (run.0, next.plays); into = next.into }
 
   item_plays : (item : ItemData) (more : List ItemData) (front rest : List Exchange) → Gives item front true → PlaysInto Q (not_begun more) rest
@@ -67,16 +67,16 @@ plays_of (item ∷ items) xs (front, rest, split, gives, follows) =
 -- ---- from one that may be left within an item
 
 module _ (words : List CcwData) (more : List ItemData) where
-  behind_within : (at to : Standing) (xs : List Exchange) → Runs words at xs to → ((w : ℕ) → at.word ≡ Some w → Plays (record { items = program words ∷ more; at = at }) xs)
+  behind_within : (at to : Standing) (xs : List Exchange) → RunsWords words at xs to → ((w : ℕ) → at.word ≡ Some w → Plays (record { items = program words ∷ more; at = at }) xs)
       → (o : Option ℕ) → at.word ≡ o → Plays (program_left words more at o) xs
   behind_within at to xs run goes_on (Some w) is = goes_on w is
   behind_within at to [] run goes_on None is = tt
   behind_within at to (x ∷ xs) run goes_on None is = absurd (finished_asks words at x.0 is run.0)
 
-  program_within : (at to : Standing) (xs : List Exchange) → Runs words at xs to → Plays (record { items = program words ∷ more; at = at }) xs
+  program_within : (at to : Standing) (xs : List Exchange) → RunsWords words at xs to → Plays (record { items = program words ∷ more; at = at }) xs
   program_within at to [] run = tt
   program_within at to (x ∷ xs) run =
-      (run.0, behind_within (moved words at x.1) to xs run.1 (λ w is. program_within (moved words at x.1) to xs run.1) (moved words at x.1).word refl)
+      (run.0, behind_within (standing_after words at x.1) to xs run.1 (λ w is. program_within (standing_after words at x.1) to xs run.1) (standing_after words at x.1).word refl)
 
 item_within : (item : ItemData) (more : List ItemData) (xs : List Exchange) → Gives item xs false → Plays (not_begun (item ∷ more)) xs
 item_within (mounting volume bind) more [] gives = tt
@@ -112,17 +112,17 @@ next_binds (mounting volume bind ∷ more) at call all is = subst CallBindsNone 
 next_binds (demounting ∷ more) at call all is = subst CallBindsNone (let e : demount ≡ call = cc in e) tt
 next_binds (program words ∷ more) at call all is = by_word at.word is
   where
-    by_word : (o : Option ℕ) → option_map (λ w. call_for words at.executed (reached words w)) o ≡ Some call → CallBindsNone call
+    by_word : (o : Option ℕ) → option_map (λ w. call_for words at.executed (word_reached words w)) o ≡ Some call → CallBindsNone call
     by_word None none = absurd cc
-    by_word (Some w) some = subst CallBindsNone (let e : call_for words at.executed (reached words w) ≡ call = cc in e) (program_call words at.executed (reached words w))
+    by_word (Some w) some = subst CallBindsNone (let e : call_for words at.executed (word_reached words w) ≡ call = cc in e) (program_call words at.executed (word_reached words w))
 
 left_binds : (items : List ItemData) (at : Standing) (reply : ReplyData) → AllByRecursion BindsNone items → AllByRecursion BindsNone (left_by items at reply).items
 left_binds [] at reply all = tt
 left_binds (mounting volume bind ∷ more) at reply all = all.1
 left_binds (demounting ∷ more) at reply all = all.1
-left_binds (program words ∷ more) at reply all = by_word (moved words at reply).word
+left_binds (program words ∷ more) at reply all = by_word (standing_after words at reply).word
   where
-    by_word : (o : Option ℕ) → AllByRecursion BindsNone (program_left words more (moved words at reply) o).items
+    by_word : (o : Option ℕ) → AllByRecursion BindsNone (program_left words more (standing_after words at reply) o).items
     by_word None = all.1
     by_word (Some w) = all
 

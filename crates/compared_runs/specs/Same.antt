@@ -19,12 +19,12 @@ pub record IsOfOneHost (job : JobData) : Type 0 where
   pub unbound : AllByRecursion BindsNone host.items
 
 -- the calls of a history, with their replies
-abbrev pub exchanged : List EntryData → List Exchange
-exchanged history = map (λ e. (e.call, e.reply)) history
+abbrev pub exchanges_of_all : List EntryData → List Exchange
+exchanges_of_all history = map (λ e. (e.call, e.reply)) history
 
 -- all of these sessions have the same calls and replies
 abbrev pub AreAlike : List Session → Type 0
 AreAlike [] = Unit {0}
 AreAlike (s ∷ []) = Unit {0}
 AreAlike (s ∷ t ∷ sessions) =
-    (exchanged s.history.items ≡ exchanged t.history.items) × AreAlike (t ∷ sessions)
+    (exchanges_of_all s.history.items ≡ exchanges_of_all t.history.items) × AreAlike (t ∷ sessions)

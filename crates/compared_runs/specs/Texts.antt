@@ -1,7 +1,7 @@
 -- What a comparison puts.
 use Rattle.std.specs.Prelude.{ℕ, List, ◌++◌, ◌==◌, codes, decimal, if◌then◌else◌}
 use Rattle.report_text.specs.OneLines.{one_line_text}
-use Rattle.report_text.specs.Texts.{end_text, limit_text, numbered, stopped_text}
+use Rattle.report_text.specs.Texts.{end_text, limit_text, numbered_lines, stopped_text}
 use Rattle.report_text.specs.declared.one_line.OneLine.TheVariants.{WantOfMemory}
 use Rattle.core_state.specs.declared.session.Message.{Message}
 use Rattle.core_state.specs.declared.session.Session.{Session}
@@ -20,8 +20,8 @@ name_at n = if n == 1 then codes "lru"
     else (if n == 2 then codes "clean" else (if n == 3 then codes "quota:1" else codes "other"))
 
 -- a word and a count
-unfoldable pub counted : List ℕ → ℕ → List ℕ
-counted word n = word ++ decimal n
+unfoldable pub word_and_count : List ℕ → ℕ → List ℕ
+word_and_count word n = word ++ decimal n
 
 -- the same at the end of a line
 unfoldable pub counted_last : List ℕ → ℕ → List ℕ
@@ -29,13 +29,13 @@ counted_last word n = word ++ decimal n ++ codes "\n"
 
 -- how often a cylinder was destaged, and a page gave its frame back
 unfoldable pub given_back_text : List Message → List ℕ
-given_back_text console = counted (codes " destaged ") (count_of kind.Destaged console)
+given_back_text console = word_and_count (codes " destaged ") (count_of kind.Destaged console)
     ++ counted_last (codes " free ") (count_of kind.Free console)
 
 -- and how often a cylinder was staged
 unfoldable pub counts_text : List Message → List ℕ
 counts_text console =
-    counted (codes " staged ") (count_of kind.Staged console) ++ given_back_text console
+    word_and_count (codes " staged ") (count_of kind.Staged console) ++ given_back_text console
 
 unfoldable pub named_text : List ℕ → List ℕ
 named_text name = codes "policy " ++ name
@@ -45,7 +45,7 @@ abbrev pub policy_line : ℕ → Session → List ℕ
 policy_line n s = named_text (name_at n) ++ counts_text s.console.items
 
 unfoldable pub lines_text : List Session → List ℕ
-lines_text sessions = numbered policy_line 1 sessions
+lines_text sessions = numbered_lines policy_line 1 sessions
 
 -- the last line: no session of a comparison is stopped
 abbrev pub closing_text : DriveAnswer → List ℕ

@@ -8,7 +8,7 @@ ghost use Rattle.serial_driver.specs.declared.answer.DriveAnswer.TheVariants.{Do
 ghost use Rattle.victim_rules.specs.Closures.{NarrowMay};
 ghost use Rattle.compared_runs.specs.Alone.{IsAlone};
 ghost use Rattle.compared_runs.specs.Comparing.{Compares, every_name};
-ghost use Rattle.compared_runs.specs.Same.{AreAlike, IsOfOneHost, exchanged};
+ghost use Rattle.compared_runs.specs.Same.{AreAlike, IsOfOneHost, exchanges_of_all};
 
 use victim_choice::{Candidate, Choose};
 
@@ -17,7 +17,7 @@ use victim_choice::{Candidate, Choose};
 pub fn one_host_sees_no_replacement<C: Choose, D: Choose>()
     ensures { (job : JobData) (c : C) (d : D) (s t : SessionData) → IsOfOneHost job
         → IsAlone (Unit {0}) (C.may c) job Done s → IsAlone (Unit {0}) (D.may d) job Done t
-        → exchanged s.history ≡ exchanged t.history }
+        → exchanges_of_all s.history ≡ exchanges_of_all t.history }
 {}
 
 /// So all sessions of a comparison over such a job have the same calls and replies. The limit of entries comes in its

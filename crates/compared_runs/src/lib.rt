@@ -4,6 +4,8 @@
 //! keeps the sessions; `specs/Comparing.antt` says what each of them promises. `put_policies` puts a line for each, with
 //! what its console counts (`specs/Texts.antt`). The devices are those of `memory_devices` (`sound_site.rt`), and are let
 //! go before the next session begins. Sessions of one host that binds no volume are alike (`law.rt`).
+//!
+//! Layers above cite lemmas of `proofs/`: one session more, or none (`Added`).
 #![tactic(auto)]
 
 mod alone;

@@ -4,7 +4,7 @@ ghost use Rattle.mss_base.specs.Counts.{HasCause};
 ghost use Rattle.mss_base.specs.Puts.{Puts};
 ghost use Rattle.session_report.specs.Summaries.{count_of};
 ghost use Rattle.session_report.specs.declared.summing.Kind.TheVariants as kind;
-ghost use Rattle.compared_runs.specs.Texts.{closing_text, counted, counted_last, counts_text};
+ghost use Rattle.compared_runs.specs.Texts.{closing_text, word_and_count, counted_last, counts_text};
 ghost use Rattle.compared_runs.specs.Texts.{lines_text, name_at, named_text, policies_text};
 ghost use Rattle.compared_runs.specs.Texts.{given_back_text, policies_title, policy_line, sessions_text};
 
@@ -64,10 +64,10 @@ fn name_at(number: u64) -> &'static str
 }
 
 /// Puts a word and a count.
-#[tactic(auto, unfolding(crate::specs::Texts::counted))]
+#[tactic(auto, unfolding(crate::specs::Texts::word_and_count))]
 fn put_counted<O: Sink>(output: &mut O, word: &str, count: u64) -> Result<(), Failed>
     ensures bytes { O.tells → Puts result (O.told output.old) (O.told output.new)
-        (counted word.now count) }
+        (word_and_count word.now count) }
     ensures cause { HasCause (O.faults output.old) (O.faults output.new) result }
 {
     let mut digits = itoa::Buffer::new();

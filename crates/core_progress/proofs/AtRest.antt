@@ -13,7 +13,7 @@ use Rattle.fault_queue.specs.declared.queue.RequestState.{RequestState}
 use Rattle.fault_queue.specs.declared.queue.RequestState.TheVariants as request
 use Rattle.fault_queue.specs.Requests.{RequestsData, request_of}
 use Rattle.transfers.specs.declared.transfer.Transfer.{Transfer}
-use Rattle.volume_table.specs.Listed.{listed}
+use Rattle.volume_table.specs.Listed.{row_in_list}
 use Rattle.shown_volumes.specs.Sound.{frame_in}
 use Rattle.cartridge_store.specs.Places.{place_of}
 use Rattle.victim_choice.specs.declared.choose.Candidate.{Candidate}
@@ -74,7 +74,7 @@ module _ (core : CoreData) where
       (where_test Act (nat_lt 0 (length (candidates core))) (PicksVictim h) λ _. refl)
 
   pick_for_acts : (h : ℕ) (r : Request) (state : RequestState) → Acts (pick_for core h r state)
-  pick_for_acts h r request.Queued = pick_on_acts h (frame_in (listed core.rows) r.volume (page_of r.cylinder))
+  pick_for_acts h r request.Queued = pick_on_acts h (frame_in (row_in_list core.rows) r.volume (page_of r.cylinder))
   pick_for_acts h r request.Moving = nothing Act None refl
   pick_for_acts h r request.Ready = nothing Act None refl
   pick_for_acts h r (request.Failed fault) = nothing Act None refl
@@ -234,9 +234,9 @@ module _ (core : CoreData) (fit : CoreFits core) (idle : AreIdle core) where
 
   -- ---- requests
 
-  queued_rests : (h : ℕ) (r : Request) → pick_on core h (frame_in (listed core.rows) r.volume (page_of r.cylinder)) ≡ None → IsAtRest core r request.Queued
-  queued_rests h r = by_frame (frame_in (listed core.rows) r.volume (page_of r.cylinder)) refl where
-    by_frame : (o : Option ℕ) → frame_in (listed core.rows) r.volume (page_of r.cylinder) ≡ o → pick_on core h o ≡ None → IsAtRest core r request.Queued
+  queued_rests : (h : ℕ) (r : Request) → pick_on core h (frame_in (row_in_list core.rows) r.volume (page_of r.cylinder)) ≡ None → IsAtRest core r request.Queued
+  queued_rests h r = by_frame (frame_in (row_in_list core.rows) r.volume (page_of r.cylinder)) refl where
+    by_frame : (o : Option ℕ) → frame_in (row_in_list core.rows) r.volume (page_of r.cylinder) ≡ o → pick_on core h o ≡ None → IsAtRest core r request.Queued
     by_frame (Some frame) has none = absurd (both_ways (not (is_moving core frame)) (none_where (not (is_moving core frame)) (Picks h frame) none) (ap not (not_moving frame)))
     by_frame None has none =
         let parts = or_none (option_map (Picks h) (free_frame core)) (where_so (nat_lt 0 (length (candidates core))) (PicksVictim h)) none in

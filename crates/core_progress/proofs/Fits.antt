@@ -15,7 +15,7 @@ use Rattle.transfers.specs.declared.transfer.TransferKind.{TransferKind}
 use Rattle.transfers.specs.declared.transfer.TransferKind.TheVariants.{StageBlank, StageCartridge, Destage}
 use Rattle.core_state.specs.declared.task.Task.{Task}
 use Rattle.core_state.specs.CoreValue.{CoreValue}
-use Rattle.volume_table.specs.Listed.{listed}
+use Rattle.volume_table.specs.Listed.{row_in_list}
 use Rattle.core_state.specs.Pins.{owner_at, task_at, binds, is_volume_bound, state_of_row, state_in}
 use Rattle.core_state.specs.WorkRules.{cartridge_of}
 use Rattle.core_state.specs.Tasks.{IsTask, IsTransfer, IsChosen, HasFrame}
@@ -59,7 +59,7 @@ beyond xs i x is = elim (cases_lt i (length xs)) [
 ]
 
 module _ {S C : Type 0} (v : CoreValue S C) (core : IsCore v) where
-  row_there : (h : ℕ) (r : Request) → request_of v.requests h ≡ Some r → IsSome (listed v.rows r.volume)
+  row_there : (h : ℕ) (r : Request) → request_of v.requests h ≡ Some r → IsSome (row_in_list v.rows r.volume)
   row_there h r asked = core.fit.mounted_ h r.volume (core.on_mounted h r asked).0
 
   requests_fit : RequestsFit v
@@ -68,31 +68,31 @@ module _ {S C : Type 0} (v : CoreValue S C) (core : IsCore v) where
     placed = core.on_mounted;
     there = row_there;
     alone = core.alone;
-    staged = λ h r asked ready. at_least (listed v.rows r.volume) r.cylinder (row_there h r asked) (core.fit.ready h r asked ready).staged;
-    unstaged = λ h r asked which. below (listed v.rows r.volume) r.cylinder (elim which [
+    staged = λ h r asked ready. at_least (row_in_list v.rows r.volume) r.cylinder (row_there h r asked) (core.fit.ready h r asked ready).staged;
+    unstaged = λ h r asked which. below (row_in_list v.rows r.volume) r.cylinder (elim which [
       | inl queued ↦ core.waiting h r asked queued
       | inr moves ↦ moving_unstaged S v core h r asked moves
     ]);
   }
 
   module _ (i : ℕ) (task : Task) (at : task_at v.tasks i ≡ Some task) where
-    its : IsTask v.config.frames (listed v.rows) v.moving v.requests v.hosts task
+    its : IsTask v.config.frames (row_in_list v.rows) v.moving v.requests v.hosts task
     its = core.tasks_.each i task at
 
     its_request : (r : Request) → request_of v.requests task.host ≡ Some r → its.request ≡ r
     its_request r asked = some_is its.request r (sym its.asked ∙ asked)
 
-    frame_for : (r : Request) → request_of v.requests task.host ≡ Some r → (victim : Option (ℕ × ℕ)) → task.victim ≡ victim → HasFrame (listed v.rows) task.frame victim r.volume (r.cylinder / 8)
+    frame_for : (r : Request) → request_of v.requests task.host ≡ Some r → (victim : Option (ℕ × ℕ)) → task.victim ≡ victim → HasFrame (row_in_list v.rows) task.frame victim r.volume (r.cylinder / 8)
     frame_for r asked victim is =
-        subst (λ (o : Option (ℕ × ℕ)). HasFrame (listed v.rows) task.frame o r.volume (r.cylinder / 8)) is
-        (subst (λ (q : Request). HasFrame (listed v.rows) task.frame task.victim q.volume (q.cylinder / 8)) (its_request r asked) its.frame_)
+        subst (λ (o : Option (ℕ × ℕ)). HasFrame (row_in_list v.rows) task.frame o r.volume (r.cylinder / 8)) is
+        (subst (λ (q : Request). HasFrame (row_in_list v.rows) task.frame task.victim q.volume (q.cylinder / 8)) (its_request r asked) its.frame_)
 
-    no_owner : ((volume page : ℕ) → frame_in (listed v.rows) volume page ≡ Some task.frame → ⊥) → (o : Option (ℕ × ℕ)) → owner_at v.owners task.frame ≡ o → o ≡ None
+    no_owner : ((volume page : ℕ) → frame_in (row_in_list v.rows) volume page ≡ Some task.frame → ⊥) → (o : Option (ℕ × ℕ)) → owner_at v.owners task.frame ≡ o → o ≡ None
     no_owner none None is = refl
     no_owner none (Some p) is = absurd (none p.0 p.1 ((core.owned task.frame p.0 p.1 its.low).0 is))
 
     given_frame : (r : Request) → request_of v.requests task.host ≡ Some r → task.victim ≡ None
-        → (frame_in (listed v.rows) r.volume (r.cylinder / 8) ≡ Some task.frame) ⊎ ((owner_at v.owners task.frame ≡ None) × (frame_in (listed v.rows) r.volume (r.cylinder / 8) ≡ None))
+        → (frame_in (row_in_list v.rows) r.volume (r.cylinder / 8) ≡ Some task.frame) ⊎ ((owner_at v.owners task.frame ≡ None) × (frame_in (row_in_list v.rows) r.volume (r.cylinder / 8) ≡ None))
     given_frame r asked is = elim (frame_for r asked None is) [
       | inl has ↦ inl has
       | inr loose ↦ inr (no_owner loose.1 (owner_at v.owners task.frame) refl, loose.0)
@@ -100,7 +100,7 @@ module _ {S C : Type 0} (v : CoreValue S C) (core : IsCore v) where
 
     -- the transfer that it has
     module _ (t : Transfer) (copies : task.transfer ≡ Some t) where
-      its_transfer : IsTransfer (listed v.rows) task.frame task.victim its.request t
+      its_transfer : IsTransfer (row_in_list v.rows) task.frame task.victim its.request t
       its_transfer = its.transfer_ t copies
 
       state_is : state_in v.rows t.volume t.cylinder ≡ due_state t.kind
@@ -131,12 +131,12 @@ module _ {S C : Type 0} (v : CoreValue S C) (core : IsCore v) where
           let same = its_request r asked in
           let volume_is : t.volume ≡ r.volume = due.1 ∙ ap (λ (q : Request). q.volume) same in
           let cylinder_is : t.cylinder ≡ r.cylinder = due.2 ∙ ap (λ (q : Request). q.cylinder) same in
-          let framed : frame_in (listed v.rows) t.volume (t.cylinder / 8) ≡ Some task.frame = ap (λ (o : Option RowValue). option_and_then (λ k. frame_of k (t.cylinder / 8)) o) its_transfer.there ∙ its_transfer.due.frame_ ∙ ap (λ (k : ℕ). Some k) its_transfer.frame_ in
+          let framed : frame_in (row_in_list v.rows) t.volume (t.cylinder / 8) ≡ Some task.frame = ap (λ (o : Option RowValue). option_and_then (λ k. frame_of k (t.cylinder / 8)) o) its_transfer.there ∙ its_transfer.due.frame_ ∙ ap (λ (k : ℕ). Some k) its_transfer.frame_ in
           record {
             kind_ = due.0;
             volume_ = volume_is;
             cylinder_ = cylinder_is;
-            framed = (λ k. frame_in (listed v.rows) (sym volume_is k) (sym cylinder_is k / 8)) ∙ framed;
+            framed = (λ k. frame_in (row_in_list v.rows) (sym volume_is k) (sym cylinder_is k / 8)) ∙ framed;
           }
 
   tasks_fit : TasksFit v

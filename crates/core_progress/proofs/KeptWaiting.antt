@@ -9,7 +9,7 @@ use Rattle.core_state.specs.declared.rule.HostRule.TheVariants.{IsStopped, IsFul
 use Rattle.core_state.specs.CoreValue.{CoreData}
 use Rattle.core_state.specs.HostRules.{request_for, host_rule}
 use Rattle.core_state.specs.HostEvents.{HostTold, no_memory, IsSame, HostDoes, HostEvent}
-use Rattle.core_state.specs.Steps.{noted, ends_request, going_on}
+use Rattle.core_state.specs.Steps.{with_event, ends_request, going_on}
 use Rattle.core_progress.specs.Progress.{keeps_waiting, is_kept_waiting, IsKeptOff}
 use Rattle.core_progress.proofs.RuleSays.{Says, rule_says, ArePlaced, binder_ends_none}
 
@@ -29,7 +29,7 @@ module _ (tells : Type 0) (core core' : CoreData) (h : ℕ) (call : CallData) (p
   by_rule (IsBusy owner) told does says kept = (subst IsKeptOff (sym does.0) tt, does.1)
   by_rule (IsMoving cylinder) told does says kept = (subst IsKeptOff (sym does.0) tt, does.1)
   by_rule (IsHeld frame) told does says kept =
-      (subst IsKeptOff (sym does.0) tt, (does.1.0, unless (ends_request core h call) (noted (Host h) (going_on core h call)) (binder_ends_none core h call placed says.0 says.1) does.1.1))
+      (subst IsKeptOff (sym does.0) tt, (does.1.0, unless (ends_request core h call) (with_event (Host h) (going_on core h call)) (binder_ends_none core h call placed says.0 says.1) does.1.1))
   by_rule (Faults volume cylinder) told does says kept = (subst IsKeptOff (sym does.0) tt, (does.1.0, whenever (is_some (request_for core h call)) _ kept does.1.1))
   by_rule Responds told does says kept = absurd (false≢true kept)
   by_rule (HasFailed fault) told does says kept = absurd (false≢true kept)

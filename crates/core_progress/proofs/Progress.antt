@@ -17,7 +17,7 @@ use Rattle.fault_queue.specs.declared.queue.Request.{Request}
 use Rattle.fault_queue.specs.declared.queue.RequestState.{RequestState}
 use Rattle.fault_queue.specs.declared.queue.RequestState.TheVariants as request
 use Rattle.fault_queue.specs.Requests.{RequestsData, request_of}
-use Rattle.volume_table.specs.Listed.{listed}
+use Rattle.volume_table.specs.Listed.{row_in_list}
 use Rattle.shown_volumes.specs.Sound.{frame_in}
 use Rattle.core_state.specs.declared.task.Task.{Task}
 use Rattle.core_state.specs.declared.rule.HostRule.{HostRule}
@@ -197,10 +197,10 @@ module _ (core : CoreData) (settled : IsSettled core) (fit : CoreFits core) (cal
         either_way false volume cylinder = refl
 
   -- a Queued request's host, where each frame is bound, is told that there is no space
-  no_space_left : (h : ℕ) (r : Request) (call : CallData) → calls h ≡ Some call → request_of core.requests h ≡ Some r → frame_in (listed core.rows) r.volume (page_of r.cylinder) ≡ None → are_all_bound core ≡ true → SomeoneGoesOn core calls
+  no_space_left : (h : ℕ) (r : Request) (call : CallData) → calls h ≡ Some call → request_of core.requests h ≡ Some r → frame_in (row_in_list core.rows) r.volume (page_of r.cylinder) ≡ None → are_all_bound core ≡ true → SomeoneGoesOn core calls
   no_space_left h r call is has bare all =
       let host = host_at core.hosts h in
-      let none : frame_under core host ≡ None = where_host_is (λ v c. frame_in (listed core.rows) v (page_of c) ≡ None) h r has bare in (
+      let none : frame_under core host ≡ None = where_host_is (λ v c. frame_in (row_in_list core.rows) v (page_of c) ≡ None) h r has bare in (
         h,
         call,
         is,

@@ -22,7 +22,7 @@ use Rattle.core_state.specs.HostEvents.{HostTold, replied, marked, waits, halts,
 use Rattle.core_state.specs.HostRules.{data_command, is_for, request_for, host_rule}
 use Rattle.core_state.specs.IsCore.{IsCore}
 use Rattle.core_state.specs.Pins.{host_at, volume_under, is_on, asks_for, owns}
-use Rattle.core_state.specs.Steps.{noted, ends_request, with_request}
+use Rattle.core_state.specs.Steps.{with_event, ends_request, with_request}
 use Rattle.core_state.proofs.RuleWalks.{some_is, none_some}
 use Rattle.core_progress.specs.Progress.{NextCalls, keeps_waiting, is_kept_waiting}
 use Rattle.core_progress.specs.Rounds.{is_wait, HasAnswer, HasAsked, CallsAfter, IsBetweenRounds, IsRound}
@@ -80,7 +80,7 @@ module _ (tells : Type 0) (old new : CoreData) (h : ℕ) (call : CallData) (calm
     by_met (inr busy) = inr (busy.0, record { volume = busy.1.volume; owner = busy.1.owner; on = busy.1.on; owns_ = busy.1.owns_; other = busy.1.other; low = busy.1.low })
 
   abbrev asked_now : ℕ → CoreData
-  asked_now volume = record (noted (Host h) (with_request h volume (host_at old.hosts h).cylinder request.Queued old)) { site = new.site }
+  asked_now volume = record (with_event (Host h) (with_request h volume (host_at old.hosts h).cylinder request.Queued old)) { site = new.site }
 
   asked : (volume : ℕ) → request_of old.requests h ≡ None → new ≡ asked_now volume → Waited old new h call
   asked volume none is =
@@ -111,7 +111,7 @@ module _ (tells : Type 0) (old new : CoreData) (h : ℕ) (call : CallData) (calm
   asks volume cylinder says does = elim (cases_Bool (is_some (request_for old h call))) [
     | inl there ↦ still (with_it (is_some (request_for old h call)) _ there does.1) (inl (requested (request_of old.requests h) there))
     | inr fresh ↦ asked volume (none_asked old h call calm.cylinders says.data_ fresh)
-        (subst (λ (c : ℕ). new ≡ record (noted (Host h) (with_request h volume c request.Queued old)) { site = new.site }) says.cylinder_
+        (subst (λ (c : ℕ). new ≡ record (with_event (Host h) (with_request h volume c request.Queued old)) { site = new.site }) says.cylinder_
         (without_it (is_some (request_for old h call)) (ends_request old h call) fresh (none_ends old h call calm.cylinders says.data_) does.1))
   ] where
     requested : (o : Option Request) → is_some (option_and_then (λ r. where_so (is_for (host_at old.hosts h) call r) r) o) ≡ true → (r : Request) × (o ≡ Some r)
@@ -123,8 +123,8 @@ module _ (tells : Type 0) (old new : CoreData) (h : ℕ) (call : CallData) (calm
     with_it false other so is = absurd (false≢true so)
 
     without_it : (b ends : Bool) → b ≡ false → ends ≡ false
-        → new ≡ record (if b then old else noted (Host h) (with_request h volume cylinder request.Queued (if ends then record old { requests = without_request h old.requests } else old))) { site = new.site }
-        → new ≡ record (noted (Host h) (with_request h volume cylinder request.Queued old)) { site = new.site }
+        → new ≡ record (if b then old else with_event (Host h) (with_request h volume cylinder request.Queued (if ends then record old { requests = without_request h old.requests } else old))) { site = new.site }
+        → new ≡ record (with_event (Host h) (with_request h volume cylinder request.Queued old)) { site = new.site }
     without_it true ends no_one on is = absurd (false≢true (sym no_one))
     without_it false true no_one on is = absurd (false≢true (sym on))
     without_it false false no_one on is = is

@@ -9,7 +9,7 @@ use Rattle.channel_commands.specs.Data.{CallData, mount, demount, command as ask
 use Rattle.ckd_plain.specs.declared.host.HostState.{HostState}
 use Rattle.mss_base.specs.Firsts.{◌or◌, where_so}
 use Rattle.mss_base.proofs.FirstFacts.{none_where, none_is}
-use Rattle.volume_table.specs.Listed.{listed}
+use Rattle.volume_table.specs.Listed.{row_in_list}
 use Rattle.fault_queue.specs.declared.queue.Request.{Request}
 use Rattle.fault_queue.specs.Requests.{request_of}
 use Rattle.core_state.specs.declared.rule.HostRule.{HostRule}
@@ -154,7 +154,7 @@ module _ (core : CoreData) (h : ℕ) (call : CallData) where
   unmounted : (state : HostState) (k : CallData) (volume : ℕ) → would_bind core state k ≡ Some volume → state.mounted ≡ None
   unmounted state (mount n true) volume is =
       let t = (tested _ n volume is).0 in
-      let first = and_parts (not state.chain_open && not (is_some state.mounted)) (is_some (listed core.rows n)) t in
+      let first = and_parts (not state.chain_open && not (is_some state.mounted)) (is_some (row_in_list core.rows n)) t in
       let second = and_parts (not state.chain_open) (not (is_some state.mounted)) first.0 in
       none_is state.mounted (not-true (is_some state.mounted) second.1)
   unmounted state (mount n false) volume is = absurd (none_some volume is)

@@ -6,7 +6,7 @@ use Rattle.std.proofs.lemmas.Bool.Decides.{eqb_tells}
 use Rattle.channel_commands.specs.declared.command.Command.{Command}
 use Rattle.channel_commands.specs.Data.{CallData, command as ask, equipment_check}
 use Rattle.volume_table.specs.Row.{RowValue}
-use Rattle.volume_table.specs.Listed.{listed, with_changed}
+use Rattle.volume_table.specs.Listed.{row_in_list, with_changed}
 use Rattle.volume_table.specs.declared.changes.Change.TheVariants as change
 use Rattle.fault_queue.specs.declared.queue.Request.{Request}
 use Rattle.fault_queue.specs.declared.queue.RequestState.TheVariants as request
@@ -20,7 +20,7 @@ use Rattle.core_state.specs.HostEvents.{HostTold, replied, marked, halts, no_mem
 use Rattle.core_state.specs.HostRules.{request_for, volume_of, host_rule}
 use Rattle.core_state.specs.IsCore.{IsCore}
 use Rattle.core_state.specs.Pins.{host_at, page_of, state_of_row, state_in, is_ready}
-use Rattle.core_state.specs.Steps.{noted, ends_request, going_on, with_request, with_change, touching}
+use Rattle.core_state.specs.Steps.{with_event, ends_request, going_on, with_request, with_change, touching}
 use Rattle.core_progress.specs.Progress.{keeps_waiting, is_kept_waiting}
 use Rattle.core_progress.specs.WorkLeft.{is_ready_to_write, is_marked, has_request, one_unless, sum_below, hosts_without, run_left}
 use Rattle.core_progress.proofs.OneRequest.{OnlyOne, one_made, one_remade}
@@ -102,8 +102,8 @@ module _ (core core' : CoreData) (i : ℕ) (r : Request) (low : i < 8) (same : c
 -- ---- a cylinder that becomes changed
 
 -- the row of a cylinder that is staged
-staged_row : (rows : List (Option RowValue)) (volume cylinder : ℕ) → 2 ≤ state_in rows volume cylinder → (row : RowValue) × (listed rows volume ≡ Some row) × (cylinder < length row.states)
-staged_row rows volume cylinder lt = by_row (listed rows volume) lt where
+staged_row : (rows : List (Option RowValue)) (volume cylinder : ℕ) → 2 ≤ state_in rows volume cylinder → (row : RowValue) × (row_in_list rows volume ≡ Some row) × (cylinder < length row.states)
+staged_row rows volume cylinder lt = by_row (row_in_list rows volume) lt where
   by_row : (o : Option RowValue) → 2 ≤ state_of_row o cylinder → (row : RowValue) × (o ≡ Some row) × (cylinder < length row.states)
   by_row None l = absurd (omega (arith, l))
   by_row (Some row) l = (row, refl, within_states row.states cylinder (omega (arith, l)))
@@ -144,12 +144,12 @@ module _ (core : CoreData) (kept : IsCore core) (h : ℕ) where
 
 -- a cylinder is asked for the first time, of which the host had asked for none
 pub asked_at : (tells : Type 0) (core core' : CoreData) (kept : IsCore core) (h : ℕ) (call : CallData) (volume cylinder : ℕ) → Says core h call (Faults volume cylinder) → is_some (request_for core h call) ≡ false
-    → Asks tells core h call volume cylinder core' → core' ≡ record (noted (Host h) (with_request h volume cylinder request.Queued core)) { site = core'.site }
+    → Asks tells core h call volume cylinder core' → core' ≡ record (with_event (Host h) (with_request h volume cylinder request.Queued core)) { site = core'.site }
 asked_at tells core core' kept h call volume cylinder says fresh does =
     by_tests (is_some (request_for core h call)) (ends_request core h call) fresh (none_ends core h call (cylinders core kept h) says.data_) does.1 where
       by_tests : (asked ends : Bool) → asked ≡ false → ends ≡ false
-          → core' ≡ record (if asked then core else noted (Host h) (with_request h volume cylinder request.Queued (if ends then record core { requests = without_request h core.requests } else core))) { site = core'.site }
-          → core' ≡ record (noted (Host h) (with_request h volume cylinder request.Queued core)) { site = core'.site }
+          → core' ≡ record (if asked then core else with_event (Host h) (with_request h volume cylinder request.Queued (if ends then record core { requests = without_request h core.requests } else core))) { site = core'.site }
+          → core' ≡ record (with_event (Host h) (with_request h volume cylinder request.Queued core)) { site = core'.site }
       by_tests true ends fresh_ on is = absurd (false≢true (sym fresh_))
       by_tests false true fresh_ on is = absurd (false≢true (sym on))
       by_tests false false fresh_ on is = is
@@ -174,7 +174,7 @@ module _ (tells : Type 0) (core core' : CoreData) (kept : IsCore core) (h : ℕ)
     by_test true not_so = absurd (false≢true (sym not_so))
     by_test false not_so = refl
 
-  marks_at : core' ≡ noted (Host h) (touching (volume, page_of cylinder) (with_request h volume cylinder request.Ready (with_change volume (change.Changed cylinder) (record core { site = core'.site })))) → IsMarkedNow core h core'
+  marks_at : core' ≡ with_event (Host h) (touching (volume, page_of cylinder) (with_request h volume cylinder request.Ready (with_change volume (change.Changed cylinder) (record core { site = core'.site })))) → IsMarkedNow core h core'
   marks_at is = by_request (request_of core.requests h) refl where
     rows_now : core'.rows ≡ with_changed volume (change.Changed cylinder) core.rows
     rows_now = ap (λ (c : CoreData). c.rows) is
@@ -208,7 +208,7 @@ module _ (tells : Type 0) (core core' : CoreData) (kept : IsCore core) (h : ℕ)
         (may.asked.volume_ ∙ volume_is core kept h r has) (may.asked.cylinder_ ∙ cylinders core kept h h r has)
 
   pub marks_now : MarksIt tells core h call (record { volume = volume; cylinder = cylinder }) marked core' → IsMarkedNow core h core'
-  marks_now does = marks_at (subst (λ (c : CoreData). core' ≡ noted (Host h) (touching (volume, page_of cylinder) (with_request h volume cylinder request.Ready (with_change volume (change.Changed cylinder) (record c { site = core'.site }))))) going_same does.1)
+  marks_now does = marks_at (subst (λ (c : CoreData). core' ≡ with_event (Host h) (touching (volume, page_of cylinder) (with_request h volume cylinder request.Ready (with_change volume (change.Changed cylinder) (record c { site = core'.site }))))) going_same does.1)
 
 -- ---- an event of a host that isn't kept waiting
 

@@ -4,8 +4,8 @@ use Rattle.std.specs.Prelude.{if◌then◌else◌}
 use Rattle.std.proofs.lemmas.Bool.{and_parts, and_from, both_ways, eq-eqb, eqb-true, false≢true}
 use Rattle.std.proofs.lemmas.Bool.Decides.{eqb_tells}
 use Rattle.volume_table.specs.Row.{RowValue, state_of}
-use Rattle.volume_table.specs.Changes.{effect, unstaged, map_numbered}
-use Rattle.volume_table.specs.Listed.{listed, with_changed}
+use Rattle.volume_table.specs.Changes.{effect, unstaged_state, map_numbered}
+use Rattle.volume_table.specs.Listed.{row_in_list, with_changed}
 use Rattle.volume_table.specs.declared.changes.Change.{Change}
 use Rattle.volume_table.specs.declared.changes.Change.TheVariants as change
 use Rattle.fault_queue.specs.declared.queue.Request.{Request}
@@ -144,12 +144,12 @@ within_rows [] i x is = absurd (none_some x is)
 within_rows (y ∷ ys) zero x is = omega arith
 within_rows (y ∷ ys) (suc i) x is = let below = within_rows ys i x is in omega (arith, below)
 
-module _ (rows : List (Option RowValue)) (volume : ℕ) (row : RowValue) (what : Change) (is : listed rows volume ≡ Some row) where
-  pub row_now : listed (with_changed volume what rows) volume ≡ Some (effect what row)
-  row_now = get_or-set_same rows volume (option_map (effect what) (listed rows volume)) None (within_rows rows volume row is) ∙ ap (option_map (effect what)) is
+module _ (rows : List (Option RowValue)) (volume : ℕ) (row : RowValue) (what : Change) (is : row_in_list rows volume ≡ Some row) where
+  pub row_now : row_in_list (with_changed volume what rows) volume ≡ Some (effect what row)
+  row_now = get_or-set_same rows volume (option_map (effect what) (row_in_list rows volume)) None (within_rows rows volume row is) ∙ ap (option_map (effect what)) is
 
-  pub rows_else : (x : ℕ) → (x ≡ volume → ⊥) → listed (with_changed volume what rows) x ≡ listed rows x
-  rows_else x apart = get_or-set_other rows volume x (option_map (effect what) (listed rows volume)) None apart
+  pub rows_else : (x : ℕ) → (x ≡ volume → ⊥) → row_in_list (with_changed volume what rows) x ≡ row_in_list rows x
+  rows_else x apart = get_or-set_other rows volume x (option_map (effect what) (row_in_list rows volume)) None apart
 
   -- a row is changed so that its fours stay but for some
   pub row_fours : (But : ℕ → Type 0) → ((y : ℕ) → state_of row y ≡ 4 → (But y → ⊥) → state_of (effect what row) y ≡ 4)
@@ -171,15 +171,15 @@ destaged_fours row c y four apart = get_or-set_other row.states c y 3 0 apart �
 pub staged_fours : (row : RowValue) (c y : ℕ) → state_of row c < 2 → state_of row y ≡ 4 → state_of (effect (change.Staged c) row) y ≡ 4
 staged_fours row c y low four = get_or-set_other row.states c y (state_of row c + 2) 0 (λ e. let at : state_of row c ≡ 4 = subst (λ (k : ℕ). state_of row k ≡ 4) e four in omega (arith, at, low)) ∙ four
 
-freed_one : (page number state : ℕ) → state ≡ 4 → (if number / 8 == page then unstaged state else state) ≡ 4
+freed_one : (page number state : ℕ) → state ≡ 4 → (if number / 8 == page then unstaged_state state else state) ≡ 4
 freed_one page number state four = by_test (number / 8 == page) where
-  by_test : (b : Bool) → (if b then unstaged state else state) ≡ 4
+  by_test : (b : Bool) → (if b then unstaged_state state else state) ≡ 4
   by_test true = rw four refl
   by_test false = four
 
 pub freed_fours : (row : RowValue) (page y : ℕ) → state_of row y ≡ 4 → state_of (effect (change.Free page) row) y ≡ 4
 freed_fours row page y four = along 0 row.states y four where
-  along : (number : ℕ) (states : List ℕ) (y : ℕ) → slice_index_or states y 0 ≡ 4 → slice_index_or (map_numbered (λ c state. if c / 8 == page then unstaged state else state) number states) y 0 ≡ 4
+  along : (number : ℕ) (states : List ℕ) (y : ℕ) → slice_index_or states y 0 ≡ 4 → slice_index_or (map_numbered (λ c state. if c / 8 == page then unstaged_state state else state) number states) y 0 ≡ 4
   along number [] y e = e
   along number (x ∷ xs) zero e = freed_one page number x e
   along number (x ∷ xs) (suc y) e = along (suc number) xs y e

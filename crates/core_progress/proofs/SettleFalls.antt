@@ -8,7 +8,7 @@ use Rattle.std.proofs.lemmas.Map.Views.{lookup-from_Contains}
 use Rattle.mss_base.specs.Firsts.{◌or◌, where_so}
 use Rattle.mss_base.proofs.FirstFacts.{or_none, map_none, none_where}
 use Rattle.volume_table.specs.Row.{RowValue, frame_of, state_of}
-use Rattle.volume_table.specs.Listed.{listed}
+use Rattle.volume_table.specs.Listed.{row_in_list}
 use Rattle.shown_volumes.specs.Sound.{frame_in}
 use Rattle.volume_table.specs.declared.changes.Change.TheVariants as change
 use Rattle.fault_queue.specs.declared.queue.Request.{Request}
@@ -33,7 +33,7 @@ use Rattle.core_state.specs.WorkRules.{task_of, held_in, transfer, destaging, st
 use Rattle.core_state.specs.WorkEvents.{WithTask, TaskDoes, TellsEnd, WorkDoes, WorkEvent}
 use Rattle.core_state.proofs.RuleWalks.{some_is, none_some, nothing, this, where_test, found, either_then, mapped_at, chained_at}
 use Rattle.core_progress.specs.CoreFits.{CoreFits}
-use Rattle.core_progress.specs.WorkLeft.{copies_left, needed, work_left, settle_left}
+use Rattle.core_progress.specs.WorkLeft.{copies_left, needed_cartridge, work_left, settle_left}
 use Rattle.core_progress.proofs.Fits.{core_fits}
 use Rattle.core_progress.proofs.OneRequest.{OnlyOne, one_stated}
 use Rattle.core_progress.proofs.RunStays.{Keeps, KeepsFours, Never, requests_stay, request_goes, same_fours, within_states, within_rows, row_fours, all_fours, destaged_fours, staged_fours, freed_fours}
@@ -49,7 +49,7 @@ next_starts : (rows : List (Option RowValue)) (requests : RequestsData) (task : 
 next_starts rows requests task t is = by_victim task.victim is where
   by_request : (o : Option Request) → option_and_then (staging rows task.frame) o ≡ Some t → t.next ≡ 0
   by_request None e = absurd (none_some t e)
-  by_request (Some r) e = mapped (λ _. transfer rows (staging_kind (state_in rows r.volume r.cylinder)) r.volume r.cylinder task.frame) (frame_in (listed rows) r.volume (page_of r.cylinder)) t e (λ a. refl)
+  by_request (Some r) e = mapped (λ _. transfer rows (staging_kind (state_in rows r.volume r.cylinder)) r.volume r.cylinder task.frame) (frame_in (row_in_list rows) r.volume (page_of r.cylinder)) t e (λ a. refl)
 
   by_victim : (v : Option (ℕ × ℕ)) → (elim v [ Some page ↦ destaging rows task.frame page | None ↦ option_and_then (staging rows task.frame) (request_of requests task.host) ]) ≡ Some t → t.next ≡ 0
   by_victim (Some page) e = mapped (λ cylinder. transfer rows Destage page.0 cylinder task.frame) (slice_get (changed_in rows page) 0) t e (λ a. refl)
@@ -79,14 +79,14 @@ some_row : (o : Option RowValue) → IsSome o → (row : RowValue) × (o ≡ Som
 some_row None is = absurd (false≢true is)
 some_row (Some row) is = (row, refl)
 
-row_of_frame : (rows : List (Option RowValue)) (page : ℕ × ℕ) (frame : ℕ) → frame_in (listed rows) page.0 page.1 ≡ Some frame → (row : RowValue) × (listed rows page.0 ≡ Some row)
-row_of_frame rows page frame is = by_row (listed rows page.0) is where
+row_of_frame : (rows : List (Option RowValue)) (page : ℕ × ℕ) (frame : ℕ) → frame_in (row_in_list rows) page.0 page.1 ≡ Some frame → (row : RowValue) × (row_in_list rows page.0 ≡ Some row)
+row_of_frame rows page frame is = by_row (row_in_list rows page.0) is where
   by_row : (o : Option RowValue) → option_and_then (λ r. frame_of r page.1) o ≡ Some frame → (row : RowValue) × (o ≡ Some row)
   by_row None e = absurd (none_some frame e)
   by_row (Some row) e = (row, refl)
 
-row_of_changed : (rows : List (Option RowValue)) (volume cylinder : ℕ) → state_in rows volume cylinder ≡ 4 → (row : RowValue) × (listed rows volume ≡ Some row) × (state_of row cylinder ≡ 4) × (cylinder < length row.states)
-row_of_changed rows volume cylinder is = by_row (listed rows volume) is where
+row_of_changed : (rows : List (Option RowValue)) (volume cylinder : ℕ) → state_in rows volume cylinder ≡ 4 → (row : RowValue) × (row_in_list rows volume ≡ Some row) × (state_of row cylinder ≡ 4) × (cylinder < length row.states)
+row_of_changed rows volume cylinder is = by_row (row_in_list rows volume) is where
   by_row : (o : Option RowValue) → state_of_row o cylinder ≡ 4 → (row : RowValue) × (o ≡ Some row) × (state_of row cylinder ≡ 4) × (cylinder < length row.states)
   by_row None e = absurd (omega (arith, e))
   by_row (Some row) e = (row, refl, e, within_states row.states cylinder (omega (arith, e)))
@@ -155,7 +155,7 @@ module _ (tells : Type 0) (may : List Candidate → ℕ → Type 0) (core core' 
         (goes_run h r has (ap is_ready queued) _ request.Moving refl refl refl (same_fours core.rows core.rows refl))
 
     by_state : (h : ℕ) (r : Request) → request_of core.requests h ≡ Some r → task_of core i ≡ None → (state : RequestState) → r.state ≡ state → Each (pick_for core h r state)
-    by_state h r has free request.Queued is = picks h r has is free (frame_in (listed core.rows) r.volume (page_of r.cylinder))
+    by_state h r has free request.Queued is = picks h r has is free (frame_in (row_in_list core.rows) r.volume (page_of r.cylinder))
     by_state h r has free request.Moving is = nothing Falls None refl
     by_state h r has free request.Ready is = nothing Falls None refl
     by_state h r has free (request.Failed fault) is = nothing Falls None refl
@@ -193,16 +193,16 @@ module _ (tells : Type 0) (may : List Candidate → ℕ → Type 0) (core core' 
           taken (Some page) e = (page, refl)
 
     -- the cartridge of the next copy
-    needs : (t : Transfer) → transfer_of core task ≡ Some t → (nat_lt t.next 19 && needs_cartridge t.kind) ≡ true → needed core task ≡ Some t.cartridge
+    needs : (t : Transfer) → transfer_of core task ≡ Some t → (nat_lt t.next 19 && needs_cartridge t.kind) ≡ true → needed_cartridge core task ≡ Some t.cartridge
     needs t is wants = ap (option_and_then (λ (u : Transfer). where_so (nat_lt u.next 19 && needs_cartridge u.kind) u.cartridge)) is ∙ ap (λ b. where_so b t.cartridge) wants
 
     carry_each : (t : Transfer) → transfer_of core task ≡ Some t → Each (carry_rule core i t)
     carry_each t is = by_need (nat_lt t.next 19 && needs_cartridge t.kind) refl where
-      by_cell : (b : Bool) → held_in core i ≡ None → needed core task ≡ Some t.cartridge → Each (Some (if b then Fetches t.cartridge else IsIdle))
+      by_cell : (b : Bool) → held_in core i ≡ None → needed_cartridge core task ≡ Some t.cartridge → Each (Some (if b then Fetches t.cartridge else IsIdle))
       by_cell true empty wants = this Falls (Fetches t.cartridge) λ does. becomes _ does.2 (λ low. fetched_falls core i (recorder_place low) low task t.cartridge works empty wants) (idle_run _ refl refl refl refl)
       by_cell false empty wants = this Falls IsIdle λ does. absurd (let e = does.0 in cc)
 
-      by_held : (o : Option ℕ) → held_in core i ≡ o → needed core task ≡ Some t.cartridge → Each (carry_for core t.cartridge o)
+      by_held : (o : Option ℕ) → held_in core i ≡ o → needed_cartridge core task ≡ Some t.cartridge → Each (carry_for core t.cartridge o)
       by_held (Some other) holds wants = where_test Falls (not (other == t.cartridge)) (GivesBack other) λ apart does.
           becomes _ does.2 (λ low. exchanged_falls core i (recorder_place low) low task t.cartridge other works holds wants (not-true (other == t.cartridge) apart)) (idle_run _ refl refl refl refl)
       by_held None empty wants = by_cell (is_in_cell (place_of core.store t.cartridge)) empty wants
@@ -241,10 +241,10 @@ module _ (tells : Type 0) (may : List Candidate → ℕ → Type 0) (core core' 
           by_kind : (firm : DevicesSeen) (k : TransferKind) → t.kind ≡ k → Tells t firm t.kind → Tells t firm k
           by_kind firm k e ends = subst (Tells t firm) e ends
 
-          asked_in : (u : ℕ) → t.volume ≡ r.volume → state_in core.rows t.volume t.cylinder ≡ u → u < 2 → (row : RowValue) × (listed core.rows t.volume ≡ Some row) × (state_of row t.cylinder < 2)
+          asked_in : (u : ℕ) → t.volume ≡ r.volume → state_in core.rows t.volume t.cylinder ≡ u → u < 2 → (row : RowValue) × (row_in_list core.rows t.volume ≡ Some row) × (state_of row t.cylinder < 2)
           asked_in u same state small =
-              let known_ = some_row (listed core.rows r.volume) (fit.requests_.there task.host r has) in
-              let at : listed core.rows t.volume ≡ Some known_.0 = ap (listed core.rows) same ∙ known_.1 in
+              let known_ = some_row (row_in_list core.rows r.volume) (fit.requests_.there task.host r has) in
+              let at : row_in_list core.rows t.volume ≡ Some known_.0 = ap (row_in_list core.rows) same ∙ known_.1 in
               let e : state_of known_.0 t.cylinder ≡ u = sym (ap (λ o. state_of_row o t.cylinder) at) ∙ state in
               (known_.0, at, omega (arith, e, small))
 
@@ -286,13 +286,13 @@ module _ (tells : Type 0) (may : List Candidate → ℕ → Type 0) (core core' 
     assign_each : task.victim ≡ None → transfer_of core task ≡ None → Each (assign_rule core task)
     assign_each none idle = mapped_at Falls (λ q. Assigns q.volume (page_of q.cylinder)) (request_of core.requests task.host) λ q asks does.
         let now = of_task (λ u. TaskDoes tells core i (Assigns q.volume (page_of q.cylinder)) u (Did kind) core') does in
-        let known_ = some_row (listed core.rows q.volume) (fit.requests_.there task.host q asks) in
+        let known_ = some_row (row_in_list core.rows q.volume) (fit.requests_.there task.host q asks) in
         elim (fit.tasks_.given i task q works none asks) [
           | inl had ↦ absurd (let parts = or_none task.transfer (next_transfer core.rows core.requests task) idle in never_staged q asks had parts.1)
           | inr bare ↦ becomes_less _ now.2 refl (λ there. assigned_falls core i task there works q.volume known_.0 known_.1 (within_rows core.rows q.volume known_.0 known_.1) (page_of q.cylinder) bare.0 frame_place)
               (requests_stay core _ Never refl refl refl (all_fours core.rows q.volume known_.0 (change.Assign (page_of q.cylinder) task.frame) known_.1 (λ z old. old)) (λ j u asks ready never. never))
         ] where
-          never_staged : (q : Request) → request_of core.requests task.host ≡ Some q → frame_in (listed core.rows) q.volume (page_of q.cylinder) ≡ Some task.frame → next_transfer core.rows core.requests task ≡ None → ⊥
+          never_staged : (q : Request) → request_of core.requests task.host ≡ Some q → frame_in (row_in_list core.rows) q.volume (page_of q.cylinder) ≡ Some task.frame → next_transfer core.rows core.requests task ≡ None → ⊥
           never_staged q asks had idle = by_victim task.victim none idle where
             by_victim : (v : Option (ℕ × ℕ)) → v ≡ None → ◌≡◌ {A = Option Transfer} (elim v [ Some page ↦ destaging core.rows task.frame page | None ↦ option_and_then (staging core.rows task.frame) (request_of core.requests task.host) ]) None → ⊥
             by_victim (Some page) e idle = none_some page (sym e)

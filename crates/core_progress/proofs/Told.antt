@@ -17,7 +17,7 @@ use Rattle.core_state.specs.declared.rule.HostRule.TheVariants.{IsStopped, IsFul
 use Rattle.core_state.specs.CoreValue.{CoreData}
 use Rattle.core_state.specs.HostRules.{request_for, host_rule}
 use Rattle.core_state.specs.HostEvents.{HostTold, replied, marked, waits, halts, at_limit, no_memory, RunsIt, HostDoes, HostEvent}
-use Rattle.core_state.specs.Steps.{noted, ends_request, going_on, with_request}
+use Rattle.core_state.specs.Steps.{with_event, ends_request, going_on, with_request}
 use Rattle.core_progress.specs.Progress.{keeps_waiting, is_kept_waiting, AsksFirst, GoesOn}
 
 -- a command that runs is told neither to wait nor to go on
@@ -76,7 +76,7 @@ module _ (tells : Type 0) (core : CoreData) (once : IsOnce core.requests) (h : �
     told = told_is does.0;
   } where
     by_test : (b : Bool) → b ≡ false
-        → core' ≡ record (if b then core else noted (Host h) (with_request h volume cylinder request.Queued (going_on core h call))) { site = core'.site }
+        → core' ≡ record (if b then core else with_event (Host h) (with_request h volume cylinder request.Queued (going_on core h call))) { site = core'.site }
         → request_of core'.requests h ≡ Some (record { volume = volume; cylinder = cylinder; state = request.Queued })
     by_test true fresh is = absurd (false≢true (sym fresh))
     by_test false fresh is = ap (λ (c : CoreData). request_of c.requests h) is ∙ made core once h call new volume cylinder

@@ -3,7 +3,7 @@ use Rattle.std.proofs.Common.{◌≡◌, ◌⊎◌, inr, ℕ, zero, suc, ◌+◌
 use Rattle.std.specs.Prelude.{replicate, IsSome}
 use Rattle.std.proofs.lemmas.Bool.{both_ways}
 use Rattle.channel_commands.specs.Data.{CallData, command as ask}
-use Rattle.ckd_plain.specs.Checks.{admitted}
+use Rattle.ckd_plain.specs.Checks.{admitted_command}
 use Rattle.ckd_plain.specs.Plain.{fresh_host}
 use Rattle.mss_base.specs.Firsts.{first_below}
 use Rattle.accessors.specs.Rails.{rail_start}
@@ -74,7 +74,7 @@ settled = record {
 
 -- the second host is kept waiting, and the first isn't
 waits_for_the_first : (is_kept_waiting (core Ready) 1 search ≡ false) × (is_kept_waiting (core Ready) 2 search ≡ true)
-unfolding host_rule admitted first_below
+unfolding host_rule admitted_command first_below
 waits_for_the_first = (refl, refl)
 
 -- so the first goes on; where it has no call, nobody does

@@ -8,8 +8,8 @@ use Rattle.std.proofs.lemmas.Bool.{cases_Bool, cases_lt, eq-eqb, eqb-true}
 use Rattle.std.proofs.lemmas.List.Sums.{sum_by-set, sum_by-cons}
 use Rattle.std.proofs.lemmas.Map.Entries.{sum_by-set_value}
 use Rattle.volume_table.specs.Row.{RowValue, state_of}
-use Rattle.volume_table.specs.Changes.{effect, unstaged, map_numbered, unstaged_page}
-use Rattle.volume_table.specs.Listed.{listed, with_changed}
+use Rattle.volume_table.specs.Changes.{effect, unstaged_state, map_numbered, unstaged_page}
+use Rattle.volume_table.specs.Listed.{row_in_list, with_changed}
 use Rattle.volume_table.specs.declared.changes.Change.{Change}
 use Rattle.volume_table.specs.declared.changes.Change.TheVariants as change
 use Rattle.fault_queue.specs.declared.queue.Request.{Request}
@@ -21,9 +21,9 @@ use Rattle.transfers.specs.declared.transfer.Transfer.{Transfer}
 use Rattle.core_state.specs.declared.task.Task.{Task}
 use Rattle.core_state.specs.CoreValue.{CoreData}
 use Rattle.core_state.specs.Pins.{owner_at}
-use Rattle.core_state.specs.Steps.{with_change, most_recent, with_owner, with_task, picked, task_ended, with_cartridge, given_back, fetched}
+use Rattle.core_state.specs.Steps.{with_change, most_recent, with_owner, with_task, with_picked_request, task_ended, with_cartridge, given_back, with_fetched_cartridge}
 use Rattle.core_state.specs.WorkRules.{task_of, held_in}
-use Rattle.core_progress.specs.WorkLeft.{state_left, request_left, victim_left, copies_left, task_left, changed_one, row_left, frame_left, work_left, needed, carry_left, recorder_left, sum_below, carries_left, settle_left}
+use Rattle.core_progress.specs.WorkLeft.{state_left, request_left, victim_left, copies_left, task_left, changed_one, row_left, frame_left, work_left, needed_cartridge, carry_left, recorder_left, sum_below, carries_left, settle_left}
 
 -- ---- sums of which one part changes
 
@@ -43,7 +43,7 @@ state_sum requests h r state has = by_request (request_of requests h) has where
 
 module _ (core : CoreData) (i h : ℕ) (r : Request) (has : request_of core.requests h ≡ Some r) (there : i < length core.tasks) where
   -- a request is picked
-  pub picked_falls : (frame : ℕ) (victim : Option (ℕ × ℕ)) → task_of core i ≡ None → r.state ≡ request.Queued → work_left (picked i h frame victim core) < work_left core
+  pub picked_falls : (frame : ℕ) (victim : Option (ℕ × ℕ)) → task_of core i ≡ None → r.state ≡ request.Queued → work_left (with_picked_request i h frame victim core) < work_left core
   picked_falls frame victim free queued =
       let task : Task = record { host = h; frame = frame; victim = victim; touched = false; transfer = None } in
       let a = state_sum core.requests h r request.Moving has in
@@ -94,7 +94,7 @@ set_le (x ∷ xs) zero y = let a = sum_by-cons changed_one x xs in let b = sum_b
 set_le (x ∷ xs) (suc c) y = let a = sum_by-cons changed_one x xs in let b = sum_by-cons changed_one x (slice_set xs c y) in let d = set_le xs c y in omega (arith, a, b, d)
 
 -- a frame that a page loses makes and takes no changed cylinder
-unstaged_same : (state : ℕ) → changed_one (unstaged state) ≡ changed_one state
+unstaged_same : (state : ℕ) → changed_one (unstaged_state state) ≡ changed_one state
 unstaged_same state = elim (cases_Bool (state == 2)) [
   | inl two ↦ let e : state ≡ 2 = eqb-true state 2 two in rw e refl
   | inr not_two ↦ elim (cases_Bool (state == 3)) [
@@ -103,25 +103,25 @@ unstaged_same state = elim (cases_Bool (state == 2)) [
   ]
 ]
 
-page_same : (page number : ℕ) (states : List ℕ) → sum_by changed_one (map_numbered (λ c state. if c / 8 == page then unstaged state else state) number states) ≡ sum_by changed_one states
+page_same : (page number : ℕ) (states : List ℕ) → sum_by changed_one (map_numbered (λ c state. if c / 8 == page then unstaged_state state else state) number states) ≡ sum_by changed_one states
 page_same page number [] = refl
 page_same page number (x ∷ xs) =
-    let now = if number / 8 == page then unstaged x else x in
-    sum_by-cons changed_one now (map_numbered (λ c state. if c / 8 == page then unstaged state else state) (suc number) xs)
+    let now = if number / 8 == page then unstaged_state x else x in
+    sum_by-cons changed_one now (map_numbered (λ c state. if c / 8 == page then unstaged_state state else state) (suc number) xs)
     ∙ ap (λ (n : ℕ). changed_one now + n) (page_same page (suc number) xs)
     ∙ ap (λ (n : ℕ). n + sum_by changed_one xs) (by_test (number / 8 == page))
     ∙ sym (sum_by-cons changed_one x xs) where
-      by_test : (b : Bool) → changed_one (if b then unstaged x else x) ≡ changed_one x
+      by_test : (b : Bool) → changed_one (if b then unstaged_state x else x) ≡ changed_one x
       by_test true = unstaged_same x
       by_test false = refl
 
 -- the changed cylinders of the rows after a change of one
-rows_sum : (rows : List (Option RowValue)) (volume : ℕ) (r : RowValue) (change : Change) → listed rows volume ≡ Some r → volume < length rows
+rows_sum : (rows : List (Option RowValue)) (volume : ℕ) (r : RowValue) (change : Change) → row_in_list rows volume ≡ Some r → volume < length rows
     → sum_by row_left (with_changed volume change rows) + row_left (Some r) ≡ sum_by row_left rows + row_left (Some (effect change r))
 rows_sum rows volume r change is lt = rw is (set_sum row_left rows volume (Some r) (Some (effect change r)) None is lt)
 
 module _ (core : CoreData) (i : ℕ) (task : Task) (there : i < length core.tasks) (works : task_of core i ≡ Some task)
-    (volume : ℕ) (row : RowValue) (is : listed core.rows volume ≡ Some row) (known_ : volume < length core.rows) where
+    (volume : ℕ) (row : RowValue) (is : row_in_list core.rows volume ≡ Some row) (known_ : volume < length core.rows) where
   -- a victim's cylinder is destaged
   pub destaged_falls : (cylinder : ℕ) → cylinder < length row.states → state_of row cylinder ≡ 4
       → work_left (with_task i (Some (record task { transfer = None })) (with_change volume (change.Destaged cylinder) core)) < work_left core
@@ -202,7 +202,7 @@ carry_small (Some c) (Some other) = by_test (other == c) where
 recorder_small : (core : CoreData) (task : Option Task) (held : Option ℕ) → recorder_left core task held ≤ 2
 recorder_small core None None = omega arith
 recorder_small core None (Some cartridge) = omega arith
-recorder_small core (Some task) held = carry_small (needed core task) held
+recorder_small core (Some task) held = carry_small (needed_cartridge core task) held
 
 -- less work outweighs all carries
 outweighs : (n less more carried left : ℕ) → less < more → carried ≤ n * 2 → (n * 2 + 1) * less + carried < (n * 2 + 1) * more + left
@@ -230,9 +230,9 @@ module _ (core : CoreData) (i : ℕ) (there : i < length core.recorders) (few : 
   pub returned_falls : (cartridge : ℕ) → task_of core i ≡ None → held_in core i ≡ Some cartridge → settle_left (given_back i cartridge core) < settle_left core
   returned_falls cartridge free holds = held_falls None (rw (free, holds) (omega arith))
 
-  pub exchanged_falls : (task : Task) (cartridge other : ℕ) → task_of core i ≡ Some task → held_in core i ≡ Some other → needed core task ≡ Some cartridge → (other == cartridge) ≡ false → settle_left (given_back i other core) < settle_left core
+  pub exchanged_falls : (task : Task) (cartridge other : ℕ) → task_of core i ≡ Some task → held_in core i ≡ Some other → needed_cartridge core task ≡ Some cartridge → (other == cartridge) ≡ false → settle_left (given_back i other core) < settle_left core
   exchanged_falls task cartridge other works holds needs apart = held_falls None (rw (works, holds) (rw (needs, apart) (omega arith)))
 
   -- the cartridge that is needed is fetched
-  pub fetched_falls : (task : Task) (cartridge : ℕ) → task_of core i ≡ Some task → held_in core i ≡ None → needed core task ≡ Some cartridge → settle_left (fetched i cartridge core) < settle_left core
+  pub fetched_falls : (task : Task) (cartridge : ℕ) → task_of core i ≡ Some task → held_in core i ≡ None → needed_cartridge core task ≡ Some cartridge → settle_left (with_fetched_cartridge i cartridge core) < settle_left core
   fetched_falls task cartridge works empty needs = held_falls (Some cartridge) (rw (works, empty) (rw (needs, eq-eqb cartridge cartridge refl) (omega arith)))

@@ -2,7 +2,7 @@
 -- cartridges at every moment.
 use Rattle.std.specs.Prelude.{◌≡◌, ◌⊎◌, ◌≤◌, ◌<◌, ℕ, nat_eq, true, false, Some, None, IsSome}
 use Rattle.std.specs.List.{All, IsDistinct, Contains}
-use Rattle.volume_table.specs.Listed.{listed}
+use Rattle.volume_table.specs.Listed.{row_in_list}
 use Rattle.shown_volumes.specs.Sound.{frame_in}
 use Rattle.fault_queue.specs.declared.queue.Request.{Request}
 use Rattle.fault_queue.specs.declared.queue.RequestState.TheVariants.{Queued, Moving, Ready}
@@ -35,7 +35,7 @@ module _ {S C : Type 0} (core : CoreValue S C) where
     -- each is on the volume that its host has mounted, and on the cylinder where it stands
     pub placed : (h : ℕ) (r : Request) → HasRequest h r → IsPlaced (host_at core.hosts h) r
     -- and that volume has a row
-    pub there : (h : ℕ) (r : Request) → HasRequest h r → IsSome (listed core.rows r.volume)
+    pub there : (h : ℕ) (r : Request) → HasRequest h r → IsSome (row_in_list core.rows r.volume)
     -- at most one host owns a volume
     pub alone : (volume h k : ℕ) → owns core.hosts core.requests h volume ≡ true
         → owns core.hosts core.requests k volume ≡ true → h ≡ k
@@ -67,7 +67,7 @@ module _ {S C : Type 0} (core : CoreValue S C) where
     pub kind_ : (t.kind ≡ StageBlank) ⊎ (t.kind ≡ StageCartridge)
     pub volume_ : t.volume ≡ r.volume
     pub cylinder_ : t.cylinder ≡ r.cylinder
-    pub framed : frame_in (listed core.rows) r.volume (page_of r.cylinder) ≡ Some task.frame
+    pub framed : frame_in (row_in_list core.rows) r.volume (page_of r.cylinder) ≡ Some task.frame
 
   pub record TasksFit : Type 0 where
     -- only so many recorders have one
@@ -93,16 +93,16 @@ module _ {S C : Type 0} (core : CoreValue S C) where
         × (is_volume_bound core.hosts page.0 ≡ false)
     pub bare : (i : ℕ) (task : Task) (page : ℕ × ℕ) (r : Request) → HasTask i task
         → task.victim ≡ Some page → HasRequest task.host r
-        → frame_in (listed core.rows) r.volume (page_of r.cylinder) ≡ None
+        → frame_in (row_in_list core.rows) r.volume (page_of r.cylinder) ≡ None
     pub touched_ : (i : ℕ) (task : Task) (page : ℕ × ℕ) (h : ℕ) (r : Request) → HasTask i task
         → task.victim ≡ Some page → HasRequest h r → r.state ≡ Ready → asked_page r ≡ page
         → task.touched ≡ true
     -- one that takes none: its frame is the asked page's, or nobody's while that page has none
     pub given : (i : ℕ) (task : Task) (r : Request) → HasTask i task → task.victim ≡ None
         → HasRequest task.host r
-        → (frame_in (listed core.rows) r.volume (page_of r.cylinder) ≡ Some task.frame)
+        → (frame_in (row_in_list core.rows) r.volume (page_of r.cylinder) ≡ Some task.frame)
         ⊎ ((owner_at core.owners task.frame ≡ None)
-        × (frame_in (listed core.rows) r.volume (page_of r.cylinder) ≡ None))
+        × (frame_in (row_in_list core.rows) r.volume (page_of r.cylinder) ≡ None))
     -- its transfer: one that takes a frame destages, and one that takes none stages
     pub transfers : (i : ℕ) (task : Task) (t : Transfer) → HasTask i task → task.transfer ≡ Some t
         → IsUnderWay task t
@@ -117,10 +117,10 @@ module _ {S C : Type 0} (core : CoreValue S C) where
   pub record FramesFit : Type 0 where
     -- a page has a frame exactly where the frame has the page
     pub given : (page : ℕ × ℕ) (frame : ℕ)
-        → frame_in (listed core.rows) page.0 page.1 ≡ Some frame
+        → frame_in (row_in_list core.rows) page.0 page.1 ≡ Some frame
         → (frame < core.config.frames) × (owner_at core.owners frame ≡ Some page)
     pub owned : (page : ℕ × ℕ) (frame : ℕ) → owner_at core.owners frame ≡ Some page
-        → frame_in (listed core.rows) page.0 page.1 ≡ Some frame
+        → frame_in (row_in_list core.rows) page.0 page.1 ≡ Some frame
     -- each is once in the order of touch, and nothing else
     pub ordered : (frame : ℕ) → frame < core.config.frames → Contains core.recency frame
     pub once : IsDistinct nat_eq core.recency

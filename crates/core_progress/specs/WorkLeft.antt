@@ -67,8 +67,8 @@ work_left core =
 -- ---- carries
 
 -- the cartridge of a task's next copy
-abbrev pub needed : CoreData → Task → Option ℕ
-needed core task =
+abbrev pub needed_cartridge : CoreData → Task → Option ℕ
+needed_cartridge core task =
     option_and_then (λ t. where_so (nat_lt t.next 19 && needs_cartridge t.kind) t.cartridge)
     (transfer_of core task)
 
@@ -82,7 +82,7 @@ carry_left (Some cartridge) (Some other) = if other == cartridge then 0 else 2
 abbrev pub recorder_left : CoreData → Option Task → Option ℕ → ℕ
 recorder_left core None None = 0
 recorder_left core None (Some cartridge) = 1
-recorder_left core (Some task) held = carry_left (needed core task) held
+recorder_left core (Some task) held = carry_left (needed_cartridge core task) held
 
 abbrev pub sum_below : ℕ → (ℕ → ℕ) → ℕ
 sum_below zero f = 0

@@ -3,7 +3,7 @@ use Rattle.std.proofs.Common.{◌≡◌, List, length, Option, Ok, sym, ◌∙�
 use Rattle.std.proofs.lemmas.List.{append-nil}
 use Rattle.mss_base.specs.Configs.{ConfigData}
 use Rattle.mss_base.specs.Content.{content}
-use Rattle.volume_table.specs.Listed.{listed}
+use Rattle.volume_table.specs.Listed.{row_in_list}
 use Rattle.volume_table.specs.Row.{RowValue}
 use Rattle.table_pair.specs.declared.copy.SlotsUsed.{SlotsUsed}
 use Rattle.mss_restart.specs.declared.opening.Opened.{Opened}
@@ -32,10 +32,10 @@ module _ {S C : Type 0} (config : ConfigData) (old new : DevicesSeen) (opened : 
   pub any_as : OpensAny config old new (Ok opened) → OpensAny config old new (Ok (opened_in core))
   any_as is = record {
     usable = record {
-      rows_ = subst (λ (rs : List (Option RowValue)). AreUsableFor config (listed rs)) (sym has.rows_) is.usable.rows_;
+      rows_ = subst (λ (rs : List (Option RowValue)). AreUsableFor config (row_in_list rs)) (sym has.rows_) is.usable.rows_;
       used_ = subst (λ (xs : List SlotsUsed). length xs ≡ 32) (sym has.used_) is.usable.used_;
     };
-    counted = subst (λ (x : List (Option RowValue) × List OpeningStep). TellsChanges config old.writes new.writes (listed x.0) x.1)
+    counted = subst (λ (x : List (Option RowValue) × List OpeningStep). TellsChanges config old.writes new.writes (row_in_list x.0) x.1)
         (λ i. (sym has.rows_ i, sym (append-nil (steps_in core.console) ∙ has.steps_) i)) is.counted;
     refused = tt;
     kept = is.kept;

@@ -2,7 +2,7 @@
 use Rattle.std.proofs.Common.{◌≡◌, ℕ, ◌*◌, ◌≤◌, List, [], ◌++◌, length, map, Option, None, refl, sym, ◌∙◌, ap, subst, arith}
 use Rattle.mss_base.specs.Configs.{ConfigData}
 use Rattle.mss_base.specs.Content.{SiteLog, content}
-use Rattle.volume_table.specs.Listed.{AreRows, listed}
+use Rattle.volume_table.specs.Listed.{AreRows, row_in_list}
 use Rattle.shown_volumes.specs.Shown.{RowsOf}
 use Rattle.shown_volumes.proofs.QuietFacts.{firm_quiet}
 use Rattle.mss_restart.specs.Opening.{OpeningChange, opening_changes, IsOpened, AreHeld}
@@ -65,7 +65,7 @@ module _ (tells : Type 0) (told : SiteLog) (writes faults : ℕ) (config : Confi
   few_steps opened ready =
       let c = ready.counted in
       let few = few_changes c.before config.volumes in
-      let same = as_many (opening_changes c.before config.volumes) (steps_of opened) c.before (listed opened.rows) ready.written writes c.told in
+      let same = as_many (opening_changes c.before config.volumes) (steps_of opened) c.before (row_in_list opened.rows) ready.written writes c.told in
       omega (arith, few, same)
 
   module _ {S C : Type 0} (chooser : C) (v : CoreValue S C) (is : Begins config chooser writes faults v) (ready : MayBegin tells told writes config (opened_in v)) where
@@ -76,7 +76,7 @@ module _ (tells : Type 0) (told : SiteLog) (writes faults : ℕ) (config : Confi
     changes = opening_changes ready.counted.before config.volumes
 
     abbrev now : RowsOf
-    now = listed v.rows
+    now = row_in_list v.rows
 
     told_ : AreTold changes (steps_in v.console) before now ready.written writes
     told_ = subst (λ (xs : List OpeningStep). AreTold changes xs before now ready.written writes) (append-nil (steps_in v.console)) ready.counted.told
@@ -147,8 +147,8 @@ core_of site chooser parts opened frames rail d = record {
 }
 
 module _ {S C : Type 0} (site : S) (chooser kept : C) (parts : Parts) (opened : Opened) (frames : FramesData) (rail : RailData) (d : SessionData) (console : List Message) (writes faults : ℕ)
-    (are : AreParts parts.config parts) (kept_is : kept ≡ chooser) (places : length opened.used.items ≡ 32) (owners : AreOwners (length parts.frames.owners) (listed opened.rows) frames.owners) (moving : frames.moving ≡ parts.frames.moving) (rail_is : rail ≡ rail_start)
-    (frees : FreeNone console) (is : d ≡ session.begun console writes faults) where
+    (are : AreParts parts.config parts) (kept_is : kept ≡ chooser) (places : length opened.used.items ≡ 32) (owners : AreOwners (length parts.frames.owners) (row_in_list opened.rows) frames.owners) (moving : frames.moving ≡ parts.frames.moving) (rail_is : rail ≡ rail_start)
+    (frees : FreeNone console) (is : d ≡ session.new_session console writes faults) where
   pub begins_of : Begins parts.config chooser writes faults (core_of site kept parts opened frames rail d)
   begins_of = record {
     config_ = refl;
@@ -156,7 +156,7 @@ module _ {S C : Type 0} (site : S) (chooser kept : C) (parts : Parts) (opened : 
     used_ = places;
     owners_ =
         let count : length parts.frames.owners ≡ parts.config.frames = ap (λ (f : FramesData). length f.owners) are.frames_ ∙ length-replicate {A = Option (ℕ × ℕ)} parts.config.frames None in
-        subst (λ (n : ℕ). AreOwners n (listed opened.rows) frames.owners) count owners;
+        subst (λ (n : ℕ). AreOwners n (row_in_list opened.rows) frames.owners) count owners;
     moving_ = moving ∙ ap (λ (f : FramesData). f.moving) are.frames_;
     recency_ = are.recency_;
     no_requests = are.requests_;
@@ -182,7 +182,7 @@ module _ {S C : Type 0} (site : S) (chooser kept : C) (parts : Parts) (opened : 
         rows_ = ready.rows_;
         used_ = ready.used_;
         written = ready.written;
-        counted = subst (λ (ms : List OpeningStep). TellsChanges parts.config ready.written writes (listed opened.rows) ms) (sym same) ready.counted;
+        counted = subst (λ (ms : List OpeningStep). TellsChanges parts.config ready.written writes (row_in_list opened.rows) ms) (sym same) ready.counted;
         from = ready.from;
         opened_ = ready.opened_;
         firm = ready.firm;
@@ -190,7 +190,7 @@ module _ {S C : Type 0} (site : S) (chooser kept : C) (parts : Parts) (opened : 
 
 -- an opening that was answered is one to begin from
 pub may_begin : (tells : Type 0) (config : ConfigData) (old new : DevicesSeen) (opened : Opened) → length opened.rows ≡ 32 → AreRows opened.rows → IsUsable config opened
-    → TellsChanges config old.writes new.writes (listed opened.rows) (steps_of opened) → (tells → IsOpened config (content old.told) (content new.told) opened.rows opened.used.items) → (tells → IsFirm new.told)
+    → TellsChanges config old.writes new.writes (row_in_list opened.rows) (steps_of opened) → (tells → IsOpened config (content old.told) (content new.told) opened.rows opened.used.items) → (tells → IsFirm new.told)
     → MayBegin tells new.told new.writes config opened
 may_begin tells config old new opened places are_rows usable counted is firm = record {
   rows_ = record { places = places; are_rows = are_rows; below = usable.rows_.usable.frames_below; once = usable.rows_.usable.frames_once };

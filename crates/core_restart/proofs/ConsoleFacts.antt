@@ -20,7 +20,7 @@ use Rattle.mss_restart.proofs.FreshFacts.{named_from}
 use Rattle.mss_restart.proofs.OpenedRows.{AreMarks, to_mark_marks}
 use Rattle.mss_restart.proofs.UsableFacts.{AreFew}
 use Rattle.core_state.specs.declared.session.Message.{Message}
-use Rattle.core_state.specs.Agrees.{changed, with_change, rows_after, freed_by, IsAllowedIn, AllAllowed, handed_rows, undone}
+use Rattle.core_state.specs.Agrees.{changed_row, with_change, rows_after, freed_by, IsAllowedIn, AllAllowed, handed_rows, undone}
 use Rattle.core_state.specs.IsCore.{AllDone}
 use Rattle.core_restart.specs.Console.{message_in, step_in, steps_in, FreeNone}
 
@@ -173,7 +173,7 @@ other_mark false true ne = refl
 other_mark false false ne = absurd (ne refl)
 
 -- the change of a row, seen in the rows
-row_changes : (change : OpeningChange) (rows : RowsOf) (row : RowValue) → IsRowAfter rows change row → changed (change_made change row) (rows (volume_of change)) ≡ Some row
+row_changes : (change : OpeningChange) (rows : RowsOf) (row : RowValue) → IsRowAfter rows change row → changed_row (change_made change row) (rows (volume_of change)) ≡ Some row
 row_changes (made volume serial) rows row is =
     ap (λ (r : RowValue). Some r) (ap (λ (s : List ℕ). blank_row s row.first row.second) (ap (λ (r : RowValue). r.serial) is.blank) ∙ sym is.blank)
 row_changes (marked volume on) rows row is = ap (option_map (effect (Protect on))) is.there ∙ ap (λ (r : RowValue). Some r) (sym is.becomes)
@@ -208,12 +208,12 @@ none_freed (marked volume on) rows row = refl
 module _ (change : OpeningChange) (rows : RowsOf) (row : RowValue) (is : IsRowAfter rows change row) (m : Message) (tells : TellsStep change row (step_in m)) where
   changes : with_change rows m ≡ with_row (volume_of change) row rows
   changes =
-      (λ i u. cond (u == tells.volume_ i) (changed (tells.change_ i) (rows u)) (rows u))
+      (λ i u. cond (u == tells.volume_ i) (changed_row (tells.change_ i) (rows u)) (rows u))
       ∙ (λ i u. at u i)
     where
-      at : (u : ℕ) → cond (u == volume_of change) (changed (change_made change row) (rows u)) (rows u) ≡ with_row (volume_of change) row rows u
+      at : (u : ℕ) → cond (u == volume_of change) (changed_row (change_made change row) (rows u)) (rows u) ≡ with_row (volume_of change) row rows u
       at u = elim (cases_Bool (u == volume_of change)) [
-        | inl same ↦ cond-true _ _ _ same ∙ ap (λ (n : ℕ). changed (change_made change row) (rows n)) (eqb-true u (volume_of change) same) ∙ row_changes change rows row is ∙ sym (cond-true _ _ _ same)
+        | inl same ↦ cond-true _ _ _ same ∙ ap (λ (n : ℕ). changed_row (change_made change row) (rows n)) (eqb-true u (volume_of change) same) ∙ row_changes change rows row is ∙ sym (cond-true _ _ _ same)
         | inr other ↦ cond-false _ _ _ other ∙ sym (cond-false _ _ _ other)
       ]
 

@@ -5,7 +5,7 @@ use Rattle.std.proofs.lemmas.Bool.{cases_lt}
 use Rattle.std.proofs.lemmas.Bool.Decides.{eqb_tells}
 use Rattle.std.proofs.lemmas.List.{get_or-set_same, get_or-set_other, get_or-replicate, get_or_past, length-replicate}
 use Rattle.volume_table.specs.Row.{RowValue, frame_of}
-use Rattle.volume_table.specs.Listed.{listed}
+use Rattle.volume_table.specs.Listed.{row_in_list}
 use Rattle.shown_volumes.specs.Shown.{RowsOf}
 use Rattle.shown_volumes.specs.Sound.{frame_in}
 use Rattle.mss_restart.proofs.UsableFacts.{few_listed}
@@ -39,24 +39,24 @@ none_own rows n = record {
 }
 
 module _ (frames : ℕ) (rows : List (Option RowValue)) (have : HaveFrames frames rows) where
-  page_low : (v p f : ℕ) → frame_in (listed rows) v p ≡ Some f → p < 51
+  page_low : (v p f : ℕ) → frame_in (row_in_list rows) v p ≡ Some f → p < 51
   page_low v p f is = elim (cases_lt p 51) [
     | inl low ↦ low
     | inr past ↦
-        let r = row_with (λ (r : RowValue). frame_of r p) (listed rows v) f is in
+        let r = row_with (λ (r : RowValue). frame_of r p) (row_in_list rows v) f is in
         let long = (have.are_rows v r.0 r.1).pages in
         absurd (none_some f (sym (get_or_past r.0.pages p None (omega (arith, long, past))) ∙ r.2))
   ]
 
-  volume_low : (v p f : ℕ) → frame_in (listed rows) v p ≡ Some f → v < 32
-  volume_low v p f is = let r = row_with (λ (r : RowValue). frame_of r p) (listed rows v) f is in few_listed rows have.places v r.0 r.1
+  volume_low : (v p f : ℕ) → frame_in (row_in_list rows) v p ≡ Some f → v < 32
+  volume_low v p f is = let r = row_with (λ (r : RowValue). frame_of r p) (row_in_list rows v) f is in few_listed rows have.places v r.0 r.1
 
-  pub frame_low : (v p f : ℕ) → frame_in (listed rows) v p ≡ Some f → f < frames
+  pub frame_low : (v p f : ℕ) → frame_in (row_in_list rows) v p ≡ Some f → f < frames
   frame_low v p f is = have.below v p (page_low v p f is) f is
 
-  module _ (owners : List (Option (ℕ × ℕ))) (volume page : ℕ) (so_far : AreOwnersBefore (listed rows) owners volume page) where
+  module _ (owners : List (Option (ℕ × ℕ))) (volume page : ℕ) (so_far : AreOwnersBefore (row_in_list rows) owners volume page) where
     -- the page has no frame
-    pub page_past : frame_in (listed rows) volume page ≡ None → AreOwnersBefore (listed rows) owners volume (page + 1)
+    pub page_past : frame_in (row_in_list rows) volume page ≡ None → AreOwnersBefore (row_in_list rows) owners volume (page + 1)
     page_past none = record {
       owns = so_far.owns;
       owned = λ frame v p is before. elim before [
@@ -66,30 +66,30 @@ module _ (frames : ℕ) (rows : List (Option RowValue)) (have : HaveFrames frame
           | inr past ↦
               let low = here.1 in
               let same : p ≡ page = omega (arith, low, past) in
-              absurd (none_some frame (sym none ∙ (λ i. frame_in (listed rows) (sym here.0 i) (sym same i)) ∙ is))
+              absurd (none_some frame (sym none ∙ (λ i. frame_in (row_in_list rows) (sym here.0 i) (sym same i)) ∙ is))
         ]
       ];
     }
 
     -- it has one, and gets it
-    module _ (f : ℕ) (has : frame_in (listed rows) volume page ≡ Some f) (long : length owners ≡ frames) where
+    module _ (f : ℕ) (has : frame_in (row_in_list rows) volume page ≡ Some f) (long : length owners ≡ frames) where
       abbrev after : List (Option (ℕ × ℕ))
       after = set owners f (Some (volume, page))
 
       now : owner_at after f ≡ Some (volume, page)
       now = get_or-set_same owners f (Some (volume, page)) None (let low = frame_low volume page f has in omega (arith, low, long))
 
-      pub page_owned : AreOwnersBefore (listed rows) (set owners f (Some (volume, page))) volume (page + 1)
+      pub page_owned : AreOwnersBefore (row_in_list rows) (set owners f (Some (volume, page))) volume (page + 1)
       page_owned = record {
         owns = λ frame v p is. elim (eqb_tells frame f) [
           | inl e ↦
               let same = pair_is (volume, page) (v, p) (sym now ∙ ap (owner_at after) (sym e.1) ∙ is) in
-              ap (λ (at : ℕ × ℕ). frame_in (listed rows) at.0 at.1) (sym same) ∙ has ∙ ap (λ (n : ℕ). Some n) (sym e.1)
+              ap (λ (at : ℕ × ℕ). frame_in (row_in_list rows) at.0 at.1) (sym same) ∙ has ∙ ap (λ (n : ℕ). Some n) (sym e.1)
           | inr e ↦ so_far.owns frame v p (sym (get_or-set_other owners f frame (Some (volume, page)) None (λ same. e.1 same)) ∙ is)
         ];
         owned = λ frame v p is before. elim (eqb_tells frame f) [
           | inl e ↦
-              let at : frame_in (listed rows) v p ≡ Some f = is ∙ ap (λ (n : ℕ). Some n) e.1 in
+              let at : frame_in (row_in_list rows) v p ≡ Some f = is ∙ ap (λ (n : ℕ). Some n) e.1 in
               let same = have.once v volume p page f (page_low v p f at) (page_low volume page f has) at has in
               ap (owner_at after) e.1 ∙ now ∙ (λ i. Some (sym same.0 i, sym same.1 i))
           | inr e ↦
@@ -100,7 +100,7 @@ module _ (frames : ℕ) (rows : List (Option RowValue)) (have : HaveFrames frame
                   | inr past ↦
                       let low = here.1 in
                       let same : p ≡ page = omega (arith, low, past) in
-                      let o : Some f ≡ Some frame = sym has ∙ (λ i. frame_in (listed rows) (sym here.0 i) (sym same i)) ∙ is in
+                      let o : Some f ≡ Some frame = sym has ∙ (λ i. frame_in (row_in_list rows) (sym here.0 i) (sym same i)) ∙ is in
                       absurd (e.1 (sym (some_is f frame o)))
                 ]
               ])
@@ -108,7 +108,7 @@ module _ (frames : ℕ) (rows : List (Option RowValue)) (have : HaveFrames frame
       }
 
   -- all pages of a volume are done, and all volumes
-  pub volume_past : (owners : List (Option (ℕ × ℕ))) (volume : ℕ) → AreOwnersBefore (listed rows) owners volume 51 → AreOwnersBefore (listed rows) owners (volume + 1) 0
+  pub volume_past : (owners : List (Option (ℕ × ℕ))) (volume : ℕ) → AreOwnersBefore (row_in_list rows) owners volume 51 → AreOwnersBefore (row_in_list rows) owners (volume + 1) 0
   volume_past owners volume so_far = record {
     owns = so_far.owns;
     owned = λ frame v p is before. so_far.owned frame v p is (elim before [
@@ -117,13 +117,13 @@ module _ (frames : ℕ) (rows : List (Option RowValue)) (have : HaveFrames frame
     ]);
   }
 
-  pub all_owned : (owners : List (Option (ℕ × ℕ))) → length owners ≡ frames → AreOwnersBefore (listed rows) owners 32 0 → AreOwners frames (listed rows) owners
+  pub all_owned : (owners : List (Option (ℕ × ℕ))) → length owners ≡ frames → AreOwnersBefore (row_in_list rows) owners 32 0 → AreOwners frames (row_in_list rows) owners
   all_owned owners long so_far = record {
     all_ = long;
     owned = λ frame volume page. (so_far.owns frame volume page, λ is. so_far.owned frame volume page is (inl (volume_low volume page frame is)));
   }
 
-  pub are_owned : (owners : List (Option (ℕ × ℕ))) → AreOwners frames (listed rows) owners → AreOwned frames rows owners
+  pub are_owned : (owners : List (Option (ℕ × ℕ))) → AreOwners frames (row_in_list rows) owners → AreOwned frames rows owners
   are_owned owners are = record {
     places = have.places;
     are_rows = have.are_rows;

@@ -13,12 +13,12 @@ use Rattle.ckd_track.specs.Data.{Volumes}
 use Rattle.channel_commands.specs.Data.{CallData, ReplyData, mounted, equipment_check, no_space, stopped}
 use Rattle.ckd_plain.specs.Data.{State}
 use Rattle.ckd_plain.specs.Plain.{plain, start_of}
-use Rattle.ckd_plain.specs.History.{EntryData, left_by as state_left, next, after}
+use Rattle.ckd_plain.specs.History.{EntryData, left_by as state_left, state_after, after}
 use Rattle.ckd_plain.specs.Near.{IsNear, unchanged, completed, data_overwritten, key_data_overwritten, ended_before}
 use Rattle.volume_table.specs.Row.{RowValue, blank_row}
 use Rattle.table_pair.specs.declared.copy.SlotsUsed.{SlotsUsed}
 use Rattle.shown_volumes.specs.declared.refused.Refused.{Refused}
-use Rattle.shown_volumes.specs.Shown.{RowsOf, rows_of, is_marked, shown}
+use Rattle.shown_volumes.specs.Shown.{RowsOf, rows_of, is_marked, volumes_shown}
 use Rattle.shown_volumes.specs.Sound.{IsSound, HasSerialsAsked}
 use Rattle.volume_table.specs.Changes.{with_mark}
 use Rattle.shown_volumes.specs.Changing.{with_row}
@@ -30,7 +30,7 @@ use Rattle.mss_restart.proofs.Creating.{AreRising, rising_first, to_make_past, t
 use Rattle.mss_restart.proofs.OpenedRows.{serial_above, to_mark_same}
 use Rattle.mss_restart.proofs.UsableFacts.{AreAsked, asked_opening}
 use Rattle.core_state.specs.CoreValue.{CoreValue, DevicesSeen, seen_site}
-use Rattle.core_state.specs.StopRule.{MayShow, answered, opening, state_at}
+use Rattle.core_state.specs.StopRule.{MayShow, answered_count, opening, state_at}
 use Rattle.core_state.specs.IsCore.{IsTold, opening_of}
 use Rattle.core_state.proofs.EntryLemmas.{opening_same}
 use Rattle.core_restart.specs.Begins.{Begins}
@@ -45,8 +45,8 @@ KeepsLabels s volumes = (volumes.serial ≡ s.volumes.serial) × (volumes.read_o
 abbrev pub PlainKeeps : Type 0
 PlainKeeps = (s : State) (h : ℕ) (call : CallData) → KeepsLabels s (plain s h call).1.volumes
 
-pub both_keep : ((s : State) (h : ℕ) (call : CallData) → (plain s h call).1.volumes.serial ≡ s.volumes.serial) → ((s : State) (e : EntryData) → (next s e).volumes.read_only ≡ s.volumes.read_only) → PlainKeeps
-unfolding next
+pub both_keep : ((s : State) (h : ℕ) (call : CallData) → (plain s h call).1.volumes.serial ≡ s.volumes.serial) → ((s : State) (e : EntryData) → (state_after s e).volumes.read_only ≡ s.volumes.read_only) → PlainKeeps
+unfolding state_after
 both_keep serials marks s h call = (serials s h call, marks s (record { host = h; number = 0; call = call; reply = mounted; fault = None }))
 
 same_labels : (s : State) (volumes : Volumes) → volumes ≡ s.volumes → KeepsLabels s volumes
@@ -62,13 +62,13 @@ module _ (plain_keeps : PlainKeeps) where
   reply_keeps stopped s h call = (refl, refl)
   reply_keeps _ s h call = plain_keeps s h call
 
-  entry_keeps : (s : State) (e : EntryData) → KeepsLabels s (next s e).volumes
-  unfolding next
+  entry_keeps : (s : State) (e : EntryData) → KeepsLabels s (state_after s e).volumes
+  unfolding state_after
   entry_keeps s e = reply_keeps e.reply s e.host e.call
 
   history_keeps : (s : State) (es : List EntryData) → KeepsLabels s (after s es).volumes
   history_keeps s [] = (refl, refl)
-  history_keeps s (e ∷ es) = then_labels s (next s e) (after (next s e) es).volumes (entry_keeps s e) (history_keeps (next s e) es)
+  history_keeps s (e ∷ es) = then_labels s (state_after s e) (after (state_after s e) es).volumes (entry_keeps s e) (history_keeps (state_after s e) es)
 
   near_keeps : (s : State) (h : ℕ) (call : CallData) (volumes : Volumes) → IsNear s h call volumes → KeepsLabels s volumes
   near_keeps s h call volumes (unchanged is) = same_labels s volumes is
@@ -88,7 +88,7 @@ row_with None kept is = absurd cc
 row_with (Some r) kept is = refl
 
 -- volumes that are there have the serials that are asked
-pub serials_there : (vs : List VolumeData) (c : Content) → AreThere vs (shown c) → HasSerialsAsked (serial_in vs) (rows_of c)
+pub serials_there : (vs : List VolumeData) (c : Content) → AreThere vs (volumes_shown c) → HasSerialsAsked (serial_in vs) (rows_of c)
 serials_there vs c there v r at serial asked =
     let is : Some r.serial ≡ Some serial = sym (ap (λ (o : Option RowValue). option_map (λ (q : RowValue). q.serial) o) at) ∙ (there v serial asked).serial_ in
     cc
@@ -121,7 +121,7 @@ have_theirs (w ∷ vs) rows rising there =
           (one.0, one.1 ∙ cond-false _ _ _ off)),
     )
 
-pub none_changed_there : (vs : List VolumeData) (c : Content) → AreRising vs → AreThere vs (shown c) → opening_changes (rows_of c) vs ≡ []
+pub none_changed_there : (vs : List VolumeData) (c : Content) → AreRising vs → AreThere vs (volumes_shown c) → opening_changes (rows_of c) vs ≡ []
 none_changed_there vs c rising there =
     let theirs = have_theirs vs (rows_of c) rising (λ v serial is. let one = there v serial is in (row_with (rows_of c v) serial one.serial_, one.mark_)) in
     (λ i. none_to_make vs (rows_of c) theirs i ++ none_to_mark vs (rows_of c) theirs i)
@@ -138,7 +138,7 @@ module _ {S C : Type 0} (config : ConfigData) (old new : DevicesSeen)
 
   begins_with : BeginsWith config (shown_for config (content old.told)) new.told core
   begins_with = record {
-    opening_ = ap (λ (c : Content). start_of (shown c)) all_written ∙ ap (λ (v : Volumes). start_of v) opened.shows.same;
+    opening_ = ap (λ (c : Content). start_of (volumes_shown c)) all_written ∙ ap (λ (v : Volumes). start_of v) opened.shows.same;
     shows = opened.shows;
     there = λ v serial asked.
         let has = opened.asked v serial asked in
@@ -172,15 +172,15 @@ Decides = (frames : ℕ) (asked : ℕ → Option (List ℕ)) (c : Content) → (
 -- ---- a stop within a session
 
 module _ (plain_keeps : PlainKeeps) (decides : Decides) {S C : Type 0} (site : SiteLog) (core : CoreValue S C) (session : IsSession site core) (stop : Stop core.first_write site) where
-  labels : KeepsLabels (opening_of site core) (shown (left_by stop))
+  labels : KeepsLabels (opening_of site core) (volumes_shown (left_by stop))
   labels =
       let s0 = opening_of site core in
-      let n = answered stop.moment core.history core.marks in
+      let n = answered_count stop.moment core.history core.marks in
       let at = state_at s0 core.history core.marks stop.moment in
-      then_labels s0 at (shown (left_by stop)) (history_keeps plain_keeps s0 (take n core.history))
-      (may_show_keeps plain_keeps at (slice_get core.history n) (shown (left_by stop)) (session.told.stops.shows stop.moment stop.since stop.until stop.tear))
+      then_labels s0 at (volumes_shown (left_by stop)) (history_keeps plain_keeps s0 (take n core.history))
+      (may_show_keeps plain_keeps at (slice_get core.history n) (volumes_shown (left_by stop)) (session.told.stops.shows stop.moment stop.since stop.until stop.tear))
 
-  all_there : AreThere core.config.volumes (shown (left_by stop))
+  all_there : AreThere core.config.volumes (volumes_shown (left_by stop))
   all_there v serial asked =
       let there = session.there v serial asked in
       record { serial_ = ap (λ (f : ℕ → Option (List ℕ)). f v) labels.0 ∙ there.serial_; mark_ = ap (λ (f : ℕ → Bool). f v) labels.1 ∙ there.mark_ }
@@ -193,9 +193,9 @@ module _ (plain_keeps : PlainKeeps) (decides : Decides) {S C : Type 0} (site : S
     none_changed = none_changed_there core.config.volumes (left_by stop) session.rising all_there;
   }
 
-  pub session_taken : (old new : DevicesSeen) (answer : Answer S C) → RestartsOver core.config (left_by stop) old new answer → IsTakenUp core.config (shown (left_by stop)) new.told answer
+  pub session_taken : (old new : DevicesSeen) (answer : Answer S C) → RestartsOver core.config (left_by stop) old new answer → IsTakenUp core.config (volumes_shown (left_by stop)) new.told answer
   session_taken old new answer over =
-      taken_up core.config (left_by stop) (shown (left_by stop)) leaves_all.faultless (ap (λ (cs : List OpeningChange). opened_all cs (shown (left_by stop))) leaves_all.none_changed) old new answer over
+      taken_up core.config (left_by stop) (volumes_shown (left_by stop)) leaves_all.faultless (ap (λ (cs : List OpeningChange). opened_all cs (volumes_shown (left_by stop))) leaves_all.none_changed) old new answer over
 
 -- a core that begins is of a session, and so it is later on
 pub session_begun : {S C : Type 0} (config : ConfigData) (volumes : Volumes) (site : SiteLog) (core : CoreValue S C) → BeginsWith config volumes site core → core.config ≡ config → IsTold site core → IsSession site core
@@ -234,7 +234,7 @@ fit_row : (asked : ℕ → Option (List ℕ)) (rows : RowsOf) → HasSerialsAske
 fit_row asked rows has v kept serial None there at is = absurd cc
 fit_row asked rows has v kept serial (Some r) there at is = let e : r.serial ≡ kept = cc in sym e ∙ has v r there serial is
 
-rows_fit : (asked : ℕ → Option (List ℕ)) (c : Content) → Fit asked (shown c) → HasSerialsAsked asked (rows_of c)
+rows_fit : (asked : ℕ → Option (List ℕ)) (c : Content) → Fit asked (volumes_shown c) → HasSerialsAsked asked (rows_of c)
 rows_fit asked c fit v r at serial is = fit v r.serial serial (ap (λ (o : Option RowValue). option_map (λ (q : RowValue). q.serial) o) at) is
 
 fit_changes : (asked : ℕ → Option (List ℕ)) (changes : List OpeningChange) (volumes : Volumes) → AreAsked asked changes → Fit asked volumes → Fit asked (opened_all changes volumes)
@@ -282,8 +282,8 @@ mark_for_row : (o : Option RowValue) → is_marked o ≡ is_marked (option_map (
 mark_for_row None = refl
 mark_for_row (Some r) = refl
 
-changes_for : (vs : List VolumeData) (c : Content) → opening_changes (rows_of c) vs ≡ opening_changes (rows_for (shown c)) vs
-changes_for vs c = changes_same vs (rows_of c) (rows_for (shown c)) (λ v. some_for (rows_of c v) (is_marked (rows_of c v))) (λ v. mark_for_row (rows_of c v))
+changes_for : (vs : List VolumeData) (c : Content) → opening_changes (rows_of c) vs ≡ opening_changes (rows_for (volumes_shown c)) vs
+changes_for vs c = changes_same vs (rows_of c) (rows_for (volumes_shown c)) (λ v. some_for (rows_of c v) (is_marked (rows_of c v))) (λ v. mark_for_row (rows_of c v))
 
 -- the row that a change leaves, as far as it matters here
 abbrev HasItsMark : OpeningChange → RowValue → Type 0
@@ -457,7 +457,7 @@ module _ (decides : Decides) (config : ConfigData) (old new : DevicesSeen) (answ
   was = (decides config.frames asked begun).0 is.faultless
 
   abbrev Fronts : Content → Type 0
-  Fronts = ShowsFront config.frames further (shown begun)
+  Fronts = ShowsFront config.frames further (volumes_shown begun)
 
   abbrev synced : SiteLog
   synced = is.opens.synced.told
@@ -474,13 +474,13 @@ module _ (decides : Decides) (config : ConfigData) (old new : DevicesSeen) (answ
 
   moments : Writes Fronts synced new.told
   moments =
-      subst (λ (c : Content). Writes (ShowsFront config.frames (opening_changes (rows_of c) config.volumes) (shown c)) synced new.told) same
+      subst (λ (c : Content). Writes (ShowsFront config.frames (opening_changes (rows_of c) config.volumes) (volumes_shown c)) synced new.told) same
       ((is.opens.told tt).moments config.frames (subst (IsSound config.frames) (sym same) was.0))
 
   since : length synced.log ≤ stop.moment
   since = let long = ap (λ (s : SiteLog). length s.log) got ∙ length-append old.told.log (synced_all ∷ []) in omega (arith, long, stop.since)
 
-  front : ShowsFront config.frames further (shown begun) (left_by stop)
+  front : ShowsFront config.frames further (volumes_shown begun) (left_by stop)
   front = moments_are_images Fronts Fronts synced new.told moments torn_stays stop.moment since stop.until stop.tear
 
   done_asked : AreAsked asked front.done_
@@ -492,12 +492,12 @@ module _ (decides : Decides) (config : ConfigData) (old new : DevicesSeen) (answ
   serials_kept =
       rows_fit asked (left_by stop)
       (subst (Fit asked) (sym front.same)
-      (fit_changes asked front.done_ (shown begun) done_asked (λ v kept serial at spelled. fit_row asked (rows_of begun) was.1 v kept serial (rows_of begun v) refl at spelled)))
+      (fit_changes asked front.done_ (volumes_shown begun) done_asked (λ v kept serial at spelled. fit_row asked (rows_of begun) was.1 v kept serial (rows_of begun v) refl at spelled)))
 
   still_to_do : opening_changes (rows_of (left_by stop)) config.volumes ≡ front.later
   still_to_do =
       changes_for config.volumes (left_by stop) ∙ ap (λ (x : Volumes). opening_changes (rows_for x) config.volumes) front.same
-      ∙ front_left config.volumes is.whole.rising front.done_ front.later (shown begun) (sym (changes_for config.volumes begun) ∙ sym front.order)
+      ∙ front_left config.volumes is.whole.rising front.done_ front.later (volumes_shown begun) (sym (changes_for config.volumes begun) ∙ sym front.order)
 
   pub leaves_front : LeavesFront config begun (left_by stop)
   leaves_front = record {
@@ -505,8 +505,8 @@ module _ (decides : Decides) (config : ConfigData) (old new : DevicesSeen) (answ
     front = front;
     in_the_end =
         (λ i. opened_all (still_to_do i) (front.same i))
-        ∙ sym (opened_append front.done_ front.later (shown begun))
-        ∙ ap (λ (cs : List OpeningChange). opened_all cs (shown begun)) front.order;
+        ∙ sym (opened_append front.done_ front.later (volumes_shown begun))
+        ∙ ap (λ (cs : List OpeningChange). opened_all cs (volumes_shown begun)) front.order;
   }
 
   pub restart_taken : {S C : Type 0} (again left : DevicesSeen) (then : Answer S C) → RestartsOver config (left_by stop) again left then → IsTakenUp config (shown_for config begun) left.told then

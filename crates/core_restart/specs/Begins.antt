@@ -1,11 +1,11 @@
 -- The core with which a session begins.
 use Rattle.std.specs.Prelude.{◌≡◌, ℕ, false, [], length, replicate, None}
 use Rattle.mss_base.specs.Configs.{ConfigData}
-use Rattle.volume_table.specs.Listed.{listed}
+use Rattle.volume_table.specs.Listed.{row_in_list}
 use Rattle.ckd_plain.specs.Plain.{fresh_host}
 use Rattle.cartridge_store.specs.Places.{place_of, home_of}
 use Rattle.accessors.specs.Rails.{rail_start}
-use Rattle.victim_choice.specs.Order.{untouched}
+use Rattle.victim_choice.specs.Order.{first_order}
 use Rattle.core_state.specs.CoreValue.{CoreValue}
 use Rattle.core_restart.specs.Owners.{AreOwners}
 use Rattle.core_restart.specs.Console.{FreeNone}
@@ -20,9 +20,9 @@ pub record Begins {S C : Type 0} (config : ConfigData) (chooser : C) (writes fau
   pub config_ : core.config ≡ config
   pub chooser_ : core.chooser ≡ chooser
   pub used_ : length core.used ≡ 32
-  pub owners_ : AreOwners config.frames (listed core.rows) core.owners
+  pub owners_ : AreOwners config.frames (row_in_list core.rows) core.owners
   pub moving_ : core.moving ≡ replicate config.frames false
-  pub recency_ : core.recency ≡ untouched config.frames
+  pub recency_ : core.recency ≡ first_order config.frames
   pub no_requests : core.requests ≡ []
   pub no_tasks : core.tasks ≡ replicate config.recorders None
   pub empty : core.recorders ≡ replicate config.recorders None

@@ -1,7 +1,7 @@
 -- Which page has each frame.
 use Rattle.std.specs.Prelude.{◌≡◌, ◌⊎◌, ◌↔◌, ◌<◌, ℕ, List, length, Option, Some}
 use Rattle.volume_table.specs.Row.{RowValue}
-use Rattle.volume_table.specs.Listed.{AreRows, listed}
+use Rattle.volume_table.specs.Listed.{AreRows, row_in_list}
 use Rattle.shown_volumes.specs.Shown.{RowsOf}
 use Rattle.shown_volumes.specs.Sound.{frame_in, HasFramesBelow, HasFramesOnce}
 use Rattle.core_state.specs.Pins.{owner_at}
@@ -10,8 +10,8 @@ use Rattle.core_state.specs.Pins.{owner_at}
 pub record HaveFrames (frames : ℕ) (rows : List (Option RowValue)) : Type 0 where
   pub places : length rows ≡ 32
   pub are_rows : AreRows rows
-  pub below : HasFramesBelow frames (listed rows)
-  pub once : HasFramesOnce (listed rows)
+  pub below : HasFramesBelow frames (row_in_list rows)
+  pub once : HasFramesOnce (row_in_list rows)
 
 -- a frame belongs to the page that has it, and to no other
 pub record AreOwners (frames : ℕ) (rows : RowsOf) (owners : List (Option (ℕ × ℕ))) : Type 0 where

@@ -3,11 +3,11 @@ use Rattle.std.specs.Prelude.{◌≡◌, ◌≤◌, ◌*◌, ℕ, [], length, re
 use Rattle.mss_base.specs.Configs.{ConfigData}
 use Rattle.mss_base.specs.Content.{Content, SiteLog, IsLoose, content}
 use Rattle.mss_base.specs.declared.place.UnitNo.{UnitNo}
-use Rattle.volume_table.specs.Listed.{listed}
+use Rattle.volume_table.specs.Listed.{row_in_list}
 use Rattle.ckd_plain.specs.Plain.{fresh_host}
 use Rattle.cartridge_store.specs.Places.{place_of, home_of}
 use Rattle.staging_adapter.specs.Frames.{free_frames}
-use Rattle.victim_choice.specs.Order.{untouched}
+use Rattle.victim_choice.specs.Order.{first_order}
 use Rattle.mss_restart.specs.declared.opening.Opened.{Opened}
 use Rattle.mss_restart.specs.Opening.{IsOpened}
 use Rattle.mss_restart.specs.Answers.{TellsChanges, steps_of}
@@ -18,7 +18,7 @@ use Rattle.core_restart.specs.Owners.{HaveFrames}
 pub record AreParts (config : ConfigData) (parts : Parts) : Type 0 where
   pub config_ : parts.config ≡ config
   pub frames_ : parts.frames ≡ free_frames config.frames
-  pub recency_ : parts.recency ≡ untouched config.frames
+  pub recency_ : parts.recency ≡ first_order config.frames
   pub requests_ : parts.requests ≡ []
   pub tasks_ : parts.tasks.items ≡ replicate config.recorders None
   pub at_home : (cartridge : ℕ) → place_of parts.store cartridge ≡ home_of cartridge
@@ -38,7 +38,7 @@ pub record MayBegin (tells : Type 0) (told : SiteLog) (writes : ℕ) (config : C
   pub rows_ : HaveFrames config.frames opened.rows
   pub used_ : length opened.used.items ≡ 32
   pub written : ℕ
-  pub counted : TellsChanges config written writes (listed opened.rows) (steps_of opened)
+  pub counted : TellsChanges config written writes (row_in_list opened.rows) (steps_of opened)
   pub from : Content
   pub opened_ : tells → IsOpened config from (content told) opened.rows opened.used.items
   pub firm : tells → IsFirm told

@@ -8,7 +8,7 @@ use Rattle.ckd_track.specs.Data.{Volumes}
 use Rattle.ckd_plain.specs.Plain.{start_of}
 use Rattle.shown_volumes.specs.declared.refused.Refused.{Refused}
 use Rattle.shown_volumes.specs.declared.refused.Refused.TheVariants.{Memory}
-use Rattle.shown_volumes.specs.Shown.{rows_of, shown}
+use Rattle.shown_volumes.specs.Shown.{rows_of, volumes_shown}
 use Rattle.shown_volumes.specs.Sound.{SoundAs}
 use Rattle.shown_volumes.specs.Faults.{first_fault}
 use Rattle.mss_restart.specs.declared.opening.Opened.{Opened}
@@ -43,7 +43,7 @@ IsFaultless config c = first_fault config.frames (serial_in config.volumes) c �
 -- the volumes that a content shows, with the further ones of a configuration, blank, and with the marks
 -- that it asks for
 abbrev pub shown_for : ConfigData → Content → Volumes
-shown_for config c = opened_all (opening_changes (rows_of c) config.volumes) (shown c)
+shown_for config c = opened_all (opening_changes (rows_of c) config.volumes) (volumes_shown c)
 
 -- no call failed, and the count of faults could tell
 pub record NoneFailed (before now : ℕ) : Type 0 where
@@ -119,7 +119,7 @@ pub record IsLater {S C : Type 0} (old : SiteLog) (core : CoreValue S C) (new : 
 -- another mark
 pub record LeavesAll (config : ConfigData) (c : Content) : Type 0 where
   pub faultless : IsFaultless config c
-  pub all_there : AreThere config.volumes (shown c)
+  pub all_there : AreThere config.volumes (volumes_shown c)
   pub none_changed : opening_changes (rows_of c) config.volumes ≡ []
 
 -- a restart that opened content without a fault, whatever it answered
@@ -133,5 +133,5 @@ pub record OpensFaultless (config : ConfigData) (old new : DevicesSeen)
 -- after a front of the opening changes, and of which the same volumes come in the end
 pub record LeavesFront (config : ConfigData) (old c : Content) : Type 0 where
   pub faultless : IsFaultless config c
-  pub front : ShowsFront config.frames (opening_changes (rows_of old) config.volumes) (shown old) c
+  pub front : ShowsFront config.frames (opening_changes (rows_of old) config.volumes) (volumes_shown old) c
   pub in_the_end : shown_for config c ≡ shown_for config old

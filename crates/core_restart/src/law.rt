@@ -6,7 +6,7 @@ ghost use Rattle.ckd_track.specs.Data.{Volumes};
 ghost use Rattle.volume_table.specs.Row.{RowValue};
 ghost use Rattle.shown_volumes.specs.declared.refused.Refused.{Refused};
 ghost use Rattle.shown_volumes.specs.declared.refused.Refused.TheVariants.{RowUnread};
-ghost use Rattle.shown_volumes.specs.Shown.{shown};
+ghost use Rattle.shown_volumes.specs.Shown.{volumes_shown};
 ghost use Rattle.mss_restart.specs.declared.opening.Opened.{Opened};
 ghost use Rattle.mss_restart.specs.Survey.{IsExact, Surveys, TellsNoFailure};
 ghost use Rattle.core_state.specs.CoreValue.{CoreValue, DevicesSeen};
@@ -48,7 +48,7 @@ pub fn restart_takes_up_every_stop<S: Site, C: Choose>()
     ensures restart { (site : SiteLog) (core : CoreValue S C) → IsSession site core
         → (stop : Stop core.first_write site) (old new : DevicesSeen) (answer : Answer S C)
         → RestartsOver core.config (left_by stop) old new answer
-        → IsTakenUp core.config (shown (left_by stop)) new.told answer }
+        → IsTakenUp core.config (volumes_shown (left_by stop)) new.told answer }
 {
     ckd_plain::laws::only_the_track_under_a_write_changes();
     ckd_plain::laws::hosts_know_their_marks();

@@ -7,6 +7,9 @@
 //!
 //! They rely on `law` too: whatever a stop leaves, of a session or of a restart, is taken up; and it changes nothing
 //! which copies of rows can't be read, where each copy tells its row alone (`specs/OneCopy.antt` of `mss_restart`).
+//!
+//! Layers above cite lemmas of `proofs/`: the messages of opening changes (`ConsoleFacts`), the sync at the start
+//! (`Syncing`), and the volumes that come of what a stop left (`TakenUp`).
 #![tactic(auto)]
 
 mod console;

@@ -1,6 +1,6 @@
 // The owners of the frames: the pages that have them by the rows.
 ghost use Rattle.std.specs.Prelude.{◌≡◌, ◌+◌, length};
-ghost use Rattle.volume_table.specs.Listed.{listed};
+ghost use Rattle.volume_table.specs.Listed.{row_in_list};
 ghost use Rattle.staging_adapter.specs.Frames.{free_frames};
 ghost use Rattle.core_restart.specs.Owners.{AreOwners, AreOwnersBefore, HaveFrames};
 
@@ -12,8 +12,8 @@ use volume_table::Rows;
 /// Gives the frame of a page to it, where it has one.
 fn own_page(frames: &mut Frames, rows: &Rows, volume: VolumeNo, page: Page)
     requires rows { HaveFrames (length frames.old.owners) rows.now }
-    requires so_far { AreOwnersBefore (listed rows.now) frames.old.owners volume page }
-    ensures so_far { AreOwnersBefore (listed rows.now) frames.new.owners volume (page + 1) }
+    requires so_far { AreOwnersBefore (row_in_list rows.now) frames.old.owners volume page }
+    ensures so_far { AreOwnersBefore (row_in_list rows.now) frames.new.owners volume (page + 1) }
     ensures all { length frames.new.owners ≡ length frames.old.owners }
     ensures moving { frames.new.moving ≡ frames.old.moving }
 {
@@ -25,8 +25,8 @@ fn own_page(frames: &mut Frames, rows: &Rows, volume: VolumeNo, page: Page)
 /// Gives the frames of a volume's pages to them.
 fn own_pages(frames: &mut Frames, rows: &Rows, volume: VolumeNo)
     requires rows { HaveFrames (length frames.old.owners) rows.now }
-    requires so_far { AreOwnersBefore (listed rows.now) frames.old.owners volume 0 }
-    ensures so_far { AreOwnersBefore (listed rows.now) frames.new.owners (volume + 1) 0 }
+    requires so_far { AreOwnersBefore (row_in_list rows.now) frames.old.owners volume 0 }
+    ensures so_far { AreOwnersBefore (row_in_list rows.now) frames.new.owners (volume + 1) 0 }
     ensures all { length frames.new.owners ≡ length frames.old.owners }
     ensures moving { frames.new.moving ≡ frames.old.moving }
 {
@@ -39,7 +39,7 @@ fn own_pages(frames: &mut Frames, rows: &Rows, volume: VolumeNo)
 pub fn own_frames(frames: &mut Frames, rows: &Rows)
     requires rows { HaveFrames (length frames.old.owners) rows.now }
     requires free { frames.old ≡ free_frames (length frames.old.owners) }
-    ensures owners { AreOwners (length frames.old.owners) (listed rows.now) frames.new.owners }
+    ensures owners { AreOwners (length frames.old.owners) (row_in_list rows.now) frames.new.owners }
     ensures moving { frames.new.moving ≡ frames.old.moving }
 {
     for number in 0..32 {

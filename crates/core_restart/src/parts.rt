@@ -3,7 +3,7 @@ ghost use Rattle.std.specs.Prelude.{◌≡◌, ◌≤◌, ◌*◌, ℕ, [], leng
 ghost use Rattle.cartridge_store.specs.Places.{home_of, place_of};
 ghost use Rattle.ckd_plain.specs.Plain.{fresh_host};
 ghost use Rattle.staging_adapter.specs.Frames.{free_frames};
-ghost use Rattle.victim_choice.specs.Order.{untouched};
+ghost use Rattle.victim_choice.specs.Order.{first_order};
 
 use cartridge_store::Store;
 use ckd_plain::HostState;
@@ -86,7 +86,7 @@ fn frame_parts(alloc: Global, count: u16) -> Result<(Frames, Recency), NoMemory>
     requires some { 1 ≤ count }
     requires few { count ≤ 200 }
     ensures frames { IfOk result (λ parts. parts.0 ≡ free_frames count) }
-    ensures recency { IfOk result (λ parts. parts.1 ≡ untouched count) }
+    ensures recency { IfOk result (λ parts. parts.1 ≡ first_order count) }
 {
     let frames = Frames::new(alloc, count)?;
     let recency = Recency::new(alloc, count)?;
@@ -138,7 +138,7 @@ fn machine_parts(
     config: &Config,
 ) -> Result<((Frames, Recency), (TaskList, RecorderList, Store)), NoMemory>
     ensures frames { IfOk result (λ parts. parts.0.0 ≡ free_frames config.now.frames) }
-    ensures recency { IfOk result (λ parts. parts.0.1 ≡ untouched config.now.frames) }
+    ensures recency { IfOk result (λ parts. parts.0.1 ≡ first_order config.now.frames) }
     ensures tasks { IfOk result (λ parts.
         parts.1.0.items ≡ replicate config.now.recorders None) }
     ensures recorders { IfOk result (λ parts.

@@ -2,7 +2,7 @@
 ghost use Rattle.std.specs.Prelude.{◌≡◌, IfOk, IfErr, OnOk};
 ghost use Rattle.mss_restart.specs.Survey.{NeverFails, TellsNoFailure};
 ghost use Rattle.mss_restart.specs.Creations.{WritesOn};
-ghost use Rattle.core_state.specs.SessionData.{begun};
+ghost use Rattle.core_state.specs.SessionData.{new_session};
 ghost use Rattle.core_state.specs.Sessions.{session_data};
 ghost use Rattle.core_restart.specs.Begins.{Begins};
 ghost use Rattle.core_restart.specs.Opening.{
@@ -29,7 +29,7 @@ use victim_choice::{Choose, Chooser};
 
 /// The session that begins now.
 fn session_of<S: Site>(alloc: Global, site: &S, console: MessageList) -> Session
-    ensures { session_data result ≡ begun console.items (S.writes site.now) (S.faults site.now) }
+    ensures { session_data result ≡ new_session console.items (S.writes site.now) (S.faults site.now) }
 {
     Session::new(alloc, console, site.writes(), site.faults())
 }

@@ -10,7 +10,7 @@ use Rattle.volume_table.specs.Row.{RowValue}
 use Rattle.table_pair.specs.declared.copy.SlotsUsed.{SlotsUsed}
 use Rattle.table_pair.specs.Pair.{HoldsRow}
 use Rattle.table_pair.specs.Slots.{AreUsed}
-use Rattle.shown_volumes.specs.Shown.{RowsOf, rows_of, shown}
+use Rattle.shown_volumes.specs.Shown.{RowsOf, rows_of, volumes_shown}
 use Rattle.shown_volumes.specs.Sound.{IsSound, SoundAs}
 use Rattle.shown_volumes.specs.Changing.{IsQuiet}
 use Rattle.shown_volumes.proofs.QuietFacts.{quiet_rests}
@@ -19,7 +19,7 @@ use Rattle.fault_queue.specs.declared.queue.Request.{Request}
 use Rattle.core_state.specs.declared.task.Task.{Task}
 use Rattle.core_state.specs.CoreValue.{CoreValue}
 use Rattle.core_state.specs.Pins.{host_at, task_at, is_on, owns}
-use Rattle.volume_table.specs.Listed.{listed}
+use Rattle.volume_table.specs.Listed.{row_in_list}
 use Rattle.fault_queue.specs.Requests.{request_of, IsOnce}
 use Rattle.core_state.specs.Agrees.{AllAllowed, AreEarly, rows_after, handed_rows}
 use Rattle.core_state.specs.IsCore.{IsCore, AllDone}
@@ -28,7 +28,7 @@ use Rattle.mss_base.specs.Configs.{ConfigData}
 use Rattle.std.specs.List.{IsDistinct}
 use Rattle.cartridge_store.specs.declared.store.Place.{Place}
 use Rattle.cartridge_store.specs.Places.{place_of, home_of}
-use Rattle.victim_choice.specs.Order.{untouched}
+use Rattle.victim_choice.specs.Order.{first_order}
 use Rattle.victim_choice.proofs.OrderFacts.{untouched_is_order}
 use Rattle.accessors.specs.Rails.{rail_start}
 use Rattle.core_state.proofs.Making.{make_whole}
@@ -54,7 +54,7 @@ begun site chooser config store rows used owners console first faults = record {
   used = used;
   owners = owners;
   moving = replicate config.frames false;
-  recency = untouched config.frames;
+  recency = first_order config.frames;
   requests = [];
   tasks = replicate config.recorders None;
   recorders = replicate config.recorders None;
@@ -76,10 +76,10 @@ early_done n first [] le done = tt
 early_done n first (m ∷ ms) le done = (λ _. (let d = done.0 in omega (arith, d)), early_done n first ms le done.1)
 
 module _ (S C : Type 0) (tells : Type 0) (s : SiteLog) (x : S) (chooser : C) (config : ConfigData) (store : List Place) (homes : (c : ℕ) → place_of store c ≡ home_of c) (rows : List (Option RowValue)) (used : List SlotsUsed) (owners : List (Option (ℕ × ℕ))) (first faults : ℕ) (console : List Message)
-    (owned : AreOwned config.frames rows owners) (at_end : tells → first ≡ length s.log) (sound : tells → IsSound config.frames (content s)) (rows_are : tells → rows_of (content s) ≡ listed rows)
-    (copies : tells → (volume : ℕ) (r : RowValue) → listed rows volume ≡ Some r → HoldsRow r volume (content s))
+    (owned : AreOwned config.frames rows owners) (at_end : tells → first ≡ length s.log) (sound : tells → IsSound config.frames (content s)) (rows_are : tells → rows_of (content s) ≡ row_in_list rows)
+    (copies : tells → (volume : ℕ) (r : RowValue) → row_in_list rows volume ≡ Some r → HoldsRow r volume (content s))
     (places : length used ≡ 32) (slots : tells → AreUsed used (content s)) (quiet : tells → IsQuiet s)
-    (messages : tells → AllDone (length s.log) console) (allowed : tells → AllAllowed (handed_rows (listed rows) console) console) (told : tells → rows_after (handed_rows (listed rows) console) console ≡ listed rows) where
+    (messages : tells → AllDone (length s.log) console) (allowed : tells → AllAllowed (handed_rows (row_in_list rows) console) console) (told : tells → rows_after (handed_rows (row_in_list rows) console) console ≡ row_in_list rows) where
   abbrev v : CoreValue S C
   v = begun x chooser config store rows used owners console first faults
 
@@ -137,14 +137,14 @@ module _ (S C : Type 0) (tells : Type 0) (s : SiteLog) (x : S) (chooser : C) (co
   front : tells → written_after s.start (take first s.log) ≡ content s
   front tl = ap (written_after s.start) (take_all first s.log (let e = at_end tl in omega (arith, e)))
 
-  handed : (tl : tells) → handed_rows (rows_of (written_after s.start (take first s.log))) console ≡ handed_rows (listed rows) console
+  handed : (tl : tells) → handed_rows (rows_of (written_after s.start (take first s.log))) console ≡ handed_rows (row_in_list rows) console
   handed tl = ap (λ (c : Content). handed_rows (rows_of c) console) (front tl) ∙ ap (λ (r : RowsOf). handed_rows r console) (rows_are tl)
 
-  here : (tl : tells) (k : ℕ) → first ≤ k → k ≤ length s.log → (tear : Tear) → SoundAs config.frames (shown (content s)) (image s k tear)
+  here : (tl : tells) (k : ℕ) → first ≤ k → k ≤ length s.log → (tear : Tear) → SoundAs config.frames (volumes_shown (content s)) (image s k tear)
   here tl k from to tear = quiet_rests config.frames s (quiet tl) (sound tl) k tear (let e = at_end tl in omega (arith, e))
 
-  opens : (tl : tells) → shown (content s) ≡ shown (written_after s.start (take first s.log))
-  opens tl = ap shown (sym (front tl))
+  opens : (tl : tells) → volumes_shown (content s) ≡ volumes_shown (written_after s.start (take first s.log))
+  opens tl = ap volumes_shown (sym (front tl))
 
   pub whole_begun : IsWhole tells s (begun x chooser config store rows used owners console first faults)
   whole_begun = make_whole kept (λ tl. record {

@@ -15,7 +15,7 @@ use Rattle.core_state.specs.Counted.{IsCounted}
 use Rattle.core_state.specs.SessionData.{SessionData}
 use Rattle.cartridge_store.specs.declared.store.Place.TheVariants.{Cell, Hand, Recorder}
 use Rattle.cartridge_store.specs.Places.{place_of, home_of, with_place}
-use Rattle.victim_choice.specs.Order.{touched}
+use Rattle.victim_choice.specs.Order.{order_after}
 use Rattle.victim_choice.proofs.OrderFacts.{touched_is_order}
 use Rattle.core_state.specs.WorkRules.{is_in_cell}
 use Rattle.core_state.proofs.RuleWalks.{none_some, some_is}
@@ -78,7 +78,7 @@ counted_noted writes faults requests d events is =
 
 -- a frame is touched
 pub beside_touched : (frames count : ℕ) (recency : List ℕ) (recorders : List (Option ℕ)) (store : List Place) (frame : ℕ) → frame < frames
-    → IsBeside frames count recency recorders store → IsBeside frames count (touched frame recency) recorders store
+    → IsBeside frames count recency recorders store → IsBeside frames count (order_after frame recency) recorders store
 beside_touched frames count recency recorders store frame below is =
     record { long = is.long; order = touched_is_order frames recency frame is.order below; lies = is.lies; holds = is.holds }
 

@@ -6,12 +6,12 @@ use Rattle.std.proofs.lemmas.Bool.Decides.{nat_tests}
 use Rattle.mss_base.specs.Content.{Content, SiteLog, content, Writes, after as written_after}
 use Rattle.ckd_track.specs.Data.{Volumes}
 use Rattle.ckd_plain.specs.Data.{State}
-use Rattle.ckd_plain.specs.History.{EntryData, after, next, IsLegal}
+use Rattle.ckd_plain.specs.History.{EntryData, after, state_after, IsLegal}
 use Rattle.volume_table.specs.Row.{RowValue}
 use Rattle.table_pair.specs.declared.copy.SlotsUsed.{SlotsUsed}
 use Rattle.table_pair.specs.Pair.{HoldsRow}
 use Rattle.table_pair.specs.Slots.{AreUsed}
-use Rattle.shown_volumes.specs.Shown.{RowsOf, rows_of, shown, SameTables}
+use Rattle.shown_volumes.specs.Shown.{RowsOf, rows_of, volumes_shown, SameTables}
 use Rattle.shown_volumes.specs.Changing.{IsQuiet, StillShows}
 use Rattle.volume_table.specs.declared.changes.Change.{Change}
 use Rattle.volume_table.specs.declared.changes.Change.TheVariants.{Create, Assign, Free, Staged, Changed, Destaged, Protect}
@@ -20,9 +20,9 @@ use Rattle.core_state.specs.StopRule.{opening, StopsWell}
 use Rattle.core_state.specs.Agrees.{AllAllowed, AllAgree, AreEarly, EntryAgrees, IsAllowedIn, freed_by, is_early, rows_at, rows_after, with_change, till, handed_rows, undone}
 use Rattle.core_state.specs.CoreValue.{CoreValue}
 use Rattle.core_state.specs.declared.task.Task.{Task}
-use Rattle.volume_table.specs.Listed.{listed}
+use Rattle.volume_table.specs.Listed.{row_in_list}
 use Rattle.core_state.specs.Served.{AreServed}
-use Rattle.core_state.specs.Entered.{with_used, worked}
+use Rattle.core_state.specs.Entered.{with_used, core_after_work}
 use Rattle.core_state.specs.IsCore.{AllUpTo, AllDone, IsGoing, IsTold, opening_of, handed_to}
 use Rattle.core_state.proofs.StopsLemmas.{stops_again, stops_shown}
 use Rattle.core_state.proofs.EntryLemmas.{up_to-more, done-more, start_same, opening_same, rows_same_tables, holds_same_tables, used_same_tables}
@@ -49,7 +49,7 @@ agree-same : (frames : ℕ) (old new : ℕ → RowsOf) (n : ℕ) (s : State) (es
 agree-same frames old new n s [] ms before same all = tt
 agree-same frames old new n s (e ∷ es) [] before same all = tt
 agree-same frames old new n s (e ∷ es) (m ∷ ms) before same all =
-    (subst (λ (rows : RowsOf). EntryAgrees frames rows s e e.reply) (sym (same m before.0)) all.0, agree-same frames old new n (next s e) es ms before.1 same all.1)
+    (subst (λ (rows : RowsOf). EntryAgrees frames rows s e e.reply) (sym (same m before.0)) all.0, agree-same frames old new n (state_after s e) es ms before.1 same all.1)
 
 done-push : (n : ℕ) (ms : List Message) (m : Message) → m.mark ≤ n → AllDone n ms → AllDone n (ms ++ m ∷ [])
 done-push n [] m le all = (le, tt)
@@ -76,12 +76,12 @@ early-push first (x ∷ ms) m late all = (all.0, early-push first ms m late all.
 
 module _ (S : Type 0) {C : Type 0} (s t : SiteLog) (v : CoreValue S C) (x : S) (rows : List (Option RowValue)) (m : Message)
     (told : IsTold s v) (open_ : v.stopped ≡ None) (long : length v.marks ≡ length v.history)
-    (writes : Writes (StillShows v.config.frames (shown (content s)) s) s t) (quiet : IsQuiet t)
+    (writes : Writes (StillShows v.config.frames (volumes_shown (content s)) s) s t) (quiet : IsQuiet t)
     (mark : m.mark ≡ length t.log) (grows : length s.log < length t.log) (late_change : is_early m.change ≡ false)
-    (allowed : IsAllowedIn (listed v.rows) m.volume m.change (listed v.rows m.volume) × (m.freed ≡ freed_by (listed v.rows) m.volume m.change))
-    (changes : with_change (listed v.rows) m ≡ listed rows) (rows_are : rows_of (content t) ≡ listed rows)
-    (copies : (volume : ℕ) (r : RowValue) → listed rows volume ≡ Some r → HoldsRow r volume (content t)) (used : List SlotsUsed) (slots : AreUsed used (content t))
-    (owners : List (Option (ℕ × ℕ))) (moving : List Bool) (requests : RequestsData) (tasks : List (Option Task)) (served : AreServed (content t) (listed rows) tasks) where
+    (allowed : IsAllowedIn (row_in_list v.rows) m.volume m.change (row_in_list v.rows m.volume) × (m.freed ≡ freed_by (row_in_list v.rows) m.volume m.change))
+    (changes : with_change (row_in_list v.rows) m ≡ row_in_list rows) (rows_are : rows_of (content t) ≡ row_in_list rows)
+    (copies : (volume : ℕ) (r : RowValue) → row_in_list rows volume ≡ Some r → HoldsRow r volume (content t)) (used : List SlotsUsed) (slots : AreUsed used (content t))
+    (owners : List (Option (ℕ × ℕ))) (moving : List Bool) (requests : RequestsData) (tasks : List (Option Task)) (served : AreServed (content t) (row_in_list rows) tasks) where
   going : IsGoing s v
   going = told.going open_
 
@@ -99,10 +99,10 @@ module _ (S : Type 0) {C : Type 0} (s t : SiteLog) (v : CoreValue S C) (x : S) (
       handed-push (rows_of (written_after t.start (take v.first_write t.log))) v.console m late_change
       ∙ ap (λ (c : Content). handed_rows (rows_of c) v.console) (start_same v.first_write s t writes.items writes.grown told.began)
 
-  told_rows : rows_after (handed_to s v) (v.console ++ m ∷ []) ≡ listed rows
+  told_rows : rows_after (handed_to s v) (v.console ++ m ∷ []) ≡ row_in_list rows
   told_rows = rows_after-push (handed_to s v) v.console m ∙ ap (λ (q : RowsOf). with_change q m) going.told ∙ changes
 
-  pub told_change : IsTold t (worked (with_used used v) x rows (v.console ++ m ∷ []) owners moving requests tasks)
+  pub told_change : IsTold t (core_after_work (with_used used v) x rows (v.console ++ m ∷ []) owners moving requests tasks)
   told_change = record {
     began = omega (arith, told.began, grows);
     entries = up_to-more (length s.log) (length t.log) v.marks (omega (arith, grows)) told.entries;
@@ -135,8 +135,8 @@ module _ (S : Type 0) {C : Type 0} (s t : SiteLog) (v : CoreValue S C) (x : S) (
 
 -- writes that leave the tables and what is shown, without a message
 module _ (S : Type 0) {C : Type 0} (s t : SiteLog) (v : CoreValue S C) (x : S) (told : IsTold s v) (open_ : v.stopped ≡ None) (long : length v.marks ≡ length v.history)
-    (writes : Writes (StillShows v.config.frames (shown (content s)) s) s t) (same : SameTables (content s) (content t)) (quiet : IsQuiet t)
-    (owners : List (Option (ℕ × ℕ))) (moving : List Bool) (requests : RequestsData) (tasks : List (Option Task)) (served : AreServed (content t) (listed v.rows) tasks) where
+    (writes : Writes (StillShows v.config.frames (volumes_shown (content s)) s) s t) (same : SameTables (content s) (content t)) (quiet : IsQuiet t)
+    (owners : List (Option (ℕ × ℕ))) (moving : List Bool) (requests : RequestsData) (tasks : List (Option Task)) (served : AreServed (content t) (row_in_list v.rows) tasks) where
   going_ : IsGoing s v
   going_ = told.going open_
 
@@ -152,7 +152,7 @@ module _ (S : Type 0) {C : Type 0} (s t : SiteLog) (v : CoreValue S C) (x : S) (
   longer : length s.log ≤ length t.log
   longer = let e1 = ap (λ (y : SiteLog). length y.log) writes.grown ∙ length-append s.log writes.items in omega (arith, e1)
 
-  pub told_outside : IsTold t (worked v x v.rows v.console owners moving requests tasks)
+  pub told_outside : IsTold t (core_after_work v x v.rows v.console owners moving requests tasks)
   told_outside = record {
     began = omega (arith, told.began, longer);
     entries = up_to-more (length s.log) (length t.log) v.marks longer told.entries;

@@ -3,13 +3,13 @@ use Rattle.std.proofs.Common.{◌≡◌, ℕ, length, Option, Some, None, refl, 
 use Rattle.mss_base.specs.Content.{SiteLog, content, no_tear}
 use Rattle.shown_volumes.specs.Sound.{IsSound}
 use Rattle.core_state.specs.CoreValue.{CoreValue}
-use Rattle.volume_table.specs.Listed.{listed}
+use Rattle.volume_table.specs.Listed.{row_in_list}
 use Rattle.core_state.specs.IsCore.{IsCore, IsTold}
 use Rattle.mss_base.proofs.Moments.{last_image}
 use Rattle.core_state.proofs.Serving.{HasOnePage}
 
 -- no frame is of two pages
-pub one_page : (S : Type 0) {C : Type 0} (v : CoreValue S C) → IsCore v → HasOnePage (listed v.rows)
+pub one_page : (S : Type 0) {C : Type 0} (v : CoreValue S C) → IsCore v → HasOnePage (row_in_list v.rows)
 one_page S v core a b p q frame first second =
     let in_ = core.framed a p frame first in
     let one : Some (a, p) ≡ Some (b, q) = sym ((core.owned frame a p in_).1 first) ∙ (core.owned frame b q in_).1 second in

@@ -10,7 +10,7 @@ use Rattle.ckd_plain.specs.History.{IsLegal}
 use Rattle.volume_table.specs.Row.{RowValue, IsRow, state_of}
 use Rattle.table_pair.specs.declared.copy.SlotsUsed.{SlotsUsed}
 use Rattle.std.specs.Option.{ForSome}
-use Rattle.shown_volumes.specs.Shown.{RowsOf, rows_of, shown}
+use Rattle.shown_volumes.specs.Shown.{RowsOf, rows_of, volumes_shown}
 use Rattle.shown_volumes.specs.Sound.{frame_in}
 use Rattle.shown_volumes.specs.Changing.{StillShows}
 use Rattle.core_state.specs.declared.session.Message.{Message}
@@ -19,7 +19,7 @@ use Rattle.fault_queue.specs.declared.queue.RequestState.{RequestState}
 use Rattle.core_state.specs.declared.task.Task.{Task}
 use Rattle.core_state.specs.CoreValue.{CoreValue}
 use Rattle.core_state.specs.Pins.{host_at, owner_at, is_on, asks_for, owns}
-use Rattle.volume_table.specs.Listed.{listed}
+use Rattle.volume_table.specs.Listed.{row_in_list}
 use Rattle.fault_queue.specs.Requests.{request_of, RequestsData, put_request, IsOnce}
 use Rattle.core_state.specs.Tasks.{AreTasks, AreWaiting}
 use Rattle.fault_queue.specs.declared.queue.RequestState.TheVariants.{Queued}
@@ -28,7 +28,7 @@ use Rattle.core_state.specs.StopRule.{opening, StopsWell}
 use Rattle.core_state.specs.Agrees.{AllAllowed, AllAgree, rows_at, handed_rows}
 use Rattle.core_state.specs.IsCore.{IsCore, IsPlaced, IsTold, IsGoing, opening_of, handed_to}
 use Rattle.core_state.specs.Fitting.{IsFit}
-use Rattle.core_state.specs.Entered.{with_used, worked}
+use Rattle.core_state.specs.Entered.{with_used, core_after_work}
 use Rattle.core_state.proofs.StopsLemmas.{stops_again}
 use Rattle.core_state.proofs.EntryLemmas.{up_to-more, done-more, start_same, opening_same}
 use Rattle.fault_queue.proofs.RequestFacts.{request_same, request_other, once_put}
@@ -80,10 +80,10 @@ waiting_again rows requests h q state fits are mine k p is queued = elim (eqb_te
 -- the rows and the owners of frames agree
 pub record AreOwned (frames : ℕ) (rows : List (Option RowValue)) (owners : List (Option (ℕ × ℕ))) : Type 0 where
   pub places : length rows ≡ 32
-  pub are_rows : (volume : ℕ) (r : RowValue) → listed rows volume ≡ Some r → IsRow r
+  pub are_rows : (volume : ℕ) (r : RowValue) → row_in_list rows volume ≡ Some r → IsRow r
   pub owners_ : length owners ≡ frames
-  pub framed : (volume page frame : ℕ) → frame_in (listed rows) volume page ≡ Some frame → frame < frames
-  pub owned : (frame volume page : ℕ) → frame < frames → (owner_at owners frame ≡ Some (volume, page)) ↔ (frame_in (listed rows) volume page ≡ Some frame)
+  pub framed : (volume page frame : ℕ) → frame_in (row_in_list rows) volume page ≡ Some frame → frame < frames
+  pub owned : (frame volume page : ℕ) → frame < frames → (owner_at owners frame ≡ Some (volume, page)) ↔ (frame_in (row_in_list rows) volume page ≡ Some frame)
 
 pub owned_of : (S : Type 0) {C : Type 0} (v : CoreValue S C) → IsCore v → AreOwned v.config.frames v.rows v.owners
 owned_of S v core = record { places = core.places; are_rows = core.are_rows; owners_ = core.owners_; framed = core.framed; owned = core.owned }
@@ -127,8 +127,8 @@ core_used S v core used places = record {
 }
 
 pub core_work : (S : Type 0) {C : Type 0} (v : CoreValue S C) → IsCore v → (x : S) (rows : List (Option RowValue)) (console : List Message) (owners : List (Option (ℕ × ℕ))) (moving : List Bool) (requests : RequestsData) (tasks : List (Option Task))
-    → AreOwned v.config.frames rows owners → length moving ≡ v.config.frames → AreAsked v.hosts requests → AreWaiting (listed rows) requests → AreTasks v.config.frames (listed rows) moving requests v.hosts tasks
-    → IsFit v.config.recorders rows requests v.hosts tasks → IsCore (worked v x rows console owners moving requests tasks)
+    → AreOwned v.config.frames rows owners → length moving ≡ v.config.frames → AreAsked v.hosts requests → AreWaiting (row_in_list rows) requests → AreTasks v.config.frames (row_in_list rows) moving requests v.hosts tasks
+    → IsFit v.config.recorders rows requests v.hosts tasks → IsCore (core_after_work v x rows console owners moving requests tasks)
 core_work S v core x rows console owners moving requests tasks owned long asked waits are fit = record {
   places = owned.places;
   are_rows = owned.are_rows;
@@ -152,7 +152,7 @@ core_work S v core x rows console owners moving requests tasks owned long asked 
 -- ---- what it is told, where nothing is written
 
 pub told_same : (S : Type 0) {C : Type 0} (s : SiteLog) (v : CoreValue S C) (x : S) (owners : List (Option (ℕ × ℕ))) (moving : List Bool) (requests : RequestsData) (tasks : List (Option Task))
-    → IsTold s v → (v.stopped ≡ None → AreServed (content s) (listed v.rows) tasks) → IsTold s (worked v x v.rows v.console owners moving requests tasks)
+    → IsTold s v → (v.stopped ≡ None → AreServed (content s) (row_in_list v.rows) tasks) → IsTold s (core_after_work v x v.rows v.console owners moving requests tasks)
 told_same S s v x owners moving requests tasks told served = record {
   began = told.began;
   entries = told.entries;
@@ -166,7 +166,7 @@ told_same S s v x owners moving requests tasks told served = record {
 -- ---- a core that a failed write stops in work: the change wasn't made, and no more is said of what its devices hold
 
 module _ (S : Type 0) {C : Type 0} (s t : SiteLog) (v : CoreValue S C) (x : S) (told : IsTold s v) (open_ : v.stopped ≡ None) (long : length v.marks ≡ length v.history)
-    (writes : Writes (StillShows v.config.frames (shown (content s)) s) s t) (fault : ℕ) where
+    (writes : Writes (StillShows v.config.frames (volumes_shown (content s)) s) s t) (fault : ℕ) where
   going : IsGoing s v
   going = told.going open_
 

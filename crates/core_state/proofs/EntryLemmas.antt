@@ -9,22 +9,22 @@ use Rattle.mss_base.specs.declared.place.UnitNo.TheVariants.{TableA, TableB}
 use Rattle.ckd_plain.specs.declared.host.HostState.{HostState}
 use Rattle.ckd_plain.specs.Data.{State}
 use Rattle.ckd_plain.specs.Plain.{start_of}
-use Rattle.ckd_plain.specs.History.{EntryData, after, next, IsStopped, IsLegal}
+use Rattle.ckd_plain.specs.History.{EntryData, after, state_after, IsStopped, IsLegal}
 use Rattle.ckd_plain.proofs.Histories.{after-append, IsLegal-push, HasNoStop-push}
 use Rattle.volume_table.specs.Row.{RowValue}
 use Rattle.table_pair.specs.Copies.{copy_at}
 use Rattle.table_pair.specs.declared.copy.SlotsUsed.{SlotsUsed}
 use Rattle.table_pair.specs.Pair.{HoldsRow, IsOpenWith, row_of_copies}
 use Rattle.table_pair.specs.Slots.{HasSlots, AreUsed}
-use Rattle.shown_volumes.specs.Shown.{RowsOf, told_row, rows_of, shown, SameTables}
+use Rattle.shown_volumes.specs.Shown.{RowsOf, told_row, rows_of, volumes_shown, SameTables}
 use Rattle.core_state.specs.declared.session.Message.{Message}
 use Rattle.core_state.specs.declared.task.Task.{Task}
 use Rattle.core_state.specs.StopRule.{opening, is_answered, StopsWell}
 use Rattle.core_state.specs.Agrees.{AllAllowed, AllAgree, EntryAgrees, rows_at, rows_after, till, handed_rows}
 use Rattle.core_state.specs.CoreValue.{CoreValue}
-use Rattle.volume_table.specs.Listed.{listed}
+use Rattle.volume_table.specs.Listed.{row_in_list}
 use Rattle.core_state.specs.IsCore.{AllUpTo, AllDone, IsGoing, IsTold, opening_of, handed_to}
-use Rattle.core_state.specs.Entered.{entered, plain_of, Enters}
+use Rattle.core_state.specs.Entered.{core_with_entry, plain_of, Enters}
 use Rattle.core_state.proofs.StopsLemmas.{stops_with_entry, not_stopped}
 use Rattle.fault_queue.specs.Requests.{RequestsData}
 
@@ -56,7 +56,7 @@ pub agree-push : (frames : ℕ) (rows : ℕ → RowsOf) (s : State) (es : List E
 agree-push frames rows s [] [] e m long all new = (new, tt)
 agree-push frames rows s [] (y ∷ ms) e m long all new = absurd (omega arith)
 agree-push frames rows s (x ∷ es) [] e m long all new = absurd (omega arith)
-agree-push frames rows s (x ∷ es) (y ∷ ms) e m long all new = (all.0, agree-push frames rows (next s x) es ms e m (omega arith) all.1 new)
+agree-push frames rows s (x ∷ es) (y ∷ ms) e m long all new = (all.0, agree-push frames rows (state_after s x) es ms e m (omega arith) all.1 new)
 
 -- ---- what the session began with stays
 
@@ -65,7 +65,7 @@ module _ (first : ℕ) (s t : SiteLog) (ws : List Item) (grown : Got ws s t) (be
   start_same = ap (λ (x : SiteLog). written_after x.start (take first x.log)) grown ∙ ap (written_after s.start) (take-append-le first s.log ws began)
 
   pub opening_same : opening first t ≡ opening first s
-  opening_same = ap (λ (c : Content). start_of (shown c)) start_same
+  opening_same = ap (λ (c : Content). start_of (volumes_shown c)) start_same
 
 -- ---- tables
 
@@ -107,16 +107,16 @@ module _ (S : Type 0) {C : Type 0} (s t : SiteLog) (v : CoreValue S C) (x : S) (
   longer : length s.log ≤ length t.log
   longer = let e1 = ap (λ (y : SiteLog). length y.log) enters.writes.grown ∙ length-append s.log enters.writes.items in omega (arith, e1)
 
-  named : rows_at (handed_to s v) v.console m ≡ listed v.rows
+  named : rows_at (handed_to s v) v.console m ≡ row_in_list v.rows
   named = ap (rows_after (handed_to s v)) (till_all (length s.log) m v.console (omega (arith, at_end, longer)) told.messages) ∙ going.told
 
-  after_is : after (opening v.first_write t) (v.history ++ e ∷ []) ≡ next (plain_of s v) e
+  after_is : after (opening v.first_write t) (v.history ++ e ∷ []) ≡ state_after (plain_of s v) e
   after_is = ap (λ (y : State). after y (v.history ++ e ∷ [])) began ∙ after-append (opening_of s v) v.history (e ∷ [])
 
   answered_ : stopped ≡ None → is_answered e.reply ≡ true
   answered_ none = not_stopped e.reply (λ is. stops is none)
 
-  pub told_entry : IsTold t (entered v x e m hosts requests tasks stopped)
+  pub told_entry : IsTold t (core_with_entry v x e m hosts requests tasks stopped)
   told_entry = record {
     began = omega (arith, told.began, longer);
     entries = up_to-push (length t.log) m v.marks (omega (arith, at_end)) (up_to-more (length s.log) (length t.log) v.marks longer told.entries);

@@ -14,7 +14,7 @@ use Rattle.fault_queue.specs.Requests.{RequestsData, request_of, put_request, Is
 use Rattle.fault_queue.proofs.RequestFacts.{request_same, request_other}
 use Rattle.core_state.specs.declared.task.Task.{Task}
 use Rattle.core_state.specs.Pins.{host_at, put_host, is_on}
-use Rattle.volume_table.specs.Listed.{listed}
+use Rattle.volume_table.specs.Listed.{row_in_list}
 use Rattle.core_state.specs.Tasks.{takes}
 use Rattle.core_state.specs.Tasks.{touched_all}
 use Rattle.core_state.specs.Fitting.{IsReadyOn, IsFit}
@@ -66,19 +66,19 @@ length_touched volume page (o ∷ tasks) = ap suc (length_touched volume page ta
 
 -- ---- rows
 
-module _ (rows : List (Option RowValue)) (w : ℕ) (r now : RowValue) (there : listed rows w ≡ Some r) (fits : w < length rows) where
-  pub row_still : (volume : ℕ) → IsSome (listed rows volume) → IsSome (listed (slice_set rows w (Some now)) volume)
+module _ (rows : List (Option RowValue)) (w : ℕ) (r now : RowValue) (there : row_in_list rows w ≡ Some r) (fits : w < length rows) where
+  pub row_still : (volume : ℕ) → IsSome (row_in_list rows volume) → IsSome (row_in_list (slice_set rows w (Some now)) volume)
   row_still volume is = elim (eqb_tells volume w) [
-    | inl e ↦ ap is_some (ap (listed (slice_set rows w (Some now))) e.1 ∙ row_put rows w now fits)
+    | inl e ↦ ap is_some (ap (row_in_list (slice_set rows w (Some now))) e.1 ∙ row_put rows w now fits)
     | inr e ↦ ap is_some (row_left rows w now volume e.1) ∙ is
   ]
 
-  pub ready_row : (tasks : List (Option Task)) (q : Request) → (q.volume ≡ w → 2 ≤ state_of r q.cylinder → 2 ≤ state_of now q.cylinder) → IsReadyOn (listed rows) tasks q → IsReadyOn (listed (slice_set rows w (Some now))) tasks q
+  pub ready_row : (tasks : List (Option Task)) (q : Request) → (q.volume ≡ w → 2 ≤ state_of r q.cylinder → 2 ≤ state_of now q.cylinder) → IsReadyOn (row_in_list rows) tasks q → IsReadyOn (row_in_list (slice_set rows w (Some now))) tasks q
   ready_row tasks q keeps is = record {
     staged = λ k at. elim (eqb_tells q.volume w) [
       | inl e ↦
-          let o : Some now ≡ Some k = sym (ap (listed (slice_set rows w (Some now))) e.1 ∙ row_put rows w now fits) ∙ at in
-          subst (λ (z : RowValue). 2 ≤ state_of z q.cylinder) (some_is now k o) (keeps e.1 (is.staged r (ap (listed rows) e.1 ∙ there)))
+          let o : Some now ≡ Some k = sym (ap (row_in_list (slice_set rows w (Some now))) e.1 ∙ row_put rows w now fits) ∙ at in
+          subst (λ (z : RowValue). 2 ≤ state_of z q.cylinder) (some_is now k o) (keeps e.1 (is.staged r (ap (row_in_list rows) e.1 ∙ there)))
       | inr e ↦ is.staged k (sym (row_left rows w now q.volume e.1) ∙ at)
     ];
     touched_ = is.touched_;
@@ -100,8 +100,8 @@ staged_left page r z other is = elim (eqb_tells (z / 8) page) [
 
 -- where one host's request is put, or none of them
 module _ (recorders : ℕ) (rows now : List (Option RowValue)) (requests : RequestsData) (hosts : List HostState) (tasks then_ : List (Option Task)) (fit : IsFit recorders rows requests hosts tasks)
-    (long : length then_ ≡ length tasks) (still : (volume : ℕ) → IsSome (listed rows volume) → IsSome (listed now volume))
-    (others : (k : ℕ) (q : Request) → request_of requests k ≡ Some q → q.state ≡ Ready → IsReadyOn (listed rows) tasks q → IsReadyOn (listed now) then_ q) where
+    (long : length then_ ≡ length tasks) (still : (volume : ℕ) → IsSome (row_in_list rows volume) → IsSome (row_in_list now volume))
+    (others : (k : ℕ) (q : Request) → request_of requests k ≡ Some q → q.state ≡ Ready → IsReadyOn (row_in_list rows) tasks q → IsReadyOn (row_in_list now) then_ q) where
   pub fit_same : IsFit recorders now requests hosts then_
   fit_same = record {
     long = long ∙ fit.long;
@@ -109,7 +109,7 @@ module _ (recorders : ℕ) (rows now : List (Option RowValue)) (requests : Reque
     ready = λ h q asked is. others h q asked is (fit.ready h q asked is);
   }
 
-  pub fit_put : (h : ℕ) (o : Option Request) → IsOnce requests → ((q : Request) → o ≡ Some q → q.state ≡ Ready → IsReadyOn (listed now) then_ q) → IsFit recorders now (put_request requests h o) hosts then_
+  pub fit_put : (h : ℕ) (o : Option Request) → IsOnce requests → ((q : Request) → o ≡ Some q → q.state ≡ Ready → IsReadyOn (row_in_list now) then_ q) → IsFit recorders now (put_request requests h o) hosts then_
   fit_put h o once own = record {
     long = long ∙ fit.long;
     mounted_ = λ k volume on. still volume (fit.mounted_ k volume on);
@@ -121,8 +121,8 @@ module _ (recorders : ℕ) (rows now : List (Option RowValue)) (requests : Reque
 
 -- where a host is replied, and its request ends
 pub fit_replied : (recorders : ℕ) (rows : List (Option RowValue)) (requests : RequestsData) (hosts : List HostState) (tasks then_ : List (Option Task)) → IsFit recorders rows requests hosts tasks
-    → length then_ ≡ length tasks → ((q : Request) → IsReadyOn (listed rows) tasks q → IsReadyOn (listed rows) then_ q)
-    → (h : ℕ) (host : HostState) (o : Option Request) → IsHostOf hosts h → IsOnce requests → ((volume : ℕ) → is_on volume host.mounted ≡ true → IsSome (listed rows volume)) → ((q : Request) → o ≡ Some q → q.state ≡ Ready → ⊥)
+    → length then_ ≡ length tasks → ((q : Request) → IsReadyOn (row_in_list rows) tasks q → IsReadyOn (row_in_list rows) then_ q)
+    → (h : ℕ) (host : HostState) (o : Option Request) → IsHostOf hosts h → IsOnce requests → ((volume : ℕ) → is_on volume host.mounted ≡ true → IsSome (row_in_list rows volume)) → ((q : Request) → o ≡ Some q → q.state ≡ Ready → ⊥)
     → IsFit recorders rows (put_request requests h o) (put_host hosts h host) then_
 fit_replied recorders rows requests hosts tasks then_ fit long others h host o fits once has unready = record {
   long = long ∙ fit.long;

@@ -32,8 +32,8 @@ pub mod RunnerEvents
 pub mod RunnerWork
 pub mod Rounds
 pub mod RuleRows
-pub mod Row28
+pub mod TwoHostsOneFrame
 pub mod SettledStart
-pub mod Row10
-pub mod Row11
-pub mod Row12
+pub mod OneFrame
+pub mod BoundVolumes
+pub mod WriteWhileTaken

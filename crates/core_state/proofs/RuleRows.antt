@@ -20,7 +20,7 @@ use Rattle.core_state.specs.CoreValue.{CoreData, DevicesSeen}
 use Rattle.core_state.specs.declared.rule.WorkRule.TheVariants.{Picks, PicksVictim, GivesBack, IsIdle}
 use Rattle.core_state.specs.HostRules.{host_rule}
 use Rattle.core_state.specs.WorkRules.{work_rule}
-use Rattle.ckd_plain.specs.Checks.{admitted}
+use Rattle.ckd_plain.specs.Checks.{admitted_command}
 use Rattle.mss_base.specs.Firsts.{first_below}
 
 -- devices that tell nothing, and made seven writes
@@ -76,7 +76,7 @@ held_core = record (core None 0 false false plain_host) { requests = (2, record 
 
 -- of which no host has the volume bound, so there may be space soon
 rows_of_space : (host_rule moving_core 1 search ≡ Faults 0 0) × (host_rule (record held_core { hosts = plain_host ∷ replicate 7 fresh_host }) 1 search ≡ Faults 0 0)
-unfolding host_rule admitted first_below
+unfolding host_rule admitted_command first_below
 rows_of_space = (refl, refl)
 
 -- two frames, of which the second was touched longer ago; a cylinder of its page is changed
@@ -119,7 +119,7 @@ asked_core state = record (core (Some 0) 2 false false plain_host) { requests = 
 rows_of_requests : (host_rule (asked_core request.Moving) 1 demount ≡ IsMoving 5) × (host_rule (asked_core request.Queued) 1 demount ≡ Responds)
     × (host_rule (record (asked_core (request.Failed 3)) { hosts = record plain_host { cylinder = 5 } ∷ replicate 7 fresh_host }) 1 search ≡ HasFailed 3)
     × (host_rule (record (core (Some 0) 2 false false plain_host) { tasks = Some (record { host = 1; frame = 0; victim = Some (0, 3); touched = false; transfer = None }) ∷ [] }) 3 (mount 0 true) ≡ IsHeld 0)
-unfolding host_rule admitted first_below
+unfolding host_rule admitted_command first_below
 rows_of_requests = (refl, refl, refl, refl)
 
 rows_of_rules : (host_rule (core None 0 false false plain_host) 1 search ≡ Faults 0 0)
@@ -131,5 +131,5 @@ rows_of_rules : (host_rule (core None 0 false false plain_host) 1 search ≡ Fau
     × (host_rule (core (Some 0) 4 false false met_host) 1 write_call ≡ Runs (command.Write write.Data) 0 0)
     × (host_rule (core (Some 0) 2 false false plain_host) 1 write_call ≡ Responds)
     × (host_rule (core (Some 0) 2 false false plain_host) 3 (mount 0 true) ≡ Responds)
-unfolding host_rule admitted first_below
+unfolding host_rule admitted_command first_below
 rows_of_rules = (refl, refl, refl, refl, refl, refl, refl, refl, refl)

@@ -7,7 +7,7 @@ use Rattle.channel_commands.specs.Data.{CallData, command as ask, ReplyData, no_
 use Rattle.channel_commands.specs.declared.command.Command.{Command}
 use Rattle.ckd_plain.specs.declared.host.HostState.{HostState}
 use Rattle.ckd_plain.specs.declared.unit_check.UnitCheck.TheVariants as check
-use Rattle.ckd_plain.specs.Plain.{Answer, run, tracks_under, written_to}
+use Rattle.ckd_plain.specs.Plain.{Answer, answer_on_tracks, tracks_under, written_to}
 use Rattle.volume_table.specs.declared.changes.Change.TheVariants as change
 use Rattle.fault_queue.specs.declared.queue.RequestState.TheVariants as request
 use Rattle.transfers.specs.Copies.{moved_on}
@@ -31,7 +31,7 @@ use Rattle.core_state.specs.Pins.{host_at, page_of, candidates}
 use Rattle.core_state.specs.HostRules.{request_for, host_rule}
 use Rattle.core_state.specs.WorkRules.{task_of, work_rule}
 use Rattle.core_state.specs.HostEvents.{HostTold, replied, marked, waits, halts, at_limit, response, exception, equipment, page_under}
-use Rattle.core_state.specs.Steps.{used, noted, after_reply, ends_request, going_on, with_request, with_change, touching, most_recent, given_back, fetched, with_task, with_owner, picked, task_ended}
+use Rattle.core_state.specs.Steps.{after_use, with_event, after_reply, ends_request, going_on, with_request, with_change, touching, most_recent, given_back, with_fetched_cartridge, with_task, with_owner, with_picked_request, task_ended}
 use Rattle.core_state.specs.Chains.{Step, called, worked}
 
 -- a core, and the volumes that it shows
@@ -45,27 +45,27 @@ abbrev pub reply_to : CoreData → ℕ → CallData → Option ℕ → ReplyData
 reply_to core h call fault answer = (replied (length core.history) answer.0, after_reply core.site h call fault answer core)
 
 abbrev pub answer_of : World → ℕ → CallData → Answer
-answer_of w h (ask code argument chained) = run (tracks_under w.volumes (host_at w.core.hosts h)) (host_at w.core.hosts h) code argument chained
+answer_of w h (ask code argument chained) = answer_on_tracks (tracks_under w.volumes (host_at w.core.hosts h)) (host_at w.core.hosts h) code argument chained
 answer_of w h _ = record { reply = no_space; host = host_at w.core.hosts h; written = None }
 
 abbrev pub run_it : World → ℕ → CallData → Command → ℕ → ℕ → HostTold × CoreData
 run_it w h call c volume frame =
     let a = answer_of w h call in
-    reply_to (used c (page_under w.core h volume) frame w.core) h call None (a.reply, a.host)
+    reply_to (after_use c (page_under w.core h volume) frame w.core) h call None (a.reply, a.host)
 
 abbrev pub host_step : World → ℕ → CallData → HostRule → HostTold × CoreData
 host_step w h call (host.IsStopped fault) = (halts fault, w.core)
 host_step w h call host.IsFull = (at_limit, w.core)
 host_step w h call (host.IsBusy owner) = (waits (Busy owner), w.core)
 host_step w h call (host.IsMoving cylinder) = (waits (Fault cylinder), w.core)
-host_step w h call (host.IsHeld frame) = (waits (Held frame), if ends_request w.core h call then noted (Host h) (going_on w.core h call) else w.core)
+host_step w h call (host.IsHeld frame) = (waits (Held frame), if ends_request w.core h call then with_event (Host h) (going_on w.core h call) else w.core)
 host_step w h call host.Responds = reply_to w.core h call None (response w.core h call)
 host_step w h call (host.HasFailed fault) = reply_to w.core h call (Some fault) (equipment w.core h)
 host_step w h call host.HasNoSpace = reply_to w.core h call None (exception check.NoSpace no_space w.core h)
 host_step w h call (host.Faults volume cylinder) =
-    (waits (Fault cylinder), if is_some (request_for w.core h call) then w.core else noted (Host h) (with_request h volume cylinder request.Queued (going_on w.core h call)))
+    (waits (Fault cylinder), if is_some (request_for w.core h call) then w.core else with_event (Host h) (with_request h volume cylinder request.Queued (going_on w.core h call)))
 host_step w h call (host.Marks volume cylinder) =
-    (marked, noted (Host h) (touching (volume, page_of cylinder) (with_request h volume cylinder request.Ready (with_change volume (change.Changed cylinder) (record (going_on w.core h call) { site = w.core.site })))))
+    (marked, with_event (Host h) (touching (volume, page_of cylinder) (with_request h volume cylinder request.Ready (with_change volume (change.Changed cylinder) (record (going_on w.core h call) { site = w.core.site })))))
 host_step w h call (host.Runs c volume frame) = run_it w h call c volume frame
 
 abbrev pub shown_after : World → ℕ → CallData → HostRule → Volumes
@@ -75,10 +75,10 @@ shown_after w h call _ = w.volumes
 -- ---- recorders
 
 abbrev pub do_it : CoreData → WorkKind → ℕ → CoreData → WorkAnswer × CoreData
-do_it core what recorder after = (Did what, noted (Work recorder) after)
+do_it core what recorder after = (Did what, with_event (Work recorder) after)
 
 abbrev pub take_first : CoreData → ℕ → ℕ → Option Candidate → WorkAnswer × CoreData
-take_first core recorder h (Some c) = do_it core kind.Pick recorder (picked recorder h c.frame (Some (c.volume, c.page)) core)
+take_first core recorder h (Some c) = do_it core kind.Pick recorder (with_picked_request recorder h c.frame (Some (c.volume, c.page)) core)
 take_first core recorder h None = (Idle, core)
 
 abbrev pub end_it : CoreData → ℕ → Task → TransferKind → Transfer → WorkAnswer × CoreData
@@ -99,8 +99,8 @@ abbrev pub work_step : CoreData → ℕ → WorkRule → WorkAnswer × CoreData
 work_step core recorder (work.IsStopped fault) = (Stopped fault, core)
 work_step core recorder work.IsIdle = (Idle, core)
 work_step core recorder (work.GivesBack cartridge) = do_it core kind.GiveBack recorder (given_back recorder cartridge core)
-work_step core recorder (work.Fetches cartridge) = do_it core kind.Fetch recorder (fetched recorder cartridge core)
-work_step core recorder (work.Picks h frame) = do_it core kind.Pick recorder (picked recorder h frame None core)
+work_step core recorder (work.Fetches cartridge) = do_it core kind.Fetch recorder (with_fetched_cartridge recorder cartridge core)
+work_step core recorder (work.Picks h frame) = do_it core kind.Pick recorder (with_picked_request recorder h frame None core)
 work_step core recorder (work.PicksVictim h) = take_first core recorder h (slice_get (candidates core) 0)
 work_step core recorder rule = task_step core recorder rule (task_of core recorder)
 

@@ -8,8 +8,8 @@ use Rattle.ckd_plain.specs.declared.host.HostState.{HostState}
 use Rattle.ckd_plain.specs.declared.unit_check.UnitCheck.{UnitCheck}
 use Rattle.ckd_plain.specs.Index.{Tracks}
 use Rattle.ckd_plain.specs.Effects.{Outcome, effect}
-use Rattle.ckd_plain.specs.Checks.{admitted}
-use Rattle.ckd_plain.specs.Plain.{run, performed, judged, answered, opened, cleared, tracks_under, IsDone, KeepsChain}
+use Rattle.ckd_plain.specs.Checks.{admitted_command}
+use Rattle.ckd_plain.specs.Plain.{answer_on_tracks, command_answer, answer_by_checks, outcome_answer, with_open_chain, host_for_command, tracks_under, IsDone, KeepsChain}
 use Rattle.ckd_plain.proofs.CommandFacts.{volume_stays}
 use Rattle.mss_base.specs.Firsts.{where_so}
 use Rattle.fault_queue.specs.declared.queue.Request.{Request}
@@ -23,7 +23,7 @@ use Rattle.core_state.specs.Pins.{host_at}
 use Rattle.core_state.specs.HostRules.{host_rule, request_for, is_moving_request, is_for, data_command, data_rule, stopped_rule, full_rule, busy_rule, moving_rule, held_rule, failed_rule}
 use Rattle.core_state.specs.HostEvents.{replied, HostDoes, HostEvent, RunsIt, IsSame, page_under}
 use Rattle.core_state.specs.Devices.{StillHold, HaveRow}
-use Rattle.core_state.specs.Steps.{used, after_reply, noted, going_on, ends_request, with_request}
+use Rattle.core_state.specs.Steps.{after_use, after_reply, with_event, going_on, ends_request, with_request}
 use Rattle.core_state.proofs.Runner.{World, host_step}
 use Rattle.core_state.proofs.ChainKept.{run_keeps}
 use Rattle.core_state.proofs.RuleWalks.{nothing, either, where_test, mapped, chained, found}
@@ -36,18 +36,18 @@ same core = (still core.site, refl)
 
 -- ---- a command's reply
 
-answered_done : (c : Command) (chained : Bool) (o : Outcome) → IsDone (answered c chained o).reply
+answered_done : (c : Command) (chained : Bool) (o : Outcome) → IsDone (outcome_answer c chained o).reply
 answered_done c chained (Ok e) = tt
 answered_done c chained (Err r) = tt
 
-judged_done : (tracks : Tracks) (host : HostState) (argument : List ℕ) (chained : Bool) (r : Result Command UnitCheck) → IsDone (judged tracks host argument chained r).reply
-unfolding performed
-judged_done tracks host argument chained (Ok c) = answered_done c chained (effect tracks (cleared c host) host.prior c argument)
+judged_done : (tracks : Tracks) (host : HostState) (argument : List ℕ) (chained : Bool) (r : Result Command UnitCheck) → IsDone (answer_by_checks tracks host argument chained r).reply
+unfolding command_answer
+judged_done tracks host argument chained (Ok c) = answered_done c chained (effect tracks (host_for_command c host) host.prior c argument)
 judged_done tracks host argument chained (Err e) = tt
 
-run_done : (tracks : Tracks) (host : HostState) (code : ℕ) (argument : List ℕ) (chained : Bool) → IsDone (run tracks host code argument chained).reply
-unfolding run
-run_done tracks host code argument chained = judged_done tracks (opened host) argument chained (admitted (opened host) code argument)
+run_done : (tracks : Tracks) (host : HostState) (code : ℕ) (argument : List ℕ) (chained : Bool) → IsDone (answer_on_tracks tracks host code argument chained).reply
+unfolding answer_on_tracks
+run_done tracks host code argument chained = judged_done tracks (with_open_chain host) argument chained (admitted_command (with_open_chain host) code argument)
 
 -- ---- hosts
 
@@ -118,7 +118,7 @@ going_site core h call = site_either (ends_request core h call) (record core { r
 ran_on : (core : CoreData) (h : ℕ) (code : ℕ) (argument : List ℕ) (chained : Bool) (c : Command) (volume frame : ℕ) (host' : HostState) → host'.mounted ≡ (host_at core.hosts h).mounted
     → (reply : ReplyData) → IsDone reply → KeepsChain chained reply host'
     → RunsIt ⊥ core h (ask code argument chained) (record { command = c; volume = volume; frame = frame }) (replied (length core.history) reply)
-    (after_reply core.site h (ask code argument chained) None (reply, host') (used c (page_under core h volume) frame core))
+    (after_reply core.site h (ask code argument chained) None (reply, host') (after_use c (page_under core h volume) frame core))
 ran_on core h code argument chained c volume frame host' mounted (done status bytes) is_done kept = (
   host',
   record {
@@ -145,8 +145,8 @@ ran_on core h code argument chained c volume frame host' mounted _ is_done kept 
 runs_does : (w : World) (h : ℕ) (call : CallData) (c : Command) (volume frame : ℕ) → is_command call ≡ true → HostDoes ⊥ w.core h call (host.Runs c volume frame) (host_step w h call (host.Runs c volume frame)).0 (host_step w h call (host.Runs c volume frame)).1
 runs_does w h (ask code argument chained) c volume frame is =
     let from = host_at w.core.hosts h in
-    ran_on w.core h code argument chained c volume frame (run (tracks_under w.volumes from) from code argument chained).host (volume_stays (tracks_under w.volumes from) from code argument chained)
-    (run (tracks_under w.volumes from) from code argument chained).reply (run_done (tracks_under w.volumes from) from code argument chained)
+    ran_on w.core h code argument chained c volume frame (answer_on_tracks (tracks_under w.volumes from) from code argument chained).host (volume_stays (tracks_under w.volumes from) from code argument chained)
+    (answer_on_tracks (tracks_under w.volumes from) from code argument chained).reply (run_done (tracks_under w.volumes from) from code argument chained)
     (run_keeps (tracks_under w.volumes from) from code argument chained)
 runs_does w h (mount volume' bind) c volume frame is = absurd cc
 runs_does w h demount c volume frame is = absurd cc
@@ -158,12 +158,12 @@ host_does w h call host.IsFull f = (refl, same w.core)
 host_does w h call (host.IsBusy owner) f = (refl, same w.core)
 host_does w h call (host.IsMoving cylinder) f = (refl, same w.core)
 host_does w h call (host.IsHeld frame) f =
-    (refl, (still_at w.core.site _ (site_either (ends_request w.core h call) (noted (Host h) (going_on w.core h call)) w.core w.core.site (going_site w.core h call) refl), refl))
+    (refl, (still_at w.core.site _ (site_either (ends_request w.core h call) (with_event (Host h) (going_on w.core h call)) w.core w.core.site (going_site w.core h call) refl), refl))
 host_does w h call host.Responds f = (still w.core.site, refl, refl)
 host_does w h call (host.HasFailed fault) f = (still w.core.site, refl, refl)
 host_does w h call host.HasNoSpace f = (still w.core.site, refl, refl)
 host_does w h call (host.Faults volume cylinder) f =
-    (refl, (still_at w.core.site _ (site_either (is_some (request_for w.core h call)) w.core (noted (Host h) (with_request h volume cylinder request.Queued (going_on w.core h call))) w.core.site refl (going_site w.core h call)), refl))
+    (refl, (still_at w.core.site _ (site_either (is_some (request_for w.core h call)) w.core (with_event (Host h) (with_request h volume cylinder request.Queued (going_on w.core h call))) w.core.site refl (going_site w.core h call)), refl))
 host_does w h call (host.Marks volume cylinder) f = (λ r is. rows w.core.site volume _ _, refl)
 host_does w h call (host.Runs c volume frame) f = runs_does w h call c volume frame f
 

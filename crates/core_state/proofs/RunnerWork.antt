@@ -12,7 +12,7 @@ use Rattle.transfers.specs.Copies.{target_unit}
 use Rattle.transfers.specs.declared.transfer.Transfer.{Transfer}
 use Rattle.transfers.specs.declared.transfer.TransferKind.{TransferKind}
 use Rattle.transfers.specs.declared.transfer.TransferKind.TheVariants.{StageBlank, StageCartridge, Destage}
-use Rattle.volume_table.specs.Listed.{listed}
+use Rattle.volume_table.specs.Listed.{row_in_list}
 use Rattle.shown_volumes.specs.Sound.{frame_in}
 use Rattle.cartridge_store.specs.Places.{place_of}
 use Rattle.core_state.specs.declared.task.Task.{Task}
@@ -57,7 +57,7 @@ module _ (core : CoreData) (task : Option Task) where
       (where_test P (nat_lt 0 (length (candidates core))) (work.PicksVictim h) (has_first (candidates core)))
 
   for_fits : (h : ℕ) (r : Request) (state : RequestState) → ForSome (pick_for core h r state) P
-  for_fits h r request.Queued = on_fits h (frame_in (listed core.rows) r.volume (page_of r.cylinder))
+  for_fits h r request.Queued = on_fits h (frame_in (row_in_list core.rows) r.volume (page_of r.cylinder))
   for_fits h r request.Moving = nothing P None refl
   for_fits h r request.Ready = nothing P None refl
   for_fits h r (request.Failed fault) = nothing P None refl

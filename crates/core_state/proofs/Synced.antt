@@ -3,7 +3,7 @@ use Rattle.std.proofs.Common.{◌≡◌, ◌⊎◌, ℕ, ◌≤◌, [], ◌∷�
 use Rattle.mss_base.specs.Content.{Content, SiteLog, content, Got, synced, unsynced}
 use Rattle.mss_base.specs.declared.place.UnitNo.{UnitNo}
 use Rattle.shown_volumes.proofs.QuietFacts.{sync_moments, sync_quiet, sync_same}
-use Rattle.volume_table.specs.Listed.{listed}
+use Rattle.volume_table.specs.Listed.{row_in_list}
 use Rattle.core_state.specs.CoreValue.{CoreValue}
 use Rattle.core_state.specs.IsCore.{IsCore, IsTold}
 use Rattle.core_state.specs.Served.{AreServed}
@@ -22,7 +22,7 @@ told_synced {S} s t unit v x told open_ core got =
     let same : content t ≡ content s = sync_same s t unit got in
     told_outside S s t v x told open_ core.marked (sync_moments v.config.frames s t unit going.quiet (sound_of S s v told) got)
     (λ u block table. ap (λ (c : Content). c u block) same) (sync_quiet s t unit going.quiet got)
-    v.owners v.moving v.requests v.tasks (subst (λ (c : Content). AreServed c (listed v.rows) v.tasks) (sym same) going.served)
+    v.owners v.moving v.requests v.tasks (subst (λ (c : Content). AreServed c (row_in_list v.rows) v.tasks) (sym same) going.served)
 
 pub whole_synced : {S C : Type 0} (tells : Type 0) (s t : SiteLog) (unit : UnitNo) (v : CoreValue S C) (x : S) → IsWhole tells s v → v.stopped ≡ None
     → (tells → Got (synced unit ∷ []) s t ⊎ Got (unsynced ∷ []) s t) → IsWhole tells t (record v { site = x })

@@ -4,7 +4,7 @@ use Rattle.std.specs.Prelude.{if◌then◌else◌, List, [], ◌∷◌, Option, 
 use Rattle.ckd_plain.specs.declared.host.HostState.{HostState}
 use Rattle.channel_commands.specs.Data.{ReplyData, done, no_space, stopped}
 use Rattle.ckd_plain.specs.Data.{State}
-use Rattle.ckd_plain.specs.History.{EntryData, next, IsDataCommand, IsWriteCommand}
+use Rattle.ckd_plain.specs.History.{EntryData, state_after, IsDataCommand, IsWriteCommand}
 use Rattle.volume_table.specs.Row.{RowValue, frame_of, state_of, blank_row}
 use Rattle.volume_table.specs.Changes.{IsAllowed, effect, with_mark}
 use Rattle.volume_table.specs.declared.changes.Change.{Change}
@@ -13,14 +13,14 @@ use Rattle.shown_volumes.specs.Shown.{RowsOf}
 use Rattle.shown_volumes.specs.Sound.{cartridge_of, frame_in}
 use Rattle.core_state.specs.declared.session.Message.{Message}
 
-abbrev pub changed : Change → Option RowValue → Option RowValue
-changed (Create serial first second) r = Some (blank_row serial first second)
-changed change r = option_map (effect change) r
+abbrev pub changed_row : Change → Option RowValue → Option RowValue
+changed_row (Create serial first second) r = Some (blank_row serial first second)
+changed_row change r = option_map (effect change) r
 
 -- rows after a message's change
 abbrev pub with_change : RowsOf → Message → RowsOf
 with_change rows m volume =
-    if volume == m.volume then changed m.change (rows volume) else rows volume
+    if volume == m.volume then changed_row m.change (rows volume) else rows volume
 
 abbrev pub rows_after : RowsOf → List Message → RowsOf
 rows_after rows [] = rows
@@ -91,7 +91,7 @@ EntryAgrees frames rows s e _ = Unit {0}
 
 abbrev pub AllAgree : ℕ → (ℕ → RowsOf) → State → List EntryData → List ℕ → Type 0
 AllAgree frames rows s (e ∷ es) (m ∷ ms) =
-    EntryAgrees frames (rows m) s e e.reply × AllAgree frames rows (next s e) es ms
+    EntryAgrees frames (rows m) s e e.reply × AllAgree frames rows (state_after s e) es ms
 AllAgree frames rows s _ _ = Unit {0}
 
 -- whether a change is one that is made while a session is opened, and never later

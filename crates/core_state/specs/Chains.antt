@@ -8,7 +8,7 @@ use Rattle.fault_queue.specs.declared.queue.RequestState.{RequestState}
 use Rattle.fault_queue.specs.declared.queue.RequestState.TheVariants as request
 use Rattle.fault_queue.specs.Requests.{RequestsData}
 use Rattle.victim_choice.specs.declared.choose.Candidate.{Candidate}
-use Rattle.volume_table.specs.Listed.{listed}
+use Rattle.volume_table.specs.Listed.{row_in_list}
 use Rattle.shown_volumes.specs.Sound.{frame_in}
 use Rattle.core_state.specs.declared.session.Event.{Event}
 use Rattle.core_state.specs.declared.session.Event.TheVariants.{Host, Work}
@@ -171,7 +171,7 @@ Ended core' core steps = (steps ≡ []) × (core' ≡ core)
 abbrev pub IsAtRest : CoreData → Request → RequestState → Type 0
 IsAtRest core r request.Moving = ⊥
 IsAtRest core r request.Queued =
-    (frame_in (listed core.rows) r.volume (page_of r.cylinder) ≡ None)
+    (frame_in (row_in_list core.rows) r.volume (page_of r.cylinder) ≡ None)
     × ((frame : ℕ) → frame < core.config.frames
     → IsSome (owner_at core.owners frame)
     × ((is_bound core frame ≡ true) ⊎ (is_held core frame ≡ true)))

@@ -8,7 +8,7 @@ use Rattle.ckd_track.specs.Track.{reading}
 use Rattle.channel_commands.specs.Codes.{is_write}
 use Rattle.channel_commands.specs.Data.{ReplyData}
 use Rattle.channel_commands.specs.declared.command.Command.{Command}
-use Rattle.ckd_plain.specs.Plain.{Answer, opened, IsDone, KeepsChain}
+use Rattle.ckd_plain.specs.Plain.{Answer, with_open_chain, IsDone, KeepsChain}
 use Rattle.ckd_plain.specs.declared.host.HostState.{HostState}
 use Rattle.ckd_plain.specs.Effects.{prior_number}
 use Rattle.volume_table.specs.Row.{RowValue}
@@ -80,7 +80,7 @@ answer_on r c = ran c r.at.unit r.at.block r.host r.command r.argument r.chained
 -- differs
 abbrev pub WritesFor : Run → SiteLog → SiteLog → Type 0
 WritesFor r old new =
-    WritesTrack r.command (opened r.host) r.at.unit r.at.block old new
+    WritesTrack r.command (with_open_chain r.host) r.at.unit r.at.block old new
     (answer_on r (content old)).written
 
 -- the track under the host
@@ -90,7 +90,7 @@ track_under r c = c r.at.unit (r.at.block + r.host.head)
 -- an update of a record that has no bytes to update
 abbrev pub UpdatesNothing : Run → Content → Type 0
 UpdatesNothing r c =
-    IsOfNothing r.command (prior_number (opened r.host).prior)
+    IsOfNothing r.command (prior_number (with_open_chain r.host).prior)
     (tracks_at c r.at.unit r.at.block r.host.head)
 
 -- it is replied this, and leaves this host; no call failed, and only a write without unit check has

@@ -9,7 +9,7 @@ use Rattle.fault_queue.specs.declared.queue.RequestState.TheVariants.{Ready}
 use Rattle.fault_queue.specs.Requests.{RequestsData, request_of}
 use Rattle.core_state.specs.declared.task.Task.{Task}
 use Rattle.core_state.specs.Pins.{host_at, task_at, is_on}
-use Rattle.volume_table.specs.Listed.{listed}
+use Rattle.volume_table.specs.Listed.{row_in_list}
 
 -- a Ready request's cylinder is staged, and a task that takes its page is touched
 pub record IsReadyOn (rows : RowsOf) (tasks : List (Option Task)) (q : Request) : Type 0 where
@@ -22,6 +22,6 @@ pub record IsFit (recorders : ℕ) (rows : List (Option RowValue)) (requests : R
     (hosts : List HostState) (tasks : List (Option Task)) : Type 0 where
   pub long : length tasks ≡ recorders
   pub mounted_ : (h volume : ℕ) → is_on volume (host_at hosts h).mounted ≡ true
-      → IsSome (listed rows volume)
+      → IsSome (row_in_list rows volume)
   pub ready : (h : ℕ) (q : Request) → request_of requests h ≡ Some q → q.state ≡ Ready
-      → IsReadyOn (listed rows) tasks q
+      → IsReadyOn (row_in_list rows) tasks q

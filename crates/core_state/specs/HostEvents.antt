@@ -8,11 +8,11 @@ use Rattle.channel_commands.specs.Data.{no_space}
 use Rattle.ckd_plain.specs.declared.host.HostState.{HostState}
 use Rattle.ckd_plain.specs.declared.unit_check.UnitCheck.{UnitCheck}
 use Rattle.ckd_plain.specs.declared.unit_check.UnitCheck.TheVariants as check
-use Rattle.ckd_plain.specs.Plain.{checked, responded}
+use Rattle.ckd_plain.specs.Plain.{host_after_check, response_to}
 use Rattle.mss_base.specs.Places.{frame_block}
 use Rattle.volume_table.specs.Row.{RowValue}
 use Rattle.volume_table.specs.Changes.{effect}
-use Rattle.volume_table.specs.Listed.{listed}
+use Rattle.volume_table.specs.Listed.{row_in_list}
 use Rattle.volume_table.specs.declared.changes.Change.TheVariants as change
 use Rattle.table_pair.specs.Slots.{used_after, used_at}
 use Rattle.fault_queue.specs.declared.queue.RequestState.TheVariants as request
@@ -27,8 +27,8 @@ use Rattle.core_state.specs.CoreValue.{CoreData}
 use Rattle.core_state.specs.Devices.{StillHold, FailRead, HaveRow, FailRow, Run, RunOn, FailOn}
 use Rattle.core_state.specs.HostRules.{request_for, host_rule}
 use Rattle.core_state.specs.Pins.{host_at, page_of}
-use Rattle.core_state.specs.Steps.{noted, with_row, with_change, after_reply, after_stop}
-use Rattle.core_state.specs.Steps.{ends_request, going_on, with_request, touching, used}
+use Rattle.core_state.specs.Steps.{with_event, with_row, with_change, after_reply, after_stop}
+use Rattle.core_state.specs.Steps.{ends_request, going_on, with_request, touching, after_use}
 
 -- what a host is answered
 pub data HostTold : Type 0 where
@@ -43,16 +43,16 @@ pub data HostTold : Type 0 where
 
 -- whether the volume that a call asks for is read-only, where it is there
 abbrev pub mark_in : List (Option RowValue) → CallData → Option Bool
-mark_in rows (mount volume bind) = option_map (λ row. row.read_only) (listed rows volume)
+mark_in rows (mount volume bind) = option_map (λ row. row.read_only) (row_in_list rows volume)
 mark_in rows _ = None
 
 -- the reply, and the host then
 abbrev pub response : CoreData → ℕ → CallData → ReplyData × HostState
-response core h call = responded (host_at core.hosts h) (mark_in core.rows call) call
+response core h call = response_to (host_at core.hosts h) (mark_in core.rows call) call
 
 -- a reply that plain volumes don't give, and the host then
 abbrev pub exception : UnitCheck → ReplyData → CoreData → ℕ → ReplyData × HostState
-exception why reply core h = (reply, checked why (host_at core.hosts h))
+exception why reply core h = (reply, host_after_check why (host_at core.hosts h))
 
 abbrev pub equipment : CoreData → ℕ → ReplyData × HostState
 equipment = exception check.EquipmentCheck equipment_check
@@ -84,7 +84,7 @@ Replies tells core h call given told core' =
 abbrev pub Holds : Type 0 → CoreData → ℕ → CallData → CoreData → Type 0
 Holds tells core h call core' =
     StillHold tells core.site core'.site
-    × (core' ≡ record (if ends_request core h call then noted (Host h) (going_on core h call)
+    × (core' ≡ record (if ends_request core h call then with_event (Host h) (going_on core h call)
     else core) { site = core'.site })
 
 -- the cylinder is asked for, unless it is already
@@ -92,7 +92,7 @@ abbrev pub Asks : Type 0 → CoreData → ℕ → CallData → ℕ → ℕ → C
 Asks tells core h call volume cylinder core' =
     StillHold tells core.site core'.site
     × (core' ≡ record (if is_some (request_for core h call) then core
-    else noted (Host h) (with_request h volume cylinder request.Queued (going_on core h call)))
+    else with_event (Host h) (with_request h volume cylinder request.Queued (going_on core h call)))
     { site = core'.site })
 
 -- a cylinder of a volume
@@ -105,15 +105,15 @@ pub record VolumeCylinder : Type 0 where
 abbrev pub MarksIt : Type 0 → CoreData → ℕ → CallData → VolumeCylinder → HostTold → CoreData
     → Type 0
 MarksIt tells core h call at marked core' =
-    ForSome (listed core.rows at.volume)
+    ForSome (row_in_list core.rows at.volume)
     (λ r. HaveRow tells at.volume (effect (change.Changed at.cylinder) r)
     (used_after (used_at core.used at.volume)) core.site core'.site)
-    × (core' ≡ noted (Host h) (touching (at.volume, page_of at.cylinder)
+    × (core' ≡ with_event (Host h) (touching (at.volume, page_of at.cylinder)
     (with_request h at.volume at.cylinder request.Ready
     (with_change at.volume (change.Changed at.cylinder)
     (record (going_on core h call) { site = core'.site })))))
 MarksIt tells core h call at (halts fault) core' =
-    ForSome (listed core.rows at.volume)
+    ForSome (row_in_list core.rows at.volume)
     (λ r. FailRow tells at.volume (effect (change.Changed at.cylinder) r) fault
     core.site core'.site)
     × (core' ≡ after_stop core'.site h call
@@ -151,7 +151,7 @@ RunsIt tells core h (ask code argument chained) at (replied index reply) core' =
     (reply, host)
     × (index ≡ length core.history)
     × (core' ≡ after_reply core'.site h (ask code argument chained) None (reply, host)
-    (used at.command (page_under core h at.volume) at.frame core))
+    (after_use at.command (page_under core h at.volume) at.frame core))
 RunsIt tells core h (ask code argument chained) at (halts fault) core' =
     FailOn tells (run_of core h at.frame at.command argument chained) fault
     core.site core'.site

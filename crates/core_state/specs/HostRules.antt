@@ -7,9 +7,9 @@ use Rattle.channel_commands.specs.Codes.{is_write}
 use Rattle.channel_commands.specs.Data.{CallData, mount, command as ask, is_command}
 use Rattle.ckd_plain.specs.declared.host.HostState.{HostState}
 use Rattle.ckd_plain.specs.declared.unit_check.UnitCheck.{UnitCheck}
-use Rattle.ckd_plain.specs.Checks.{admitted}
+use Rattle.ckd_plain.specs.Checks.{admitted_command}
 use Rattle.ckd_plain.specs.Effects.{is_data}
-use Rattle.ckd_plain.specs.Plain.{opened}
+use Rattle.ckd_plain.specs.Plain.{with_open_chain}
 use Rattle.mss_base.specs.Firsts.{where_so, ◌or◌}
 use Rattle.fault_queue.specs.declared.queue.Request.{Request}
 use Rattle.fault_queue.specs.declared.queue.RequestState.{RequestState}
@@ -24,7 +24,7 @@ use Rattle.core_state.specs.declared.rule.HostRule.TheVariants.{HasNoSpace, Faul
 use Rattle.core_state.specs.CoreValue.{CoreValue}
 use Rattle.core_state.specs.Pins.{host_at, volume_under, page_of, state_in, are_all_bound}
 use Rattle.core_state.specs.Pins.{owner_of}
-use Rattle.volume_table.specs.Listed.{listed}
+use Rattle.volume_table.specs.Listed.{row_in_list}
 use Rattle.shown_volumes.specs.Sound.{frame_in}
 
 -- ---- the call
@@ -35,7 +35,7 @@ if_data (Err check) = None
 
 -- the search, read or write that a call is, where it passes the checks
 abbrev pub data_command : HostState → CallData → Option Command
-data_command host (ask code argument chained) = if_data (admitted (opened host) code argument)
+data_command host (ask code argument chained) = if_data (admitted_command (with_open_chain host) code argument)
 data_command host _ = None
 
 -- a call is for a request where it is a search, read or write on the request's cylinder
@@ -65,7 +65,7 @@ abbrev pub state_under : {S C : Type 0} → CoreValue S C → HostState → ℕ
 state_under core host = state_in core.rows (volume_of host) host.cylinder
 
 abbrev pub frame_under : {S C : Type 0} → CoreValue S C → HostState → Option ℕ
-frame_under core host = frame_in (listed core.rows) (volume_of host) (page_of host.cylinder)
+frame_under core host = frame_in (row_in_list core.rows) (volume_of host) (page_of host.cylinder)
 
 -- ---- the rules, in order
 
@@ -103,7 +103,7 @@ taken_from volume (task ∷ tasks) = option_and_then (taken_by volume) task or t
 abbrev pub would_bind : {S C : Type 0} → CoreValue S C → HostState → CallData → Option ℕ
 would_bind core host (mount volume true) =
     where_so
-    (not host.chain_open && not (is_some host.mounted) && is_some (listed core.rows volume))
+    (not host.chain_open && not (is_some host.mounted) && is_some (row_in_list core.rows volume))
     volume
 would_bind core host _ = None
 

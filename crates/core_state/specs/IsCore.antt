@@ -6,7 +6,7 @@ use Rattle.ckd_plain.specs.History.{after, IsLegal, HasNoStop}
 use Rattle.volume_table.specs.Row.{RowValue, IsRow}
 use Rattle.table_pair.specs.Pair.{HoldsRow}
 use Rattle.table_pair.specs.Slots.{AreUsed}
-use Rattle.shown_volumes.specs.Shown.{RowsOf, rows_of, shown}
+use Rattle.shown_volumes.specs.Shown.{RowsOf, rows_of, volumes_shown}
 use Rattle.shown_volumes.specs.Sound.{frame_in}
 use Rattle.shown_volumes.specs.Changing.{IsQuiet}
 use Rattle.core_state.specs.declared.session.Message.{Message}
@@ -19,7 +19,7 @@ use Rattle.core_state.specs.Beside.{IsBeside}
 use Rattle.core_state.specs.Fitting.{IsFit}
 use Rattle.ckd_plain.specs.declared.host.HostState.{HostState}
 use Rattle.core_state.specs.Pins.{host_at, owner_at, is_on, owns}
-use Rattle.volume_table.specs.Listed.{listed}
+use Rattle.volume_table.specs.Listed.{row_in_list}
 use Rattle.fault_queue.specs.Requests.{request_of, IsOnce}
 use Rattle.core_state.specs.Tasks.{AreTasks, AreWaiting}
 use Rattle.core_state.specs.Served.{AreServed}
@@ -39,7 +39,7 @@ IsPlaced host q = (is_on q.volume host.mounted ≡ true) × (host.cylinder ≡ q
 -- what a core keeps while it isn't stopped, whatever its devices tell
 pub record IsCore {S C : Type 0} (v : CoreValue S C) : Type 0 where
   pub places : length v.rows ≡ 32
-  pub are_rows : (volume : ℕ) (r : RowValue) → listed v.rows volume ≡ Some r → IsRow r
+  pub are_rows : (volume : ℕ) (r : RowValue) → row_in_list v.rows volume ≡ Some r → IsRow r
   pub used_ : length v.used ≡ 32
   pub hosts_ : length v.hosts ≡ 8
   pub requests_ : IsOnce v.requests
@@ -51,15 +51,15 @@ pub record IsCore {S C : Type 0} (v : CoreValue S C) : Type 0 where
       → owns v.hosts v.requests other volume ≡ true → h ≡ other
   pub on_mounted : (h : ℕ) (q : Request) → request_of v.requests h ≡ Some q
       → IsPlaced (host_at v.hosts h) q
-  pub framed : (volume page frame : ℕ) → frame_in (listed v.rows) volume page ≡ Some frame
+  pub framed : (volume page frame : ℕ) → frame_in (row_in_list v.rows) volume page ≡ Some frame
       → frame < v.config.frames
   pub owned : (frame volume page : ℕ) → frame < v.config.frames
       → (owner_at v.owners frame ≡ Some (volume, page))
-      ↔ (frame_in (listed v.rows) volume page ≡ Some frame)
-  pub waiting : AreWaiting (listed v.rows) v.requests
+      ↔ (frame_in (row_in_list v.rows) volume page ≡ Some frame)
+  pub waiting : AreWaiting (row_in_list v.rows) v.requests
   pub fit : IsFit v.config.recorders v.rows v.requests v.hosts v.tasks
   pub beside : IsBeside v.config.frames v.config.recorders v.recency v.recorders v.store
-  pub tasks_ : AreTasks v.config.frames (listed v.rows) v.moving v.requests v.hosts v.tasks
+  pub tasks_ : AreTasks v.config.frames (row_in_list v.rows) v.moving v.requests v.hosts v.tasks
 
 abbrev pub opening_of : {S C : Type 0} → SiteLog → CoreValue S C → State
 opening_of site v = opening v.first_write site
@@ -74,13 +74,13 @@ handed_to site v =
 pub record IsGoing {S C : Type 0} (site : SiteLog) (v : CoreValue S C) : Type 0 where
   pub no_stop : HasNoStop v.history
   pub hosts_ : (after (opening_of site v) v.history).host ≡ host_at v.hosts
-  pub shows : shown (content site) ≡ (after (opening_of site v) v.history).volumes
-  pub rows_ : rows_of (content site) ≡ listed v.rows
-  pub copies : (volume : ℕ) (r : RowValue) → listed v.rows volume ≡ Some r
+  pub shows : volumes_shown (content site) ≡ (after (opening_of site v) v.history).volumes
+  pub rows_ : rows_of (content site) ≡ row_in_list v.rows
+  pub copies : (volume : ℕ) (r : RowValue) → row_in_list v.rows volume ≡ Some r
       → HoldsRow r volume (content site)
   pub slots_ : AreUsed v.used (content site)
-  pub told : rows_after (handed_to site v) v.console ≡ listed v.rows
-  pub served : AreServed (content site) (listed v.rows) v.tasks
+  pub told : rows_after (handed_to site v) v.console ≡ row_in_list v.rows
+  pub served : AreServed (content site) (row_in_list v.rows) v.tasks
   pub quiet : IsQuiet site
 
 -- what a core keeps of what its devices hold

@@ -1,5 +1,5 @@
 -- Which frames may be taken, and who owns a volume.
-use Rattle.volume_table.specs.Listed.{listed}
+use Rattle.volume_table.specs.Listed.{row_in_list}
 use Rattle.std.specs.Prelude.{ℕ, ◌*◌, ◌/◌, ◌-◌, ◌==◌, nat_lt, Bool, true, false, not, ◌&&◌, ◌||◌}
 use Rattle.std.specs.Prelude.{if◌then◌else◌, List, ◌∷◌, length, filter, filter_map, slice_index_or}
 use Rattle.std.specs.Prelude.{slice_set, Option, Some, None, is_some}
@@ -61,7 +61,7 @@ state_of_row None cylinder = 0
 state_of_row (Some r) cylinder = state_of r cylinder
 
 abbrev pub state_in : List (Option RowValue) → ℕ → ℕ → ℕ
-state_in rows volume cylinder = state_of_row (listed rows volume) cylinder
+state_in rows volume cylinder = state_of_row (row_in_list rows volume) cylinder
 
 -- ---- the frames
 

@@ -3,7 +3,7 @@ use Rattle.std.specs.Prelude.{◌≡◌, ◌<◌, ℕ, List, Option, Result, OnO
 use Rattle.std.specs.Option.{ForSome}
 use Rattle.mss_base.specs.Content.{Content, SiteLog, content, Writes}
 use Rattle.volume_table.specs.Row.{RowValue}
-use Rattle.volume_table.specs.Listed.{listed}
+use Rattle.volume_table.specs.Listed.{row_in_list}
 use Rattle.table_pair.specs.declared.copy.SlotsUsed.{SlotsUsed}
 use Rattle.table_pair.specs.Pair.{ChangesRow, HoldsRow, OldOrNew}
 use Rattle.table_pair.specs.Slots.{HasSlots, IsChanged, used_at, with_used_after}
@@ -21,7 +21,7 @@ Rewrites volume row old new =
 -- slots are in use
 pub record HaveListed (rows : List (Option RowValue)) (used : List SlotsUsed) (volume : ℕ)
     (c : Content) : Type 0 where
-  pub holds : ForSome (listed rows volume) (λ r. HoldsRow r volume c)
+  pub holds : ForSome (row_in_list rows volume) (λ r. HoldsRow r volume c)
   pub slots_ : HasSlots (used_at used volume) volume c
 
 -- what the change of a volume's row to this one leaves of the devices

@@ -4,22 +4,22 @@ use Rattle.mss_base.specs.Places.{frame_block}
 use Rattle.mss_base.specs.declared.place.BlockPlace.{BlockPlace}
 use Rattle.channel_commands.specs.declared.command.Command.{Command}
 use Rattle.channel_commands.specs.Codes.{is_write}
-use Rattle.ckd_plain.specs.Plain.{opened}
-use Rattle.ckd_plain.specs.Checks.{admitted}
+use Rattle.ckd_plain.specs.Plain.{with_open_chain}
+use Rattle.ckd_plain.specs.Checks.{admitted_command}
 use Rattle.ckd_plain.specs.Effects.{is_data}
 use Rattle.volume_table.specs.Row.{RowValue, frame_of, state_of}
 use Rattle.fault_queue.specs.declared.queue.Request.{Request}
 use Rattle.fault_queue.specs.declared.queue.RequestState.TheVariants.{Moving}
 use Rattle.core_state.specs.CoreValue.{CoreValue}
 use Rattle.core_state.specs.Pins.{host_at, owns}
-use Rattle.volume_table.specs.Listed.{listed}
+use Rattle.volume_table.specs.Listed.{row_in_list}
 use Rattle.fault_queue.specs.Requests.{request_of}
 
 -- a host's cylinder stands in a frame
 pub record IsStagedAt {S C : Type 0} (v : CoreValue S C) (h : ℕ) (volume frame : ℕ) (bind : Bool)
     (r : RowValue) : Type 0 where
   pub mounted : (host_at v.hosts h).mounted ≡ Some (volume, bind)
-  pub row : listed v.rows volume ≡ Some r
+  pub row : row_in_list v.rows volume ≡ Some r
   pub frame_ : frame_of r ((host_at v.hosts h).cylinder / 8) ≡ Some frame
   pub staged : 2 ≤ state_of r (host_at v.hosts h).cylinder
   pub at_most : state_of r (host_at v.hosts h).cylinder ≤ 4
@@ -44,7 +44,7 @@ pub record MayRun {S C : Type 0} (v : CoreValue S C) (h : ℕ) (code : ℕ) (arg
   pub frame : ℕ
   pub bind : Bool
   pub r : RowValue
-  pub admits : admitted (opened (host_at v.hosts h)) code argument ≡ Ok c
+  pub admits : admitted_command (with_open_chain (host_at v.hosts h)) code argument ≡ Ok c
   pub data_ : is_data c ≡ true
   pub at : IsStagedAt v h volume frame bind r
   pub changed : IsTrue (is_write c) → state_of r (host_at v.hosts h).cylinder ≡ 4
@@ -56,10 +56,10 @@ pub record MayMark {S C : Type 0} (v : CoreValue S C) (h : ℕ) (code : ℕ) (ar
   pub c : Command
   pub bind : Bool
   pub r : RowValue
-  pub admits : admitted (opened (host_at v.hosts h)) code argument ≡ Ok c
+  pub admits : admitted_command (with_open_chain (host_at v.hosts h)) code argument ≡ Ok c
   pub write_ : is_write c ≡ true
   pub mounted : (host_at v.hosts h).mounted ≡ Some (volume, bind)
-  pub row : listed v.rows volume ≡ Some r
+  pub row : row_in_list v.rows volume ≡ Some r
   pub staged : (state_of r (host_at v.hosts h).cylinder ≡ 2)
       ⊎ (state_of r (host_at v.hosts h).cylinder ≡ 3)
   pub low : (host_at v.hosts h).cylinder < 404

@@ -31,8 +31,8 @@ data_of v = record {
 }
 
 -- one that begins with these changes of rows
-abbrev pub begun : List Message → ℕ → ℕ → SessionData
-begun console first_write first_faults = record {
+abbrev pub new_session : List Message → ℕ → ℕ → SessionData
+new_session console first_write first_faults = record {
   history = [];
   marks = [];
   console = console;

@@ -5,13 +5,13 @@ use Rattle.channel_commands.specs.Data.{CallData, ReplyData, stopped}
 use Rattle.channel_commands.specs.declared.command.Command.{Command}
 use Rattle.ckd_plain.specs.declared.host.HostState.{HostState}
 use Rattle.ckd_plain.specs.History.{EntryData, count_of_host}
-use Rattle.volume_table.specs.Listed.{listed, with_changed}
+use Rattle.volume_table.specs.Listed.{row_in_list, with_changed}
 use Rattle.volume_table.specs.declared.changes.Change.{Change}
 use Rattle.table_pair.specs.Slots.{with_used_after}
 use Rattle.fault_queue.specs.declared.queue.RequestState.{RequestState}
 use Rattle.fault_queue.specs.declared.queue.RequestState.TheVariants as request
 use Rattle.fault_queue.specs.Requests.{request_of, with_state, without_request}
-use Rattle.victim_choice.specs.Order.{touched}
+use Rattle.victim_choice.specs.Order.{order_after}
 use Rattle.accessors.specs.Moves.{moved_from_to}
 use Rattle.accessors.specs.Rails.{cell_place, recorder_place}
 use Rattle.cartridge_store.specs.declared.store.Place.{Place}
@@ -28,8 +28,8 @@ use Rattle.core_state.specs.Tasks.{touched_all, tasks_after}
 
 -- ---- what is told
 
-abbrev pub noted : Event → CoreData → CoreData
-noted event core = record core { events = core.events ++ event ∷ [] }
+abbrev pub with_event : Event → CoreData → CoreData
+with_event event core = record core { events = core.events ++ event ∷ [] }
 
 abbrev pub entry_of : List EntryData → ℕ → CallData → ReplyData → Option ℕ → EntryData
 entry_of history h call reply fault = record {
@@ -57,7 +57,7 @@ with_change volume change core =
     record (with_row volume change core) {
       used = with_used_after volume core.used;
       console =
-          core.console ++ message_of core.site.writes volume change (listed core.rows) ∷ [];
+          core.console ++ message_of core.site.writes volume change (row_in_list core.rows) ∷ [];
     }
 
 -- ---- hosts and their requests
@@ -66,7 +66,7 @@ with_change volume change core =
 abbrev pub after_reply : DevicesSeen → ℕ → CallData → Option ℕ → ReplyData × HostState → CoreData
     → CoreData
 after_reply site h call fault answer core =
-    noted (Host h) (with_entry h call answer.0 fault (record core {
+    with_event (Host h) (with_entry h call answer.0 fault (record core {
       site = site;
       hosts = put_host core.hosts h answer.1;
       requests = without_request h core.requests;
@@ -76,7 +76,7 @@ after_reply site h call fault answer core =
 -- as before
 abbrev pub after_stop : DevicesSeen → ℕ → CallData → CoreData → CoreData
 after_stop site h call core =
-    noted (Host h) (with_entry h call stopped (Some site.faults)
+    with_event (Host h) (with_entry h call stopped (Some site.faults)
     (record core { site = site; stopped = Some site.faults }))
 
 -- the host's request, where the call isn't for it, is ended
@@ -109,11 +109,11 @@ abbrev pub touching : ℕ × ℕ → CoreData → CoreData
 touching page core = record core { tasks = touched_all page.0 page.1 core.tasks }
 
 abbrev pub most_recent : ℕ → CoreData → CoreData
-most_recent frame core = record core { recency = touched frame core.recency }
+most_recent frame core = record core { recency = order_after frame core.recency }
 
 -- a command used a page in its frame; only a write touches tasks
-abbrev pub used : Command → ℕ × ℕ → ℕ → CoreData → CoreData
-used c page frame core =
+abbrev pub after_use : Command → ℕ × ℕ → ℕ → CoreData → CoreData
+after_use c page frame core =
     record (most_recent frame core) { tasks = tasks_after c page.0 page.1 core.tasks }
 
 abbrev pub with_moving : ℕ → Bool → CoreData → CoreData
@@ -128,8 +128,8 @@ abbrev pub with_task : ℕ → Option Task → CoreData → CoreData
 with_task recorder task core = record core { tasks = slice_set core.tasks recorder task }
 
 -- a host's request is taken with a frame
-abbrev pub picked : ℕ → ℕ → ℕ → Option (ℕ × ℕ) → CoreData → CoreData
-picked recorder h frame victim core =
+abbrev pub with_picked_request : ℕ → ℕ → ℕ → Option (ℕ × ℕ) → CoreData → CoreData
+with_picked_request recorder h frame victim core =
     with_task recorder
     (Some (record { host = h; frame = frame; victim = victim; touched = false; transfer = None }))
     (with_moving frame true (with_request_state h request.Moving core))
@@ -148,8 +148,8 @@ rail_place (Recorder number) = recorder_place number
 rail_place (Hand accessor) = 0
 
 -- a cartridge is carried from one place to another
-abbrev pub carried : ℕ → Place → Place → CoreData → CoreData
-carried cartridge from to core = record core {
+abbrev pub with_carried_cartridge : ℕ → Place → Place → CoreData → CoreData
+with_carried_cartridge cartridge from to core = record core {
   store = with_place cartridge to core.store;
   rail = moved_from_to (rail_place from) (rail_place to) core.rail;
 }
@@ -162,9 +162,9 @@ with_cartridge recorder holds core = record core {
 abbrev pub given_back : ℕ → ℕ → CoreData → CoreData
 given_back recorder cartridge core =
     with_cartridge recorder None
-    (carried cartridge (Recorder recorder) (home_of cartridge) core)
+    (with_carried_cartridge cartridge (Recorder recorder) (home_of cartridge) core)
 
-abbrev pub fetched : ℕ → ℕ → CoreData → CoreData
-fetched recorder cartridge core =
+abbrev pub with_fetched_cartridge : ℕ → ℕ → CoreData → CoreData
+with_fetched_cartridge recorder cartridge core =
     with_cartridge recorder (Some cartridge)
-    (carried cartridge (home_of cartridge) (Recorder recorder) core)
+    (with_carried_cartridge cartridge (home_of cartridge) (Recorder recorder) core)

@@ -2,7 +2,7 @@
 use Rattle.std.specs.Prelude.{◌≡◌, ◌⊎◌, ℕ, List, slice_get, Option, Some, None}
 use Rattle.std.specs.Option.{ForSome}
 use Rattle.volume_table.specs.Changes.{effect}
-use Rattle.volume_table.specs.Listed.{listed}
+use Rattle.volume_table.specs.Listed.{row_in_list}
 use Rattle.volume_table.specs.declared.changes.Change.{Change}
 use Rattle.volume_table.specs.declared.changes.Change.TheVariants as change
 use Rattle.table_pair.specs.Slots.{used_after, used_at}
@@ -27,8 +27,8 @@ use Rattle.core_state.specs.Devices.{StillHold, HaveRow, FailRow, CopyBlock, Lea
 use Rattle.core_state.specs.Devices.{SyncUnit, FailSync}
 use Rattle.core_state.specs.HostEvents.{IsSame}
 use Rattle.core_state.specs.Pins.{candidates}
-use Rattle.core_state.specs.Steps.{noted, with_row, with_change, most_recent, with_owner, with_task}
-use Rattle.core_state.specs.Steps.{picked, task_ended, given_back, fetched}
+use Rattle.core_state.specs.Steps.{with_event, with_row, with_change, most_recent, with_owner, with_task}
+use Rattle.core_state.specs.Steps.{with_picked_request, task_ended, given_back, with_fetched_cartridge}
 use Rattle.core_state.specs.WorkRules.{task_of, work_rule}
 
 -- ---- the outcomes of the rules
@@ -39,22 +39,22 @@ abbrev pub Does : Type 0 → CoreData → WorkKind → ℕ → (CoreData → Cor
 Does tells core what recorder after told core' =
     StillHold tells core.site core'.site
     × (told ≡ Did what)
-    × (core' ≡ noted (Work recorder) (after (record core { site = core'.site })))
+    × (core' ≡ with_event (Work recorder) (after (record core { site = core'.site })))
 
 -- a row is changed, and then this is done; or its writing fails, and the core stops
 abbrev pub ChangesThen : Type 0 → CoreData → WorkKind → ℕ → ℕ → Change → (CoreData → CoreData)
     → WorkAnswer → CoreData → Type 0
 ChangesThen tells core what recorder volume change after (Did did) core' =
-    ForSome (listed core.rows volume)
+    ForSome (row_in_list core.rows volume)
     (λ r. HaveRow tells volume (effect change r) (used_after (used_at core.used volume))
     core.site core'.site)
     × (did ≡ what)
-    × (core' ≡ noted (Work recorder)
+    × (core' ≡ with_event (Work recorder)
     (after (with_change volume change (record core { site = core'.site }))))
 ChangesThen tells core what recorder volume change after (Stopped fault) core' =
-    ForSome (listed core.rows volume)
+    ForSome (row_in_list core.rows volume)
     (λ r. FailRow tells volume (effect change r) fault core.site core'.site)
-    × (core' ≡ noted (Work recorder)
+    × (core' ≡ with_event (Work recorder)
     (record (with_row volume change core) { site = core'.site; stopped = Some fault }))
 ChangesThen tells core what recorder volume change after _ core' = ⊥
 
@@ -65,20 +65,20 @@ Takes tells may core recorder h told core' =
     (place : ℕ) × (c : Candidate)
     × may (candidates core) place
     × (slice_get (candidates core) place ≡ Some c)
-    × Does tells core kind.Pick recorder (picked recorder h c.frame (Some (c.volume, c.page)))
+    × Does tells core kind.Pick recorder (with_picked_request recorder h c.frame (Some (c.volume, c.page)))
     told core'
 
 -- the task ends, and its request has failed, with the count of faults now
 abbrev pub task_failed : DevicesSeen → ℕ → Task → CoreData → CoreData
 task_failed site recorder task core =
-    noted (Work recorder)
+    with_event (Work recorder)
     (task_ended recorder task (request.Failed site.faults) (record core { site = site }))
 
 -- a track is copied; or the copy fails, and the task ends
 abbrev pub CopiesIt : Type 0 → CoreData → ℕ → Task → Transfer → CoreData → Type 0
 CopiesIt tells core recorder task t core' =
     (CopyBlock tells t core.site core'.site
-    × (core' ≡ noted (Work recorder)
+    × (core' ≡ with_event (Work recorder)
     (with_task recorder (Some (record task { transfer = Some (moved_on t) }))
     (record core { site = core'.site }))))
     ⊎ (LeaveBlock tells t core.site core'.site
@@ -140,9 +140,9 @@ WorkDoes tells may core recorder IsIdle told core' = (told ≡ Idle) × IsSame t
 WorkDoes tells may core recorder (GivesBack cartridge) told core' =
     Does tells core kind.GiveBack recorder (given_back recorder cartridge) told core'
 WorkDoes tells may core recorder (Fetches cartridge) told core' =
-    Does tells core kind.Fetch recorder (fetched recorder cartridge) told core'
+    Does tells core kind.Fetch recorder (with_fetched_cartridge recorder cartridge) told core'
 WorkDoes tells may core recorder (Picks h frame) told core' =
-    Does tells core kind.Pick recorder (picked recorder h frame None) told core'
+    Does tells core kind.Pick recorder (with_picked_request recorder h frame None) told core'
 WorkDoes tells may core recorder (PicksVictim h) told core' =
     Takes tells may core recorder h told core'
 WorkDoes tells may core recorder rule told core' =

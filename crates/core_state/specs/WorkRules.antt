@@ -24,7 +24,7 @@ use Rattle.core_state.specs.CoreValue.{CoreValue}
 use Rattle.core_state.specs.Beside.{held_at}
 use Rattle.core_state.specs.Pins.{task_at, state_in, page_of, is_moving}
 use Rattle.core_state.specs.Pins.{free_frame, changed_in, candidates}
-use Rattle.volume_table.specs.Listed.{listed}
+use Rattle.volume_table.specs.Listed.{row_in_list}
 use Rattle.shown_volumes.specs.Sound.{frame_in}
 
 abbrev pub task_of : {S C : Type 0} → CoreValue S C → ℕ → Option Task
@@ -38,7 +38,7 @@ held_in core recorder = held_at core.recorders recorder
 -- the cartridge of a cylinder
 abbrev pub cartridge_of : List (Option RowValue) → ℕ → ℕ → ℕ
 cartridge_of rows volume cylinder =
-    unwrap_or (option_map (λ r. cartridge_with r cylinder) (listed rows volume)) 0
+    unwrap_or (option_map (λ r. cartridge_with r cylinder) (row_in_list rows volume)) 0
 
 abbrev pub transfer : List (Option RowValue) → TransferKind → ℕ → ℕ → ℕ → Transfer
 transfer rows kind volume cylinder frame = record {
@@ -65,7 +65,7 @@ abbrev pub staging : List (Option RowValue) → ℕ → Request → Option Trans
 staging rows frame r =
     option_map (λ _. transfer rows (staging_kind (state_in rows r.volume r.cylinder)) r.volume
     r.cylinder frame)
-    (frame_in (listed rows) r.volume (page_of r.cylinder))
+    (frame_in (row_in_list rows) r.volume (page_of r.cylinder))
 
 -- what is to be copied next, where no transfer is under way
 abbrev pub next_transfer : List (Option RowValue) → RequestsData → Task → Option Transfer
@@ -101,7 +101,7 @@ pick_on core h None =
 
 abbrev pub pick_for : {S C : Type 0} → CoreValue S C → ℕ → Request → RequestState → Option WorkRule
 pick_for core h r request.Queued =
-    pick_on core h (frame_in (listed core.rows) r.volume (page_of r.cylinder))
+    pick_on core h (frame_in (row_in_list core.rows) r.volume (page_of r.cylinder))
 pick_for core h r _ = None
 
 abbrev pub first_pick : {S C : Type 0} → CoreValue S C → RequestsData → Option WorkRule

@@ -10,7 +10,7 @@ use Rattle.transfers.specs.declared.transfer.TransferKind.TheVariants.{Destage}
 use Rattle.core_state.specs.CoreValue.{CoreValue}
 use Rattle.fault_queue.specs.declared.queue.RequestState.TheVariants.{Queued, Ready}
 use Rattle.core_state.specs.Pins.{task_at, moves_at}
-use Rattle.volume_table.specs.Listed.{listed}
+use Rattle.volume_table.specs.Listed.{row_in_list}
 use Rattle.fault_queue.specs.Requests.{request_of}
 use Rattle.core_state.specs.Tasks.{IsTransfer, HasFrame, IsUnbound}
 
@@ -23,7 +23,7 @@ pub record Serves {S C : Type 0} (v : CoreValue S C) (recorder : ℕ) (task : Ta
 -- a transfer that the task has, or begins, with a track to copy
 pub record MayCopy {S C : Type 0} (v : CoreValue S C) (task : Task) (q : Request) (t : Transfer)
     : Type 0 where
-  pub is : IsTransfer (listed v.rows) task.frame task.victim q t
+  pub is : IsTransfer (row_in_list v.rows) task.frame task.victim q t
   pub begun : (task.transfer ≡ Some t) ⊎ (t.next ≡ 0)
   pub more : t.next < 19
 
@@ -45,7 +45,7 @@ pub record MayEndStage {S C : Type 0} (v : CoreValue S C) (task : Task) (t : Tra
 -- the victim's page has no changed cylinder
 pub record MayFree {S C : Type 0} (v : CoreValue S C) (task : Task) (volume page : ℕ) : Type 0 where
   pub r : RowValue
-  pub there : listed v.rows volume ≡ Some r
+  pub there : row_in_list v.rows volume ≡ Some r
   pub takes_ : task.victim ≡ Some (volume, page)
   pub bare : task.transfer ≡ None
   pub unchanged : (y : ℕ) → y / 8 ≡ page → state_of r y ≢ 4
@@ -54,7 +54,7 @@ pub record MayFree {S C : Type 0} (v : CoreValue S C) (task : Task) (volume page
 -- the page that is asked for has no frame, and the task none to take
 pub record MayAssign {S C : Type 0} (v : CoreValue S C) (task : Task) (q : Request) : Type 0 where
   pub r : RowValue
-  pub there : listed v.rows q.volume ≡ Some r
+  pub there : row_in_list v.rows q.volume ≡ Some r
   pub none : frame_of r (q.cylinder / 8) ≡ None
   pub free : task.victim ≡ None
   pub bare : task.transfer ≡ None
@@ -71,7 +71,7 @@ pub record MayPick {S C : Type 0} (v : CoreValue S C) (recorder : ℕ) (task : T
   pub known : task.frame < v.config.frames
   pub asked : request_of v.requests task.host ≡ Some q
   pub queued : q.state ≡ Queued
-  pub has : HasFrame (listed v.rows) task.frame task.victim q.volume (q.cylinder / 8)
+  pub has : HasFrame (row_in_list v.rows) task.frame task.victim q.volume (q.cylinder / 8)
   pub unbound : (victim : ℕ × ℕ) → task.victim ≡ Some victim → IsUnbound v.hosts victim.0
   pub unheld : (h : ℕ) (r : Request) → request_of v.requests h ≡ Some r → r.state ≡ Ready
       → task.victim ≢ Some (r.volume, r.cylinder / 8)

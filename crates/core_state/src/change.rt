@@ -4,7 +4,7 @@ ghost use Rattle.std.specs.Option.{ForSome};
 ghost use Rattle.mss_base.specs.Content.{content};
 ghost use Rattle.mss_base.specs.Sites.{WritesAtMost};
 ghost use Rattle.volume_table.specs.Changes.{IsAllowed, effect};
-ghost use Rattle.volume_table.specs.Listed.{HasRow, listed, with_changed};
+ghost use Rattle.volume_table.specs.Listed.{HasRow, row_in_list, with_changed};
 ghost use Rattle.table_pair.specs.Slots.{used_after, used_at};
 ghost use Rattle.core_state.specs.Rows.{CountsSlots, HaveListed, TellsChange, WritesRow};
 ghost use Rattle.core_state.specs.Agrees.{freed_by, message_of};
@@ -17,7 +17,7 @@ use volume_table::{Change, Rows};
 
 /// The frame that a page gives back by a change of its volume's row.
 fn freed_by(rows: &Rows, volume: VolumeNo, change: &Change) -> Option<FrameNo>
-    ensures { result ≡ freed_by (listed rows.now) volume change.now }
+    ensures { result ≡ freed_by (row_in_list rows.now) volume change.now }
 {
     match change {
         Change::Free { page } => frame_in(rows, volume, *page),
@@ -49,9 +49,9 @@ pub fn write_change<S: Site>(
     ensures rows { rows.new ≡ with_changed volume change.now rows.old }
     ensures used { CountsSlots volume used.old.items used.new.items result }
     ensures session { TellsChange
-        (message_of (S.writes site.new) volume change.now (listed rows.old))
+        (message_of (S.writes site.new) volume change.now (row_in_list rows.old))
         (S.faults site.new) session.old session.new result }
-    ensures copies { S.tells → ForSome (listed rows.old volume)
+    ensures copies { S.tells → ForSome (row_in_list rows.old volume)
         (λ r. WritesRow volume (effect change.now r) (used_after (used_at used.old.items volume))
         (S.told site.old) (S.told site.new) result) }
     ensures site_ { WritesAtMost S.Site CHANGE_ITEMS site.old site.new result }

@@ -44,8 +44,11 @@
 //! after the other, are `Later`; its tasks, rows, hosts and requests are `TaskLists`, `TaskRows`,
 //! `Others`, `RowOwners`, `MovingFacts`, `Serving`, `HostFacts`, `HostTasks`, `HostRequests`,
 //! `Fitting` and `CoreFacts`; the first rule of many is `RuleWalks`, with `Limits`. Worked
-//! sessions, by computing, are `Row10`, `Row11`, `Row12` and `Row28`, each a chain of events by
+//! sessions, by computing, are `OneFrame`, `BoundVolumes`, `WriteWhileTaken` and `TwoHostsOneFrame`, each a chain of events by
 //! `RunnerWork`.
+//!
+//! Layers above also cite lemmas of `proofs/`: when a chain goes on (`ChainKept`), looks at lists
+//! (`LookLemmas`), a whole core of its parts (`Making`), and the rules of some calls (`RuleRows`).
 #![tactic(auto)]
 
 mod change;

@@ -57,14 +57,14 @@ pub struct Session {
 }
 
 impl Session {
-    ghost use Rattle.core_state.specs.SessionData.{begun, with_last_entry, with_last_event};
+    ghost use Rattle.core_state.specs.SessionData.{new_session, with_last_entry, with_last_event};
     ghost use Rattle.core_state.specs.SessionData.{with_last_message};
     ghost use Rattle.core_state.specs.Sessions.{HasRoom, TellsTheSame, session_data};
 
     /// A session that begins at these counts of its site, with these changes of rows on its
     /// console.
     pub fn new(alloc: Global, console: MessageList, first_write: u64, first_faults: u64) -> Session
-        ensures { session_data result ≡ begun console.items first_write first_faults }
+        ensures { session_data result ≡ new_session console.items first_write first_faults }
     {
         Session {
             history: EntryList::new(alloc),

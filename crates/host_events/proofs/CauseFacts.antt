@@ -7,10 +7,10 @@ use Rattle.channel_commands.specs.declared.call.BreakCause.TheVariants as cause
 use Rattle.channel_commands.specs.Data.{CallData, mount, demount, command as ask, break, ReplyData, done, demounted, already_mounted, not_mounted, in_chain, equipment_check, no_space, stopped}
 use Rattle.ckd_plain.specs.declared.host.HostState.{HostState}
 use Rattle.ckd_plain.specs.declared.unit_check.UnitCheck.{UnitCheck}
-use Rattle.ckd_plain.specs.Checks.{admitted}
+use Rattle.ckd_plain.specs.Checks.{admitted_command}
 use Rattle.ckd_plain.specs.Effects.{Outcome}
 use Rattle.ckd_plain.specs.Index.{Tracks}
-use Rattle.ckd_plain.specs.Plain.{opened, break_reply, answered, performed, judged, run, responded}
+use Rattle.ckd_plain.specs.Plain.{with_open_chain, break_reply, outcome_answer, command_answer, answer_by_checks, answer_on_tracks, response_to}
 use Rattle.volume_table.specs.Row.{state_of}
 use Rattle.core_state.specs.declared.rule.HostRule.{HostRule}
 use Rattle.core_state.specs.declared.rule.HostRule.TheVariants.{IsStopped, IsFull, IsBusy, IsMoving, IsHeld, Responds, HasFailed, HasNoSpace, Faults, Marks, Runs}
@@ -37,18 +37,18 @@ IsPlain no_space = ⊥
 IsPlain stopped = ⊥
 IsPlain _ = Unit {0}
 
-answered_plain : (c : Command) (chained : Bool) (o : Outcome) → IsPlain (answered c chained o).reply
+answered_plain : (c : Command) (chained : Bool) (o : Outcome) → IsPlain (outcome_answer c chained o).reply
 answered_plain c chained (Ok e) = tt
 answered_plain c chained (Err r) = tt
 
-judged_plain : (tracks : Tracks) (host : HostState) (argument : List ℕ) (chained : Bool) (r : Result Command UnitCheck) → IsPlain (judged tracks host argument chained r).reply
-unfolding performed
+judged_plain : (tracks : Tracks) (host : HostState) (argument : List ℕ) (chained : Bool) (r : Result Command UnitCheck) → IsPlain (answer_by_checks tracks host argument chained r).reply
+unfolding command_answer
 judged_plain tracks host argument chained (Ok c) = answered_plain c chained _
 judged_plain tracks host argument chained (Err check) = tt
 
-run_plain : (tracks : Tracks) (host : HostState) (code : ℕ) (argument : List ℕ) (chained : Bool) → IsPlain (run tracks host code argument chained).reply
-unfolding run
-run_plain tracks host code argument chained = judged_plain tracks (opened host) argument chained (admitted (opened host) code argument)
+run_plain : (tracks : Tracks) (host : HostState) (code : ℕ) (argument : List ℕ) (chained : Bool) → IsPlain (answer_on_tracks tracks host code argument chained).reply
+unfolding answer_on_tracks
+run_plain tracks host code argument chained = judged_plain tracks (with_open_chain host) argument chained (admitted_command (with_open_chain host) code argument)
 
 either : (b : Bool) (x y : ReplyData × HostState) → IsPlain x.0 → IsPlain y.0 → IsPlain (if b then x else y).0
 either b x y px py = cond_both b x y (λ (p : ReplyData × HostState). IsPlain p.0) (λ _. px) (λ _. py)
@@ -57,8 +57,8 @@ break_plain : (why : BreakCause) → IsPlain (break_reply why)
 break_plain cause.Program = tt
 break_plain cause.Limit = tt
 
-plain_reply : (host : HostState) (mark : Option Bool) (call : CallData) → IsPlain (responded host mark call).0
-unfolding responded
+plain_reply : (host : HostState) (mark : Option Bool) (call : CallData) → IsPlain (response_to host mark call).0
+unfolding response_to
 plain_reply host mark (mount volume bind) =
     either host.chain_open (in_chain, host) _ tt (either (is_some host.mounted) (already_mounted, host) _ tt (by_mark (λ (r : ReplyData × HostState). IsPlain r.0) host volume bind mark (λ _ _. tt) (λ _. tt)))
 plain_reply host mark demount = either host.chain_open (in_chain, host) _ tt (either (is_some host.mounted) (demounted, record host { mounted = None }) (not_mounted, host) tt tt)

@@ -9,7 +9,7 @@ use Rattle.mss_base.proofs.Moments.{started, weaker}
 use Rattle.channel_commands.specs.declared.command.Command.{Command}
 use Rattle.channel_commands.specs.Data.{CallData, done, no_space, stopped}
 use Rattle.ckd_plain.specs.declared.host.HostState.{HostState}
-use Rattle.ckd_plain.specs.Plain.{fresh_host, opened}
+use Rattle.ckd_plain.specs.Plain.{fresh_host, with_open_chain}
 use Rattle.ckd_plain.specs.History.{EntryData}
 use Rattle.ckd_plain.specs.Effects.{prior_number}
 use Rattle.ckd_plain.specs.declared.unit_check.UnitCheck.TheVariants as check
@@ -38,7 +38,7 @@ use Rattle.core_state.specs.HostEvents.{HostTold, response, exception, equipment
 use Rattle.core_state.specs.HostRules.{request_for, host_rule}
 use Rattle.core_state.specs.IsCore.{IsCore}
 use Rattle.core_state.specs.Pins.{host_at, put_host, page_of}
-use Rattle.core_state.specs.Steps.{noted, with_row, after_reply, after_stop, used, entry_of, with_change, touching, ends_request, going_on, with_request}
+use Rattle.core_state.specs.Steps.{with_event, with_row, after_reply, after_stop, after_use, entry_of, with_change, touching, ends_request, going_on, with_request}
 use Rattle.core_state.proofs.ChangeLemmas.{handed-push}
 use Rattle.core_state.proofs.RuleWalks.{none_some, some_of}
 use Rattle.host_events.specs.Leaves.{KeepsHistory, EntersAsTold, LeavesOthers, LeavesMachine, LeavesCartridges}
@@ -57,11 +57,11 @@ module _ (core : CoreData) (h : ℕ) (call : CallData) where
   going P here ended = cond_both (ends_request core h call) (record core { requests = without_request h core.requests }) core P (λ _. ended) (λ _. here)
 
   abbrev pub asked_of : ℕ → ℕ → CoreData → CoreData
-  asked_of volume cylinder c = noted (Host h) (with_request h volume cylinder request.Queued c)
+  asked_of volume cylinder c = with_event (Host h) (with_request h volume cylinder request.Queued c)
 
   abbrev pub marked_of : ℕ → ℕ → DevicesSeen → CoreData → CoreData
   marked_of volume cylinder site c =
-      noted (Host h) (touching (volume, page_of cylinder) (with_request h volume cylinder request.Ready (with_change volume (change.Changed cylinder) (record c { site = site }))))
+      with_event (Host h) (touching (volume, page_of cylinder) (with_request h volume cylinder request.Ready (with_change volume (change.Changed cylinder) (record c { site = site }))))
 
   module _ (tells : Type 0) (core' : CoreData) {A : Type 0} (part : CoreData → A) (blind : (c d : CoreData) → part (other_than c d) ≡ part c) where
     same_part : IsSame tells core core' → part core' ≡ part core
@@ -70,10 +70,10 @@ module _ (core : CoreData) (h : ℕ) (call : CallData) where
     held_part : Holds tells core h call core' → part core' ≡ part core
     held_part held =
         ap part held.1
-        ∙ cond_both (ends_request core h call) (noted (Host h) (going_on core h call)) core (λ (c : CoreData). part (record c { site = core'.site }) ≡ part core)
-        (λ _. going (λ (c : CoreData). part (record (noted (Host h) c) { site = core'.site }) ≡ part core)
-        (blind core (record (noted (Host h) core) { site = core'.site }))
-        (blind core (record (noted (Host h) (record core { requests = without_request h core.requests })) { site = core'.site })))
+        ∙ cond_both (ends_request core h call) (with_event (Host h) (going_on core h call)) core (λ (c : CoreData). part (record c { site = core'.site }) ≡ part core)
+        (λ _. going (λ (c : CoreData). part (record (with_event (Host h) c) { site = core'.site }) ≡ part core)
+        (blind core (record (with_event (Host h) core) { site = core'.site }))
+        (blind core (record (with_event (Host h) (record core { requests = without_request h core.requests })) { site = core'.site })))
         (λ _. blind core (record core { site = core'.site }))
 
     asked_part : (volume cylinder : ℕ) → Asks tells core h call volume cylinder core' → part core' ≡ part core
@@ -173,7 +173,7 @@ module _ (tells : Type 0) (core : CoreData) (h : ℕ) (core' : CoreData) where
       unmarked = λ volume cylinder fault un. ap part un.1 ∙ all_of (after_stop core'.site h call (with_row volume (change.Changed cylinder) core));
       unread = λ c volume frame un. ap part un.1 ∙ all_of (after_reply core'.site h call (Some core'.site.faults) (equipment core h) core);
       runs = λ c volume frame code argument chained status bytes ran.
-          ap part ran.3 ∙ all_of (after_reply core'.site h call None (done status bytes, ran.1) (used c (page_under core h volume) frame core));
+          ap part ran.3 ∙ all_of (after_reply core'.site h call None (done status bytes, ran.1) (after_use c (page_under core h volume) frame core));
       unwritten = λ c volume frame code argument chained fault un. ap part un.2 ∙ all_of (after_stop core'.site h call core);
     }
 
@@ -216,8 +216,8 @@ module _ (tells : Type 0) (core : CoreData) (h : ℕ) (core' : CoreData) where
       moves = λ cylinder same. ap has same.1;
       holds = λ frame held.
           ap has held.1
-          ∙ cond_both (ends_request core h call) (noted (Host h) (going_on core h call)) core (λ (c : CoreData). Alike (record c { site = core'.site }))
-          (λ _. going core h call (λ (c : CoreData). Alike (record (noted (Host h) c) { site = core'.site })) refl refl) (λ _. refl);
+          ∙ cond_both (ends_request core h call) (with_event (Host h) (going_on core h call)) core (λ (c : CoreData). Alike (record c { site = core'.site }))
+          (λ _. going core h call (λ (c : CoreData). Alike (record (with_event (Host h) c) { site = core'.site })) refl refl) (λ _. refl);
       responds = λ done. ap has done.1;
       fails = λ fault done. ap has done.1;
       is_full = λ done. ap has done.1;
@@ -296,7 +296,7 @@ module _ (tells : Type 0) (core : CoreData) (h : ℕ) (core' : CoreData) (low : 
       holds = λ frame held. (
         hosts_of (λ A part blind. held_part core h call tells core' part blind held),
         ap (λ (c : CoreData). request_of c.requests other) held.1
-            ∙ cond_both (ends_request core h call) (noted (Host h) (going_on core h call)) core (λ (c : CoreData). request_of c.requests other ≡ request_of core.requests other)
+            ∙ cond_both (ends_request core h call) (with_event (Host h) (going_on core h call)) core (λ (c : CoreData). request_of c.requests other ≡ request_of core.requests other)
             (λ _. going core h call (λ (c : CoreData). request_of c.requests other ≡ request_of core.requests other) refl ended) (λ _. refl),
       );
       responds = λ done. other_replied (response core h call).1 (ap (λ (c : CoreData). c.hosts) done.1) (ap (λ (c : CoreData). c.requests) done.1);
@@ -361,8 +361,8 @@ module _ (tells : Type 0) (core : CoreData) (kept : core.stopped ≡ None → Is
 
     frame_there : (r : Run) (frame block : ℕ) → r.at ≡ record { unit = Staging frame; block = block } → WritesFor r core.site.told core'.site.told → LeavesCartridges core.site.told core'.site.told
     frame_there r frame block at writes =
-        frame_written core.site.told frame block r.command (opened r.host) core'.site.told (answer_on r (content core.site.told)).written
-        (subst (λ (p : BlockPlace). WritesTrack r.command (opened r.host) p.unit p.block core.site.told core'.site.told (answer_on r (content core.site.told)).written) at writes)
+        frame_written core.site.told frame block r.command (with_open_chain r.host) core'.site.told (answer_on r (content core.site.told)).written
+        (subst (λ (p : BlockPlace). WritesTrack r.command (with_open_chain r.host) p.unit p.block core.site.told core'.site.told (answer_on r (content core.site.told)).written) at writes)
 
     cartridges_each : EachOutcome tells core h call core' LeavesThem
     cartridges_each = record {

@@ -5,7 +5,7 @@ use Rattle.std.proofs.lemmas.Bool.{and_parts, false≢true}
 use Rattle.mss_base.specs.Firsts.{where_so}
 use Rattle.channel_commands.specs.Data.{CallData, mount}
 use Rattle.ckd_plain.specs.declared.host.HostState.{HostState}
-use Rattle.volume_table.specs.Listed.{listed}
+use Rattle.volume_table.specs.Listed.{row_in_list}
 use Rattle.fault_queue.specs.declared.queue.Request.{Request}
 use Rattle.fault_queue.specs.Requests.{request_of}
 use Rattle.core_state.specs.CoreValue.{CoreValue}
@@ -34,8 +34,8 @@ module _ {S C : Type 0} (v : CoreValue S C) (core : IsCore v) (h : ℕ) (call : 
   bare : is_some (host_at v.hosts h).mounted ≡ false
   bare =
       let is : would_bind v host (mount on.volume true) ≡ Some on.volume = ap (would_bind v host) (sym on.is) ∙ on.binds in
-      let test = tested (not host.chain_open && not (is_some host.mounted) && is_some (listed v.rows on.volume)) on.volume on.volume is in
-      not_true (is_some host.mounted) (and_parts (not host.chain_open) (not (is_some host.mounted)) (and_parts (not host.chain_open && not (is_some host.mounted)) (is_some (listed v.rows on.volume)) test).0).1
+      let test = tested (not host.chain_open && not (is_some host.mounted) && is_some (row_in_list v.rows on.volume)) on.volume on.volume is in
+      not_true (is_some host.mounted) (and_parts (not host.chain_open) (not (is_some host.mounted)) (and_parts (not host.chain_open && not (is_some host.mounted)) (is_some (row_in_list v.rows on.volume)) test).0).1
 
   pub held_bare : request_of v.requests h ≡ None
   held_bare = by (request_of v.requests h) refl

@@ -8,7 +8,7 @@ use Rattle.mss_base.specs.Counts.{Rises}
 use Rattle.mss_base.specs.Sites.{WritesAtMost}
 use Rattle.mss_base.specs.declared.site.Site.{Ghosts}
 use Rattle.channel_commands.specs.Data.{CallData, stopped}
-use Rattle.volume_table.specs.Listed.{HasRow, listed, with_changed}
+use Rattle.volume_table.specs.Listed.{HasRow, row_in_list, with_changed}
 use Rattle.volume_table.specs.Row.{RowValue}
 use Rattle.volume_table.specs.Changes.{IsAllowed, effect, with_state as state_set}
 use Rattle.volume_table.specs.declared.changes.Change.TheVariants.{Changed}
@@ -22,9 +22,9 @@ use Rattle.core_state.specs.declared.rule.HostRule.TheVariants.{Marks}
 use Rattle.core_state.specs.declared.session.Event.TheVariants.{Host}
 use Rattle.core_state.specs.declared.task.Task.{Task}
 use Rattle.core_state.specs.Agrees.{message_of}
-use Rattle.core_state.specs.CoreValue.{CoreValue, CoreData, DevicesSeen, seen, seen_site}
+use Rattle.core_state.specs.CoreValue.{CoreValue, CoreData, DevicesSeen, seen_core, seen_site}
 use Rattle.core_state.specs.Counted.{IsEntryBehind}
-use Rattle.core_state.specs.Entered.{entered, with_used, worked}
+use Rattle.core_state.specs.Entered.{core_with_entry, with_used, core_after_work}
 use Rattle.core_state.specs.HostEvents.{HostDoes, marked, halts}
 use Rattle.core_state.specs.HostRules.{request_for, host_rule}
 use Rattle.core_state.specs.MakingRoom.{Reserves}
@@ -32,7 +32,7 @@ use Rattle.core_state.specs.IsCore.{IsCore}
 use Rattle.core_state.specs.Pins.{page_of, is_on}
 use Rattle.core_state.specs.Rows.{HaveListed, Rewrites, WritesRow}
 use Rattle.core_state.specs.SessionData.{SessionData, data_of, of_parts, with_stop, with_last_event, with_last_message}
-use Rattle.core_state.specs.Steps.{entry_of, noted, with_change, ends_request, going_on, with_request, touching}
+use Rattle.core_state.specs.Steps.{entry_of, with_event, with_change, ends_request, going_on, with_request, touching}
 use Rattle.core_state.specs.Tasks.{touched_all}
 use Rattle.core_state.specs.TheCore.{IsWhole, IsKept}
 use Rattle.core_state.proofs.BesideFacts.{whole_noted, counted_noted}
@@ -74,14 +74,14 @@ module _ (S : Type 0) {C : Type 0} (g : Ghosts S) {u : CoreValue S C} (v : CoreV
       λ i. record { volume = sym volume_is i; cylinder = sym cylinder_is i; state = Ready }
 
   -- so the call ends no request
-  ends_none : ends_request (seen g u) h call ≡ false
+  ends_none : ends_request (seen_core g u) h call ≡ false
   ends_none = by (request_of u.requests h) refl
     where
       by : (o : Option Request) → request_of u.requests h ≡ o → (is_some (request_of u.requests h) && not (is_some (request_for u h call))) ≡ false
       by None at = ap (λ (o : Option Request). is_some o && not (is_some (request_for u h call))) at
       by (Some q) at = ap (λ (o : Option Request). is_some o && not (is_some (request_for u h call))) at ∙ ap (λ (o : Option Request). not (is_some o)) (on.asks.mine q at)
 
-  going_same : going_on (seen g u) h call ≡ seen g u
+  going_same : going_on (seen_core g u) h call ≡ seen_core g u
   going_same = cond-false _ _ _ ends_none
 
   module _ (mid : S) (reserves : Reserves g u.site mid) where
@@ -94,7 +94,7 @@ module _ (S : Type 0) {C : Type 0} (g : Ghosts S) {u : CoreValue S C} (v : CoreV
         })
 
     module _ {T E : Type 0} (result : Result T E) (x : S) (site_ : WritesAtMost g CHANGE_ITEMS mid x result) (counts : g.tells → g.writes x ≡ length (g.told x).log)
-        (copies : g.tells → ForSome (listed u.rows volume) (λ r. WritesRow volume (effect (Changed cylinder) r) (used_after (used_at u.used volume)) (g.told mid) (g.told x) result))
+        (copies : g.tells → ForSome (row_in_list u.rows volume) (λ r. WritesRow volume (effect (Changed cylinder) r) (used_after (used_at u.used volume)) (g.told mid) (g.told x) result))
         (rows : List (Option RowValue)) (rows_is : rows ≡ with_changed volume (Changed cylinder) u.rows) where
       abbrev old : DevicesSeen
       old = seen_site g u.site
@@ -108,7 +108,7 @@ module _ (S : Type 0) {C : Type 0} (g : Ghosts S) {u : CoreValue S C} (v : CoreV
       later : g.faults u.site ≤ g.faults x
       later = subst (λ (n : ℕ). n ≤ g.faults x) reserves.same site_.devices.later
 
-      moments_ : g.tells → (r : RowValue) → listed u.rows volume ≡ Some r → Rewrites volume (effect (Changed cylinder) r) (g.told u.site) (g.told x)
+      moments_ : g.tells → (r : RowValue) → row_in_list u.rows volume ≡ Some r → Rewrites volume (effect (Changed cylinder) r) (g.told u.site) (g.told x)
       moments_ tl r at = subst (λ (s : SiteLog). Rewrites volume (effect (Changed cylinder) r) s (g.told x)) (reserves.log tl) (copies tl r at).moments
 
       abbrev rows_now : List (Option RowValue)
@@ -122,13 +122,13 @@ module _ (S : Type 0) {C : Type 0} (g : Ghosts S) {u : CoreValue S C} (v : CoreV
       module _ (value : T) (ok : result ≡ Ok value) (used : List SlotsUsed) (used_is : used ≡ with_used_after volume u.used)
           (requests : RequestsData) (requests_is : requests ≡ cond (is_some (request_of u.requests h)) (with_state h Ready u.requests) (u.requests ++ (h, ready_for volume cylinder) ∷ []))
           (tasks : List (Option Task)) (tasks_is : tasks ≡ touched_all volume (cylinder / 8) u.tasks)
-          (d : SessionData) (d_is : d ≡ with_last_event (Host h) (with_last_message (message_of (g.writes x) volume (Changed cylinder) (listed u.rows)) (data_of u))) where
+          (d : SessionData) (d_is : d ≡ with_last_event (Host h) (with_last_message (message_of (g.writes x) volume (Changed cylinder) (row_in_list u.rows)) (data_of u))) where
         grown_ : g.tells → length (g.told u.site).log < length (g.told x).log
         grown_ tl =
             subst (λ (s : SiteLog). length s.log < length (g.told x).log) (reserves.log tl)
             (subst (λ (y : Result T E). OnOk y (length (g.told mid).log < length (g.told x).log)) ok (copies tl on.r on.there).grown)
 
-        changed_ : g.tells → (r : RowValue) → listed u.rows volume ≡ Some r → IsChanged (effect (Changed cylinder) r) (used_after (used_at u.used volume)) volume (g.told u.site) (g.told x)
+        changed_ : g.tells → (r : RowValue) → row_in_list u.rows volume ≡ Some r → IsChanged (effect (Changed cylinder) r) (used_after (used_at u.used volume)) volume (g.told u.site) (g.told x)
         changed_ tl r at =
             subst (λ (s : SiteLog). IsChanged (effect (Changed cylinder) r) (used_after (used_at u.used volume)) volume s (g.told x)) (reserves.log tl)
             (subst (λ (y : Result T E). OnOk y (IsChanged (effect (Changed cylinder) r) (used_after (used_at u.used volume)) volume (g.told mid) (g.told x))) ok (copies tl r at).changed)
@@ -137,7 +137,7 @@ module _ (S : Type 0) {C : Type 0} (g : Ghosts S) {u : CoreValue S C} (v : CoreV
         sound_ = subst (λ (y : Result T E). OnOk y (g.faults x ≡ g.faults mid)) ok site_.cause.same ∙ reserves.same
 
         abbrev d_now : SessionData
-        d_now = with_last_event (Host h) (with_last_message (message_of (g.writes x) volume (Changed cylinder) (listed u.rows)) (data_of u))
+        d_now = with_last_event (Host h) (with_last_message (message_of (g.writes x) volume (Changed cylinder) (row_in_list u.rows)) (data_of u))
 
         abbrev now : CoreValue S C
         now = with_used (with_used_after volume u.used) u
@@ -150,7 +150,7 @@ module _ (S : Type 0) {C : Type 0} (g : Ghosts S) {u : CoreValue S C} (v : CoreV
 
         whole_ : IsWhole g.tells (g.told x) (of_parts now x rows_now u.owners u.moving put (touched_all volume (cylinder / 8) u.tasks) u.hosts d_now)
         whole_ = whole_noted g.tells (g.told x)
-            (worked now x rows_now (u.console ++ message_of (g.writes x) volume (Changed cylinder) (listed u.rows) ∷ []) u.owners u.moving put (touched_all volume (cylinder / 8) u.tasks)) (u.events ++ Host h ∷ [])
+            (core_after_work now x rows_now (u.console ++ message_of (g.writes x) volume (Changed cylinder) (row_in_list u.rows) ∷ []) u.owners u.moving put (touched_all volume (cylinder / 8) u.tasks)) (u.events ++ Host h ∷ [])
             (whole_marked S g.tells (g.told u.site) u kept.whole on.goes.going h low_host volume cylinder on.bind on.mounted on.r on.there low_cylinder on.staged on.asks.free on.quiet on.cylinder_ (g.told x) x (g.writes x)
             (λ tl. moments_ tl on.r on.there) (λ tl. changed_ tl on.r on.there) counts grown_)
 
@@ -160,20 +160,20 @@ module _ (S : Type 0) {C : Type 0} (g : Ghosts S) {u : CoreValue S C} (v : CoreV
           counted = counted_noted (g.writes x) (g.faults x) put _ (u.events ++ Host h ∷ [])
               (counted_message (g.writes x) (g.faults x) (g.writes x) (g.faults x) put (data_of u)
               (counted_request (g.writes u.site) (g.faults u.site) (g.writes x) (g.faults x) u.requests (data_of u) kept.counted more later h (Some (ready_for volume cylinder)) core.requests_ (λ fault is. absurd (none_some fault is)))
-              (omega arith) (omega arith) (message_of (g.writes x) volume (Changed cylinder) (listed u.rows)) (omega arith));
+              (omega arith) (omega arith) (message_of (g.writes x) volume (Changed cylinder) (row_in_list u.rows)) (omega arith));
         })
 
-        pub marked_event : HostDoes g.tells (seen g v) h call (Marks volume cylinder) marked (seen g (of_parts (with_used used u) x rows u.owners u.moving requests tasks u.hosts d))
-        marked_event = subst (λ (z : CoreValue S C). HostDoes g.tells (seen g z) h call (Marks volume cylinder) marked (seen g (of_parts (with_used used u) x rows u.owners u.moving requests tasks u.hosts d))) view (
+        pub marked_event : HostDoes g.tells (seen_core g v) h call (Marks volume cylinder) marked (seen_core g (of_parts (with_used used u) x rows u.owners u.moving requests tasks u.hosts d))
+        marked_event = subst (λ (z : CoreValue S C). HostDoes g.tells (seen_core g z) h call (Marks volume cylinder) marked (seen_core g (of_parts (with_used used u) x rows u.owners u.moving requests tasks u.hosts d))) view (
           (λ r at. record {
             write = record { moments = λ tl. moments_ tl r at; later = more };
             changed = λ tl. changed_ tl r at;
             grown = grown_;
             sound = sound_;
           }),
-          ap (λ (z : CoreValue S C). seen g z)
+          ap (λ (z : CoreValue S C). seen_core g z)
               (λ i. of_parts (with_used (used_is i) u) x (rows_is i) u.owners u.moving (requests_is i) (tasks_is i) u.hosts (d_is i))
-              ∙ ap (λ (k : CoreData). noted (Host h) (touching (volume, page_of cylinder) (with_request h volume cylinder Ready (with_change volume (Changed cylinder) (record k { site = new }))))) (sym going_same),
+              ∙ ap (λ (k : CoreData). with_event (Host h) (touching (volume, page_of cylinder) (with_request h volume cylinder Ready (with_change volume (Changed cylinder) (record k { site = new }))))) (sym going_same),
         )
 
       -- ---- a write of the devices failed
@@ -196,7 +196,7 @@ module _ (S : Type 0) {C : Type 0} (g : Ghosts S) {u : CoreValue S C} (v : CoreV
         stop_path = λ i. of_parts (with_used (used_is i) u) x ((rows_is ∙ rows_set) i) u.owners u.moving (requests_is i) u.tasks u.hosts (d_path i)
 
         abbrev stop_entered : CallData → CoreValue S C
-        stop_entered k = record (entered u x (entry_of u.history h k stopped (Some (g.faults x))) (g.writes x) u.hosts u.requests u.tasks (Some (g.faults x))) { rows = slice_set u.rows volume (Some (state_set cylinder 4 on.r)) }
+        stop_entered k = record (core_with_entry u x (entry_of u.history h k stopped (Some (g.faults x))) (g.writes x) u.hosts u.requests u.tasks (Some (g.faults x))) { rows = slice_set u.rows volume (Some (state_set cylinder 4 on.r)) }
 
         whole_stopped : IsWhole g.tells (g.told x) (of_parts u x rows_now u.owners u.moving u.requests u.tasks u.hosts d_stopped)
         whole_stopped = whole_noted g.tells (g.told x) (stop_entered call) (u.events ++ Host h ∷ [])
@@ -215,12 +215,12 @@ module _ (S : Type 0) {C : Type 0} (g : Ghosts S) {u : CoreValue S C} (v : CoreV
               (entry_of u.history h call stopped (Some (g.faults x))) behind tt refl);
         })
 
-        pub unmarked_event : HostDoes g.tells (seen g v) h call (Marks volume cylinder) (halts fault) (seen g (of_parts (with_used used u) x rows u.owners u.moving requests u.tasks u.hosts d))
-        unmarked_event = subst (λ (z : CoreValue S C). HostDoes g.tells (seen g z) h call (Marks volume cylinder) (halts fault) (seen g (of_parts (with_used used u) x rows u.owners u.moving requests u.tasks u.hosts d))) view (
+        pub unmarked_event : HostDoes g.tells (seen_core g v) h call (Marks volume cylinder) (halts fault) (seen_core g (of_parts (with_used used u) x rows u.owners u.moving requests u.tasks u.hosts d))
+        unmarked_event = subst (λ (z : CoreValue S C). HostDoes g.tells (seen_core g z) h call (Marks volume cylinder) (halts fault) (seen_core g (of_parts (with_used used u) x rows u.owners u.moving requests u.tasks u.hosts d))) view (
           (λ r at. record {
             write = record { moments = λ tl. moments_ tl r at; later = more };
             wrote = wrote_;
             cause = record { count = fault_is; rises = rises_ };
           }),
-          ap (λ (z : CoreValue S C). seen g z) (λ i. of_parts (with_used (used_is i) u) x (rows_is i) u.owners u.moving (requests_is i) u.tasks u.hosts (d_path i)),
+          ap (λ (z : CoreValue S C). seen_core g z) (λ i. of_parts (with_used (used_is i) u) x (rows_is i) u.owners u.moving (requests_is i) u.tasks u.hosts (d_path i)),
         )

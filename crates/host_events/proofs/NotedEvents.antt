@@ -7,7 +7,7 @@ use Rattle.ckd_plain.specs.History.{EntryData}
 use Rattle.fault_queue.specs.declared.queue.Request.{Request}
 use Rattle.fault_queue.specs.Requests.{RequestsData, request_of, without_request}
 use Rattle.fault_queue.proofs.RequestFacts.{request_same}
-use Rattle.volume_table.specs.Listed.{listed}
+use Rattle.volume_table.specs.Listed.{row_in_list}
 use Rattle.volume_table.specs.declared.changes.Change.TheVariants as change
 use Rattle.core_state.specs.declared.rule.HostRule.{HostRule}
 use Rattle.core_state.specs.declared.rule.HostRule.TheVariants.{IsHeld, Faults}
@@ -18,7 +18,7 @@ use Rattle.core_state.specs.CoreValue.{CoreData}
 use Rattle.core_state.specs.HostEvents.{HostTold, Holds, Asks, HostEvent}
 use Rattle.core_state.specs.HostRules.{request_for, host_rule}
 use Rattle.core_state.specs.IsCore.{IsCore}
-use Rattle.core_state.specs.Steps.{noted, ends_request, going_on}
+use Rattle.core_state.specs.Steps.{with_event, ends_request, going_on}
 use Rattle.host_events.specs.Leaves.{NotesChange}
 use Rattle.host_events.proofs.EventLeaves.{going, asked_of, marked_of}
 use Rattle.host_events.proofs.Outcomes.{IsMarked, EachOutcome, outcome}
@@ -42,7 +42,7 @@ module _ (tells : Type 0) (core : CoreData) (kept : core.stopped ≡ None → Is
 
   module _ (call : CallData) where
     -- the host's request is gone
-    held_ended : (frame : ℕ) → host_rule core h call ≡ IsHeld frame → ends_request core h call ≡ true → core' ≡ record (noted (Host h) (going_on core h call)) { site = core'.site } → Notes
+    held_ended : (frame : ℕ) → host_rule core h call ≡ IsHeld frame → ends_request core h call ≡ true → core' ≡ record (with_event (Host h) (going_on core h call)) { site = core'.site } → Notes
     held_ended frame rule ends is = inr (
       (λ same.
           let gone : without_request h core.requests ≡ core.requests =
@@ -56,7 +56,7 @@ module _ (tells : Type 0) (core : CoreData) (kept : core.stopped ≡ None → Is
 
     held : (frame : ℕ) → host_rule core h call ≡ IsHeld frame → Holds tells core h call core' → Notes
     held frame rule does =
-        cond_both (ends_request core h call) (noted (Host h) (going_on core h call)) core (λ (c : CoreData). core' ≡ record c { site = core'.site } → Notes)
+        cond_both (ends_request core h call) (with_event (Host h) (going_on core h call)) core (λ (c : CoreData). core' ≡ record c { site = core'.site } → Notes)
         (held_ended frame rule) (λ _ is. inl (does.0, is)) does.1
 
     -- it is put last
@@ -76,9 +76,9 @@ module _ (tells : Type 0) (core : CoreData) (kept : core.stopped ≡ None → Is
     -- the change of the row has its message
     marked : (volume cylinder : ℕ) → IsMarked tells core h call volume cylinder core' → Notes
     marked volume cylinder marks =
-        grown Message (λ c. c.console) (λ c d. refl) (message_of core'.site.writes volume (change.Changed cylinder) (listed core.rows))
+        grown Message (λ c. c.console) (λ c d. refl) (message_of core'.site.writes volume (change.Changed cylinder) (row_in_list core.rows))
         (ap (λ (c : CoreData). c.console) marks.1
-        ∙ going core h call (λ (c : CoreData). (marked_of core h call volume cylinder core'.site c).console ≡ core.console ++ message_of core'.site.writes volume (change.Changed cylinder) (listed core.rows) ∷ []) refl refl)
+        ∙ going core h call (λ (c : CoreData). (marked_of core h call volume cylinder core'.site c).console ≡ core.console ++ message_of core'.site.writes volume (change.Changed cylinder) (row_in_list core.rows) ∷ []) refl refl)
         (ap (λ (c : CoreData). c.events) marks.1
         ∙ going core h call (λ (c : CoreData). (marked_of core h call volume cylinder core'.site c).events ≡ core.events ++ Host h ∷ []) refl refl)
 

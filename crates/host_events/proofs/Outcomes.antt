@@ -6,7 +6,7 @@ use Rattle.channel_commands.specs.Data.{CallData, command as ask, ReplyData, don
 use Rattle.ckd_plain.specs.declared.host.HostState.{HostState}
 use Rattle.ckd_plain.specs.declared.unit_check.UnitCheck.TheVariants as check
 use Rattle.volume_table.specs.Changes.{effect}
-use Rattle.volume_table.specs.Listed.{listed}
+use Rattle.volume_table.specs.Listed.{row_in_list}
 use Rattle.volume_table.specs.declared.changes.Change.TheVariants as change
 use Rattle.table_pair.specs.Slots.{used_after, used_at}
 use Rattle.fault_queue.specs.declared.queue.RequestState.TheVariants as request
@@ -18,7 +18,7 @@ use Rattle.core_state.specs.CoreValue.{CoreData}
 use Rattle.core_state.specs.Devices.{StillHold, FailRead, HaveRow, FailRow, RunOn, FailOn}
 use Rattle.core_state.specs.HostEvents.{HostTold, replied, marked, waits, halts, at_limit, no_memory, response, exception, equipment, IsSame, Holds, Asks, run_of, page_under, RunsIt, HostDoes}
 use Rattle.core_state.specs.Pins.{page_of}
-use Rattle.core_state.specs.Steps.{noted, with_row, with_change, after_reply, after_stop, going_on, with_request, touching, used}
+use Rattle.core_state.specs.Steps.{with_event, with_row, with_change, after_reply, after_stop, going_on, with_request, touching, after_use}
 use Rattle.host_events.proofs.RuleFacts.{IsLate}
 
 -- a reply that is put in the history without a look at the devices
@@ -27,12 +27,12 @@ IsReplied tells core h call fault answer core' = StillHold tells core.site core'
 
 abbrev pub IsMarked : Type 0 → CoreData → ℕ → CallData → ℕ → ℕ → CoreData → Type 0
 IsMarked tells core h call volume cylinder core' =
-    ForSome (listed core.rows volume) (λ r. HaveRow tells volume (effect (change.Changed cylinder) r) (used_after (used_at core.used volume)) core.site core'.site)
-    × (core' ≡ noted (Host h) (touching (volume, page_of cylinder) (with_request h volume cylinder request.Ready (with_change volume (change.Changed cylinder) (record (going_on core h call) { site = core'.site })))))
+    ForSome (row_in_list core.rows volume) (λ r. HaveRow tells volume (effect (change.Changed cylinder) r) (used_after (used_at core.used volume)) core.site core'.site)
+    × (core' ≡ with_event (Host h) (touching (volume, page_of cylinder) (with_request h volume cylinder request.Ready (with_change volume (change.Changed cylinder) (record (going_on core h call) { site = core'.site })))))
 
 abbrev pub IsUnmarked : Type 0 → CoreData → ℕ → CallData → ℕ → ℕ → ℕ → CoreData → Type 0
 IsUnmarked tells core h call volume cylinder fault core' =
-    ForSome (listed core.rows volume) (λ r. FailRow tells volume (effect (change.Changed cylinder) r) fault core.site core'.site)
+    ForSome (row_in_list core.rows volume) (λ r. FailRow tells volume (effect (change.Changed cylinder) r) fault core.site core'.site)
     × (core' ≡ after_stop core'.site h call (with_row volume (change.Changed cylinder) core))
 
 -- a command on a frame: a read failed; it was carried out; a write failed
@@ -44,7 +44,7 @@ abbrev pub IsRun : Type 0 → CoreData → ℕ → CallData → Command → ℕ 
 IsRun tells core h call c volume frame code argument chained reply core' =
     (call ≡ ask code argument chained) × (host : HostState)
     × RunOn tells (run_of core h frame c argument chained) core.site core'.site (reply, host)
-    × (core' ≡ after_reply core'.site h call None (reply, host) (used c (page_under core h volume) frame core))
+    × (core' ≡ after_reply core'.site h call None (reply, host) (after_use c (page_under core h volume) frame core))
 
 abbrev pub IsUnwritten : Type 0 → CoreData → ℕ → CallData → Command → ℕ → ℕ → List ℕ → Bool → ℕ → CoreData → Type 0
 IsUnwritten tells core h call c frame code argument chained fault core' =
@@ -77,7 +77,7 @@ module _ (tells : Type 0) (core : CoreData) (h : ℕ) (core' : CoreData) where
   -- a command that ran, by its reply
   run_by : (code : ℕ) (argument : List ℕ) (chained : Bool) (P : HostRule → HostTold → Type 0) → EachOutcome tells core h (ask code argument chained) core' P → (c : Command) (volume frame : ℕ) (reply : ReplyData) (host : HostState)
       → RunOn tells (run_of core h frame c argument chained) core.site core'.site (reply, host)
-      → core' ≡ after_reply core'.site h (ask code argument chained) None (reply, host) (used c (page_under core h volume) frame core) → P (Runs c volume frame) (replied (length core.history) reply)
+      → core' ≡ after_reply core'.site h (ask code argument chained) None (reply, host) (after_use c (page_under core h volume) frame core) → P (Runs c volume frame) (replied (length core.history) reply)
   run_by code argument chained P each c volume frame (done status bytes) host ran is = each.runs c volume frame code argument chained status bytes (refl, host, ran, is)
   run_by code argument chained P each c volume frame _ host ran is = absurd ran.done_
 

@@ -6,21 +6,21 @@ use Rattle.std.proofs.lemmas.Bool.{eq-eqb, false≢true}
 use Rattle.mss_base.specs.Content.{SiteLog}
 use Rattle.mss_base.specs.Firsts.{where_so}
 use Rattle.channel_commands.specs.Data.{CallData}
-use Rattle.volume_table.specs.Listed.{listed}
+use Rattle.volume_table.specs.Listed.{row_in_list}
 use Rattle.volume_table.specs.Row.{RowValue, state_of}
 use Rattle.fault_queue.specs.declared.queue.Request.{Request}
 use Rattle.fault_queue.specs.declared.queue.RequestState.TheVariants.{Queued, Moving, Ready}
 use Rattle.fault_queue.specs.Requests.{RequestsData, request_of, with_state, without_request, asked_as, put_request}
 use Rattle.core_state.specs.declared.session.Event.TheVariants.{Host}
 use Rattle.core_state.specs.CoreValue.{CoreData, CoreValue}
-use Rattle.core_state.specs.Entered.{worked}
+use Rattle.core_state.specs.Entered.{core_after_work}
 use Rattle.core_state.specs.HostEvents.{Asks}
 use Rattle.core_state.specs.HostRules.{is_for, request_for}
 use Rattle.core_state.specs.IsCore.{IsCore, IsPlaced}
 use Rattle.core_state.specs.Pins.{host_at, is_on}
 use Rattle.core_state.specs.Running.{IsNotAwaited}
 use Rattle.core_state.specs.SessionData.{data_of}
-use Rattle.core_state.specs.Steps.{noted, with_request, going_on}
+use Rattle.core_state.specs.Steps.{with_event, with_request, going_on}
 use Rattle.core_state.specs.TheCore.{IsWhole}
 use Rattle.core_state.proofs.BesideFacts.{whole_noted, counted_noted}
 use Rattle.core_state.proofs.CoreWork.{owned_of}
@@ -58,13 +58,13 @@ module _ {S C : Type 0} (tells : Type 0) (s : SiteLog) (writes faults : ℕ) (v 
   quiet : IsNotAwaited v h
   quiet q at moves = none_some q (sym none ∙ at)
 
-  whole_asked : IsWhole tells s (worked v v.site v.rows v.console v.owners v.moving (put_request v.requests h asked) v.tasks)
+  whole_asked : IsWhole tells s (core_after_work v v.site v.rows v.console v.owners v.moving (put_request v.requests h asked) v.tasks)
   whole_asked =
       whole_work S tells s v v.site v.owners v.moving (put_request v.requests h asked) v.tasks is.whole on.goes.going (owned_of S v core) core.moving_
       (asked_own S v core h low asked on.asks.free (λ q at. subst (IsPlaced (host_at v.hosts h)) (some_is _ q at) (ap (is_on volume) on.mounted ∙ eq-eqb volume volume refl, sym on.cylinder_)))
-      (waiting_put (listed v.rows) v.requests h asked core.requests_ core.waiting
-      (λ q at waits. subst (λ (z : Request). ForSome (listed v.rows z.volume) (λ k. state_of k z.cylinder < 2)) (some_is _ q at) (λ k there. subst (λ (z : RowValue). state_of z cylinder < 2) (some_is on.r k (sym on.there ∙ there)) on.unstaged)))
-      (tasks_with_request v.config.frames (listed v.rows) v.moving v.requests v.hosts v.tasks core.tasks_ h asked core.requests_ quiet
+      (waiting_put (row_in_list v.rows) v.requests h asked core.requests_ core.waiting
+      (λ q at waits. subst (λ (z : Request). ForSome (row_in_list v.rows z.volume) (λ k. state_of k z.cylinder < 2)) (some_is _ q at) (λ k there. subst (λ (z : RowValue). state_of z cylinder < 2) (some_is on.r k (sym on.there ∙ there)) on.unstaged)))
+      (tasks_with_request v.config.frames (row_in_list v.rows) v.moving v.requests v.hosts v.tasks core.tasks_ h asked core.requests_ quiet
       (λ q at moves. let a : Queued ≡ q.state = ap (λ (z : Request). z.state) (some_is _ q at) in let b : Queued ≡ Moving = a ∙ moves in cc))
       (fit_put v.config.recorders v.rows v.rows v.requests v.hosts v.tasks v.tasks core.fit refl (λ w there. there) (λ k q at ready there. there) h asked core.requests_
       (λ q at ready. absurd (let a : Queued ≡ q.state = ap (λ (z : Request). z.state) (some_is _ q at) in let b : Queued ≡ Ready = a ∙ ready in cc)))
@@ -94,7 +94,7 @@ asks_old tells v h call volume cylinder mine some = by (request_of v.requests h)
     by None at is = absurd (false≢true is)
     by (Some q) at is = (
       record { told = λ tl. refl; unwritten = refl; sound = refl },
-      (λ i. record (if is_some (sym (mine q at) i) then v else noted (Host h) (with_request h volume cylinder Queued (going_on v h call))) { site = v.site }),
+      (λ i. record (if is_some (sym (mine q at) i) then v else with_event (Host h) (with_request h volume cylinder Queued (going_on v h call))) { site = v.site }),
     )
 
 -- one that has none asks
@@ -109,7 +109,7 @@ module _ (tells : Type 0) (v : CoreData) (h : ℕ) (call : CallData) (volume cyl
   asks_new = (
     record { told = λ tl. refl; unwritten = refl; sound = refl },
     sym (ap (λ (x : CoreData). record x { site = v.site })
-        (ap (λ (x : CoreData). if is_some (request_for v h call) then v else noted (Host h) (with_request h volume cylinder Queued x)) goes_on_as
+        (ap (λ (x : CoreData). if is_some (request_for v h call) then v else with_event (Host h) (with_request h volume cylinder Queued x)) goes_on_as
         ∙ (λ i. if is_some (when_for (none i)) then v
-        else noted (Host h) (record v { requests = (if is_some (none i) then with_state h Queued v.requests else (v.requests ++ (h, queued volume cylinder) ∷ [])) })))),
+        else with_event (Host h) (record v { requests = (if is_some (none i) then with_state h Queued v.requests else (v.requests ++ (h, queued volume cylinder) ∷ [])) })))),
   )

@@ -17,10 +17,10 @@ use Rattle.ckd_track.specs.Track.{Reading, reading, reading_of}
 use Rattle.ckd_plain.specs.declared.host.HostState.{HostState}
 use Rattle.ckd_plain.specs.Effects.{prior_number}
 use Rattle.ckd_plain.specs.Laws.{HasNoBytes}
-use Rattle.ckd_plain.specs.Plain.{IsDone, IsSmooth, opened}
+use Rattle.ckd_plain.specs.Plain.{IsDone, IsSmooth, with_open_chain}
 use Rattle.ckd_plain.proofs.WriteFacts.{no_bytes}
 use Rattle.track_engine.specs.declared.place.CylinderPlace.{CylinderPlace}
-use Rattle.track_engine.specs.Answers.{asked, ran, AsksNothing, Runs, LeavesHost, LeavesDevices}
+use Rattle.track_engine.specs.Answers.{asked_command, ran, AsksNothing, RunsCommand, LeavesHost, LeavesDevices}
 use Rattle.track_engine.specs.Faults.{HasUnitCheck, FailsBy, IsNoFailure}
 use Rattle.track_engine.specs.declared.place.EngineFault.{EngineFault}
 use Rattle.track_engine.specs.declared.place.EngineFault.TheVariants.{ReadFailed, WriteFailed, Memory}
@@ -76,9 +76,9 @@ lacks_room g by_write old new (WriteFailed fault) fails sound = absurd sound
 module _ {S : Type 0} (g : Ghosts S) (c : Command) (call : CallData)
     (bytes : List ℕ) (bytes_is : bytes ≡ argument_of call) (linked : Bool) (linked_is : linked ≡ is_chained call)
     (place : CylinderPlace) (at : BlockPlace) (unit_is : place.unit ≡ at.unit) (first_is : place.first_block ≡ at.block) (host left : HostState) (old new : S) (reply : Reply)
-    (runs : g.tells → Runs (asked c bytes linked host place) (g.told old) (g.told new) (Ok reply) left) (leaves : LeavesHost linked host left (Ok reply))
+    (runs : g.tells → RunsCommand (asked_command c bytes linked host place) (g.told old) (g.told new) (Ok reply) left) (leaves : LeavesHost linked host left (Ok reply))
     (site : LeavesDevices g c place.unit old new (Ok reply))
-    (untouched : g.tells → AsksNothing (asked c bytes linked host place) (g.told old) → OnlyReads g old new) where
+    (untouched : g.tells → AsksNothing (asked_command c bytes linked host place) (g.told old) → OnlyReads g old new) where
   there : (F : List ℕ → Bool → UnitNo → ℕ → Type 0) → F bytes linked place.unit place.first_block → F (argument_of call) (is_chained call) at.unit at.block
   there F f = subst (λ (p : List ℕ × Bool × UnitNo × ℕ). F p.0 p.1 p.2 p.3) (λ i. (bytes_is i, linked_is i, unit_is i, first_is i)) f
 
@@ -89,9 +89,9 @@ module _ {S : Type 0} (g : Ghosts S) (c : Command) (call : CallData)
     chain = record { asked = λ open_. sym linked_is ∙ leaves.chain.asked open_; smooth = λ open_. subst IsSmooth (sym is) (bare_smooth c (reply_of reply) (leaves.chain.smooth open_)) };
     reply_ = λ tl.
         is ∙ ap (bare_write c) (there (λ a l u b. reply_of reply ≡ (ran (content (g.told old)) u b host c a l).reply) (runs tl).answer.reply_)
-        ∙ bare_same c _ (no_bytes (tracks_at (content (g.told old)) at.unit at.block) (opened host) c (argument_of call) (is_chained call));
+        ∙ bare_same c _ (no_bytes (tracks_at (content (g.told old)) at.unit at.block) (with_open_chain host) c (argument_of call) (is_chained call));
     host_ = λ tl. there (λ a l u b. left ≡ (ran (content (g.told old)) u b host c a l).host) (runs tl).answer.host_;
-    moments = λ tl. there (λ a l u b. WritesTrack c (opened host) u b (g.told old) (g.told new) (ran (content (g.told old)) u b host c a l).written) (runs tl).writes;
+    moments = λ tl. there (λ a l u b. WritesTrack c (with_open_chain host) u b (g.told old) (g.told new) (ran (content (g.told old)) u b host c a l).written) (runs tl).writes;
     exact = λ tl. there (λ a l u b. HoldsWritten (ran (content (g.told old)) u b host c a l).written (reading (content (g.told new) u (b + host.head)))) (holds_written _ _ (runs tl).exact);
     firm = λ tl. (runs tl).firm;
     later = site.devices.written;
@@ -99,7 +99,7 @@ module _ {S : Type 0} (g : Ghosts S) (c : Command) (call : CallData)
     looks = λ reads. (site.looks reads).unwritten;
     refused = λ checks. (site.unwritten (bare_check c (reply_of reply) (subst HasUnitCheck is checks))).unwritten;
     untouched = λ tl nothing.
-        (untouched tl (subst (λ (p : UnitNo × ℕ). IsOfNothing c (prior_number (opened host).prior) (tracks_at (content (g.told old)) p.0 p.1 host.head)) (λ i. (sym unit_is i, sym first_is i)) nothing)).unwritten;
+        (untouched tl (subst (λ (p : UnitNo × ℕ). IsOfNothing c (prior_number (with_open_chain host).prior) (tracks_at (content (g.told old)) p.0 p.1 host.head)) (λ i. (sym unit_is i, sym first_is i)) nothing)).unwritten;
     sound = site.same;
   }
 

@@ -5,7 +5,7 @@ use Rattle.mss_base.specs.declared.site.Site.{Ghosts}
 use Rattle.channel_commands.specs.Data.{CallData}
 use Rattle.core_state.specs.declared.rule.HostRule.{HostRule}
 use Rattle.core_state.specs.declared.rule.HostRule.TheVariants.{IsStopped, IsFull, IsBusy, IsMoving, IsHeld, Responds, HasFailed, HasNoSpace, Faults, Marks, Runs}
-use Rattle.core_state.specs.CoreValue.{CoreValue, seen}
+use Rattle.core_state.specs.CoreValue.{CoreValue, seen_core}
 use Rattle.core_state.specs.HostEvents.{halts, at_limit, no_memory, IsSame, HostDoes, HostEvent}
 use Rattle.core_state.specs.HostRules.{host_rule}
 use Rattle.core_state.specs.IsCore.{IsCore}
@@ -18,16 +18,16 @@ pub kept_by : {S C : Type 0} (tells : Type 0) (site : SiteLog) (writes faults : 
 kept_by tells site writes faults u v view kept going = subst (λ c. IsCore c) view (kept.whole.kept (subst (λ c. c.stopped ≡ None) (sym view) going))
 
 module _ {S C : Type 0} (g : Ghosts S) (v : CoreValue S C) where
-  same : IsSame g.tells (seen g v) (seen g v)
+  same : IsSame g.tells (seen_core g v) (seen_core g v)
   same = (record { told = λ _. refl; unwritten = refl; sound = refl }, refl)
 
-  pub refused_stopped : (fault : ℕ) → v.stopped ≡ Some fault → (h : ℕ) (call : CallData) → HostEvent g.tells (seen g v) h call (halts fault) (seen g v)
+  pub refused_stopped : (fault : ℕ) → v.stopped ≡ Some fault → (h : ℕ) (call : CallData) → HostEvent g.tells (seen_core g v) h call (halts fault) (seen_core g v)
   refused_stopped fault is h call =
-      subst (λ (r : HostRule). HostDoes g.tells (seen g v) h call r (halts fault) (seen g v)) (sym (host_stopped (seen g v) fault h call is)) (refl, same)
+      subst (λ (r : HostRule). HostDoes g.tells (seen_core g v) h call r (halts fault) (seen_core g v)) (sym (host_stopped (seen_core g v) fault h call is)) (refl, same)
 
-  pub refused_full : v.stopped ≡ None → 4096 ≤ length v.history → (h : ℕ) (call : CallData) → HostEvent g.tells (seen g v) h call at_limit (seen g v)
+  pub refused_full : v.stopped ≡ None → 4096 ≤ length v.history → (h : ℕ) (call : CallData) → HostEvent g.tells (seen_core g v) h call at_limit (seen_core g v)
   refused_full none long h call =
-      subst (λ (r : HostRule). HostDoes g.tells (seen g v) h call r at_limit (seen g v)) (sym (full_rule_met (seen g v) h call (none, long))) (refl, same)
+      subst (λ (r : HostRule). HostDoes g.tells (seen_core g v) h call r at_limit (seen_core g v)) (sym (full_rule_met (seen_core g v) h call (none, long))) (refl, same)
 
   module _ (kept : v.stopped ≡ None → IsCore v) (none : v.stopped ≡ None) (few : length v.history < 4096) (h : ℕ) (call : CallData) where
     late : (rule : HostRule) → host_rule v h call ≡ rule → IsLate rule
@@ -43,7 +43,7 @@ module _ {S C : Type 0} (g : Ghosts S) (v : CoreValue S C) where
     late (Marks volume cylinder) is = tt
     late (Runs c volume frame) is = tt
 
-    lacks : (rule : HostRule) → IsLate rule → HostDoes g.tells (seen g v) h call rule no_memory (seen g v)
+    lacks : (rule : HostRule) → IsLate rule → HostDoes g.tells (seen_core g v) h call rule no_memory (seen_core g v)
     lacks (IsStopped fault) l = absurd l
     lacks IsFull l = absurd l
     lacks (IsBusy owner) l = same
@@ -56,6 +56,6 @@ module _ {S C : Type 0} (g : Ghosts S) (v : CoreValue S C) where
     lacks (Marks volume cylinder) l = same
     lacks (Runs c volume frame) l = same
 
-    pub refused_memory : HostEvent g.tells (seen g v) h call no_memory (seen g v)
+    pub refused_memory : HostEvent g.tells (seen_core g v) h call no_memory (seen_core g v)
     refused_memory =
-        subst (λ (r : HostRule). HostDoes g.tells (seen g v) h call r no_memory (seen g v)) (sym (rule_seen g v h call)) (lacks (host_rule v h call) (late (host_rule v h call) refl))
+        subst (λ (r : HostRule). HostDoes g.tells (seen_core g v) h call r no_memory (seen_core g v)) (sym (rule_seen g v h call)) (lacks (host_rule v h call) (late (host_rule v h call) refl))

@@ -11,9 +11,9 @@ use Rattle.channel_commands.specs.Data.{CallData, ReplyData, stopped}
 use Rattle.ckd_plain.specs.declared.host.HostState.{HostState}
 use Rattle.ckd_plain.specs.Data.{State}
 use Rattle.ckd_plain.specs.Plain.{with_host}
-use Rattle.ckd_plain.specs.History.{EntryData, IsNextEntry, IsStopped, next, keeps_fault, count_of_host}
+use Rattle.ckd_plain.specs.History.{EntryData, IsNextEntry, IsStopped, state_after, keeps_fault, count_of_host}
 use Rattle.ckd_plain.specs.Near.{unchanged}
-use Rattle.volume_table.specs.Listed.{listed}
+use Rattle.volume_table.specs.Listed.{row_in_list}
 use Rattle.core_state.specs.declared.session.Event.TheVariants.{Host}
 use Rattle.core_state.specs.Agrees.{EntryAgrees}
 use Rattle.core_state.specs.CoreValue.{CoreValue}
@@ -67,8 +67,8 @@ module _ (S : Type 0) {C : Type 0} (s : SiteLog) (v : CoreValue S C) (told : IsT
   abbrev e : EntryData
   e = entry_of v.history h call reply fault
 
-  pub enters_by : IsNextEntry (plain_of s v) (count_of_host h v.history) (entry_of v.history h call reply fault) × (next (plain_of s v) (entry_of v.history h call reply fault) ≡ with_host (plain_of s v) h now)
-      → EntryAgrees v.config.frames (listed v.rows) (plain_of s v) (entry_of v.history h call reply fault) reply
+  pub enters_by : IsNextEntry (plain_of s v) (count_of_host h v.history) (entry_of v.history h call reply fault) × (state_after (plain_of s v) (entry_of v.history h call reply fault) ≡ with_host (plain_of s v) h now)
+      → EntryAgrees v.config.frames (row_in_list v.rows) (plain_of s v) (entry_of v.history h call reply fault) reply
       → Enters v.config.frames v.rows (plain_of s v) v.history (entry_of v.history h call reply fault) (put_host v.hosts h now) v.tasks s s
   enters_by it agrees = record {
     may = it.0;
@@ -89,7 +89,7 @@ pub record Owes {S C : Type 0} (tells : Type 0) (s : SiteLog) (v : CoreValue S C
   -- whose the volume is, no other host owns
   pub mine : (volume : ℕ) → (is_on volume now.mounted && (now.chain_open || asks_for volume None)) ≡ true → (other : ℕ) → owns v.hosts v.requests other volume ≡ true → other ≡ h
   pub binds : (volume : ℕ) → now.mounted ≡ Some (volume, true) → ((host_at v.hosts h).mounted ≡ Some (volume, true)) ⊎ IsNotTaken v.tasks volume
-  pub has : (volume : ℕ) → is_on volume now.mounted ≡ true → IsSome (listed v.rows volume)
+  pub has : (volume : ℕ) → is_on volume now.mounted ≡ true → IsSome (row_in_list v.rows volume)
   pub enters : tells → Enters v.config.frames v.rows (plain_of s v) v.history (entry_of v.history h call reply fault) (put_host v.hosts h now) v.tasks s s
   pub keeps : IsSome fault ↔ IsTrue (keeps_fault reply)
   pub goes_on : IsStopped reply → ⊥
@@ -106,7 +106,7 @@ module _ {S C : Type 0} (tells : Type 0) (s : SiteLog) (writes faults : ℕ) (v 
     whole = whole_noted tells s _ (v.events ++ Host h ∷ [])
         (whole_entry S v core h low now None (λ q none. absurd (none_some q none)) (λ q none queued. absurd (none_some q none)) owes.mine tells s s v.site (entry_of v.history h call reply fault) writes v.tasks
         is.whole goes.going goes.few
-        (tasks_with_host v.config.frames (listed v.rows) v.moving v.requests v.hosts v.tasks core.tasks_ h now None (host_fits v.hosts h low core.hosts_) core.requests_ quiet (λ q none. absurd (none_some q none)) owes.binds)
+        (tasks_with_host v.config.frames (row_in_list v.rows) v.moving v.requests v.hosts v.tasks core.tasks_ h now None (host_fits v.hosts h low core.hosts_) core.requests_ quiet (λ q none. absurd (none_some q none)) owes.binds)
         refl (λ q ready. ready) owes.has (λ q none. absurd (none_some q none)) owes.enters counts owes.goes_on);
     counted = counted_noted writes faults _ _ (v.events ++ Host h ∷ [])
         (counted_entry writes faults writes faults v.requests (data_of v) is.counted (omega arith) (omega arith) goes.going (entry_of v.history h call reply fault) h None core.requests_

@@ -11,16 +11,16 @@ use Rattle.channel_commands.specs.Data.{CallData, mount, demount, command as ask
 use Rattle.ckd_track.specs.Data.{Volumes}
 use Rattle.ckd_plain.specs.declared.host.HostState.{HostState}
 use Rattle.ckd_plain.specs.declared.unit_check.UnitCheck.{UnitCheck}
-use Rattle.ckd_plain.specs.Checks.{admitted}
+use Rattle.ckd_plain.specs.Checks.{admitted_command}
 use Rattle.ckd_plain.specs.Data.{State}
 use Rattle.ckd_plain.specs.Effects.{is_data, Outcome}
 use Rattle.ckd_plain.specs.Index.{Tracks}
-use Rattle.ckd_plain.specs.Plain.{NeedsNoTrack, opened, answered, performed, judged, run, plain, responded, mark_for, with_response}
-use Rattle.ckd_plain.specs.History.{EntryData, IsAlone, IsNextEntry, IsAnswered, IsDataCommand, keeps_fault, count_of_host, next}
+use Rattle.ckd_plain.specs.Plain.{NeedsNoTrack, with_open_chain, outcome_answer, command_answer, answer_by_checks, answer_on_tracks, plain, response_to, mark_for, with_response}
+use Rattle.ckd_plain.specs.History.{EntryData, IsAlone, IsNextEntry, IsAnswered, IsDataCommand, keeps_fault, count_of_host, state_after}
 use Rattle.ckd_plain.proofs.CommandFacts.{volume_stays}
 use Rattle.ckd_plain.proofs.Entries.{plain_entry}
 use Rattle.ckd_plain.proofs.ResponseFacts.{call_responds}
-use Rattle.volume_table.specs.Listed.{listed}
+use Rattle.volume_table.specs.Listed.{row_in_list}
 use Rattle.volume_table.specs.Row.{RowValue}
 use Rattle.shown_volumes.specs.Shown.{RowsOf, is_marked}
 use Rattle.fault_queue.specs.Requests.{request_of}
@@ -64,12 +64,12 @@ no_data s h (break cause) none d = d
 
 -- ---- which replies they get
 
-answered_sound : (c : Command) (chained : Bool) (o : Outcome) → keeps_fault (answered c chained o).reply ≡ false
+answered_sound : (c : Command) (chained : Bool) (o : Outcome) → keeps_fault (outcome_answer c chained o).reply ≡ false
 answered_sound c chained (Ok e) = refl
 answered_sound c chained (Err r) = refl
 
-judged_sound : (tracks : Tracks) (host : HostState) (argument : List ℕ) (chained : Bool) (r : Result Command UnitCheck) → keeps_fault (judged tracks host argument chained r).reply ≡ false
-unfolding performed
+judged_sound : (tracks : Tracks) (host : HostState) (argument : List ℕ) (chained : Bool) (r : Result Command UnitCheck) → keeps_fault (answer_by_checks tracks host argument chained r).reply ≡ false
+unfolding command_answer
 judged_sound tracks host argument chained (Ok c) = answered_sound c chained _
 judged_sound tracks host argument chained (Err check) = refl
 
@@ -81,20 +81,20 @@ chosen P false x y p q = q refl
 abbrev KeepsNone : ReplyData × HostState → Type 0
 KeepsNone r = keeps_fault r.0 ≡ false
 
-response_sound : (host : HostState) (mark : Option Bool) (call : CallData) → keeps_fault (responded host mark call).0 ≡ false
-unfolding responded run
+response_sound : (host : HostState) (mark : Option Bool) (call : CallData) → keeps_fault (response_to host mark call).0 ≡ false
+unfolding response_to answer_on_tracks
 response_sound host mark (mount volume bind) =
     chosen KeepsNone host.chain_open _ _ (λ _. refl) (λ _. chosen KeepsNone (is_some host.mounted) _ _ (λ _. refl) (λ _. by_mark KeepsNone host volume bind mark (λ _ _. refl) (λ _. refl)))
 response_sound host mark demount = chosen KeepsNone host.chain_open _ _ (λ _. refl) (λ _. chosen KeepsNone (is_some host.mounted) _ _ (λ _. refl) (λ _. refl))
 response_sound host mark (break cause.Program) = refl
 response_sound host mark (break cause.Limit) = refl
-response_sound host mark (ask code argument chained) = judged_sound (λ head. []) (opened host) argument chained (admitted (opened host) code argument)
+response_sound host mark (ask code argument chained) = judged_sound (λ head. []) (with_open_chain host) argument chained (admitted_command (with_open_chain host) code argument)
 
 -- ---- the host then
 
 -- a command leaves it its volume
-command_mounted : (host : HostState) (mark : Option Bool) (code : ℕ) (argument : List ℕ) (chained : Bool) → (responded host mark (ask code argument chained)).1.mounted ≡ host.mounted
-unfolding responded
+command_mounted : (host : HostState) (mark : Option Bool) (code : ℕ) (argument : List ℕ) (chained : Bool) → (response_to host mark (ask code argument chained)).1.mounted ≡ host.mounted
+unfolding response_to
 command_mounted host mark code argument chained = volume_stays (λ head. []) host code argument chained
 
 -- another call opens no chain
@@ -102,8 +102,8 @@ module _ (host : HostState) (mark : Option Bool) where
   abbrev Keeps : ReplyData × HostState → Type 0
   Keeps r = r.1.chain_open ≡ true → (host.chain_open ≡ true) × (r.1.mounted ≡ host.mounted)
 
-  response_keeps : (call : CallData) → is_command call ≡ false → Keeps (responded host mark call)
-  unfolding responded
+  response_keeps : (call : CallData) → is_command call ≡ false → Keeps (response_to host mark call)
+  unfolding response_to
   response_keeps (mount volume bind) no_command =
       chosen Keeps host.chain_open _ _ (λ _ is. (is, refl)) (λ closed. chosen Keeps (is_some host.mounted) _ _ (λ _ is. (is, refl)) (λ _. by_mark Keeps host volume bind mark (λ _ _ is. absurd (false≢true (sym closed ∙ is))) (λ _ is. (is, refl))))
   response_keeps demount no_command =
@@ -143,7 +143,7 @@ bind_in (Some m) = m.1
 
 module _ {S C : Type 0} (v : CoreValue S C) (host : HostState) where
   -- a mount with bind that is accepted
-  would : (volume : ℕ) (bind : Bool) → bind ≡ true → host.chain_open ≡ false → is_some host.mounted ≡ false → is_some (listed v.rows volume) ≡ true → would_bind v host (mount volume bind) ≡ Some volume
+  would : (volume : ℕ) (bind : Bool) → bind ≡ true → host.chain_open ≡ false → is_some host.mounted ≡ false → is_some (row_in_list v.rows volume) ≡ true → would_bind v host (mount volume bind) ≡ Some volume
   would volume true is closed bare there = λ i. where_so (not (closed i) && not (bare i) && there i) volume
   would volume false is closed bare there = absurd (false≢true is)
 
@@ -151,32 +151,32 @@ module _ {S C : Type 0} (v : CoreValue S C) (host : HostState) where
   Binds r = (volume : ℕ) → r.1.mounted ≡ Some (volume, true) → (host.mounted ≡ Some (volume, true)) ⊎ IsNotTaken v.tasks volume
 
   -- no task takes a frame from the volume that is bound then
-  response_binds : (call : CallData) → is_command call ≡ false → ((volume : ℕ) → would_bind v host call ≡ Some volume → taken_from volume v.tasks ≡ None) → Binds (responded host (mark_in v.rows call) call)
-  unfolding responded
+  response_binds : (call : CallData) → is_command call ≡ false → ((volume : ℕ) → would_bind v host call ≡ Some volume → taken_from volume v.tasks ≡ None) → Binds (response_to host (mark_in v.rows call) call)
+  unfolding response_to
   response_binds (mount volume bind) no_command untaken =
       chosen Binds host.chain_open _ _ (λ _ w is. inl is) (λ closed. chosen Binds (is_some host.mounted) _ _ (λ _ w is. inl is) (λ bare. by_mark Binds host volume bind (mark_in v.rows (mount volume bind))
       (λ read_only marked w is. inr (subst (IsNotTaken v.tasks) (ap volume_in is)
-      (not_taken volume v.tasks (untaken volume (would volume bind (ap bind_in is) closed bare (marked_there (listed v.rows volume) read_only marked)))))) (λ _ w is. inl is)))
+      (not_taken volume v.tasks (untaken volume (would volume bind (ap bind_in is) closed bare (marked_there (row_in_list v.rows volume) read_only marked)))))) (λ _ w is. inl is)))
   response_binds demount no_command untaken =
       chosen Binds host.chain_open _ _ (λ _ w is. inl is) (λ closed. chosen Binds (is_some host.mounted) _ _ (λ _ w is. absurd (none_some (w, true) is)) (λ _ w is. inl is))
   response_binds (break cause) no_command untaken = λ w is. inl is
   response_binds (ask code argument chained) no_command untaken = absurd (false≢true (sym no_command))
 
   abbrev HasRows : ReplyData × HostState → Type 0
-  HasRows r = (volume : ℕ) → is_on volume r.1.mounted ≡ true → IsSome (listed v.rows volume)
+  HasRows r = (volume : ℕ) → is_on volume r.1.mounted ≡ true → IsSome (row_in_list v.rows volume)
 
   -- the volume that is mounted then has a row
-  response_has : HasRows (stopped, host) → (call : CallData) → is_command call ≡ false → HasRows (responded host (mark_in v.rows call) call)
-  unfolding responded
+  response_has : HasRows (stopped, host) → (call : CallData) → is_command call ≡ false → HasRows (response_to host (mark_in v.rows call) call)
+  unfolding response_to
   response_has had (mount volume bind) no_command =
       chosen HasRows host.chain_open _ _ (λ _. had) (λ closed. chosen HasRows (is_some host.mounted) _ _ (λ _. had)
       (λ _. by_mark HasRows host volume bind (mark_in v.rows (mount volume bind))
-      (λ read_only marked w is. ap (λ (n : ℕ). is_some (listed v.rows n)) (sym (eqb-true volume w is)) ∙ marked_there (listed v.rows volume) read_only marked) (λ _. had)))
+      (λ read_only marked w is. ap (λ (n : ℕ). is_some (row_in_list v.rows n)) (sym (eqb-true volume w is)) ∙ marked_there (row_in_list v.rows volume) read_only marked) (λ _. had)))
   response_has had demount no_command = chosen HasRows host.chain_open _ _ (λ _. had) (λ closed. chosen HasRows (is_some host.mounted) _ _ (λ _ w is. absurd (false≢true is)) (λ _. had))
   response_has had (break cause) no_command = had
   response_has had (ask code argument chained) no_command = absurd (false≢true (sym no_command))
 
-command_stays : (host : HostState) (mark : Option Bool) (call : CallData) → is_command call ≡ true → (responded host mark call).1.mounted ≡ host.mounted
+command_stays : (host : HostState) (mark : Option Bool) (call : CallData) → is_command call ≡ true → (response_to host mark call).1.mounted ≡ host.mounted
 command_stays host mark (ask code argument chained) is = command_mounted host mark code argument chained
 command_stays host mark (mount volume bind) is = absurd (false≢true is)
 command_stays host mark demount is = absurd (false≢true is)
@@ -208,32 +208,32 @@ module _ {S C : Type 0} (s : SiteLog) (v : CoreValue S C) (told : IsTold s v) (c
   here = ap (λ (f : ℕ → HostState). f h) going.hosts_
 
   abbrev r : ReplyData × HostState
-  r = responded (host_at v.hosts h) (mark_in v.rows call) call
+  r = response_to (host_at v.hosts h) (mark_in v.rows call) call
 
   -- a volume of the plain state has a mark where it has a row
   mark_is : (k : CallData) → mark_for (plain_of s v).volumes k ≡ mark_in v.rows k
   mark_is (mount volume bind) =
       ap (λ (vs : Volumes). mark_for vs (mount volume bind)) (sym going.shows)
       ∙ ap (λ (rows : RowsOf). option_map (λ (serial : List ℕ). is_marked (rows volume)) (option_map (λ (x : RowValue). x.serial) (rows volume))) going.rows_
-      ∙ marks_of (listed v.rows volume)
+      ∙ marks_of (row_in_list v.rows volume)
   mark_is _ = refl
 
-  answer_is : plain (plain_of s v) h call ≡ with_response (plain_of s v) h (responded (host_at v.hosts h) (mark_in v.rows call) call)
+  answer_is : plain (plain_of s v) h call ≡ with_response (plain_of s v) h (response_to (host_at v.hosts h) (mark_in v.rows call) call)
   answer_is =
       call_responds st h call (needs_none (st.host h) call (ap (λ (x : HostState). data_command x call) here ∙ none))
-      ∙ (λ i. with_response st h (responded (here i) (mark_is call i) call))
+      ∙ (λ i. with_response st h (response_to (here i) (mark_is call i) call))
 
   abbrev e : EntryData
   e = entry_of v.history h call r.0 None
 
-  may : IsNextEntry st (count_of_host h v.history) e × (next st e ≡ (plain st h call).1)
+  may : IsNextEntry st (count_of_host h v.history) e × (state_after st e ≡ (plain st h call).1)
   may = plain_entry st (count_of_host h v.history) e (sym (ap (λ (p : ReplyData × State). p.0) answer_is)) refl refl alone
 
-  pub response_enters : Enters v.config.frames v.rows (plain_of s v) v.history (entry_of v.history h call (responded (host_at v.hosts h) (mark_in v.rows call) call).0 None)
-      (put_host v.hosts h (responded (host_at v.hosts h) (mark_in v.rows call) call).1) v.tasks s s
+  pub response_enters : Enters v.config.frames v.rows (plain_of s v) v.history (entry_of v.history h call (response_to (host_at v.hosts h) (mark_in v.rows call) call).0 None)
+      (put_host v.hosts h (response_to (host_at v.hosts h) (mark_in v.rows call) call).1) v.tasks s s
   response_enters =
       enters_by S s v told core open_ h low call None r.0 r.1 (may.0, may.1 ∙ ap (λ (p : ReplyData × State). p.1) answer_is)
-      (agrees_plainly v.config.frames (listed v.rows) st e r.0 (response_sound (host_at v.hosts h) (mark_in v.rows call) call) may.0.answered
+      (agrees_plainly v.config.frames (row_in_list v.rows) st e r.0 (response_sound (host_at v.hosts h) (mark_in v.rows call) call) may.0.answered
       (no_data st h call (ap (λ (x : HostState). data_command x call) here ∙ none)))
 
 -- ---- the core then
@@ -249,7 +249,7 @@ module _ {S C : Type 0} (tells : Type 0) (s : SiteLog) (v : CoreValue S C) (whol
   mark = mark_in v.rows call
 
   abbrev after_ : HostState
-  after_ = (responded host mark call).1
+  after_ = (response_to host mark call).1
 
   or_false : (a : Bool) → (a || false) ≡ a
   or_false true = refl
@@ -263,7 +263,7 @@ module _ {S C : Type 0} (tells : Type 0) (s : SiteLog) (v : CoreValue S C) (whol
       let on_it : is_on volume host.mounted ≡ true = ap (is_on volume) (sym kept.1) ∙ parts.0 in
       core_.alone volume other h theirs (and_from _ _ on_it (ap (λ (b : Bool). b || asks_for volume (request_of v.requests h)) kept.0))
 
-  response_owes : Owes tells s v h call None (responded (host_at v.hosts h) (mark_in v.rows call) call).0 (responded (host_at v.hosts h) (mark_in v.rows call) call).1
+  response_owes : Owes tells s v h call None (response_to (host_at v.hosts h) (mark_in v.rows call) call).0 (response_to (host_at v.hosts h) (mark_in v.rows call) call).1
   response_owes = record {
     mine = elim (cases_Bool (is_command call)) [
       | inl is ↦ mine_still v h (on.free is) after_ (command_stays host mark call is)
@@ -279,12 +279,12 @@ module _ {S C : Type 0} (tells : Type 0) (s : SiteLog) (v : CoreValue S C) (whol
     ];
     enters = λ tl. let told = whole.told tl in response_enters s v told core_ on.goes.going h low call on.none (alone_there s v (told.going on.goes.going) h call on.free);
     keeps = ((λ some_. absurd (false≢true some_)), (λ keeps. absurd (false≢true (sym (response_sound host mark call) ∙ keeps))));
-    goes_on = unstopped (responded host mark call).0 (response_sound host mark call);
+    goes_on = unstopped (response_to host mark call).0 (response_sound host mark call);
     from = λ kept none. absurd (none_some kept none);
   }
 
 pub upheld_response : {S C : Type 0} (tells : Type 0) (s : SiteLog) (writes faults : ℕ) (v : CoreValue S C) → IsUpheld tells s writes faults v → (tells → writes ≡ length s.log) → (h : ℕ) → IsHost h → (call : CallData)
-    → OnResponse v h call → IsUpheld tells s writes faults (after_answer v writes h call None (responded (host_at v.hosts h) (mark_in v.rows call) call))
+    → OnResponse v h call → IsUpheld tells s writes faults (after_answer v writes h call None (response_to (host_at v.hosts h) (mark_in v.rows call) call))
 upheld_response tells s writes faults v is counts h low call on =
-    let r = responded (host_at v.hosts h) (mark_in v.rows call) call in
+    let r = response_to (host_at v.hosts h) (mark_in v.rows call) call in
     upheld_reply tells s writes faults v is counts on.goes h low on.quiet call None r.0 r.1 (response_owes tells s v is.whole h low call on)

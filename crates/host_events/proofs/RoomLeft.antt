@@ -6,7 +6,7 @@ use Rattle.mss_base.specs.Sites.{MayWrite}
 use Rattle.mss_base.specs.declared.place.UnitNo.{UnitNo}
 use Rattle.mss_base.specs.declared.site.Site.{Ghosts}
 use Rattle.fault_queue.specs.Requests.{RequestsData}
-use Rattle.core_state.specs.CoreValue.{CoreValue, seen}
+use Rattle.core_state.specs.CoreValue.{CoreValue, seen_core}
 use Rattle.core_state.specs.HostEvents.{IsSame}
 use Rattle.core_state.specs.MakingRoom.{Reserves}
 use Rattle.core_state.specs.SessionData.{SessionData, data_of, of_parts}
@@ -44,10 +44,10 @@ module _ {S C : Type 0} (g : Ghosts S) {u v : CoreValue S C} (view : u ≡ v) {m
 
   -- nothing changed but the room
   pub left_same : (requests : RequestsData) (d : SessionData) → requests ≡ u.requests → d ≡ data_of u
-      → IsSame g.tells (seen g v) (seen g (of_parts u mid u.rows u.owners u.moving requests u.tasks u.hosts d))
+      → IsSame g.tells (seen_core g v) (seen_core g (of_parts u mid u.rows u.owners u.moving requests u.tasks u.hosts d))
   left_same requests d requests_is d_is =
       let told = d_is ∙ ap (λ (z : CoreValue S C). data_of z) view in
       let asked = requests_is ∙ ap (λ (z : CoreValue S C). z.requests) view in (
         record { told = reserves.log; unwritten = reserves.unwritten; sound = reserves.same },
-        (λ i. seen g (of_parts (view i) mid (view i).rows (view i).owners (view i).moving (asked i) (view i).tasks (view i).hosts (told i))),
+        (λ i. seen_core g (of_parts (view i) mid (view i).rows (view i).owners (view i).moving (asked i) (view i).tasks (view i).hosts (told i))),
       )

@@ -10,12 +10,12 @@ use Rattle.channel_commands.specs.declared.command.Command.{Command}
 use Rattle.channel_commands.specs.Codes.{is_write}
 use Rattle.channel_commands.specs.Data.{CallData, mount, demount, command as ask, break, is_command}
 use Rattle.ckd_plain.specs.declared.host.HostState.{HostState}
-use Rattle.ckd_plain.specs.Checks.{admitted, Passes}
+use Rattle.ckd_plain.specs.Checks.{admitted_command, Passes}
 use Rattle.ckd_plain.proofs.CheckFacts.{admitted_is}
 use Rattle.ckd_plain.specs.Effects.{is_data}
-use Rattle.ckd_plain.specs.Plain.{opened}
+use Rattle.ckd_plain.specs.Plain.{with_open_chain}
 use Rattle.volume_table.specs.Row.{RowValue, IsRow, frame_of, state_of}
-use Rattle.volume_table.specs.Listed.{listed}
+use Rattle.volume_table.specs.Listed.{row_in_list}
 use Rattle.shown_volumes.specs.Sound.{frame_in}
 use Rattle.fault_queue.specs.declared.queue.Request.{Request}
 use Rattle.fault_queue.specs.declared.queue.RequestState.{RequestState}
@@ -24,7 +24,7 @@ use Rattle.fault_queue.specs.Requests.{request_of}
 use Rattle.core_state.specs.declared.rule.HostRule.{HostRule}
 use Rattle.core_state.specs.declared.rule.HostRule.TheVariants.{IsStopped, IsFull, IsBusy, IsMoving, IsHeld, Responds, HasFailed, HasNoSpace, Faults, Marks, Runs}
 use Rattle.core_state.specs.Agrees.{UnderHost}
-use Rattle.core_state.specs.CoreValue.{CoreValue, CoreData, seen}
+use Rattle.core_state.specs.CoreValue.{CoreValue, CoreData, seen_core}
 use Rattle.core_state.specs.Counted.{fault_asked}
 use Rattle.core_state.specs.HostRules.{data_command, request_for, stopped_rule, full_rule, busy_rule, moving_rule, would_bind, taken_from, held_rule, failed_rule, fault_rule, mark_rule, run_rule, data_rule, host_rule, is_for, is_moving_request, fault_of, volume_of, state_under, frame_under}
 use Rattle.core_state.specs.HostEvents.{HostTold, HostDoes, HostEvent}
@@ -52,8 +52,8 @@ module _ {S C : Type 0} (v : CoreValue S C) (h : ℕ) (call : CallData) where
     pub c : Command
     pub looks : data_command (host_at v.hosts h) call ≡ Some c
     pub is : call ≡ ask code argument chained
-    pub admits : admitted (opened (host_at v.hosts h)) code argument ≡ Ok c
-    pub passes : Passes (opened (host_at v.hosts h)) c argument
+    pub admits : admitted_command (with_open_chain (host_at v.hosts h)) code argument ≡ Ok c
+    pub passes : Passes (with_open_chain (host_at v.hosts h)) c argument
     pub data_ : is_data c ≡ true
     pub free : IsNotBusy v h
     pub mine : (q : Request) → request_of v.requests h ≡ Some q → request_for v h call ≡ Some q
@@ -110,7 +110,7 @@ module _ {S C : Type 0} (v : CoreValue S C) (h : ℕ) (call : CallData) where
     pub asks : AsksFor
     pub quiet : IsNotAwaited v h
     pub unfailed : fault_asked v.requests h ≡ None
-    pub full : HasNoSpaceFor v.config.frames (listed v.rows) (host_at v.hosts) h
+    pub full : HasNoSpaceFor v.config.frames (row_in_list v.rows) (host_at v.hosts) h
 
   -- its cylinder isn't staged
   pub record OnFault (volume cylinder : ℕ) : Type 0 where
@@ -121,9 +121,9 @@ module _ {S C : Type 0} (v : CoreValue S C) (h : ℕ) (call : CallData) where
     pub mounted : (host_at v.hosts h).mounted ≡ Some (volume, bind)
     pub cylinder_ : cylinder ≡ (host_at v.hosts h).cylinder
     pub r : RowValue
-    pub there : listed v.rows volume ≡ Some r
+    pub there : row_in_list v.rows volume ≡ Some r
     pub unstaged : state_of r cylinder < 2
-    pub space : HasNoSpaceFor v.config.frames (listed v.rows) (host_at v.hosts) h → ⊥
+    pub space : HasNoSpaceFor v.config.frames (row_in_list v.rows) (host_at v.hosts) h → ⊥
 
   -- a write, whose cylinder is staged and not changed yet
   pub record OnMark (volume cylinder : ℕ) : Type 0 where
@@ -136,7 +136,7 @@ module _ {S C : Type 0} (v : CoreValue S C) (h : ℕ) (call : CallData) where
     pub mounted : (host_at v.hosts h).mounted ≡ Some (volume, bind)
     pub cylinder_ : cylinder ≡ (host_at v.hosts h).cylinder
     pub r : RowValue
-    pub there : listed v.rows volume ≡ Some r
+    pub there : row_in_list v.rows volume ≡ Some r
     pub staged : (state_of r cylinder ≡ 2) ⊎ (state_of r cylinder ≡ 3)
 
   -- its cylinder is staged, and changed where it is a write; a host's cylinder is one of a volume's
@@ -150,8 +150,8 @@ module _ {S C : Type 0} (v : CoreValue S C) (h : ℕ) (call : CallData) where
     pub r : RowValue
     pub staged : (host_at v.hosts h).cylinder < 404 → (host_at v.hosts h).head < 19
         → IsStagedAt v h volume frame bind r
-    pub under : UnderHost (listed v.rows) (host_at v.hosts h) (λ row cylinder. (2 ≤ state_of row cylinder) × (is_write c ≡ true → state_of row cylinder ≡ 4))
-    pub in_frame : UnderHost (listed v.rows) (host_at v.hosts h) (λ row cylinder. frame_of row (cylinder / 8) ≡ Some frame)
+    pub under : UnderHost (row_in_list v.rows) (host_at v.hosts h) (λ row cylinder. (2 ≤ state_of row cylinder) × (is_write c ≡ true → state_of row cylinder ≡ 4))
+    pub in_frame : UnderHost (row_in_list v.rows) (host_at v.hosts h) (λ row cylinder. frame_of row (cylinder / 8) ≡ Some frame)
     pub changed : IsTrue (is_write c) → state_of r (host_at v.hosts h).cylinder ≡ 4
     pub below : frame < v.config.frames
 
@@ -209,7 +209,7 @@ record Stands {S C : Type 0} (v : CoreValue S C) (h : ℕ) : Type 0 where
   bind : Bool
   r : RowValue
   mounted : (host_at v.hosts h).mounted ≡ Some (volume_of (host_at v.hosts h), bind)
-  there : listed v.rows (volume_of (host_at v.hosts h)) ≡ Some r
+  there : row_in_list v.rows (volume_of (host_at v.hosts h)) ≡ Some r
 
 not_moving : (state : RequestState) (fault : ℕ) → fault_of state ≡ Some fault → state ≡ Moving → ⊥
 not_moving state fault is moves = none_some fault (ap fault_of (sym moves) ∙ is)
@@ -257,7 +257,7 @@ module _ {S C : Type 0} (v : CoreValue S C) (h : ℕ) (call : CallData) (goes : 
         looks = looks;
         is = is_data_.is;
         admits = is_data_.admits;
-        passes = (admitted_is (opened host) is_data_.code is_data_.argument c is_data_.admits).passes;
+        passes = (admitted_is (with_open_chain host) is_data_.code is_data_.argument c is_data_.admits).passes;
         data_ = is_data_.data_;
         free = not_busy v core h call free (ap is_command is_data_.is);
         mine = mine;
@@ -266,15 +266,15 @@ module _ {S C : Type 0} (v : CoreValue S C) (h : ℕ) (call : CallData) (goes : 
       stands : Stands v h
       stands = by_mounted host.mounted refl
         where
-          by_row : (volume : ℕ) (bind : Bool) → volume_of host ≡ volume → host.mounted ≡ Some (volume, bind) → (o : Option RowValue) → listed v.rows volume ≡ o → IsSome o → Stands v h
+          by_row : (volume : ℕ) (bind : Bool) → volume_of host ≡ volume → host.mounted ≡ Some (volume, bind) → (o : Option RowValue) → row_in_list v.rows volume ≡ o → IsSome o → Stands v h
           by_row volume bind is at None row some = absurd (false≢true some)
           by_row volume bind is at (Some r) row some =
-              record { bind = bind; r = r; mounted = at ∙ (λ i. Some (sym is i, bind)); there = ap (listed v.rows) is ∙ row }
+              record { bind = bind; r = r; mounted = at ∙ (λ i. Some (sym is i, bind)); there = ap (row_in_list v.rows) is ∙ row }
 
           by_mounted : (m : Option (ℕ × Bool)) → host.mounted ≡ m → Stands v h
           by_mounted None at = absurd (data_stands host call c looks at)
           by_mounted (Some m) at =
-              by_row m.0 m.1 (ap (λ (o : Option (ℕ × Bool)). unwrap_or (option_map (λ n. n.0) o) 0) at) at (listed v.rows m.0) refl
+              by_row m.0 m.1 (ap (λ (o : Option (ℕ × Bool)). unwrap_or (option_map (λ n. n.0) o) 0) at) at (row_in_list v.rows m.0) refl
               (core.fit.mounted_ h m.0 (ap (is_on m.0) at ∙ eq-eqb m.0 m.0 refl))
 
       state_is : state_under v host ≡ state_of stands.r host.cylinder
@@ -294,7 +294,7 @@ module _ {S C : Type 0} (v : CoreValue S C) (h : ℕ) (call : CallData) (goes : 
       quiet_staged : 2 ≤ state_of stands.r host.cylinder → IsNotAwaited v h
       quiet_staged staged q asked moves =
           let at = placed q asked in
-          let low = moving_unstaged S v core h q asked moves stands.r (ap (listed v.rows) at.0 ∙ stands.there) in
+          let low = moving_unstaged S v core h q asked moves stands.r (ap (row_in_list v.rows) at.0 ∙ stands.there) in
           let same = ap (state_of stands.r) at.1 in
           absurd (omega (arith, low, same, staged))
 
@@ -330,7 +330,7 @@ module _ {S C : Type 0} (v : CoreValue S C) (h : ℕ) (call : CallData) (goes : 
               quiet = λ q asked moves.
                   let at = placed q asked in
                   moving_has_space v core h q asked moves all_
-                  ((λ i. frame_in (listed v.rows) (at.0 i) (at.1 i / 8)) ∙ ap (option_and_then (λ (r : RowValue). frame_of r (host.cylinder / 8))) stands.there ∙ none);
+                  ((λ i. frame_in (row_in_list v.rows) (at.0 i) (at.1 i / 8)) ∙ ap (option_and_then (λ (r : RowValue). frame_of r (host.cylinder / 8))) stands.there ∙ none);
               unfailed = unfailed;
               full = ((volume_of host, stands.bind, stands.r, stands.mounted, stands.there, none), all_);
             }
@@ -519,12 +519,12 @@ module _ {S C : Type 0} (v : CoreValue S C) (h : ℕ) (call : CallData) (kept : 
   rule_runs_on c volume frame is = met (Runs c volume frame) is
 
 -- the rule doesn't look at the devices
-pub rule_seen : {S C : Type 0} (g : Ghosts S) (v : CoreValue S C) (h : ℕ) (call : CallData) → host_rule (seen g v) h call ≡ host_rule v h call
+pub rule_seen : {S C : Type 0} (g : Ghosts S) (v : CoreValue S C) (h : ℕ) (call : CallData) → host_rule (seen_core g v) h call ≡ host_rule v h call
 unfolding host_rule
 rule_seen g v h call = refl
 
 -- nor does what a core keeps while it isn't stopped
-pub core_seen : {S C : Type 0} (g : Ghosts S) (v : CoreValue S C) → IsCore v → IsCore (seen g v)
+pub core_seen : {S C : Type 0} (g : Ghosts S) (v : CoreValue S C) → IsCore v → IsCore (seen_core g v)
 core_seen g v core = record {
   places = core.places;
   are_rows = core.are_rows;
@@ -547,6 +547,6 @@ core_seen g v core = record {
 
 -- what the rule that was found does is the event
 pub event_by : {S C : Type 0} (g : Ghosts S) (v : CoreValue S C) (h : ℕ) (call : CallData) (answer : HostTold) (core' : CoreData) (rule : HostRule)
-    → host_rule v h call ≡ rule → HostDoes g.tells (seen g v) h call rule answer core' → HostEvent g.tells (seen g v) h call answer core'
+    → host_rule v h call ≡ rule → HostDoes g.tells (seen_core g v) h call rule answer core' → HostEvent g.tells (seen_core g v) h call answer core'
 event_by g v h call answer core' rule is does =
-    subst (λ (r : HostRule). HostDoes g.tells (seen g v) h call r answer core') (sym is ∙ sym (rule_seen g v h call)) does
+    subst (λ (r : HostRule). HostDoes g.tells (seen_core g v) h call r answer core') (sym is ∙ sym (rule_seen g v h call)) does

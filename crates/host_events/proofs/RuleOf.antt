@@ -10,7 +10,7 @@ use Rattle.channel_commands.specs.Codes.{is_write}
 use Rattle.channel_commands.specs.Data.{CallData, is_command}
 use Rattle.ckd_plain.specs.declared.host.HostState.{HostState}
 use Rattle.volume_table.specs.Row.{state_of}
-use Rattle.volume_table.specs.Listed.{listed}
+use Rattle.volume_table.specs.Listed.{row_in_list}
 use Rattle.fault_queue.specs.declared.queue.Request.{Request}
 use Rattle.fault_queue.specs.declared.queue.RequestState.TheVariants.{Moving}
 use Rattle.fault_queue.specs.Requests.{request_of}
@@ -164,7 +164,7 @@ module _ (core : CoreData) (h : ℕ) (call : CallData) where
               let test = lt-ltb (state_under core host) 2 low in
               behind_failed ∙ (λ i. unwrap_or (where_so (test i) (if is i then HasNoSpace else Faults (volume_of host) host.cylinder) or mark_rule core host c or run_rule core host c) Responds)
 
-          pub no_space_is : HasNoSpaceFor core.config.frames (listed core.rows) (host_at core.hosts) h → host_rule core h call ≡ HasNoSpace
+          pub no_space_is : HasNoSpaceFor core.config.frames (row_in_list core.rows) (host_at core.hosts) h → host_rule core h call ≡ HasNoSpace
           no_space_is full = unstaged_is true low (no_space_at core keeps h full)
             where
               low : state_under core host < 2
@@ -177,7 +177,7 @@ module _ (core : CoreData) (h : ℕ) (call : CallData) where
                     | inr staged ↦ absurd (false≢true (ap is_some (sym under.5) ∙ row.staged host.cylinder (subst (λ (n : ℕ). 2 ≤ n) at staged)))
                   ]
 
-          pub fault_is : UnderHost (listed core.rows) host (λ r under. state_of r under < 2) → (HasNoSpaceFor core.config.frames (listed core.rows) (host_at core.hosts) h → ⊥)
+          pub fault_is : UnderHost (row_in_list core.rows) host (λ r under. state_of r under < 2) → (HasNoSpaceFor core.config.frames (row_in_list core.rows) (host_at core.hosts) h → ⊥)
               → host_rule core h call ≡ Faults (volume_of host) host.cylinder
           fault_is under space =
               let at = state_at core host under.0 under.1 under.2 under.3 under.4 in

@@ -12,13 +12,13 @@ use Rattle.channel_commands.specs.Codes.{command_of}
 use Rattle.channel_commands.specs.Data.{CallData, mount, demount, command as ask, break, is_command}
 use Rattle.ckd_plain.specs.declared.host.HostState.{HostState}
 use Rattle.ckd_plain.specs.declared.unit_check.UnitCheck.{UnitCheck}
-use Rattle.ckd_plain.specs.Checks.{admitted}
+use Rattle.ckd_plain.specs.Checks.{admitted_command}
 use Rattle.ckd_plain.specs.Effects.{is_data}
-use Rattle.ckd_plain.specs.Plain.{fresh_host, opened}
+use Rattle.ckd_plain.specs.Plain.{fresh_host, with_open_chain}
 use Rattle.ckd_plain.proofs.CheckFacts.{admitted_is}
 use Rattle.ckd_plain.proofs.CommandFacts.{opened_mounted}
 use Rattle.volume_table.specs.Row.{RowValue, frame_of, state_of}
-use Rattle.volume_table.specs.Listed.{listed}
+use Rattle.volume_table.specs.Listed.{row_in_list}
 use Rattle.shown_volumes.specs.Sound.{frame_in}
 use Rattle.fault_queue.specs.declared.queue.Request.{Request}
 use Rattle.fault_queue.specs.declared.queue.RequestState.{RequestState}
@@ -43,35 +43,35 @@ pub record IsData (host : HostState) (call : CallData) (c : Command) : Type 0 wh
   pub argument : List ℕ
   pub chained : Bool
   pub is : call ≡ ask code argument chained
-  pub admits : admitted (opened host) code argument ≡ Ok c
+  pub admits : admitted_command (with_open_chain host) code argument ≡ Ok c
   pub data_ : is_data c ≡ true
 
 pub data_is : (host : HostState) (call : CallData) (c : Command) → data_command host call ≡ Some c → IsData host call c
 data_is host (mount volume bind) c is = absurd (none_some c is)
 data_is host demount c is = absurd (none_some c is)
 data_is host (break cause) c is = absurd (none_some c is)
-data_is host (ask code argument chained) c is = by (admitted (opened host) code argument) refl is
+data_is host (ask code argument chained) c is = by (admitted_command (with_open_chain host) code argument) refl is
   where
-    by : (r : Result Command UnitCheck) → admitted (opened host) code argument ≡ r → if_data r ≡ Some c → IsData host (ask code argument chained) c
+    by : (r : Result Command UnitCheck) → admitted_command (with_open_chain host) code argument ≡ r → if_data r ≡ Some c → IsData host (ask code argument chained) c
     by (Err check) at e = absurd (none_some c e)
     by (Ok d) at e =
         let t = tested (is_data d) d c e in
         record { code = code; argument = argument; chained = chained; is = refl; admits = at ∙ ap Ok t.1; data_ = ap is_data (sym t.1) ∙ t.0 }
 
 -- it needs a volume
-data_mounted : (host : HostState) (code : ℕ) (argument : List ℕ) (c : Command) → admitted (opened host) code argument ≡ Ok c → is_data c ≡ true → is_some host.mounted ≡ true
-unfolding admitted
+data_mounted : (host : HostState) (code : ℕ) (argument : List ℕ) (c : Command) → admitted_command (with_open_chain host) code argument ≡ Ok c → is_data c ≡ true → is_some host.mounted ≡ true
+unfolding admitted_command
 data_mounted host code argument c is looks = by (is_some host.mounted) refl
   where
     by : (b : Bool) → is_some host.mounted ≡ b → is_some host.mounted ≡ true
     by true at = at
     by false at = elim (cases_Bool (code == 0x04)) [
       | inl four ↦
-          let sense : ◌≡◌ {A = Option Command} (Some command.Sense) (Some c) = ap command_of (sym (eqb-true code 0x04 four)) ∙ (admitted_is (opened host) code argument c is).known_ in
+          let sense : ◌≡◌ {A = Option Command} (Some command.Sense) (Some c) = ap command_of (sym (eqb-true code 0x04 four)) ∙ (admitted_is (with_open_chain host) code argument c is).known_ in
           absurd (false≢true (ap is_data (some_is command.Sense c sense) ∙ looks))
       | inr other ↦
-          let there : is_some (opened host).mounted ≡ false = ap is_some (opened_mounted host) ∙ at in
-          let none : (is_some (opened host).mounted || (code == 0x04)) ≡ false = or_from _ _ there other in
+          let there : is_some (with_open_chain host).mounted ≡ false = ap is_some (opened_mounted host) ∙ at in
+          let none : (is_some (with_open_chain host).mounted || (code == 0x04)) ≡ false = or_from _ _ there other in
           let e = rw none at is in
           absurd cc
     ]
@@ -162,7 +162,7 @@ binder_in (host ∷ hosts) volume is = by (λ e. binder_in hosts volume e) (or_c
 
 -- a frame of which some host has the page's volume bound
 abbrev pub IsBoundBy : {S C : Type 0} → CoreValue S C → ℕ → Type 0
-IsBoundBy v frame = (volume : ℕ) × (page : ℕ) × (other : ℕ) × (frame_in (listed v.rows) volume page ≡ Some frame) × ((host_at v.hosts other).mounted ≡ Some (volume, true))
+IsBoundBy v frame = (volume : ℕ) × (page : ℕ) × (other : ℕ) × (frame_in (row_in_list v.rows) volume page ≡ Some frame) × ((host_at v.hosts other).mounted ≡ Some (volume, true))
 
 module _ {S C : Type 0} (v : CoreValue S C) (core : IsCore v) where
   frame_bound : (frame : ℕ) → frame < v.config.frames → is_frame_bound v.hosts v.owners frame ≡ true → IsBoundBy v frame
@@ -187,7 +187,7 @@ pub mounted_under : (m : Option (ℕ × Bool)) (volume : ℕ) → option_map (λ
 mounted_under None volume is = absurd (none_some volume is)
 mounted_under (Some n) volume is = (n.1, ap (λ (k : ℕ). Some (k, n.1)) (some_is n.0 volume is))
 
-module _ {S C : Type 0} (v : CoreValue S C) (host : HostState) (volume : ℕ) (bind : Bool) (r : RowValue) (mounted : host.mounted ≡ Some (volume, bind)) (there : listed v.rows volume ≡ Some r) where
+module _ {S C : Type 0} (v : CoreValue S C) (host : HostState) (volume : ℕ) (bind : Bool) (r : RowValue) (mounted : host.mounted ≡ Some (volume, bind)) (there : row_in_list v.rows volume ≡ Some r) where
   at_volume : volume_of host ≡ volume
   at_volume = ap (λ (o : Option (ℕ × Bool)). unwrap_or (option_map (λ m. m.0) o) 0) mounted
 
@@ -195,7 +195,7 @@ module _ {S C : Type 0} (v : CoreValue S C) (host : HostState) (volume : ℕ) (b
   state_at = ap (λ (n : ℕ). state_in v.rows n host.cylinder) at_volume ∙ ap (λ (o : Option RowValue). state_of_row o host.cylinder) there
 
   pub frame_at : frame_under v host ≡ frame_of r (host.cylinder / 8)
-  frame_at = ap (λ (n : ℕ). frame_in (listed v.rows) n (page_of host.cylinder)) at_volume ∙ ap (option_and_then (λ (k : RowValue). frame_of k (host.cylinder / 8))) there
+  frame_at = ap (λ (n : ℕ). frame_in (row_in_list v.rows) n (page_of host.cylinder)) at_volume ∙ ap (option_and_then (λ (k : RowValue). frame_of k (host.cylinder / 8))) there
 
 -- a volume that a host has bound, is bound
 bound_in : (hosts : List HostState) (volume i : ℕ) → (slice_index_or hosts i fresh_host).mounted ≡ Some (volume, true) → is_volume_bound hosts volume ≡ true
@@ -209,7 +209,7 @@ bound_by hosts volume (suc i) is = bound_in hosts volume i is
 
 module _ {S C : Type 0} (v : CoreValue S C) (core : IsCore v) (h : ℕ) where
   -- so the test of the rule says where there is no space
-  pub no_space_at : HasNoSpaceFor v.config.frames (listed v.rows) (host_at v.hosts) h → (not (is_some (frame_under v (host_at v.hosts h))) && are_all_bound v) ≡ true
+  pub no_space_at : HasNoSpaceFor v.config.frames (row_in_list v.rows) (host_at v.hosts) h → (not (is_some (frame_under v (host_at v.hosts h))) && are_all_bound v) ≡ true
   no_space_at full =
       let under = full.0 in
       let none = frame_at v (host_at v.hosts h) under.0 under.1 under.2 under.3 under.4 ∙ under.5 in
@@ -225,18 +225,18 @@ module _ {S C : Type 0} (v : CoreValue S C) (core : IsCore v) (h : ℕ) where
 
 -- a page without a frame, for which a recorder works: not every frame is bound, since the task's isn't
 module _ {S C : Type 0} (v : CoreValue S C) (core : IsCore v) (h : ℕ) (q : Request) (asked : request_of v.requests h ≡ Some q) (moves : q.state ≡ request.Moving) where
-  pub moving_has_space : ((frame : ℕ) → frame < v.config.frames → IsBoundBy v frame) → frame_in (listed v.rows) q.volume (q.cylinder / 8) ≡ None → ⊥
+  pub moving_has_space : ((frame : ℕ) → frame < v.config.frames → IsBoundBy v frame) → frame_in (row_in_list v.rows) q.volume (q.cylinder / 8) ≡ None → ⊥
   moving_has_space all_ none =
       let one = core.tasks_.awaited h q asked moves in
       let its = core.tasks_.each one.0 one.1 one.2 in
       let same = some_is its.request q (sym its.asked ∙ ap (request_of v.requests) one.3 ∙ asked) in
-      let has = subst (λ (z : Request). HasFrame (listed v.rows) one.1.frame one.1.victim z.volume (z.cylinder / 8)) same its.frame_ in
+      let has = subst (λ (z : Request). HasFrame (row_in_list v.rows) one.1.frame one.1.victim z.volume (z.cylinder / 8)) same its.frame_ in
       let owner = all_ one.1.frame its.low in
       by_victim one.1.frame one.1.victim has its.unbound owner.0 owner.1 owner.2 owner.3 owner.4
     where
-      by_victim : (frame : ℕ) (victim : Option (ℕ × ℕ)) → HasFrame (listed v.rows) frame victim q.volume (q.cylinder / 8)
+      by_victim : (frame : ℕ) (victim : Option (ℕ × ℕ)) → HasFrame (row_in_list v.rows) frame victim q.volume (q.cylinder / 8)
           → ((w : ℕ × ℕ) → victim ≡ Some w → IsUnbound v.hosts w.0)
-          → (volume page other : ℕ) → frame_in (listed v.rows) volume page ≡ Some frame → (host_at v.hosts other).mounted ≡ Some (volume, true) → ⊥
+          → (volume page other : ℕ) → frame_in (row_in_list v.rows) volume page ≡ Some frame → (host_at v.hosts other).mounted ≡ Some (volume, true) → ⊥
       by_victim frame None (inl has) unbound volume page other owned bound = none_some frame (sym none ∙ has)
       by_victim frame None (inr loose) unbound volume page other owned bound = loose.1 volume page owned
       by_victim frame (Some w) has unbound volume page other owned bound =

@@ -8,7 +8,7 @@ use Rattle.channel_commands.specs.declared.command.Command.{Command}
 use Rattle.ckd_track.specs.Data.{RecordData}
 use Rattle.ckd_track.specs.Track.{reading}
 use Rattle.ckd_plain.specs.declared.host.HostState.{HostState}
-use Rattle.ckd_plain.specs.Plain.{IsDone, opened}
+use Rattle.ckd_plain.specs.Plain.{IsDone, with_open_chain}
 use Rattle.ckd_plain.proofs.CommandFacts.{only_writes}
 use Rattle.track_engine.specs.Tracks.{tracks_at}
 use Rattle.track_engine.specs.Writing.{WritesTrack, HoldsWritten, most_writes}
@@ -16,7 +16,7 @@ use Rattle.core_state.specs.CoreValue.{CoreData, DevicesSeen}
 use Rattle.core_state.specs.Devices.{StillHold, FailRead, Run, RunOn, FailOn, WritesFor, UpdatesNothing, answer_on, track_under}
 use Rattle.core_state.specs.HostEvents.{run_of, page_under, replied, halts, FrameUse, RunsIt}
 use Rattle.host_events.specs.Parts.{IsUnfailed}
-use Rattle.core_state.specs.Steps.{after_reply, after_stop, used}
+use Rattle.core_state.specs.Steps.{after_reply, after_stop, after_use}
 
 -- ---- the devices before room was made on them
 
@@ -69,8 +69,8 @@ module _ (tells : Type 0) (old mid new : DevicesSeen) (told : tells → mid.told
 pub look_is_still : (tells : Type 0) (r : Run) (old new : DevicesSeen) (answer : ReplyData × HostState) → is_write r.command ≡ false → RunOn tells r old new answer → StillHold tells old new
 look_is_still tells r old new answer reads ran = record {
   told = λ tl.
-      subst (λ (w : Option (List RecordData)). WritesTrack r.command (opened r.host) r.at.unit r.at.block old.told new.told w)
-      (only_writes (tracks_at (content old.told) r.at.unit r.at.block) (opened r.host) r.command r.argument r.chained reads) (ran.moments tl);
+      subst (λ (w : Option (List RecordData)). WritesTrack r.command (with_open_chain r.host) r.at.unit r.at.block old.told new.told w)
+      (only_writes (tracks_at (content old.told) r.at.unit r.at.block) (with_open_chain r.host) r.command r.argument r.chained reads) (ran.moments tl);
   unwritten = ran.looks reads;
   sound = ran.sound;
 }
@@ -83,13 +83,13 @@ module _ (tells : Type 0) (core core' : CoreData) (h : ℕ) (call : CallData) (c
 
   -- the command is replied
   pub run_does : (index : ℕ) (reply : ReplyData) (host : HostState) → RunOn tells (run_of core h frame c argument chained) core.site core'.site (reply, host) → index ≡ length core.history
-      → core' ≡ after_reply core'.site h call None (reply, host) (used c (page_under core h volume) frame core) → RunsIt tells core h call at (replied index reply) core'
+      → core' ≡ after_reply core'.site h call None (reply, host) (after_use c (page_under core h volume) frame core) → RunsIt tells core h call at (replied index reply) core'
   run_does index reply host ran place after =
       subst (λ (k : CallData). RunsIt tells core h k at (replied index reply) core') (sym is)
-      (by reply ran ran.done_ (subst (λ (k : CallData). core' ≡ after_reply core'.site h k None (reply, host) (used c (page_under core h volume) frame core)) is after))
+      (by reply ran ran.done_ (subst (λ (k : CallData). core' ≡ after_reply core'.site h k None (reply, host) (after_use c (page_under core h volume) frame core)) is after))
     where
       by : (r : ReplyData) → RunOn tells (run_of core h frame c argument chained) core.site core'.site (r, host) → IsDone r
-          → core' ≡ after_reply core'.site h (ask code argument chained) None (r, host) (used c (page_under core h volume) frame core) → RunsIt tells core h (ask code argument chained) at (replied index r) core'
+          → core' ≡ after_reply core'.site h (ask code argument chained) None (r, host) (after_use c (page_under core h volume) frame core) → RunsIt tells core h (ask code argument chained) at (replied index r) core'
       by (done status bytes) on is_done leaves = (host, on, place, leaves)
       by mounted on is_done leaves = absurd is_done
       by demounted on is_done leaves = absurd is_done

@@ -21,12 +21,12 @@ use Rattle.ckd_plain.specs.declared.host.HostState.{HostState}
 use Rattle.ckd_plain.specs.declared.unit_check.UnitCheck.TheVariants as check
 use Rattle.ckd_plain.specs.declared.host.Prior.TheVariants as prior
 use Rattle.ckd_plain.specs.Data.{State}
-use Rattle.ckd_plain.specs.Checks.{admitted, Passes}
+use Rattle.ckd_plain.specs.Checks.{admitted_command, Passes}
 use Rattle.ckd_plain.specs.Index.{Tracks}
 use Rattle.ckd_plain.specs.Effects.{Outcome, effect, prior_number, is_data}
-use Rattle.ckd_plain.specs.Plain.{Answer, Replied, UNIT_CHECK, sense_of, opened, cleared, answered, performed, judged, run, plain, commanded, with_host, with_track, tracks_under, tracks_mounted, written_to, written_mounted, written_there}
+use Rattle.ckd_plain.specs.Plain.{Answer, Replied, UNIT_CHECK, sense_of, with_open_chain, host_for_command, outcome_answer, command_answer, answer_by_checks, answer_on_tracks, plain, reply_and_state, with_host, with_track, tracks_under, tracks_mounted, written_to, written_mounted, written_there}
 use Rattle.ckd_plain.specs.Laws.{refusal_in, check_of, unit_check_of}
-use Rattle.ckd_plain.specs.History.{EntryData, IsNextEntry, IsAlone, next, count_of_host}
+use Rattle.ckd_plain.specs.History.{EntryData, IsNextEntry, IsAlone, state_after, count_of_host}
 use Rattle.ckd_plain.specs.Near.{IsNear, unchanged, completed, data_overwritten, key_data_overwritten, ended_before, IsOverwrittenAt, IsEndedAt, WithTrackUnder, DoesWrite}
 use Rattle.ckd_plain.proofs.Entries.{plain_entry}
 use Rattle.ckd_plain.proofs.CommandFacts.{only_writes}
@@ -34,7 +34,7 @@ use Rattle.ckd_plain.proofs.WriteFacts.{in_chain}
 use Rattle.ckd_plain.proofs.SenseFacts.{unchecked}
 use Rattle.volume_table.specs.Row.{RowValue, frame_of, state_of}
 use Rattle.table_pair.specs.Pair.{is_table}
-use Rattle.shown_volumes.specs.Shown.{RowsOf, shown, rows_of}
+use Rattle.shown_volumes.specs.Shown.{RowsOf, volumes_shown, rows_of}
 use Rattle.shown_volumes.specs.Sound.{IsSound, SoundAs}
 use Rattle.shown_volumes.specs.Changing.{IsQuiet, IsQuietIn}
 use Rattle.shown_volumes.proofs.FrameFacts.{shows_track}
@@ -42,7 +42,7 @@ use Rattle.shown_volumes.proofs.QuietFacts.{block_quiet, quiet_settled}
 use Rattle.track_engine.specs.Tracks.{tracks_at}
 use Rattle.track_engine.specs.Answers.{ran}
 use Rattle.track_engine.specs.Writing.{IsBetween, IsStep, WritesTrack}
-use Rattle.volume_table.specs.Listed.{listed}
+use Rattle.volume_table.specs.Listed.{row_in_list}
 use Rattle.core_state.specs.declared.task.Task.{Task}
 use Rattle.core_state.specs.Agrees.{EntryAgrees, UnderHost}
 use Rattle.core_state.specs.CoreValue.{CoreValue}
@@ -80,13 +80,13 @@ write_is_data (command.Write kind) w = refl
 abbrev pub IsDoneReply : ReplyData → Type 0
 IsDoneReply r = (status : ℕ) × (bytes : List ℕ) × (r ≡ done status bytes)
 
-outcome_done : (c : Command) (chained : Bool) (o : Outcome) → IsDoneReply (answered c chained o).reply
+outcome_done : (c : Command) (chained : Bool) (o : Outcome) → IsDoneReply (outcome_answer c chained o).reply
 outcome_done c chained (Ok e) = (e.status, e.bytes, refl)
 outcome_done c chained (Err r) = (UNIT_CHECK, [], refl)
 
-pub performed_done : (tracks : Tracks) (host : HostState) (c : Command) (argument : List ℕ) (chained : Bool) → IsDoneReply (performed tracks host c argument chained).reply
-unfolding performed
-performed_done tracks host c argument chained = outcome_done c chained (effect tracks (cleared c host) host.prior c argument)
+pub performed_done : (tracks : Tracks) (host : HostState) (c : Command) (argument : List ℕ) (chained : Bool) → IsDoneReply (command_answer tracks host c argument chained).reply
+unfolding command_answer
+performed_done tracks host c argument chained = outcome_done c chained (effect tracks (host_for_command c host) host.prior c argument)
 
 abbrev volume_in : Option (ℕ × Bool) → ℕ
 volume_in (Some m) = m.0
@@ -109,12 +109,12 @@ one_same V v c h track is = ap (λ (t : ℕ → ℕ → ℕ → List RecordData)
       | inr elsewhere ↦ cond-false _ _ _ elsewhere
     ]
 
-refusal_none : (c : Command) (chained : Bool) (o : Outcome) (track : List RecordData) → (answered c chained o).written ≡ Some track → refusal_in o ≡ None
+refusal_none : (c : Command) (chained : Bool) (o : Outcome) (track : List RecordData) → (outcome_answer c chained o).written ≡ Some track → refusal_in o ≡ None
 refusal_none c chained (Ok e) track is = refl
 refusal_none c chained (Err r) track is = absurd cc
 
 module _ (S : Type 0) {C : Type 0} (s t : SiteLog) (v : CoreValue S C) (told : IsTold s v) (core : IsCore v) (open_ : v.stopped ≡ None) (h : ℕ) (low : IsHost h)
-    (code : ℕ) (argument : List ℕ) (chained : Bool) (c : Command) (admits : admitted (opened (host_at v.hosts h)) code argument ≡ Ok c) (passes : Passes (opened (host_at v.hosts h)) c argument)
+    (code : ℕ) (argument : List ℕ) (chained : Bool) (c : Command) (admits : admitted_command (with_open_chain (host_at v.hosts h)) code argument ≡ Ok c) (passes : Passes (with_open_chain (host_at v.hosts h)) c argument)
     (alone : IsAlone (plain_of s v) h (ask code argument chained))
     (volume frame : ℕ) (bind : Bool) (r : RowValue) (at : IsStagedAt v h volume frame bind r)
     (changed : IsTrue (is_write c) → state_of r (host_at v.hosts h).cylinder ≡ 4) where
@@ -150,38 +150,38 @@ module _ (S : Type 0) {C : Type 0} (s t : SiteLog) (v : CoreValue S C) (told : I
 
   tracks_are : tracks_under st.volumes (st.host h) ≡ tracks_at (content s) unit first
   tracks_are =
-      (λ i. tracks_under (sym going.shows i) (here i)) ∙ ap (λ (m : Option (ℕ × Bool)). tracks_mounted (shown (content s)) m host.cylinder) at.mounted
+      (λ i. tracks_under (sym going.shows i) (here i)) ∙ ap (λ (m : Option (ℕ × Bool)). tracks_mounted (volumes_shown (content s)) m host.cylinder) at.mounted
       ∙ sym (tracks_shown v.config.frames (content s) sound_now volume host.cylinder frame r row_is at.frame_ at.staged at.at_most at.low)
 
   abbrev left : State
   left = with_host (record st { volumes = written_to st.volumes host a.written }) h a.host
 
-  run_is : run (tracks_at (content s) unit first) host code argument chained ≡ a
-  unfolding run
-  run_is = ap (judged (tracks_at (content s) unit first) (opened host) argument chained) admits
+  run_is : answer_on_tracks (tracks_at (content s) unit first) host code argument chained ≡ a
+  unfolding answer_on_tracks
+  run_is = ap (answer_by_checks (tracks_at (content s) unit first) (with_open_chain host) argument chained) admits
 
   plain_is : plain st h call ≡ (a.reply, left)
   unfolding plain
-  plain_is = (λ i. commanded st h (run (tracks_are i) (here i) code argument chained)) ∙ (λ i. commanded st h (run_is i)) ∙ (λ i. (a.reply, with_host (record st { volumes = written_to st.volumes (here i) a.written }) h a.host))
+  plain_is = (λ i. reply_and_state st h (answer_on_tracks (tracks_are i) (here i) code argument chained)) ∙ (λ i. reply_and_state st h (run_is i)) ∙ (λ i. (a.reply, with_host (record st { volumes = written_to st.volumes (here i) a.written }) h a.host))
 
   abbrev e : EntryData
   e = entry_of v.history h call a.reply None
 
-  may : IsNextEntry st (count_of_host h v.history) e × (next st e ≡ (plain st h call).1)
+  may : IsNextEntry st (count_of_host h v.history) e × (state_after st e ≡ (plain st h call).1)
   may = plain_entry st (count_of_host h v.history) e (sym (ap (λ (p : Replied). p.0) plain_is)) refl refl alone
 
-  next_is : next st e ≡ left
+  next_is : state_after st e ≡ left
   next_is = may.1 ∙ ap (λ (p : Replied). p.1) plain_is
 
   -- ---- the rows
 
-  same_row : (volume' : ℕ) (bind' : Bool) (q : RowValue) → (st.host h).mounted ≡ Some (volume', bind') → listed v.rows volume' ≡ Some q → q ≡ r
+  same_row : (volume' : ℕ) (bind' : Bool) (q : RowValue) → (st.host h).mounted ≡ Some (volume', bind') → row_in_list v.rows volume' ≡ Some q → q ≡ r
   same_row volume' bind' q mounted row =
       let m : Some (volume, bind) ≡ Some (volume', bind') = sym at.mounted ∙ ap (λ (x : HostState). x.mounted) (sym here) ∙ mounted in
       let n : volume ≡ volume' = ap volume_in m in
-      some_is q r (sym row ∙ ap (listed v.rows) (sym n) ∙ at.row)
+      some_is q r (sym row ∙ ap (row_in_list v.rows) (sym n) ∙ at.row)
 
-  agrees : EntryAgrees v.config.frames (listed v.rows) st e (done 0 [])
+  agrees : EntryAgrees v.config.frames (row_in_list v.rows) st e (done 0 [])
   agrees data_ = (
     (
       volume,
@@ -197,10 +197,10 @@ module _ (S : Type 0) {C : Type 0} (s t : SiteLog) (v : CoreValue S C) (told : I
     λ none. no_space none.0,
   )
     where
-      the_command : (x : Command) → admitted (opened (st.host h)) code argument ≡ Ok x → x ≡ c
-      the_command x is = let o : Ok x ≡ Ok c = sym is ∙ ap (λ (y : HostState). admitted (opened y) code argument) here ∙ admits in cc
+      the_command : (x : Command) → admitted_command (with_open_chain (st.host h)) code argument ≡ Ok x → x ≡ c
+      the_command x is = let o : Ok x ≡ Ok c = sym is ∙ ap (λ (y : HostState). admitted_command (with_open_chain y) code argument) here ∙ admits in cc
 
-      no_space : UnderHost (listed v.rows) (st.host h) (λ q cylinder. frame_of q (cylinder / 8) ≡ None) → ⊥
+      no_space : UnderHost (row_in_list v.rows) (st.host h) (λ q cylinder. frame_of q (cylinder / 8) ≡ None) → ⊥
       no_space u = let o : Some frame ≡ None = sym at.frame_ ∙ (λ i. frame_of (sym (same_row u.0 u.1 u.2 u.3 u.4) i) ((sym here i).cylinder / 8)) ∙ u.5 in cc
 
   -- ---- the writes
@@ -209,19 +209,19 @@ module _ (S : Type 0) {C : Type 0} (s t : SiteLog) (v : CoreValue S C) (told : I
   writes_is : (track : List RecordData) → a.written ≡ Some track → is_write c ≡ true
   writes_is track is = elim (cases_Bool (is_write c)) [
     | inl w ↦ w
-    | inr none ↦ let e' : None ≡ Some track = sym (only_writes (tracks_at (content s) unit first) (opened host) c argument chained none) ∙ is in absurd cc
+    | inr none ↦ let e' : None ≡ Some track = sym (only_writes (tracks_at (content s) unit first) (with_open_chain host) c argument chained none) ∙ is in absurd cc
   ]
 
   -- a command that writes isn't refused
   not_refused : (track : List RecordData) → a.written ≡ Some track → unit_check_of st h code argument ≡ None
-  unfolding performed
+  unfolding command_answer
   not_refused track is =
-      (λ i. check_of (tracks_are i) (opened (here i)) argument (admitted (opened (here i)) code argument)) ∙ ap (check_of (tracks_at (content s) unit first) (opened host) argument) admits
-      ∙ refusal_none c chained (effect (tracks_at (content s) unit first) (cleared c (opened host)) (opened host).prior c argument) track is
+      (λ i. check_of (tracks_are i) (with_open_chain (here i)) argument (admitted_command (with_open_chain (here i)) code argument)) ∙ ap (check_of (tracks_at (content s) unit first) (with_open_chain host) argument) admits
+      ∙ refusal_none c chained (effect (tracks_at (content s) unit first) (host_for_command c (with_open_chain host)) (with_open_chain host).prior c argument) track is
 
   does : (track : List RecordData) → a.written ≡ Some track → (kind : WriteKind) → c ≡ command.Write kind → DoesWrite st h call kind
   does track is kind it = (
-    ap (λ (x : HostState). admitted (opened x) code argument) here ∙ admits ∙ ap (λ (x : Command). Ok x) it,
+    ap (λ (x : HostState). admitted_command (with_open_chain x) code argument) here ∙ admits ∙ ap (λ (x : Command). Ok x) it,
     unchecked st h code argument chained [] (not_refused track is),
   )
 
@@ -288,18 +288,18 @@ module _ (S : Type 0) {C : Type 0} (s t : SiteLog) (v : CoreValue S C) (told : I
     good : ChangesBlock (frame_block frame host.cylinder host.head).unit (frame_block frame host.cylinder host.head).block (λ block. (reading block).bad ≡ None) (content s) d
     good = record { others = w.others; here = w.here.good }
 
-    shows_at : SoundAs v.config.frames (with_track (shown (content s)) volume host.cylinder host.head (reading (d unit (first + host.head))).records) d
+    shows_at : SoundAs v.config.frames (with_track (volumes_shown (content s)) volume host.cylinder host.head (reading (d unit (first + host.head))).records) d
     shows_at = shows_track v.config.frames (content s) d sound_now volume host.cylinder host.head frame r row_is at.frame_ (four track is) at.low at.low_head good
 
-    shows_put : shown d ≡ put (reading (d unit (first + host.head))).records
+    shows_put : volumes_shown d ≡ put (reading (d unit (first + host.head))).records
     shows_put = shows_at.same ∙ (λ i. with_track (going.shows i) volume host.cylinder host.head (reading (d unit (first + host.head))).records)
 
-    near_at : IsNear st h call (shown d)
+    near_at : IsNear st h call (volumes_shown d)
     near_at = elim w.here.step [
       | inl old ↦ unchanged (shows_put ∙ one_same st.volumes volume host.cylinder host.head _ (old ∙ old_is))
       | inr more ↦ elim more [
         | inl new ↦ completed (shows_put ∙ ap put new ∙ sym (left_some track is) ∙ ap (λ (p : Replied). p.1.volumes) (sym plain_is))
-        | inr b ↦ between c (shown d) _ (does track is) b shows_put
+        | inr b ↦ between c (volumes_shown d) _ (does track is) b shows_put
       ]
     ]
 
@@ -308,16 +308,16 @@ module _ (S : Type 0) {C : Type 0} (s t : SiteLog) (v : CoreValue S C) (told : I
     quiet_at = block_quiet s unit (first + host.head) (IsStep c (prior_number host.prior) old_track track) d going.quiet refl w
 
   abbrev P : Content → Type 0
-  P d = IsSound v.config.frames d × IsNear st h call (shown d) × IsQuietIn s d
+  P d = IsSound v.config.frames d × IsNear st h call (volumes_shown d) × IsQuietIn s d
 
   begun : P (content s)
   begun = (sound_now, unchanged going.shows, going.quiet)
 
   -- the engine speaks of the host whose chain is open, and a write is within one
-  writes_open : (track : List RecordData) → a.written ≡ Some track → WritesTrack c (opened host) unit first s t (Some track) → WritesTrack c host unit first s t (Some track)
+  writes_open : (track : List RecordData) → a.written ≡ Some track → WritesTrack c (with_open_chain host) unit first s t (Some track) → WritesTrack c host unit first s t (Some track)
   writes_open track is w = subst (λ (x : HostState). WritesTrack c x unit first s t (Some track)) (in_chain host c argument passes (writes_is track is)) w
 
-  writes_by : (o' : Option (List RecordData)) → a.written ≡ o' → WritesTrack c (opened host) unit first s t o' → Writes P s t
+  writes_by : (o' : Option (List RecordData)) → a.written ≡ o' → WritesTrack c (with_open_chain host) unit first s t o' → Writes P s t
   writes_by None is w = subst (Writes P s) (sym w) (started P s begun)
   writes_by (Some track) is w = weaker (Within track) P (λ d within. ((shows_at track is d within).sound, near_at track is d within, quiet_at track is d within)) s t (writes_open track is w)
 
@@ -331,29 +331,29 @@ module _ (S : Type 0) {C : Type 0} (s t : SiteLog) (v : CoreValue S C) (told : I
   abbrev tasks : List (Option Task)
   tasks = tasks_after c volume ((host_at v.hosts h).cylinder / 8) v.tasks
 
-  read_tasks : a.written ≡ None → AreServed (content s) (listed v.rows) tasks
+  read_tasks : a.written ≡ None → AreServed (content s) (row_in_list v.rows) tasks
   read_tasks is = elim (cases_Bool (is_write c)) [
-    | inl w ↦ subst (AreServed (content s) (listed v.rows)) (sym (cond-true (is_write c) _ _ w)) (served_touched (listed v.rows) (content s) v.tasks volume (host.cylinder / 8) going.served)
-    | inr none ↦ subst (AreServed (content s) (listed v.rows)) (sym (cond-false (is_write c) _ _ none)) going.served
+    | inl w ↦ subst (AreServed (content s) (row_in_list v.rows)) (sym (cond-true (is_write c) _ _ w)) (served_touched (row_in_list v.rows) (content s) v.tasks volume (host.cylinder / 8) going.served)
+    | inr none ↦ subst (AreServed (content s) (row_in_list v.rows)) (sym (cond-false (is_write c) _ _ none)) going.served
   ]
 
-  shows_by : (o' : Option (List RecordData)) → a.written ≡ o' → WritesTrack c (opened host) unit first s t o'
+  shows_by : (o' : Option (List RecordData)) → a.written ≡ o' → WritesTrack c (with_open_chain host) unit first s t o'
       → ((track : List RecordData) → o' ≡ Some track → reading (content t unit (first + host.head)) ≡ reading_of track)
-      → (shown (content t) ≡ left.volumes) × SameTables (content s) (content t) × AreServed (content t) (listed v.rows) tasks
+      → (volumes_shown (content t) ≡ left.volumes) × SameTables (content s) (content t) × AreServed (content t) (row_in_list v.rows) tasks
   shows_by None is w exact = (
-    ap (λ (x : SiteLog). shown (content x)) w ∙ going.shows ∙ sym (left_none is),
+    ap (λ (x : SiteLog). volumes_shown (content x)) w ∙ going.shows ∙ sym (left_none is),
     (λ u b table. ap (λ (x : SiteLog). content x u b) w),
-    served_alike (listed v.rows) (content s) (content t) tasks (ap content w) (read_tasks is),
+    served_alike (row_in_list v.rows) (content s) (content t) tasks (ap content w) (read_tasks is),
   )
   shows_by (Some track) is w exact =
       let last = ended_with (Within track) s t (writes_open track is w) in (
         shows_put track is (content t) last ∙ ap put (ap (λ (x : Reading). x.records) (exact track refl)) ∙ sym (left_some track is),
         (λ u b table. last.others u b (tables u b table)),
-        subst (AreServed (content t) (listed v.rows)) (sym (cond-true (is_write c) _ _ (writes_is track is)))
-            (served_written v.config.frames (listed v.rows) v.moving v.requests v.hosts v.tasks core.tasks_ (one_page S v core) (content s) (content t) volume host.cylinder host.head frame r at.row at.frame_ (four track is) at.low_head last.others going.served),
+        subst (AreServed (content t) (row_in_list v.rows)) (sym (cond-true (is_write c) _ _ (writes_is track is)))
+            (served_written v.config.frames (row_in_list v.rows) v.moving v.requests v.hosts v.tasks core.tasks_ (one_page S v core) (content s) (content t) volume host.cylinder host.head frame r at.row at.frame_ (four track is) at.low_head last.others going.served),
       )
 
-  pub run_enters : WritesTrack c (opened (host_at v.hosts h)) (unit_of frame) (first_of frame (host_at v.hosts h).cylinder) s t
+  pub run_enters : WritesTrack c (with_open_chain (host_at v.hosts h)) (unit_of frame) (first_of frame (host_at v.hosts h).cylinder) s t
       (ran (content s) (unit_of frame) (first_of frame (host_at v.hosts h).cylinder) (host_at v.hosts h) c argument chained).written
       → ((track : List RecordData) → (ran (content s) (unit_of frame) (first_of frame (host_at v.hosts h).cylinder) (host_at v.hosts h) c argument chained).written ≡ Some track
       → reading (content t (unit_of frame) (first_of frame (host_at v.hosts h).cylinder + (host_at v.hosts h).head)) ≡ reading_of track)
@@ -365,11 +365,11 @@ module _ (S : Type 0) {C : Type 0} (s t : SiteLog) (v : CoreValue S C) (told : I
   run_enters w exact firm =
       let writes = writes_by a.written refl w in
       let shows = shows_by a.written refl w exact in
-      let reply = performed_done (tracks_at (content s) unit first) (opened host) c argument chained in
+      let reply = performed_done (tracks_at (content s) unit first) (with_open_chain host) c argument chained in
       record {
         may = may.0;
         writes = writes;
-        agrees = subst (EntryAgrees v.config.frames (listed v.rows) st e) (sym reply.2) agrees;
+        agrees = subst (EntryAgrees v.config.frames (row_in_list v.rows) st e) (sym reply.2) agrees;
         leaves = λ is. record {
           hosts_ = ap (λ (x : State). x.host) next_is ∙ (λ i other. cond (other == h) a.host (going.hosts_ i other)) ∙ sym (host_put v.hosts h a.host (host_fits v.hosts h low core.hosts_));
           shows = shows.0 ∙ sym (ap (λ (x : State). x.volumes) next_is);
@@ -379,11 +379,11 @@ module _ (S : Type 0) {C : Type 0} (s t : SiteLog) (v : CoreValue S C) (told : I
         };
       }
 
-  admits_now : admitted (opened (st.host h)) code argument ≡ Ok c
-  admits_now = ap (λ (x : HostState). admitted (opened x) code argument) here ∙ admits
+  admits_now : admitted_command (with_open_chain (st.host h)) code argument ≡ Ok c
+  admits_now = ap (λ (x : HostState). admitted_command (with_open_chain x) code argument) here ∙ admits
 
   -- ---- a write that failed is the last entry
-  pub stop_enters : IsTrue (is_write c) → WritesTrack c (opened (host_at v.hosts h)) (unit_of frame) (first_of frame (host_at v.hosts h).cylinder) s t
+  pub stop_enters : IsTrue (is_write c) → WritesTrack c (with_open_chain (host_at v.hosts h)) (unit_of frame) (first_of frame (host_at v.hosts h).cylinder) s t
       (ran (content s) (unit_of frame) (first_of frame (host_at v.hosts h).cylinder) (host_at v.hosts h) c argument chained).written
       → (fault : ℕ) → (hosts : List HostState) (tasks' : List (Option Task)) → Enters v.config.frames v.rows (plain_of s v) v.history (entry_of v.history h (ask code argument chained) stopped (Some fault)) hosts tasks' s t
   stop_enters write_ w fault hosts tasks' = record {
@@ -397,7 +397,7 @@ module _ (S : Type 0) {C : Type 0} (s t : SiteLog) (v : CoreValue S C) (told : I
   pub check_enters : IsTrue (is_data c) → t ≡ s → (fault : ℕ)
       → Enters v.config.frames v.rows (plain_of s v) v.history (entry_of v.history h (ask code argument chained) equipment_check (Some fault))
       (put_host v.hosts h (record (host_at v.hosts h) { chain_open = false; prior = prior.Nothing; sense = sense_of check.EquipmentCheck })) v.tasks s t
-  unfolding next
+  unfolding state_after
   check_enters data_ same fault = record {
     may = record { number = refl; answered = (c, admits_now, data_); fault = ((λ some_. refl), (λ kept. refl)); alone = alone };
     writes = subst (Writes P s) (sym same) (started P s begun);
@@ -405,9 +405,9 @@ module _ (S : Type 0) {C : Type 0} (s t : SiteLog) (v : CoreValue S C) (told : I
     leaves = λ is. record {
       hosts_ = (λ i other. cond (other == h) (record (here i) { chain_open = false; prior = prior.Nothing; sense = sense_of check.EquipmentCheck }) (going.hosts_ i other))
           ∙ sym (host_put v.hosts h (record (host_at v.hosts h) { chain_open = false; prior = prior.Nothing; sense = sense_of check.EquipmentCheck }) (host_fits v.hosts h low core.hosts_));
-      shows = ap (λ (x : SiteLog). shown (content x)) same ∙ going.shows;
+      shows = ap (λ (x : SiteLog). volumes_shown (content x)) same ∙ going.shows;
       tables = λ u b table. ap (λ (x : SiteLog). content x u b) same;
-      served = served_alike (listed v.rows) (content s) (content t) v.tasks (ap content same) going.served;
+      served = served_alike (row_in_list v.rows) (content s) (content t) v.tasks (ap content same) going.served;
       quiet = subst IsQuiet (sym same) going.quiet;
     };
   }

@@ -9,7 +9,7 @@ use Rattle.mss_base.specs.declared.place.UnitNo.{UnitNo}
 use Rattle.mss_base.specs.declared.place.UnitNo.TheVariants.{Staging}
 use Rattle.ckd_track.specs.Track.{Reading, reading, reading_of}
 use Rattle.volume_table.specs.Row.{RowValue, frame_of, state_of}
-use Rattle.shown_volumes.specs.Shown.{shown, rows_of, block_at, source, track_at}
+use Rattle.shown_volumes.specs.Shown.{volumes_shown, rows_of, block_at, source, track_at}
 use Rattle.shown_volumes.specs.Sound.{IsSound}
 use Rattle.shown_volumes.proofs.PlaceFacts.{source_past}
 use Rattle.shown_volumes.proofs.FrameFacts.{staged_shown}
@@ -27,18 +27,18 @@ first_is frame cylinder = omega arith
 
 module _ (frames : ℕ) (c : Content) (sound : IsSound frames c) (volume cylinder frame : ℕ) (r : RowValue) (there : rows_of c volume ≡ Some r)
     (has : frame_of r (cylinder / 8) ≡ Some frame) (staged : 2 ≤ state_of r cylinder) (at_most : state_of r cylinder ≤ 4) (low : cylinder < 404) where
-  reads : (head : ℕ) → head < 19 → reading (block_at c (frame_block frame cylinder head)) ≡ reading_of ((shown c).track volume cylinder head)
+  reads : (head : ℕ) → head < 19 → reading (block_at c (frame_block frame cylinder head)) ≡ reading_of ((volumes_shown c).track volume cylinder head)
   reads head low_head = staged_shown frames c volume cylinder head frame r sound there has staged at_most low low_head
 
   pub are_tracks : AreTracks c (unit_of frame) (first_of frame cylinder)
   are_tracks head low_head = ap (λ (x : Reading). x.bad) (reads head low_head)
 
-  past : (head : ℕ) → nat_lt head 19 ≡ false → (shown c).track volume cylinder head ≡ []
+  past : (head : ℕ) → nat_lt head 19 ≡ false → (volumes_shown c).track volume cylinder head ≡ []
   past head out =
       ap (λ (o : Option RowValue). track_at c (option_and_then (λ q. source q cylinder head) o)) there
       ∙ ap (track_at c) (source_past r cylinder head (ltb-false head 19 out))
 
-  pub tracks_shown : tracks_at c (unit_of frame) (first_of frame cylinder) ≡ (shown c).track volume cylinder
+  pub tracks_shown : tracks_at c (unit_of frame) (first_of frame cylinder) ≡ (volumes_shown c).track volume cylinder
   tracks_shown = fun_ext (λ (head : ℕ). elim (cases_Bool (nat_lt head 19)) [
     | inl in_ ↦ cond-true _ _ _ in_ ∙ ap (λ (x : Reading). x.records) (reads head (ltb-true head 19 in_))
     | inr out ↦ cond-false _ _ _ out ∙ sym (past head out)

@@ -7,15 +7,15 @@ use Rattle.channel_commands.specs.declared.command.Command.{Command}
 use Rattle.channel_commands.specs.Data.{CallData, command as ask, ReplyData, done, mounted, demounted, already_mounted, not_mounted, no_volume, in_chain, program_check, chain_limit, equipment_check, no_space, stopped}
 use Rattle.ckd_plain.specs.declared.host.HostState.{HostState}
 use Rattle.ckd_plain.specs.declared.unit_check.UnitCheck.TheVariants as check
-use Rattle.ckd_plain.specs.Plain.{IsDone, checked}
+use Rattle.ckd_plain.specs.Plain.{IsDone, host_after_check}
 use Rattle.ckd_plain.specs.History.{keeps_fault}
 use Rattle.fault_queue.specs.Requests.{put_request}
-use Rattle.victim_choice.specs.Order.{touched}
+use Rattle.victim_choice.specs.Order.{order_after}
 use Rattle.core_state.specs.declared.session.Event.TheVariants.{Host}
 use Rattle.core_state.specs.CoreValue.{CoreValue, DevicesSeen}
 use Rattle.core_state.specs.Counted.{IsEntryBehind}
 use Rattle.core_state.specs.Devices.{FailRead, RunOn, FailOn}
-use Rattle.core_state.specs.Entered.{entered}
+use Rattle.core_state.specs.Entered.{core_with_entry}
 use Rattle.core_state.specs.IsCore.{IsCore}
 use Rattle.core_state.specs.Pins.{host_at, put_host}
 use Rattle.core_state.specs.SessionData.{data_of}
@@ -70,13 +70,13 @@ module _ (S : Type 0) {C : Type 0} (tells : Type 0) (v : CoreValue S C) (old new
 
   -- the core with the entry
   abbrev run_entered : ReplyData → HostState → CallData → CoreValue S C
-  run_entered reply now k = entered v x (entry_of v.history h k reply None) new.writes (put_host v.hosts h now) (put_request v.requests h None) (tasks_after c volume ((host_at v.hosts h).cylinder / 8) v.tasks) v.stopped
+  run_entered reply now k = core_with_entry v x (entry_of v.history h k reply None) new.writes (put_host v.hosts h now) (put_request v.requests h None) (tasks_after c volume ((host_at v.hosts h).cylinder / 8) v.tasks) v.stopped
 
   abbrev check_entered : CallData → CoreValue S C
-  check_entered k = entered v x (entry_of v.history h k equipment_check (Some new.faults)) new.writes (put_host v.hosts h (checked check.EquipmentCheck (host_at v.hosts h))) (put_request v.requests h None) v.tasks v.stopped
+  check_entered k = core_with_entry v x (entry_of v.history h k equipment_check (Some new.faults)) new.writes (put_host v.hosts h (host_after_check check.EquipmentCheck (host_at v.hosts h))) (put_request v.requests h None) v.tasks v.stopped
 
   abbrev stop_entered : CallData → CoreValue S C
-  stop_entered k = entered v x (entry_of v.history h k stopped (Some new.faults)) new.writes v.hosts v.requests v.tasks (Some new.faults)
+  stop_entered k = core_with_entry v x (entry_of v.history h k stopped (Some new.faults)) new.writes v.hosts v.requests v.tasks (Some new.faults)
 
   behind : (reply : ReplyData) (fault : Option ℕ) → IsSome fault ↔ IsTrue (keeps_fault reply) → IsEntryBehind v.history (entry_of v.history h call reply fault)
   behind reply fault keeps = record { number = refl; fault = keeps }
@@ -91,9 +91,9 @@ module _ (S : Type 0) {C : Type 0} (tells : Type 0) (v : CoreValue S C) (old new
         chained = on.asks.chained;
       }) old new (reply, now)
       → IsUpheld tells new.told new.writes new.faults
-      (after_answer (record v { site = x; recency = touched frame v.recency; tasks = tasks_after c volume ((host_at v.hosts h).cylinder / 8) v.tasks }) new.writes h call None (reply, now))
+      (after_answer (record v { site = x; recency = order_after frame v.recency; tasks = tasks_after c volume ((host_at v.hosts h).cylinder / 8) v.tasks }) new.writes h call None (reply, now))
   upheld_run reply now ran = record {
-    whole = whole_beside (run_entered reply now call) (touched frame v.recency) v.recorders v.store v.rail (v.events ++ Host h ∷ []) tells new.told whole_ whole_.shaped.recorders_
+    whole = whole_beside (run_entered reply now call) (order_after frame v.recency) v.recorders v.store v.rail (v.events ++ Host h ∷ []) tells new.told whole_ whole_.shaped.recorders_
         (λ none. beside_touched v.config.frames v.config.recorders v.recency v.recorders v.store frame on.below core.beside);
     counted = counted_noted new.writes new.faults _ _ (v.events ++ Host h ∷ [])
         (counted_entry old.writes old.faults new.writes new.faults v.requests (data_of v) up.counted more later on.goes.going (entry_of v.history h call reply None) h None core.requests_
@@ -106,7 +106,7 @@ module _ (S : Type 0) {C : Type 0} (tells : Type 0) (v : CoreValue S C) (old new
 
   -- a read failed
   pub upheld_check : FailRead tells old new
-      → IsUpheld tells new.told new.writes new.faults (after_answer (record v { site = x }) new.writes h call (Some new.faults) (equipment_check, checked check.EquipmentCheck (host_at v.hosts h)))
+      → IsUpheld tells new.told new.writes new.faults (after_answer (record v { site = x }) new.writes h call (Some new.faults) (equipment_check, host_after_check check.EquipmentCheck (host_at v.hosts h)))
   upheld_check failed = record {
     whole = whole_noted tells new.told (check_entered call) (v.events ++ Host h ∷ []) whole_;
     counted = counted_noted new.writes new.faults _ _ (v.events ++ Host h ∷ [])
@@ -129,7 +129,7 @@ module _ (S : Type 0) {C : Type 0} (tells : Type 0) (v : CoreValue S C) (old new
         chained = on.asks.chained;
       }) fault old new
       → IsUpheld tells new.told new.writes new.faults
-      (record (entered v x (entry_of v.history h call stopped (Some new.faults)) new.writes v.hosts v.requests v.tasks (Some new.faults)) { events = v.events ++ Host h ∷ [] })
+      (record (core_with_entry v x (entry_of v.history h call stopped (Some new.faults)) new.writes v.hosts v.requests v.tasks (Some new.faults)) { events = v.events ++ Host h ∷ [] })
   upheld_stop fault failed = record {
     whole = whole_noted tells new.told (stop_entered call) (v.events ++ Host h ∷ []) whole_;
     counted = counted_noted new.writes new.faults _ _ (v.events ++ Host h ∷ [])

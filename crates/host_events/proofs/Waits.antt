@@ -14,7 +14,7 @@ use Rattle.core_state.specs.CoreValue.{CoreData}
 use Rattle.core_state.specs.HostEvents.{HostTold, waits, no_memory, Holds, Asks, IsSame, HostEvent}
 use Rattle.core_state.specs.HostRules.{request_for, host_rule}
 use Rattle.core_state.specs.IsCore.{IsCore}
-use Rattle.core_state.specs.Steps.{noted, ends_request, going_on, with_request}
+use Rattle.core_state.specs.Steps.{with_event, ends_request, going_on, with_request}
 use Rattle.host_events.specs.Leaves.{ChangesRequestAtMost}
 use Rattle.host_events.proofs.Outcomes.{EachOutcome, outcome}
 use Rattle.host_events.proofs.RuleFacts.{rule_faults}
@@ -65,20 +65,20 @@ module _ (tells : Type 0) (core : CoreData) (kept : core.stopped ≡ None → Is
   module _ (call : CallData) where
     held : Holds tells core h call core' → Changes
     held does =
-        cond_both (ends_request core h call) (noted (Host h) (going_on core h call)) core (λ (c : CoreData). core' ≡ record c { site = core'.site } → Changes)
-        (λ ends is. inr (None, does.0, is ∙ ap (λ (c : CoreData). record (noted (Host h) c) { site = core'.site }) (ended core h call ends)))
+        cond_both (ends_request core h call) (with_event (Host h) (going_on core h call)) core (λ (c : CoreData). core' ≡ record c { site = core'.site } → Changes)
+        (λ ends is. inr (None, does.0, is ∙ ap (λ (c : CoreData). record (with_event (Host h) c) { site = core'.site }) (ended core h call ends)))
         (λ _ is. inl (does.0, is)) does.1
 
     asked : (volume cylinder : ℕ) → host_rule core h call ≡ Faults volume cylinder → Asks tells core h call volume cylinder core' → Changes
     asked volume cylinder rule does =
-        cond_both (is_some (request_for core h call)) core (noted (Host h) (with_request h volume cylinder request.Queued (going_on core h call))) (λ (c : CoreData). core' ≡ record c { site = core'.site } → Changes)
+        cond_both (is_some (request_for core h call)) core (with_event (Host h) (with_request h volume cylinder request.Queued (going_on core h call))) (λ (c : CoreData). core' ≡ record c { site = core'.site } → Changes)
         (λ _ is. inl (does.0, is))
         (λ other is.
         let none = unasked core h call kept volume cylinder rule other in
         inr (
           Some (queued core h call volume cylinder),
           does.0,
-          is ∙ ap (λ (c : CoreData). record (noted (Host h) c) { site = core'.site })
+          is ∙ ap (λ (c : CoreData). record (with_event (Host h) c) { site = core'.site })
               (asked_last core h call none volume cylinder ∙ ap (λ (requests : RequestsData). record core { requests = requests }) (sym (put_last core h call none (queued core h call volume cylinder)))),
         ))
         does.1

@@ -10,12 +10,12 @@ use Rattle.channel_commands.specs.declared.command.Command.{Command}
 use Rattle.channel_commands.specs.Codes.{is_write}
 use Rattle.channel_commands.specs.Data.{CallData, command as ask, ReplyData, done, mounted, demounted, already_mounted, not_mounted, no_volume, in_chain, program_check, chain_limit, equipment_check, no_space, stopped}
 use Rattle.ckd_plain.specs.declared.host.HostState.{HostState}
-use Rattle.ckd_plain.specs.Checks.{admitted, Passes}
+use Rattle.ckd_plain.specs.Checks.{admitted_command, Passes}
 use Rattle.ckd_plain.specs.Effects.{is_data}
-use Rattle.ckd_plain.specs.Plain.{Answer, IsDone, opened, checked}
+use Rattle.ckd_plain.specs.Plain.{Answer, IsDone, with_open_chain, host_after_check}
 use Rattle.ckd_plain.specs.declared.unit_check.UnitCheck.TheVariants as check
 use Rattle.ckd_plain.specs.History.{IsAlone, IsStopped}
-use Rattle.volume_table.specs.Listed.{listed}
+use Rattle.volume_table.specs.Listed.{row_in_list}
 use Rattle.track_engine.specs.Tracks.{AreTracks}
 use Rattle.track_engine.specs.Answers.{ran}
 use Rattle.track_engine.specs.Writing.{WritesTrack, HoldsWritten}
@@ -26,7 +26,7 @@ use Rattle.core_state.specs.Pins.{host_at, put_host, is_on, asks_for, owns}
 use Rattle.core_state.specs.Tasks.{AreTasks, tasks_after, touched_all}
 use Rattle.core_state.specs.IsCore.{IsCore}
 use Rattle.core_state.specs.TheCore.{IsWhole}
-use Rattle.core_state.specs.Entered.{entered, plain_of, Enters}
+use Rattle.core_state.specs.Entered.{core_with_entry, plain_of, Enters}
 use Rattle.core_state.specs.Fitting.{IsReadyOn}
 use Rattle.core_state.specs.Steps.{entry_of}
 use Rattle.core_state.proofs.CoreFacts.{sound_of}
@@ -80,11 +80,11 @@ module _ (S : Type 0) {C : Type 0} (tells : Type 0) (s : SiteLog) (v : CoreValue
   core : IsCore v
   core = whole.kept on.goes.going
 
-  admits : admitted (opened (host_at v.hosts h)) on.asks.code on.asks.argument ≡ Ok c
+  admits : admitted_command (with_open_chain (host_at v.hosts h)) on.asks.code on.asks.argument ≡ Ok c
   admits = on.asks.admits ∙ ap Ok on.same
 
-  pub passes : Passes (opened (host_at v.hosts h)) c on.asks.argument
-  passes = subst (λ (k : Command). Passes (opened (host_at v.hosts h)) k on.asks.argument) on.same on.asks.passes
+  pub passes : Passes (with_open_chain (host_at v.hosts h)) c on.asks.argument
+  passes = subst (λ (k : Command). Passes (with_open_chain (host_at v.hosts h)) k on.asks.argument) on.same on.asks.passes
 
   pub data_ : is_data c ≡ true
   data_ = ap is_data (sym on.same) ∙ on.asks.data_
@@ -105,16 +105,16 @@ module _ (S : Type 0) {C : Type 0} (tells : Type 0) (s : SiteLog) (v : CoreValue
       on.asks.free volume there.0 there.1 other theirs
 
   -- the tasks with the host as it is then, and no request
-  tasks_with : (now : HostState) → now.mounted ≡ host.mounted → AreTasks v.config.frames (listed v.rows) v.moving (put_request v.requests h None) (put_host v.hosts h now) v.tasks
+  tasks_with : (now : HostState) → now.mounted ≡ host.mounted → AreTasks v.config.frames (row_in_list v.rows) v.moving (put_request v.requests h None) (put_host v.hosts h now) v.tasks
   tasks_with now same =
-      tasks_with_host v.config.frames (listed v.rows) v.moving v.requests v.hosts v.tasks core.tasks_ h now None (host_fits v.hosts h low core.hosts_) core.requests_ on.quiet (λ q none. absurd cc)
+      tasks_with_host v.config.frames (row_in_list v.rows) v.moving v.requests v.hosts v.tasks core.tasks_ h now None (host_fits v.hosts h low core.hosts_) core.requests_ on.quiet (λ q none. absurd cc)
       (λ volume is. inl (sym same ∙ is))
 
-  tasks_run : (now : HostState) → now.mounted ≡ host.mounted → AreTasks v.config.frames (listed v.rows) v.moving (put_request v.requests h None) (put_host v.hosts h now) (tasks_after c volume (host.cylinder / 8) v.tasks)
+  tasks_run : (now : HostState) → now.mounted ≡ host.mounted → AreTasks v.config.frames (row_in_list v.rows) v.moving (put_request v.requests h None) (put_host v.hosts h now) (tasks_after c volume (host.cylinder / 8) v.tasks)
   tasks_run now same = elim (cases_Bool (is_write c)) [
-    | inl w ↦ subst (AreTasks v.config.frames (listed v.rows) v.moving (put_request v.requests h None) (put_host v.hosts h now)) (sym (cond-true (is_write c) _ _ w))
-        (tasks_touched v.config.frames (listed v.rows) v.moving (put_request v.requests h None) (put_host v.hosts h now) v.tasks (tasks_with now same) volume (host.cylinder / 8))
-    | inr none ↦ subst (AreTasks v.config.frames (listed v.rows) v.moving (put_request v.requests h None) (put_host v.hosts h now)) (sym (cond-false (is_write c) _ _ none)) (tasks_with now same)
+    | inl w ↦ subst (AreTasks v.config.frames (row_in_list v.rows) v.moving (put_request v.requests h None) (put_host v.hosts h now)) (sym (cond-true (is_write c) _ _ w))
+        (tasks_touched v.config.frames (row_in_list v.rows) v.moving (put_request v.requests h None) (put_host v.hosts h now) v.tasks (tasks_with now same) volume (host.cylinder / 8))
+    | inr none ↦ subst (AreTasks v.config.frames (row_in_list v.rows) v.moving (put_request v.requests h None) (put_host v.hosts h now)) (sym (cond-false (is_write c) _ _ none)) (tasks_with now same)
   ]
 
   after_long : length (tasks_after c volume (host.cylinder / 8) v.tasks) ≡ length v.tasks
@@ -124,11 +124,11 @@ module _ (S : Type 0) {C : Type 0} (tells : Type 0) (s : SiteLog) (v : CoreValue
       by_write true = length_touched volume (host.cylinder / 8) v.tasks
       by_write false = refl
 
-  after_kept : (q : Request) → IsReadyOn (listed v.rows) v.tasks q → IsReadyOn (listed v.rows) (tasks_after c volume (host.cylinder / 8) v.tasks) q
+  after_kept : (q : Request) → IsReadyOn (row_in_list v.rows) v.tasks q → IsReadyOn (row_in_list v.rows) (tasks_after c volume (host.cylinder / 8) v.tasks) q
   after_kept q is = by_write (is_write c)
     where
-      by_write : (b : Bool) → IsReadyOn (listed v.rows) (cond b (touched_all volume (host.cylinder / 8) v.tasks) v.tasks) q
-      by_write true = ready_touched (listed v.rows) v.tasks q volume (host.cylinder / 8) is
+      by_write : (b : Bool) → IsReadyOn (row_in_list v.rows) (cond b (touched_all volume (host.cylinder / 8) v.tasks) v.tasks) q
+      by_write true = ready_touched (row_in_list v.rows) v.tasks q volume (host.cylinder / 8) is
       by_write false = is
 
   -- the blocks are tracks
@@ -147,12 +147,12 @@ module _ (S : Type 0) {C : Type 0} (tells : Type 0) (s : SiteLog) (v : CoreValue
     pub whole_run : (reply : ReplyData) (now : HostState) → now.mounted ≡ (host_at v.hosts h).mounted → IsDone reply
         → (tells → reply ≡ (ran (content s) (unit_of frame) (frame_block frame (host_at v.hosts h).cylinder 0).block (host_at v.hosts h) c on.asks.argument on.asks.chained).reply)
         → (tells → now ≡ (ran (content s) (unit_of frame) (frame_block frame (host_at v.hosts h).cylinder 0).block (host_at v.hosts h) c on.asks.argument on.asks.chained).host)
-        → (tells → WritesTrack c (opened (host_at v.hosts h)) (unit_of frame) (frame_block frame (host_at v.hosts h).cylinder 0).block s t
+        → (tells → WritesTrack c (with_open_chain (host_at v.hosts h)) (unit_of frame) (frame_block frame (host_at v.hosts h).cylinder 0).block s t
         (ran (content s) (unit_of frame) (frame_block frame (host_at v.hosts h).cylinder 0).block (host_at v.hosts h) c on.asks.argument on.asks.chained).written)
         → (tells → HoldsWritten (ran (content s) (unit_of frame) (frame_block frame (host_at v.hosts h).cylinder 0).block (host_at v.hosts h) c on.asks.argument on.asks.chained).written
         (reading (content t (unit_of frame) ((frame_block frame (host_at v.hosts h).cylinder 0).block + (host_at v.hosts h).head))))
         → (tells → Settles s t)
-        → IsWhole tells t (entered v x (entry_of v.history h (ask on.asks.code on.asks.argument on.asks.chained) reply None) m (put_host v.hosts h now) (put_request v.requests h None)
+        → IsWhole tells t (core_with_entry v x (entry_of v.history h (ask on.asks.code on.asks.argument on.asks.chained) reply None) m (put_host v.hosts h now) (put_request v.requests h None)
         (tasks_after c volume ((host_at v.hosts h).cylinder / 8) v.tasks) v.stopped)
     whole_run reply now same is_done answer left writes exact firm =
         whole_entry S v core h low now None (λ q none. absurd cc) (λ q none queued. absurd cc) (mine now same None) tells s t x _ m (tasks_after c volume (host.cylinder / 8) v.tasks) whole on.goes.going on.goes.few
@@ -162,7 +162,7 @@ module _ (S : Type 0) {C : Type 0} (tells : Type 0) (s : SiteLog) (v : CoreValue
             (tasks_after c volume ((host_at v.hosts h).cylinder / 8) v.tasks) s t
         enters tl =
             let place : first ≡ first_of frame host.cylinder = first_is frame host.cylinder in
-            let w = subst (λ (n : ℕ). WritesTrack c (opened host) (unit_of frame) n s t (ran (content s) (unit_of frame) n host c argument chained).written) place (writes tl) in
+            let w = subst (λ (n : ℕ). WritesTrack c (with_open_chain host) (unit_of frame) n s t (ran (content s) (unit_of frame) n host c argument chained).written) place (writes tl) in
             let ex = subst (λ (n : ℕ). HoldsWritten (ran (content s) (unit_of frame) n host c argument chained).written (reading (content t (unit_of frame) (n + host.head)))) place (exact tl) in
             let an : ◌≡◌ {A = ReplyData × HostState} (reply, now) _ = (λ i. (answer tl i, left tl i)) ∙ ap (λ (n : ℕ). both (ran (content s) (unit_of frame) n host c argument chained)) place in
             subst (λ (p : ReplyData × HostState). Enters v.config.frames v.rows (plain_of s v) v.history (entry_of v.history h (ask code argument chained) p.0 None) (put_host v.hosts h p.1) (tasks_after c volume (host.cylinder / 8) v.tasks) s t) (sym an)
@@ -170,21 +170,21 @@ module _ (S : Type 0) {C : Type 0} (tells : Type 0) (s : SiteLog) (v : CoreValue
 
     -- a failed write stops the core
     pub whole_stopped : (fault : ℕ) → IsTrue (is_write c)
-        → (tells → WritesTrack c (opened (host_at v.hosts h)) (unit_of frame) (frame_block frame (host_at v.hosts h).cylinder 0).block s t
+        → (tells → WritesTrack c (with_open_chain (host_at v.hosts h)) (unit_of frame) (frame_block frame (host_at v.hosts h).cylinder 0).block s t
         (ran (content s) (unit_of frame) (frame_block frame (host_at v.hosts h).cylinder 0).block (host_at v.hosts h) c on.asks.argument on.asks.chained).written)
-        → IsWhole tells t (entered v x (entry_of v.history h (ask on.asks.code on.asks.argument on.asks.chained) stopped (Some fault)) m v.hosts v.requests v.tasks (Some fault))
+        → IsWhole tells t (core_with_entry v x (entry_of v.history h (ask on.asks.code on.asks.argument on.asks.chained) stopped (Some fault)) m v.hosts v.requests v.tasks (Some fault))
     whole_stopped fault write_ writes = whole_halt S tells s t v x _ m fault whole on.goes.going on.goes.few
         (λ tl.
-        let w = subst (λ (n : ℕ). WritesTrack c (opened host) (unit_of frame) n s t (ran (content s) (unit_of frame) n host c argument chained).written) (first_is frame host.cylinder) (writes tl) in
+        let w = subst (λ (n : ℕ). WritesTrack c (with_open_chain host) (unit_of frame) n s t (ran (content s) (unit_of frame) n host c argument chained).written) (first_is frame host.cylinder) (writes tl) in
         stop_enters S s t v (whole.told tl) core on.goes.going h low code argument chained c admits passes (alone tl) volume frame on.bind on.r on.at on.changed write_ w fault v.hosts v.tasks)
         mark
 
     -- a failed read is an equipment check
     pub whole_check : (fault : ℕ) → (tells → t ≡ s)
-        → IsWhole tells t (entered v x (entry_of v.history h (ask on.asks.code on.asks.argument on.asks.chained) equipment_check (Some fault)) m
-        (put_host v.hosts h (checked check.EquipmentCheck (host_at v.hosts h))) (put_request v.requests h None) v.tasks v.stopped)
+        → IsWhole tells t (core_with_entry v x (entry_of v.history h (ask on.asks.code on.asks.argument on.asks.chained) equipment_check (Some fault)) m
+        (put_host v.hosts h (host_after_check check.EquipmentCheck (host_at v.hosts h))) (put_request v.requests h None) v.tasks v.stopped)
     whole_check fault same =
-        let now : HostState = checked check.EquipmentCheck (host_at v.hosts h) in
+        let now : HostState = host_after_check check.EquipmentCheck (host_at v.hosts h) in
         whole_entry S v core h low now None (λ q none. absurd cc) (λ q none queued. absurd cc) (mine now refl None) tells s t x _ m v.tasks whole on.goes.going on.goes.few
         (tasks_with now refl) refl (λ q is. is) (core.fit.mounted_ h) (λ q none. absurd cc)
         (λ tl. check_enters S s t v (whole.told tl) core on.goes.going h low code argument chained c admits passes (alone tl) volume frame on.bind on.r on.at on.changed data_ (same tl) fault)

@@ -3,7 +3,7 @@ use Rattle.std.specs.Prelude.{ℕ}
 use Rattle.mss_base.specs.declared.site.Site.{Ghosts}
 use Rattle.channel_commands.specs.Views.{call_of, reply_of}
 use Rattle.channel_commands.specs.declared.call.Call.{Call}
-use Rattle.core_state.specs.CoreValue.{CoreValue, seen}
+use Rattle.core_state.specs.CoreValue.{CoreValue, seen_core}
 use Rattle.core_state.specs.HostEvents.{HostDoes}
 use Rattle.core_state.specs.HostEvents.{HostTold, replied, marked, waits, halts, at_limit}
 use Rattle.core_state.specs.HostEvents.{no_memory}
@@ -24,4 +24,4 @@ told_of answer.Memory = no_memory
 abbrev pub HostStep : {S C : Type 0} → Ghosts S → CoreValue S C → ℕ → Call → HostRule → HostAnswer
     → CoreValue S C → Type 0
 HostStep g old host call rule answer new =
-    HostDoes g.tells (seen g old) host (call_of call) rule (told_of answer) (seen g new)
+    HostDoes g.tells (seen_core g old) host (call_of call) rule (told_of answer) (seen_core g new)

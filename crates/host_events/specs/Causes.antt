@@ -9,7 +9,7 @@ use Rattle.channel_commands.specs.Data.{CallData, is_command, ReplyData, done, e
 use Rattle.channel_commands.specs.Data.{no_space, stopped}
 use Rattle.ckd_plain.specs.declared.host.HostState.{HostState}
 use Rattle.volume_table.specs.Row.{RowValue, frame_of, state_of}
-use Rattle.volume_table.specs.Listed.{listed}
+use Rattle.volume_table.specs.Listed.{row_in_list}
 use Rattle.shown_volumes.specs.Shown.{RowsOf}
 use Rattle.shown_volumes.specs.Sound.{frame_in}
 use Rattle.fault_queue.specs.declared.queue.Request.{Request}
@@ -103,19 +103,19 @@ module _ (core : CoreData) (h : ℕ) (call : CallData) where
   pub record LooksAt (c : Command) (P : RowValue → ℕ → Type 0) : Type 0 where
     pub looks : Looks c
     pub unfailed : fault_asked core.requests h ≡ None
-    pub under : UnderHost (listed core.rows) (host_at core.hosts h) P
+    pub under : UnderHost (row_in_list core.rows) (host_at core.hosts h) P
 
   -- there is no space for its page
   pub record FindsNoSpace : Type 0 where
     pub c : Command
     pub at : LooksAt c (λ r cylinder. frame_of r (cylinder / 8) ≡ None)
-    pub full : HasNoSpaceFor core.config.frames (listed core.rows) (host_at core.hosts) h
+    pub full : HasNoSpaceFor core.config.frames (row_in_list core.rows) (host_at core.hosts) h
 
   -- its cylinder, which is this one, isn't staged, and there is space or it needs none
   pub record IsUnstaged (cylinder : ℕ) : Type 0 where
     pub c : Command
     pub at : LooksAt c (λ r under. state_of r under < 2)
-    pub space : HasNoSpaceFor core.config.frames (listed core.rows) (host_at core.hosts) h → ⊥
+    pub space : HasNoSpaceFor core.config.frames (row_in_list core.rows) (host_at core.hosts) h → ⊥
     pub cylinder_ : cylinder ≡ (host_at core.hosts h).cylinder
 
   -- a write on a cylinder that is staged and not changed yet
@@ -143,7 +143,7 @@ plain_reply_on core h call c frame =
 abbrev pub RunsPlainly : CoreData → ℕ → CallData → ReplyData → Type 0
 RunsPlainly core h call reply =
     (c : Command) × (frame : ℕ) × IsToRun core h call c
-    × UnderHost (listed core.rows) (host_at core.hosts h)
+    × UnderHost (row_in_list core.rows) (host_at core.hosts h)
     (λ r cylinder. frame_of r (cylinder / 8) ≡ Some frame)
     × (reply ≡ plain_reply_on core h call c frame)
 

@@ -13,7 +13,7 @@ use Rattle.core_state.specs.CoreValue.{CoreData}
 use Rattle.core_state.specs.Devices.{StillHold}
 use Rattle.core_state.specs.HostEvents.{HostTold, replied, halts, IsSame}
 use Rattle.core_state.specs.Pins.{host_at}
-use Rattle.core_state.specs.Steps.{noted, entry_of}
+use Rattle.core_state.specs.Steps.{with_event, entry_of}
 
 -- ---- the history
 
@@ -61,7 +61,7 @@ abbrev pub ChangesRequestAtMost : Type 0 → CoreData → ℕ → CoreData → T
 ChangesRequestAtMost tells core h core' =
     IsSame tells core core'
     ⊎ ((q : Option Request) × StillHold tells core.site core'.site
-    × (core' ≡ noted (Host h)
+    × (core' ≡ with_event (Host h)
     (record core { site = core'.site; requests = put_request core.requests h q })))
 
 -- ---- the events

@@ -8,7 +8,7 @@ use Rattle.fault_queue.specs.Requests.{without_request}
 use Rattle.core_state.specs.declared.session.Event.TheVariants.{Host}
 use Rattle.core_state.specs.CoreValue.{CoreData, CoreValue}
 use Rattle.core_state.specs.Counted.{IsCounted}
-use Rattle.core_state.specs.Entered.{entered}
+use Rattle.core_state.specs.Entered.{core_with_entry}
 use Rattle.core_state.specs.HostEvents.{HostTold, no_memory, IsSame, Given, Replies}
 use Rattle.core_state.specs.Pins.{put_host}
 use Rattle.core_state.specs.SessionData.{SessionData, data_of, with_last_entry, with_last_event}
@@ -24,7 +24,7 @@ with_reply h call reply fault mark d =
 abbrev pub after_answer : {S C : Type 0} → CoreValue S C → ℕ → ℕ → CallData → Option ℕ
     → ReplyData × HostState → CoreValue S C
 after_answer v mark h call fault answer =
-    record (entered v v.site (entry_of v.history h call answer.0 fault) mark
+    record (core_with_entry v v.site (entry_of v.history h call answer.0 fault) mark
     (put_host v.hosts h answer.1) (without_request h v.requests) v.tasks v.stopped) {
       events = v.events ++ Host h ∷ [];
     }

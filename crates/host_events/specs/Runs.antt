@@ -10,7 +10,7 @@ use Rattle.channel_commands.specs.declared.command.Command.{Command}
 use Rattle.ckd_plain.specs.declared.host.HostState.{HostState}
 use Rattle.ckd_plain.specs.Checks.{Passes}
 use Rattle.ckd_plain.specs.Effects.{is_data}
-use Rattle.ckd_plain.specs.Plain.{opened}
+use Rattle.ckd_plain.specs.Plain.{with_open_chain}
 use Rattle.volume_table.specs.Row.{RowValue, frame_of, state_of}
 use Rattle.track_engine.specs.declared.place.EngineFault.{EngineFault}
 use Rattle.track_engine.specs.declared.place.EngineFault.TheVariants.{ReadFailed, WriteFailed}
@@ -35,7 +35,7 @@ is_chained _ = false
 -- the call is a command, and this one is a search, a read or a write that passes the checks for the host
 pub record MayRun (call : CallData) (c : Command) (host : HostState) : Type 0 where
   pub asks : is_command call ≡ true
-  pub passes : Passes (opened host) c (argument_of call)
+  pub passes : Passes (with_open_chain host) c (argument_of call)
   pub data_ : is_data c ≡ true
 
 -- a command of a call, which this host makes on the cylinder that stands from this block on

@@ -5,7 +5,7 @@ ghost use Rattle.mss_base.specs.Sites.{MayWrite};
 ghost use Rattle.mss_base.specs.declared.place.UnitNo.{UnitNo};
 ghost use Rattle.channel_commands.specs.Views.{call_of};
 ghost use Rattle.channel_commands.specs.declared.command.Command.{Command};
-ghost use Rattle.core_state.specs.CoreValue.{seen};
+ghost use Rattle.core_state.specs.CoreValue.{seen_core};
 ghost use Rattle.core_state.specs.HostEvents.{HostEvent};
 ghost use Rattle.core_state.specs.HostRules.{host_rule};
 ghost use Rattle.core_state.specs.Pins.{host_at};
@@ -18,7 +18,7 @@ use crate::exception::{fail, refuse_space};
 use crate::mark::mark;
 use crate::respond::reply_plainly;
 use crate::rule::host_rule;
-use crate::run::run;
+use crate::run::run_on_frame;
 use crate::wait::{ask, hold};
 use channel_commands::Call;
 use core_state::{Core, HostRule, Waiting};
@@ -41,8 +41,8 @@ pub fn host_event<S: Site, C: Choose>(
     host: HostNo,
     call: &Call,
 ) -> HostAnswer
-    ensures event { HostEvent S.tells (seen S.Site core.old) host
-        (call_of call.now) (told_of result) (seen S.Site core.new) }
+    ensures event { HostEvent S.tells (seen_core S.Site core.old) host
+        (call_of call.now) (told_of result) (seen_core S.Site core.new) }
     ensures chooser { core.new.chooser ≡ core.old.chooser }
     ensures devices { MayWrite S.Site EVENT_ITEMS core.old.site core.new.site }
     ensures room { IsUntold (told_of result) → S.spare core.old.site ≤ S.spare core.new.site }
@@ -69,6 +69,6 @@ pub fn host_event<S: Site, C: Choose>(
             command,
             volume,
             frame,
-        } => run(core, host, call, &command, volume, frame),
+        } => run_on_frame(core, host, call, &command, volume, frame),
     }
 }

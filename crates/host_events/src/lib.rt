@@ -6,6 +6,9 @@
 //! core stays so. What the rule that is met says of the core is `proofs/RuleFacts.antt`; which rule
 //! is met, by what the call finds, `RuleOf.antt`; what an event does, case by case,
 //! `Outcomes.antt`; what every reply owes to the core, `ReplyFacts.antt`.
+//!
+//! Layers above cite lemmas of `proofs/`: causes of answers (`CauseFacts`), what an event leaves
+//! (`EventLeaves`), mounts (`Mounts`), and events of a stopped core (`Stopped`).
 #![tactic(auto)]
 
 mod answer;

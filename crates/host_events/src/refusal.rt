@@ -1,7 +1,7 @@
 // A call for which memory is wanting before its event.
 ghost use Rattle.std.specs.Prelude.{◌≡◌, ℕ, None};
 ghost use Rattle.channel_commands.specs.Data.{CallData};
-ghost use Rattle.core_state.specs.CoreValue.{seen};
+ghost use Rattle.core_state.specs.CoreValue.{seen_core};
 ghost use Rattle.core_state.specs.HostEvents.{HostEvent};
 ghost use Rattle.core_state.specs.IsCore.{IsCore};
 ghost use Rattle.core_state.specs.TheCore.{IsWhole};
@@ -24,8 +24,8 @@ pub fn look<S: Site, C: Choose>(core: &Core<S, C>)
 /// What any call of a host is answered for which memory is wanting, as its event would: that the core is stopped,
 /// that the history is full, or want of memory. Nothing changes.
 pub fn refused<S: Site, C: Choose>(core: &Core<S, C>) -> HostAnswer
-    ensures event { (h : ℕ) (call : CallData) → HostEvent S.tells (seen S.Site core.now) h call
-        (told_of result) (seen S.Site core.now) }
+    ensures event { (h : ℕ) (call : CallData) → HostEvent S.tells (seen_core S.Site core.now) h call
+        (told_of result) (seen_core S.Site core.now) }
     ensures goes_on { core.now.stopped ≡ None → GoesOn (told_of result) }
 {
     match core.stopped() {
@@ -37,8 +37,8 @@ pub fn refused<S: Site, C: Choose>(core: &Core<S, C>) -> HostAnswer
 /// The same of a core that isn't stopped.
 fn lacking<S: Site, C: Choose>(core: &Core<S, C>) -> HostAnswer
     requires going { core.now.stopped ≡ None }
-    ensures event { (h : ℕ) (call : CallData) → HostEvent S.tells (seen S.Site core.now) h call
-        (told_of result) (seen S.Site core.now) }
+    ensures event { (h : ℕ) (call : CallData) → HostEvent S.tells (seen_core S.Site core.now) h call
+        (told_of result) (seen_core S.Site core.now) }
     ensures goes_on { GoesOn (told_of result) }
 {
     look(core);

@@ -1,7 +1,7 @@
 // How a call is replied.
 ghost use Rattle.std.specs.Prelude.{◌≡◌, ◌≤◌, ◌<◌, length};
 ghost use Rattle.channel_commands.specs.Views.{call_of, reply_of};
-ghost use Rattle.core_state.specs.CoreValue.{seen};
+ghost use Rattle.core_state.specs.CoreValue.{seen_core};
 ghost use Rattle.core_state.specs.Counted.{AreEntries};
 ghost use Rattle.core_state.specs.Sessions.{session_data};
 ghost use Rattle.core_state.specs.declared.session.TheConstants.{ENTRY_LIMIT};
@@ -61,9 +61,9 @@ pub fn reply<S: Site, C: Choose>(
     requires upheld { IsUpheld S.tells (S.told core.old.site) (S.writes core.old.site)
         (S.faults core.old.site) (after_answer core.old (S.writes core.old.site) host
         (call_of call.now) fault (reply_of reply, now.now)) }
-    ensures event { RepliesOr S.tells (seen S.Site core.old) host (call_of call.now)
+    ensures event { RepliesOr S.tells (seen_core S.Site core.old) host (call_of call.now)
         (record { reply = reply_of reply; fault = fault; host = now.now }) (told_of result)
-        (seen S.Site core.new) }
+        (seen_core S.Site core.new) }
     ensures chooser { core.new.chooser ≡ core.old.chooser }
     ensures site { core.new.site ≡ core.old.site }
 {

@@ -1,7 +1,7 @@
 // Replies without a look at the tracks.
 ghost use Rattle.std.specs.Prelude.{◌≡◌, IfOk};
 ghost use Rattle.channel_commands.specs.Views.{call_of, reply_of};
-ghost use Rattle.ckd_plain.specs.Plain.{NeedsNoTrack, responded};
+ghost use Rattle.ckd_plain.specs.Plain.{NeedsNoTrack, response_to};
 ghost use Rattle.core_state.specs.HostEvents.{mark_in};
 ghost use Rattle.core_state.specs.HostRules.{host_rule};
 ghost use Rattle.core_state.specs.declared.rule.HostRule.TheVariants.{Responds};
@@ -42,7 +42,7 @@ fn response(
 ) -> Result<(Reply, HostState), NoMemory>
     requires { NeedsNoTrack host.now (call_of call.now) }
     ensures { IfOk result (λ answer. (reply_of answer.0, answer.1)
-        ≡ responded host.now mark (call_of call.now)) }
+        ≡ response_to host.now mark (call_of call.now)) }
 {
     let Call::Command(command) = call else {
         return Ok(respond(host, mark, call));

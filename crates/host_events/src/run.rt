@@ -4,7 +4,7 @@ ghost use Rattle.mss_base.specs.Content.{content};
 ghost use Rattle.mss_base.specs.Places.{frame_block};
 ghost use Rattle.mss_base.specs.Sites.{MayWrite};
 ghost use Rattle.mss_base.specs.declared.place.UnitNo.{UnitNo};
-ghost use Rattle.volume_table.specs.Listed.{listed};
+ghost use Rattle.volume_table.specs.Listed.{row_in_list};
 ghost use Rattle.channel_commands.specs.Data.{stopped};
 ghost use Rattle.channel_commands.specs.Views.{call_of, reply_of};
 ghost use Rattle.ckd_plain.specs.Plain.{IsDone};
@@ -37,7 +37,7 @@ use ckd_track::FORMAT_ITEMS;
 use core_state::looks::host_at;
 use core_state::{Core, HostStateList, Session, TaskList, touch_all};
 use fault_queue::Queue;
-use mss_base::{Block, Bytes, CYLINDERS, FrameNo, HEADS, Head, HostNo, Page, Site, VolumeNo};
+use mss_base::{Bytes, CYLINDERS, FrameNo, HEADS, Head, HostNo, Page, Site, VolumeNo};
 use staging_adapter::{Translated, translate};
 use std::alloc::Global;
 use track_engine::{CylinderPlace, EngineFault, run_command};
@@ -58,8 +58,8 @@ fn standing(hosts: &[HostState], host: HostNo) -> HostState
 
 /// The row of a volume that has one.
 fn row_of(rows: &Rows, volume: VolumeNo) -> &VolumeRow
-    requires there { IsSome (listed rows.now volume) }
-    ensures { listed rows.now volume ≡ Some result.now }
+    requires there { IsSome (row_in_list rows.now volume) }
+    ensures { row_in_list rows.now volume ≡ Some result.now }
 {
     let Some(row) = rows.row(volume) else {
         unreachable!()
@@ -106,7 +106,6 @@ fn bare(alloc: Global, command: &Command, reply: Reply) -> Reply
 fn run_in<S: Site>(
     alloc: Global,
     site: &mut S,
-    buffer: &mut Block,
     row: &VolumeRow,
     frame: FrameNo,
     call: &Call,
@@ -202,7 +201,7 @@ fn halt(session: &mut Session, host: HostNo, call: Call, fault: u64, mark: u64)
 }
 
 /// Runs a command on the frame of the host's cylinder.
-pub fn run<S: Site, C: Choose>(
+pub fn run_on_frame<S: Site, C: Choose>(
     core: &mut Core<S, C>,
     host: HostNo,
     call: &Call,
@@ -232,10 +231,9 @@ pub fn run<S: Site, C: Choose>(
     let index = session.history.as_slice().len() as u64;
     let mut now = old;
     let row = row_of(&core.rows, volume);
-    let buffer = &mut core.buffer;
     let hosts = &mut core.hosts;
     let requests = &mut core.requests;
-    match run_in(alloc, site, buffer, row, frame, call, command, &mut now) {
+    match run_in(alloc, site, row, frame, call, command, &mut now) {
         Ok((reply, told)) => {
             let (fault, mark) = (None, site.writes());
             let entry = Told { reply, fault, mark };

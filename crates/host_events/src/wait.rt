@@ -2,7 +2,7 @@
 ghost use Rattle.std.specs.Prelude.{◌≡◌, None, OnOk, OnErr};
 ghost use Rattle.channel_commands.specs.Data.{CallData};
 ghost use Rattle.fault_queue.specs.Requests.{request_of};
-ghost use Rattle.core_state.specs.CoreValue.{seen};
+ghost use Rattle.core_state.specs.CoreValue.{seen_core};
 ghost use Rattle.core_state.specs.HostEvents.{HostDoes};
 ghost use Rattle.core_state.specs.HostRules.{host_rule};
 ghost use Rattle.core_state.specs.declared.rule.HostRule.TheVariants.{Faults, IsHeld};
@@ -20,8 +20,8 @@ use victim_choice::Choose;
 pub fn hold<S: Site, C: Choose>(core: &Core<S, C>, host: HostNo, frame: FrameNo) -> HostAnswer
     requires rule { (call : CallData) × (host_rule core.now host call ≡ IsHeld frame) }
     ensures event { (call : CallData) → host_rule core.now host call ≡ IsHeld frame
-        → HostDoes S.tells (seen S.Site core.now) host call
-        (IsHeld frame) (told_of result) (seen S.Site core.now) }
+        → HostDoes S.tells (seen_core S.Site core.now) host call
+        (IsHeld frame) (told_of result) (seen_core S.Site core.now) }
 {
     // A host that mounts has no volume, so it has no request that would end.
     let is_idle = core.requests.of(host).is_none();
@@ -58,8 +58,8 @@ pub fn ask<S: Site, C: Choose>(
 ) -> HostAnswer
     requires rule { (call : CallData) × (host_rule core.old host call ≡ Faults volume cylinder) }
     ensures event { (call : CallData) → host_rule core.old host call ≡ Faults volume cylinder
-        → HostDoes S.tells (seen S.Site core.old) host call
-        (Faults volume cylinder) (told_of result) (seen S.Site core.new) }
+        → HostDoes S.tells (seen_core S.Site core.old) host call
+        (Faults volume cylinder) (told_of result) (seen_core S.Site core.new) }
     ensures chooser { core.new.chooser ≡ core.old.chooser }
     ensures site { core.new.site ≡ core.old.site }
 {

@@ -17,7 +17,7 @@ use Rattle.session_report.specs.CopyTexts.{behind_text, copied_line, copied_trac
 use Rattle.session_report.specs.Reports.{TRACKS_OF_VOLUME}
 use Rattle.volume_copy.specs.declared.copier.CopyState.{CopyState}
 use Rattle.volume_copy.specs.declared.copier.CopyState.TheVariants.{Armed, NoVolume, Taking, Whole, Failed}
-use Rattle.volume_copy.specs.Beside.{IsCopied, IsFinished, asked}
+use Rattle.volume_copy.specs.Beside.{IsCopied, IsFinished, asked_copy}
 use Rattle.volume_copy.specs.Copies.{CopyData, FailedIn, IsCopier, IsVolumeIn, Stands}
 use Rattle.job_runs.specs.Copies.{FailedOf, IsBehind, IsCopyOf, IsCopyTold, copied, failed, no_volume}
 
@@ -67,6 +67,6 @@ module _ (tells : Type 0) (config : ConfigData) (was : SiteLog) (faults : ℕ) (
     told_by Whole at stands fails done = copied c.point is.point_ stands.there (whole_text at)
     told_by (Failed fault) at stands fails done = failed fault fails stands refl
 
-  pub behind_of : (copier : Option CopyData) → IfSome copier IsCopier → IfSome copier (IsCopyOf tells config was faults s) → IsBehind tells (asked copier) volumes s faults (behind_text copier)
+  pub behind_of : (copier : Option CopyData) → IfSome copier IsCopier → IfSome copier (IsCopyOf tells config was faults s) → IsBehind tells (asked_copy copier) volumes s faults (behind_text copier)
   behind_of None kept is = refl
   behind_of (Some c) kept is = λ t. told_by c kept is t c.state refl (is.stands t) is.failed is.finished

@@ -7,14 +7,14 @@ use Rattle.mss_base.specs.declared.site.Site.{Ghosts}
 use Rattle.job_text.specs.Jobs.{ScriptData}
 use Rattle.core_state.specs.Beginning.{Continues, IsLater}
 use Rattle.core_state.specs.Chains.{Reading, Terms}
-use Rattle.core_state.specs.CoreValue.{CoreData, CoreValue, seen, seen_site}
+use Rattle.core_state.specs.CoreValue.{CoreData, CoreValue, seen_core, seen_site}
 use Rattle.core_state.proofs.Later.{later_none}
 use Rattle.serial_driver.specs.declared.answer.DriveAnswer.{DriveAnswer}
 use Rattle.serial_driver.specs.declared.answer.DriveAnswer.TheVariants as ended
 use Rattle.serial_driver.specs.Drives.{RunsOn}
 use Rattle.serial_driver.proofs.ReadFacts.{reading_on}
 use Rattle.serial_driver.proofs.TakeFacts.{reads_seen}
-use Rattle.volume_copy.specs.Beside.{ReadsBeside, asked}
+use Rattle.volume_copy.specs.Beside.{ReadsBeside, asked_copy}
 use Rattle.volume_copy.specs.Copies.{CopyData}
 use Rattle.table_pair.proofs.SiteLemmas.{reads_none}
 use Rattle.job_runs.specs.Copies.{EndsForCopy, IsToldWhole}
@@ -32,20 +32,20 @@ module _ {S C : Type 0} (g : Ghosts S) (v w : CoreValue S C) where
   }
   was_read true reads = record { same = reads.core; site_ = reads.site_ }
 
-  pub devices_read : (copies : Bool) → ReadsBeside g copies v w → Reading copies g.tells (seen g v) (λ read. read.site ≡ seen_site g w.site)
+  pub devices_read : (copies : Bool) → ReadsBeside g copies v w → Reading copies g.tells (seen_core g v) (λ read. read.site ≡ seen_site g w.site)
   devices_read copies reads =
-      reading_on g.tells (seen g v) copies (λ read. seen g w ≡ read) (λ read. read.site ≡ seen_site g w.site) (λ read is. sym (ap (λ (c : CoreData). c.site) is)) (reads_seen g v w copies reads)
+      reading_on g.tells (seen_core g v) copies (λ read. seen_core g w ≡ read) (λ read. read.site ≡ seen_site g w.site) (λ read is. sym (ap (λ (c : CoreData). c.site) is)) (reads_seen g v w copies reads)
 
   module _ (read : WasRead) where
     -- what doesn't look at the site is the same
     pub part_same : {A : Type 0} (part : CoreValue S C → A) → part (record v { site = w.site }) ≡ part v → part w ≡ part v
     part_same part same = ap part read.same ∙ same
 
-    pub later_read : IsLater g.tells (seen g v) (seen g w)
-    later_read = subst (λ (x : CoreValue S C). IsLater g.tells (seen g v) (seen g x)) (sym read.same)
+    pub later_read : IsLater g.tells (seen_core g v) (seen_core g w)
+    later_read = subst (λ (x : CoreValue S C). IsLater g.tells (seen_core g v) (seen_core g x)) (sym read.same)
         (record {
           beginning = record { config = refl; first_write = refl; first_faults = refl; handed = λ rows. refl };
-          grown = λ t. subst (λ (log : SiteLog). Continues (g.told v.site) log) (sym (read.site_.log t)) ((later_none g.tells (seen g v)).grown t);
+          grown = λ t. subst (λ (log : SiteLog). Continues (g.told v.site) log) (sym (read.site_.log t)) ((later_none g.tells (seen_core g v)).grown t);
         })
 
 -- ---- how it ended
@@ -82,7 +82,7 @@ module _ (copier : Option CopyData) (end now : DriveAnswer) (ends : (now ≡ end
       by (inl same) = sym same ∙ is
       by (inr it) = absurd (isn't (sym it.memory ∙ is))
 
-  module _ (terms : Terms) (copies : terms.copies ≡ is_some (asked copier)) (scripts : List ScriptData) (turns : List ℕ) (began left : CoreData) where
+  module _ (terms : Terms) (copies : terms.copies ≡ is_some (asked_copy copier)) (scripts : List ScriptData) (turns : List ℕ) (began left : CoreData) where
     runs_of : (e : DriveAnswer) → IsToldWhole e → Goes terms scripts turns began e left → RunsOn terms scripts turns began e left
     runs_of ended.Done whole goes = goes
     runs_of ended.CommandLimit whole goes = goes

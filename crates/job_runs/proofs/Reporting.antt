@@ -5,13 +5,13 @@ use Rattle.ckd_track.specs.Data.{Volumes}
 use Rattle.serial_driver.specs.declared.answer.DriveAnswer.{DriveAnswer}
 use Rattle.serial_driver.specs.declared.answer.DriveAnswer.TheVariants as ended
 use Rattle.session_report.specs.Answers.{Answer, IsPut, whole as put_whole, broken, cut}
-use Rattle.session_report.specs.Parties.{Stream, Devices, seen_with}
+use Rattle.session_report.specs.Parties.{Stream, ToldDevices, seen_with}
 use Rattle.session_report.specs.Reports.{Heading, Matter, BreaksOff, IsReported, OnRead, Telling, HasReason, finished, stopped, told_answer, told_text, whole, unread}
 use Rattle.session_report.specs.declared.fault.ReportFault.TheVariants as report_fault
 use Rattle.session_report.specs.declared.reporting.Last.{Last}
 use Rattle.job_runs.specs.Runs.{IsHalted, IsTold}
 
-module _ (opening : List ℕ) (volumes : List Heading) (behind : List ℕ) (site : Devices) (sink : Stream) (answer : Answer) where
+module _ (opening : List ℕ) (volumes : List Heading) (behind : List ℕ) (site : ToldDevices) (sink : Stream) (answer : Answer) where
   abbrev about : Volumes → Matter
   about shown = record { opening = opening; shown = shown; volumes = volumes; behind = behind }
 
@@ -51,21 +51,21 @@ module _ (opening : List ℕ) (volumes : List Heading) (behind : List ℕ) (site
 -- ---- a failed read
 
 -- none is told of a session that was stopped
-stopped_unread : (m : Matter) (site : Devices) (sink : Stream) (fault kept : ℕ) (telling : Telling) → HasReason (stopped kept) m.volumes site.faults_was site.faults_now telling
+stopped_unread : (m : Matter) (site : ToldDevices) (sink : Stream) (fault kept : ℕ) (telling : Telling) → HasReason (stopped kept) m.volumes site.faults_was site.faults_now telling
     → IsPut (told_answer telling) (told_text m telling) (seen_with site sink) (Err (report_fault.Read fault)) → ⊥
 stopped_unread m site sink fault kept (whole e) reason (put_whole is bytes) = let no : ◌≡◌ {A = Answer} (Err (report_fault.Read fault)) (Ok tt) = is in cc
 stopped_unread m site sink fault kept (whole e) reason (broken is rose front) = let no : ◌≡◌ {A = Answer} (Err (report_fault.Read fault)) (Err report_fault.Output) = is in cc
 stopped_unread m site sink fault kept (whole e) reason (cut is counted front) = let no : ◌≡◌ {A = Answer} (Err (report_fault.Read fault)) (Err report_fault.Memory) = is in cc
 stopped_unread m site sink fault kept (unread place tracks other) reason put = reason.0
 
-pub read_going : (m : Matter) (site : Devices) (sink : Stream) (fault : ℕ) (end : DriveAnswer) (kept : Option ℕ) → IsHalted end kept → IsTold m end site sink (Err (report_fault.Read fault)) → kept ≡ None
+pub read_going : (m : Matter) (site : ToldDevices) (sink : Stream) (fault : ℕ) (end : DriveAnswer) (kept : Option ℕ) → IsHalted end kept → IsTold m end site sink (Err (report_fault.Read fault)) → kept ≡ None
 read_going m site sink fault ended.Done kept halts is = halts
 read_going m site sink fault ended.CommandLimit kept halts is = halts
 read_going m site sink fault (ended.Stopped other) kept halts is = absurd (stopped_unread m site sink fault other is.telling is.reason is.put)
 read_going m site sink fault ended.Memory kept halts is = halts
 
 -- the report broke off, where the volumes are the same
-module _ (opening : List ℕ) (volumes : List Heading) (behind : List ℕ) (site : Devices) (sink : Stream) (Unread : ℕ → ℕ → Type 0) (a b : Volumes) where
+module _ (opening : List ℕ) (volumes : List Heading) (behind : List ℕ) (site : ToldDevices) (sink : Stream) (Unread : ℕ → ℕ → Type 0) (a b : Volumes) where
   abbrev Off : Volumes → ℕ → Type 0
   Off shown fault = BreaksOff Unread (record { opening = opening; shown = shown; volumes = volumes; behind = behind }) (seen_with site sink) fault
 

@@ -3,13 +3,13 @@ use Rattle.std.proofs.Common.{refl}
 use Rattle.mss_base.specs.Configs.{ConfigData}
 use Rattle.mss_base.specs.declared.site.Site.{Ghosts}
 use Rattle.ckd_track.specs.Data.{Volumes}
-use Rattle.core_state.specs.CoreValue.{CoreValue, CoreData, seen}
+use Rattle.core_state.specs.CoreValue.{CoreValue, CoreData, seen_core}
 use Rattle.core_restart.specs.Begins.{Begins}
 use Rattle.core_restart.specs.TakingUp.{BeginsWith}
 
 module _ {S C : Type 0} (g : Ghosts S) (v : CoreValue S C) where
   abbrev there : CoreData
-  there = seen g v
+  there = seen_core g v
 
   pub begins_seen : (config : ConfigData) (chooser : C) → Begins config chooser (g.writes v.site) (g.faults v.site) v → Begins config tt (g.writes v.site) (g.faults v.site) there
   begins_seen config chooser is = record {

@@ -17,7 +17,7 @@ use Rattle.session_report.specs.Reports.{TRACKS_OF_VOLUME}
 use Rattle.core_state.specs.Counted.{IsLast, fault_at}
 use Rattle.volume_copy.specs.declared.copier.CopyState.{CopyState}
 use Rattle.volume_copy.specs.declared.copier.CopyState.TheVariants.{Failed}
-use Rattle.volume_copy.specs.Beside.{IsFinished, asked}
+use Rattle.volume_copy.specs.Beside.{IsFinished, asked_copy}
 use Rattle.job_runs.specs.declared.run.Played.{Played}
 use Rattle.core_state.specs.Sessions.{session_data}
 use Rattle.mss_base.specs.declared.site.Site.{Ghosts}
@@ -34,7 +34,7 @@ job_alone job = record { job = job; copy = None }
 
 -- a job, with the copy for which there is a copier
 abbrev pub job_with : JobData → Option CopyData → JobAsked
-job_with job copier = record { job = job; copy = asked copier }
+job_with job copier = record { job = job; copy = asked_copy copier }
 
 -- ---- the copy
 
@@ -46,7 +46,7 @@ IsToldWhole _ = ⊥
 
 -- memory ran out for the rest of a copy, behind a run that ended by itself
 pub record EndsForCopy (copier : Option CopyData) (end now : DriveAnswer) : Type 0 where
-  pub copies_ : is_some (asked copier) ≡ true
+  pub copies_ : is_some (asked_copy copier) ≡ true
   pub by_itself : IsToldWhole end
   pub memory : now ≡ ended.Memory
 

@@ -1,7 +1,7 @@
 -- The devices of a run, from one moment to a later one.
 use Rattle.mss_base.specs.declared.site.Site.{Ghosts}
 use Rattle.core_state.specs.CoreValue.{DevicesSeen, seen_site}
-use Rattle.session_report.specs.Parties.{Devices as ToldDevices}
+use Rattle.session_report.specs.Parties.{ToldDevices}
 
 -- what is seen of a site at both moments, and whether clauses may speak of what it holds
 pub record Devices : Type 1 where
@@ -25,8 +25,8 @@ abbrev pub since : Devices → DevicesSeen → Devices
 since site mid = record site { was = mid }
 
 -- as a report sees them
-abbrev pub reported : Devices → ToldDevices
-reported site = record {
+abbrev pub told_devices : Devices → ToldDevices
+told_devices site = record {
   tells = site.tells;
   was = site.was.told;
   now = site.now.told;

@@ -8,7 +8,7 @@ use Rattle.channel_program.specs.Script.{Follows, FollowsToEnd}
 use Rattle.fault_queue.specs.Requests.{RequestsData}
 use Rattle.victim_choice.specs.declared.choose.Candidate.{Candidate}
 use Rattle.job_text.specs.Jobs.{JobData, ScriptData}
-use Rattle.volume_table.specs.Listed.{listed}
+use Rattle.volume_table.specs.Listed.{row_in_list}
 use Rattle.volume_table.specs.Row.{RowValue}
 use Rattle.shown_volumes.specs.Shown.{rows_of}
 use Rattle.shown_volumes.specs.declared.refused.Refused.{Refused}
@@ -26,7 +26,7 @@ use Rattle.script_places.specs.Scripts.{exchanges_of, script_of}
 use Rattle.serial_driver.specs.declared.answer.DriveAnswer.{DriveAnswer}
 use Rattle.serial_driver.specs.declared.answer.DriveAnswer.TheVariants as ended
 use Rattle.session_report.specs.Answers.{Answer, IsPut, SinkCounts}
-use Rattle.session_report.specs.Parties.{Stream, IsUntouched, Devices as ToldDevices, seen_with}
+use Rattle.session_report.specs.Parties.{Stream, IsUntouched, ToldDevices, seen_with}
 use Rattle.session_report.specs.Parts.{IsUnread}
 use Rattle.session_report.specs.Reports.{Ending, Matter, IsReported, finished, stopped}
 use Rattle.session_report.specs.Reports.{BreaksOff, Frames, OnRead, SiteCounts}
@@ -37,7 +37,7 @@ use Rattle.session_report.specs.declared.reporting.Last.{Last}
 use Rattle.session_report.specs.declared.reporting.Last.TheVariants.{End, Limit}
 use Rattle.volume_copy.specs.Copies.{AskedCopy}
 use Rattle.job_runs.specs.Copies.{IsBehind, IsToldWhole, JobAsked, job_alone}
-use Rattle.job_runs.specs.Parties.{Devices, since, until, reported}
+use Rattle.job_runs.specs.Parties.{Devices, since, until, told_devices}
 use Rattle.job_runs.specs.declared.run.Outcome.{Outcome}
 use Rattle.job_runs.specs.declared.run.Outcome.TheVariants.{Untaken, Ran}
 
@@ -176,7 +176,7 @@ GoesUnstopped (Ran session end told) = (session_data session).stopped ≡ None
 -- the rows of a session's volumes; while it isn't stopped, just those that its devices show
 pub record AreRowsOf (tells : Type 0) (log : SiteLog) (stop : Option ℕ)
     (rows : List (Option RowValue)) : Type 0 where
-  pub shown_ : tells → stop ≡ None → listed rows ≡ rows_of (content log)
+  pub shown_ : tells → stop ≡ None → row_in_list rows ≡ rows_of (content log)
 
 -- a session's report was put, over devices of which it was read at most
 pub record IsReportOf (asked : JobAsked) (was : SiteLog) (site : Devices) (sink : Stream)
@@ -186,7 +186,7 @@ pub record IsReportOf (asked : JobAsked) (was : SiteLog) (site : Devices) (sink 
   pub behind : List ℕ
   pub behind_ : IsToldWhole end → IsBehind site.tells asked.copy
       (plain_volumes asked.job.config (content was)) s site.was.faults behind
-  pub report : IsTold (matter_of asked.job (content was) s behind) end (reported site) sink told
+  pub report : IsTold (matter_of asked.job (content was) s behind) end (told_devices site) sink told
   pub framed : IsFramed s end sink told
   -- where all went well, both counts of faults stay
   pub counted : SiteCounts site.was.faults site.now.faults told
@@ -222,10 +222,10 @@ pub record IsUntaken (job : JobData) (site : Devices) (sink : Stream) (why : Ref
   pub unput : IsUntouched sink
 
 -- the site isn't taken up, or a session was run, and its report was put
-abbrev pub Ends : (List Candidate → ℕ → Type 0) → JobAsked → List ℕ → Devices → Stream → Outcome
+abbrev pub JobEnds : (List Candidate → ℕ → Type 0) → JobAsked → List ℕ → Devices → Stream → Outcome
     → Type 0
-Ends may asked turns site sink (Untaken why) = IsUntaken asked.job site sink why
-Ends may asked turns site sink (Ran session end told) =
+JobEnds may asked turns site sink (Untaken why) = IsUntaken asked.job site sink why
+JobEnds may asked turns site sink (Ran session end told) =
     IsSessionOf may asked turns site sink end told (session_data session)
 
 -- or its summary
@@ -249,6 +249,6 @@ pub record ReportBrokeOff {S : Type 0} (g : Ghosts S) (s : S) (job : JobData)
   pub going : session.stopped ≡ None
   -- the rows of the devices, of which one shows that track
   pub rows : List (Option RowValue)
-  pub shown_ : site.tells → listed rows ≡ rows_of (content site.now.told)
-  pub off : BreaksOff (IsUnread g s (listed rows) job.config.volumes)
-      (matter_of job (content site.was.told) session []) (seen_with (reported site) sink) fault
+  pub shown_ : site.tells → row_in_list rows ≡ rows_of (content site.now.told)
+  pub off : BreaksOff (IsUnread g s (row_in_list rows) job.config.volumes)
+      (matter_of job (content site.was.told) session []) (seen_with (told_devices site) sink) fault

@@ -6,6 +6,9 @@
 //! summary; the clause `ends` of each says what a reader is promised, and `unread` of `run_job` at which track a report
 //! may break off. What every session promises, in threads too, is `IsPromised`; a layer above that plays sessions
 //! otherwise cites it, with `look` and `put_report`, and the lemmas of `proofs/SessionFacts.antt`.
+//!
+//! Layers above also cite lemmas of `proofs/`: what a report tells of a copy (`CopyTold`), and a run whose copy is
+//! finished (`FinishFacts`).
 #![tactic(auto)]
 
 mod load;

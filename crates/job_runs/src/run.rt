@@ -3,9 +3,9 @@ ghost use Rattle.std.specs.Prelude.{◌≡◌, ◌⊎◌, Bool, [], Err, IfErr, 
 ghost use Rattle.mss_base.specs.Content.{SiteLog, content};
 ghost use Rattle.mss_base.specs.Sites.{OnlyReads};
 ghost use Rattle.mss_base.specs.declared.place.UnitNo.{UnitNo};
-ghost use Rattle.volume_table.specs.Listed.{listed};
+ghost use Rattle.volume_table.specs.Listed.{row_in_list};
 ghost use Rattle.core_state.specs.Counted.{IsCounted};
-ghost use Rattle.core_state.specs.CoreValue.{DevicesSeen, seen, seen_site};
+ghost use Rattle.core_state.specs.CoreValue.{DevicesSeen, seen_core, seen_site};
 ghost use Rattle.core_state.specs.IsCore.{IsTold};
 ghost use Rattle.core_state.specs.SessionData.{data_of};
 ghost use Rattle.mss_restart.specs.Creations.{WritesOn};
@@ -13,16 +13,16 @@ ghost use Rattle.plain_sessions.specs.Sessions.{IsPlainSession};
 ghost use Rattle.session_report.specs.Parties.{seen_with, site_between, sink_between};
 ghost use Rattle.session_report.specs.Parts.{IsUnread};
 ghost use Rattle.session_report.specs.Reports.{BreaksOff};
-ghost use Rattle.serial_driver.specs.Drives.{AreTurns, IsUnused, Leaves, terms_by};
+ghost use Rattle.serial_driver.specs.Drives.{AreTurns, IsUnused, LeavesDrive, terms_by};
 ghost use Rattle.serial_driver.specs.declared.answer.DriveAnswer.TheVariants.{Done, Memory};
-ghost use Rattle.volume_copy.specs.Beside.{IsCopied, IsReadyFor, ReadsBeside, StandsBeside, asked};
+ghost use Rattle.volume_copy.specs.Beside.{IsCopied, IsReadyFor, ReadsBeside, StandsBeside, asked_copy};
 ghost use Rattle.volume_copy.specs.Copies.{IsCopier, asked_by};
 ghost use Rattle.volume_copy.specs.Steps.{ReadsCore};
 ghost use Rattle.job_runs.specs.Copies.{EndsForCopy, HoldsCopy, IsToldWhole, job_with};
 ghost use Rattle.job_runs.specs.Parties.{devices};
 ghost use Rattle.job_runs.specs.Runs.{
   AreRowsOf,
-  Ends,
+  JobEnds,
   FollowScripts,
   FollowToEnd,
   Goes,
@@ -102,13 +102,13 @@ fn run_scripts<S: Site, C: Choose + Drop>(
     requires ready { IfSome copier (IsReadyFor core.history) }
     requires turns { AreTurns job.now.hosts job.now.config turns.now }
     ensures goes { Goes (terms_by S.Site C.may core.chooser copier) job.now.hosts turns.now
-        (seen S.Site core) result.end (seen S.Site result.core) }
+        (seen_core S.Site core) result.end (seen_core S.Site result.core) }
     ensures follow { FollowScripts job.now.hosts result.core.history }
     ensures reach { result.end ≡ Done → FollowToEnd job.now.hosts result.core.history }
     ensures stands { IsToldWhole result.end
         → IfSome result.copier (StandsBeside S.Site result.core) }
     ensures leaves { let hosts = job.now.hosts in
-        Leaves S.Site (record { core = core; copier = copier; scripts = hosts })
+        LeavesDrive S.Site (record { core = core; copier = copier; scripts = hosts })
         (record { core = result.core; copier = result.copier; scripts = hosts }) result.end }
 {
     match Drive::new(core, job, copier) {
@@ -151,8 +151,8 @@ pub fn finish_copy<S: Site, C: Choose>(
     copier: &mut Option<Copier>,
     end: DriveAnswer,
 ) -> DriveAnswer
-    ensures core { ReadsBeside S.Site (is_some (asked copier.old)) core.old core.new }
-    ensures asked { asked copier.new ≡ asked copier.old }
+    ensures core { ReadsBeside S.Site (is_some (asked_copy copier.old)) core.old core.new }
+    ensures asked { asked_copy copier.new ≡ asked_copy copier.old }
     ensures ended { (result ≡ end) ⊎ EndsForCopy copier.old end result }
     ensures copied { IsToldWhole result → IfSome copier.old (StandsBeside S.Site core.old)
         → IfSome copier.new (IsCopied S.Site core.new) }
@@ -187,12 +187,12 @@ fn play_on<S: Site, C: Choose + Drop>(
     requires going { core.stopped ≡ None }
     requires ready { IfSome copier (IsReadyFor core.history) }
     requires turns { AreTurns job.now.hosts job.now.config turns.now }
-    ensures session { (was : DevicesSeen) → IsBegun S.tells job.now.config was (seen S.Site core)
+    ensures session { (was : DevicesSeen) → IsBegun S.tells job.now.config was (seen_core S.Site core)
         → IsPlayed (C.may core.chooser) (job_with job.now copier) turns.now
         (record { tells = S.tells; was = was; now = seen_site S.Site result.site })
         result.end (session_data result.session) }
-    ensures asked { asked result.copier ≡ asked copier }
-    ensures copy { (was : DevicesSeen) → IsBegun S.tells job.now.config was (seen S.Site core)
+    ensures asked { asked_copy result.copier ≡ asked_copy copier }
+    ensures copy { (was : DevicesSeen) → IsBegun S.tells job.now.config was (seen_core S.Site core)
         → HoldsCopy S.Site job.now.config was.told result }
     ensures rows { AreRowsOf S.tells (S.told result.site) result.session.stopped result.rows }
     ensures devices { WritesOn S.Site core.site result.site }
@@ -237,7 +237,7 @@ pub fn play<S: Site, C: Choose + Drop>(
     requires turns { AreTurns job.now.hosts job.now.config turns.now }
     ensures played { IfOk result (λ p. IsPlayed (C.may chooser) (job_with job.now copier)
         turns.now (devices S.Site site p.site) p.end (session_data p.session)) }
-    ensures asked { IfOk result (λ p. asked p.copier ≡ asked copier) }
+    ensures asked { IfOk result (λ p. asked_copy p.copier ≡ asked_copy copier) }
     ensures copy { IfOk result (HoldsCopy S.Site job.now.config (S.told site)) }
     ensures rows { IfOk result (λ p. AreRowsOf S.tells (S.told p.site) p.session.stopped p.rows) }
     ensures devices { IfOk result (λ p. WritesOn S.Site site p.site) }
@@ -286,7 +286,7 @@ pub fn put_report<S: Site, O: Sink>(
     ensures unread { (was : SiteLog) → (S.tells → IsPlainSession job.now.config was
         (S.told played.site) (session_data played.session))
         → OnUnread result.outcome (λ s. BreaksOff
-        (IsUnread S.Site played.site (listed played.rows) job.now.config.volumes)
+        (IsUnread S.Site played.site (row_in_list played.rows) job.now.config.volumes)
         (matter_of job.now (content was) s []) (seen_with (site_between S.Site played.site result.site)
         (sink_between O.Sink output.old output.new))) }
     ensures site { OnlyReads S.Site played.site result.site }
@@ -332,7 +332,7 @@ pub fn run_job<S: Site, C: Choose + Drop, O: Sink>(
     requires able { C.can_choose chooser }
     requires armed { IfSome copier (IsReadyFor []) }
     requires turns { AreTurns job.now.hosts job.now.config turns.now }
-    ensures ends { Ends (C.may chooser) (job_with job.now copier) turns.now
+    ensures ends { JobEnds (C.may chooser) (job_with job.now copier) turns.now
         (devices S.Site site result.site) (sink_between O.Sink output.old output.new)
         result.outcome }
     ensures unread { OnUnread result.outcome (ReportBrokeOff S.Site site job.now

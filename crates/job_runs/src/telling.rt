@@ -3,7 +3,7 @@ ghost use Rattle.std.specs.Prelude.{◌≡◌};
 ghost use Rattle.std.specs.Option.{option_map};
 ghost use Rattle.mss_base.specs.Content.{content};
 ghost use Rattle.mss_base.specs.Sites.{OnlyReads};
-ghost use Rattle.volume_table.specs.Listed.{listed};
+ghost use Rattle.volume_table.specs.Listed.{row_in_list};
 ghost use Rattle.shown_volumes.specs.Shown.{shown_by};
 ghost use Rattle.core_state.specs.Sessions.{session_data};
 ghost use Rattle.session_report.specs.Answers.{SinkCounts};
@@ -44,12 +44,12 @@ pub fn tell<S: Site, O: Sink>(
     copy: Option<&Copier>,
 ) -> Result<(), ReportFault>
     requires halts { IsHalted end session.now.stopped }
-    ensures told { let shown = shown_by (listed rows.now) (content (S.told site.old)) in
+    ensures told { let shown = shown_by (row_in_list rows.now) (content (S.told site.old)) in
         IsTold (report_matter (session_data session.now) volumes.now shown
         (behind_text (option_map (λ c. c.now) copy.entry))) end
         (site_between S.Site site.old site.new) (sink_between O.Sink output.old output.new) result }
-    ensures unread { let shown = shown_by (listed rows.now) (content (S.told site.old)) in
-        OnRead result (BreaksOff (IsUnread S.Site site.old (listed rows.now) volumes.now)
+    ensures unread { let shown = shown_by (row_in_list rows.now) (content (S.told site.old)) in
+        OnRead result (BreaksOff (IsUnread S.Site site.old (row_in_list rows.now) volumes.now)
         (report_matter (session_data session.now) volumes.now shown
         (behind_text (option_map (λ c. c.now) copy.entry)))
         (seen_with (site_between S.Site site.old site.new)

@@ -10,7 +10,7 @@ use Rattle.job_text.specs.declared.kind.Place.{Place}
 use Rattle.job_text.specs.declared.kind.Place.TheVariants as place
 use Rattle.job_text.specs.Words.{lines_of, lines_of_parts, is_printable, is_hex, is_hex_byte, byte_of, byte_word, bytes_of}
 use Rattle.job_text.specs.Lines.{LineData, ccw, byte, hex, line_of, keyword_at}
-use Rattle.job_text.specs.Grammar.{SoFar, judged, is_after, line_after}
+use Rattle.job_text.specs.Grammar.{SoFar, after_line, is_after, line_after}
 use Rattle.job_text.specs.FirstLine.{BeginsWith}
 use Rattle.job_text.proofs.Parts.{is_feed, before_others, some_parts}
 use Rattle.job_text.proofs.LineBack.{good}
@@ -35,7 +35,7 @@ pair_is word code h = elim (cases_Bool (is_hex_byte word)) [
 
 -- in a program a line of these words says a command
 command_said : (s : SoFar) (words : List (List ℕ)) (says : LineData) → s.place ≡ place.Program → ArePlain (codes "ccw" ∷ words) → line_of Ccw words ≡ Ok says
-    → line_after s (join_with_byte 32 (codes "ccw" ∷ words)) ≡ judged s says
+    → line_after s (join_with_byte 32 (codes "ccw" ∷ words)) ≡ after_line s says
 command_said s [] says at plain_ is = absurd (cc)
 command_said s (word ∷ words) says at plain_ is =
     let line : List ℕ = join_with_byte 32 (codes "ccw" ∷ word ∷ words) in

@@ -13,16 +13,16 @@ use Rattle.job_text.proofs.Serials.{from_serial}
 use Rattle.mss_base.specs.Configs.{VolumeData, IsVolume}
 use Rattle.job_text.specs.Jobs.{ScriptData, JobData, IsWord, IsItem, IsScript, IsJob, word_size, item_size, script_size, WORD_LIMIT, ITEM_LIMIT, ARGUMENT_LIMIT, TOTAL_LIMIT}
 use Rattle.job_text.specs.Lines.{LineData, mss, volume, host, done, mount, demount, program, ccw, tic, end}
-use Rattle.job_text.specs.Grammar.{SoFar, nothing, after, judged, mounting_of, is_twice, is_absent, is_beyond, scripts, job}
+use Rattle.job_text.specs.Grammar.{SoFar, nothing, after, after_line, mounting_of, is_twice, is_absent, is_beyond, scripts, job}
 use Rattle.job_text.specs.Canonical.{keyword_of, IsLine, IsAllowed, LeadsTo, word_line, item_lines, script_lines, serial_of, job_lines}
 use Rattle.job_text.proofs.Lists.{none_equal, any_either}
 use Rattle.job_text.proofs.Volumes.{mount_back, by_number-rising, distinct_rising}
 
-good : (s : SoFar) (line : LineData) → is_twice s line ≡ false → is_absent s line ≡ false → is_beyond s line ≡ false → judged s line ≡ Ok (after s line)
+good : (s : SoFar) (line : LineData) → is_twice s line ≡ false → is_absent s line ≡ false → is_beyond s line ≡ false → after_line s line ≡ Ok (after s line)
 good s line a b c = rw (a, b, c) refl
 
 leads_on : (s : SoFar) (line : LineData) (lines : List LineData) (t : SoFar) → IsLine line → IsAllowed s.place (keyword_of line)
-    → judged s line ≡ Ok (after s line) → LeadsTo (after s line) lines t → LeadsTo s (line ∷ lines) t
+    → after_line s line ≡ Ok (after s line) → LeadsTo (after s line) lines t → LeadsTo s (line ∷ lines) t
 leads_on s line lines t is allowed judges rest = (is, allowed, after s line, judges, rest)
 
 LeadsTo-append : (s u t : SoFar) (xs ys : List LineData) → LeadsTo s xs u → LeadsTo u ys t → LeadsTo s (xs ++ ys) t

@@ -15,8 +15,8 @@ use Rattle.job_text.specs.Words.{is_skipped, is_printable, words_of}
 use Rattle.job_text.proofs.Serials.{to_serial}
 use Rattle.mss_base.specs.Configs.{VolumeData, IsVolume}
 use Rattle.job_text.specs.Jobs.{ScriptData, IsWord, IsItem, IsProgram, IsScript, word_size, item_size, script_size, WORD_LIMIT, ITEM_LIMIT, ARGUMENT_LIMIT, TOTAL_LIMIT}
-use Rattle.job_text.specs.Lines.{LineData, mss, volume, host, done, mount, demount, program, ccw, tic, end, spelling, allowed, keyword_at, line_of}
-use Rattle.job_text.specs.Grammar.{SoFar, BadLine, nothing, after, judged, ◌>>=◌, spoken, spoken_by, is_after, line_after, told, lines_after, number_of_serial, is_twice, is_absent, is_beyond, scripts}
+use Rattle.job_text.specs.Lines.{LineData, mss, volume, host, done, mount, demount, program, ccw, tic, end, spelling, keywords_at, keyword_at, line_of}
+use Rattle.job_text.specs.Grammar.{SoFar, BadLine, nothing, after, after_line, ◌>>=◌, line_of_words, spoken_by, is_after, line_after, with_line_number, lines_after, number_of_serial, is_twice, is_absent, is_beyond, scripts}
 use Rattle.job_text.specs.Canonical.{keyword_of, IsLine, IsAllowed}
 use Rattle.job_text.proofs.Volumes.{has_number}
 use Rattle.job_text.proofs.Lists.{both_false, all_push, distinct_push, neither, sum_push, found_test, bytes_eq-is}
@@ -68,7 +68,7 @@ IsKeptAt place.Host s = IsBase s × (n : ℕ) × IsOpen s n × (s.words ≡ [])
 IsKeptAt place.Program s = IsBase s × (n : ℕ) × IsOpen s n × IsInProgram s
 IsKeptAt place.After s = IsBase s × IsClosed s.closed s.total
 
-judged_ok : (s t : SoFar) (line : LineData) → judged s line ≡ Ok t → (is_twice s line ≡ false) × (is_absent s line ≡ false) × (is_beyond s line ≡ false) × (after s line ≡ t)
+judged_ok : (s t : SoFar) (line : LineData) → after_line s line ≡ Ok t → (is_twice s line ≡ false) × (is_absent s line ≡ false) × (is_beyond s line ≡ false) × (after s line ≡ t)
 judged_ok s t line h = elim (cases_Bool (is_twice s line)) [
   | inl twice ↦ absurd (let err = rw twice at h in cc)
   | inr a ↦ elim (cases_Bool (is_absent s line)) [
@@ -282,17 +282,17 @@ kept_on place.Program (tic to) s here kept is allowed a b d =
 kept_on place.Program end s here kept is allowed a b d = end_kept s kept.1 kept.0 kept.2 kept.3 d
 kept_on p line s here kept is allowed a b d = absurd (never (keyword_of line) allowed)
 
-judged_kept : (s t : SoFar) (line : LineData) → IsKeptAt s.place s → IsLine line → IsAllowed s.place (keyword_of line) → judged s line ≡ Ok t → IsKeptAt t.place t
+judged_kept : (s t : SoFar) (line : LineData) → IsKeptAt s.place s → IsLine line → IsAllowed s.place (keyword_of line) → after_line s line ≡ Ok t → IsKeptAt t.place t
 judged_kept s t line kept is allowed judges =
     let ok = judged_ok s t line judges in
     subst (λ (u : SoFar). IsKeptAt u.place u) ok.3 (kept_on s.place line s refl kept is allowed ok.0 ok.1 ok.2)
 
 said_kept : (s t : SoFar) (first : List ℕ) (rest : List (List ℕ)) (k : Keyword) (r : Result LineData JobKind) → IsKeptAt s.place s → keyword_at s.place first ≡ Some k
-    → line_of k rest ≡ r → (r >>= judged s) ≡ Ok t → IsKeptAt t.place t
+    → line_of k rest ≡ r → (r >>= after_line s) ≡ Ok t → IsKeptAt t.place t
 said_kept s t first rest k (Err e) kept known read h = absurd (cc)
 said_kept s t first rest k (Ok line) kept known read h =
     let said = is_said k rest line read in
-    let same : spelling k ≡ first = bytes_eq-is (spelling k) first (found_test (λ (key : Keyword). bytes_eq (spelling key) first) (allowed s.place) k known) in
+    let same : spelling k ≡ first = bytes_eq-is (spelling k) first (found_test (λ (key : Keyword). bytes_eq (spelling key) first) (keywords_at s.place) k known) in
     let here : IsAllowed s.place k = subst (λ (word : List ℕ). keyword_at s.place word ≡ Some k) (sym same) known in
     judged_kept s t line kept said.0 (subst (IsAllowed s.place) (sym said.1) here) h
 
@@ -300,7 +300,7 @@ spoken_kept : (s t : SoFar) (first : List ℕ) (rest : List (List ℕ)) (o : Opt
 spoken_kept s t first rest None kept known h = absurd (cc)
 spoken_kept s t first rest (Some k) kept known h = said_kept s t first rest k (line_of k rest) kept known refl h
 
-words_kept : (s t : SoFar) (words : List (List ℕ)) → IsKeptAt s.place s → spoken s words ≡ Ok t → IsKeptAt t.place t
+words_kept : (s t : SoFar) (words : List (List ℕ)) → IsKeptAt s.place s → line_of_words s words ≡ Ok t → IsKeptAt t.place t
 words_kept s t [] kept h = absurd (cc)
 words_kept s t (first ∷ rest) kept h = spoken_kept s t first rest (keyword_at s.place first) kept refl h
 
@@ -316,7 +316,7 @@ line_kept s t line kept h = elim (cases_Bool (is_skipped line)) [
   ]
 ]
 
-told_kept : (s t : SoFar) (n : ℕ) (line : List ℕ) (r : Result SoFar JobKind) (next : SoFar → Result SoFar BadLine) → IsKeptAt s.place s → line_after s line ≡ r → told n r next ≡ Ok t
+told_kept : (s t : SoFar) (n : ℕ) (line : List ℕ) (r : Result SoFar JobKind) (next : SoFar → Result SoFar BadLine) → IsKeptAt s.place s → line_after s line ≡ r → with_line_number n r next ≡ Ok t
     → ((u : SoFar) → IsKeptAt u.place u → next u ≡ Ok t → IsKeptAt t.place t × (is_after t.place ≡ true)) → IsKeptAt t.place t × (is_after t.place ≡ true)
 told_kept s t n line (Err e) next kept is h more = absurd (cc)
 told_kept s t n line (Ok u) next kept is h more = more u (line_kept s u line kept is) h

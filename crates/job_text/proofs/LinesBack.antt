@@ -5,7 +5,7 @@ use Rattle.std.specs.Prelude.{◌==◌, nat_lt}
 use Rattle.std.specs.List.{list_all, AllByRecursion, slice_split, onto_first, flat_map}
 use Rattle.job_text.specs.Words.{is_printable, lines_of, lines_of_parts}
 use Rattle.job_text.specs.Lines.{LineData, spelling}
-use Rattle.job_text.specs.Grammar.{SoFar, TEXT_LIMIT, nothing, told, is_after, lines_after, job, job_of, job_of_reading}
+use Rattle.job_text.specs.Grammar.{SoFar, TEXT_LIMIT, nothing, with_line_number, is_after, lines_after, job, job_of, job_of_reading}
 use Rattle.job_text.specs.Canonical.{keyword_of, words_said, IsLine, line_bytes, line_text, LeadsTo}
 use Rattle.job_text.proofs.Parts.{last_empty}
 use Rattle.job_text.proofs.TextBack.{text_back, printable_join, words_plain}
@@ -34,7 +34,7 @@ split_lines (line ∷ lines) h =
 pub run_back : (s : SoFar) (n : ℕ) (lines : List LineData) (t : SoFar) → LeadsTo s lines t → is_after t.place ≡ true → lines_after s n (map line_bytes lines) ≡ Ok t
 run_back s n [] t h done = subst (λ x. lines_after x n [] ≡ Ok t) (sym h) (rw done refl)
 run_back s n (line ∷ lines) t h done =
-    ap (λ r. told n r (λ s'. lines_after s' (n + 1) (map line_bytes lines))) (text_back s line h.0 h.1 ∙ h.3) ∙ run_back h.2 (n + 1) lines t h.4 done
+    ap (λ r. with_line_number n r (λ s'. lines_after s' (n + 1) (map line_bytes lines))) (text_back s line h.0 h.1 ∙ h.3) ∙ run_back h.2 (n + 1) lines t h.4 done
 
 pub lines_back : (lines : List LineData) (t : SoFar) → LeadsTo nothing lines t → is_after t.place ≡ true → length (flat_map line_text lines) ≤ TEXT_LIMIT → job_of (flat_map line_text lines) ≡ Ok (job t)
 lines_back lines t h done small =

@@ -11,7 +11,7 @@ use Rattle.mss_base.specs.Decimal.{is_digit}
 use Rattle.job_text.specs.Words.{is_printable, is_skipped, words_of, is_serial}
 use Rattle.mss_base.specs.Serial.{is_serial_byte}
 use Rattle.job_text.specs.Lines.{LineData, mss, volume, host, done, mount, demount, program, ccw, tic, end, spelling, keyword_at, line_of}
-use Rattle.job_text.specs.Grammar.{SoFar, judged, spoken, spoken_by, ◌>>=◌, is_after, line_after}
+use Rattle.job_text.specs.Grammar.{SoFar, after_line, line_of_words, spoken_by, ◌>>=◌, is_after, line_after}
 use Rattle.job_text.specs.Canonical.{keyword_of, words_said, IsLine, IsAllowed, line_bytes, hex}
 use Rattle.job_text.proofs.Spelling.{digits_of_decimal}
 use Rattle.job_text.proofs.LineBack.{line_back}
@@ -131,13 +131,13 @@ not_after place.Host word k h = refl
 not_after place.Program word k h = refl
 not_after place.After word k h = cc
 
-pub line_steps : (s : SoFar) (text : List ℕ) (words : List (List ℕ)) → is_skipped text ≡ false → list_all is_printable text ≡ true → is_after s.place ≡ false → words_of text ≡ words → line_after s text ≡ spoken s words
+pub line_steps : (s : SoFar) (text : List ℕ) (words : List (List ℕ)) → is_skipped text ≡ false → list_all is_printable text ≡ true → is_after s.place ≡ false → words_of text ≡ words → line_after s text ≡ line_of_words s words
 line_steps s text words a b c d = rw (a, b, c, d) refl
 
-pub spoken_steps : (s : SoFar) (first : List ℕ) (rest : List (List ℕ)) (k : Keyword) (line : LineData) → keyword_at s.place first ≡ Some k → line_of k rest ≡ Ok line → spoken s (first ∷ rest) ≡ judged s line
-spoken_steps s first rest k line e f = ap (λ o. spoken_by s o rest) e ∙ ap (λ r. r >>= judged s) f
+pub spoken_steps : (s : SoFar) (first : List ℕ) (rest : List (List ℕ)) (k : Keyword) (line : LineData) → keyword_at s.place first ≡ Some k → line_of k rest ≡ Ok line → line_of_words s (first ∷ rest) ≡ after_line s line
+spoken_steps s first rest k line e f = ap (λ o. spoken_by s o rest) e ∙ ap (λ r. r >>= after_line s) f
 
-pub text_back : (s : SoFar) (line : LineData) → IsLine line → IsAllowed s.place (keyword_of line) → line_after s (line_bytes line) ≡ judged s line
+pub text_back : (s : SoFar) (line : LineData) → IsLine line → IsAllowed s.place (keyword_of line) → line_after s (line_bytes line) ≡ after_line s line
 text_back s line h allowed =
     let first = spelling (keyword_of line) in
     let words = words_said line in

@@ -7,7 +7,7 @@ use Rattle.job_text.specs.declared.kind.Keyword.{Keyword}
 use Rattle.job_text.specs.declared.kind.Keyword.TheVariants as keyword
 use Rattle.job_text.specs.declared.kind.Place.{Place}
 use Rattle.job_text.specs.Words.{is_serial}
-use Rattle.job_text.specs.Grammar.{SoFar, judged}
+use Rattle.job_text.specs.Grammar.{SoFar, after_line}
 use Rattle.channel_commands.specs.Data.{CcwData, device, transfer}
 use Rattle.channel_program.specs.Script.{ItemData, mounting, demounting, program as running}
 use Rattle.mss_base.specs.Configs.{VolumeData, ConfigData}
@@ -103,4 +103,4 @@ job_text job = flat_map line_text (job_lines job)
 -- each line stands where it may and is good, and the lines lead from what was known to what is known then
 abbrev pub LeadsTo : SoFar → List LineData → SoFar → Type 0
 LeadsTo s [] t = s ≡ t
-LeadsTo s (line ∷ lines) t = IsLine line × IsAllowed s.place (keyword_of line) × (u : SoFar) × (judged s line ≡ Ok u) × LeadsTo u lines t
+LeadsTo s (line ∷ lines) t = IsLine line × IsAllowed s.place (keyword_of line) × (u : SoFar) × (after_line s line ≡ Ok u) × LeadsTo u lines t

@@ -6,13 +6,13 @@ use Rattle.job_text.specs.declared.line.LineFault.{LineFault}
 use Rattle.job_text.specs.declared.line.LineFault.TheVariants as fault
 use Rattle.job_text.specs.Words.{lines_of}
 use Rattle.job_text.specs.Lines.{LineData}
-use Rattle.job_text.specs.Grammar.{SoFar, judged, line_after, lines_after}
+use Rattle.job_text.specs.Grammar.{SoFar, after_line, line_after, lines_after}
 
 -- in a program the first line of a text says this, and the other text stands behind it
 pub record BeginsWith (says : LineData) (text behind : List ℕ) : Type 0 where
   pub line : List ℕ
   pub lines : lines_of text ≡ line ∷ lines_of behind
-  pub means : (s : SoFar) → s.place ≡ place.Program → line_after s line ≡ judged s says
+  pub means : (s : SoFar) → s.place ≡ place.Program → line_after s line ≡ after_line s says
   pub shorter : length behind < length text
 
 -- the lines of a text, read from what is known first, are those of the other text from what is known then

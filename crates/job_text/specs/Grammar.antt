@@ -89,8 +89,8 @@ abbrev pub ◌>>=◌ : {A B : Type 0} → Result A JobKind → (A → Result B J
 (Err e) >>= f = Err e
 
 -- a line that says something, after these: the kinds in their order
-abbrev pub judged : SoFar → LineData → Result SoFar JobKind
-judged s line =
+abbrev pub after_line : SoFar → LineData → Result SoFar JobKind
+after_line s line =
     if is_twice s line then Err Twice
     else if is_absent s line then Err Absent
     else if is_beyond s line then Err Count
@@ -99,11 +99,11 @@ judged s line =
 -- the words after a first word that may be a keyword
 abbrev pub spoken_by : SoFar → Option Keyword → List (List ℕ) → Result SoFar JobKind
 spoken_by s None rest = Err Unknown
-spoken_by s (Some keyword) rest = line_of keyword rest >>= judged s
+spoken_by s (Some keyword) rest = line_of keyword rest >>= after_line s
 
-abbrev pub spoken : SoFar → List (List ℕ) → Result SoFar JobKind
-spoken s [] = Err Unknown
-spoken s (first ∷ rest) = spoken_by s (keyword_at s.place first) rest
+abbrev pub line_of_words : SoFar → List (List ℕ) → Result SoFar JobKind
+line_of_words s [] = Err Unknown
+line_of_words s (first ∷ rest) = spoken_by s (keyword_at s.place first) rest
 
 abbrev pub is_after : Place → Bool
 is_after place.After = true
@@ -114,7 +114,7 @@ line_after s line =
     if is_skipped line then Ok s
     else if not (list_all is_printable line) then Err BadByte
     else if is_after s.place then Err After
-    else spoken s (words_of line)
+    else line_of_words s (words_of line)
 
 -- a bad line: its number and its kind
 pub record BadLine : Type 0 where
@@ -122,14 +122,14 @@ pub record BadLine : Type 0 where
   pub kind : JobKind
 
 -- the first bad line is told with its number
-abbrev pub told : ℕ → Result SoFar JobKind → (SoFar → Result SoFar BadLine) → Result SoFar BadLine
-told n (Err kind) next = Err (record { line = n; kind = kind })
-told n (Ok s) next = next s
+abbrev pub with_line_number : ℕ → Result SoFar JobKind → (SoFar → Result SoFar BadLine) → Result SoFar BadLine
+with_line_number n (Err kind) next = Err (record { line = n; kind = kind })
+with_line_number n (Ok s) next = next s
 
 -- the lines in order, the first of them with this number
 abbrev pub lines_after : SoFar → ℕ → List (List ℕ) → Result SoFar BadLine
 lines_after s n [] = if is_after s.place then Ok s else Err (record { line = n; kind = Ended })
-lines_after s n (line ∷ lines) = told n (line_after s line) (λ s'. lines_after s' (n + 1) lines)
+lines_after s n (line ∷ lines) = with_line_number n (line_after s line) (λ s'. lines_after s' (n + 1) lines)
 
 abbrev pub job : SoFar → JobData
 job s = record { config = record { frames = s.frames; recorders = s.recorders; volumes = by_number s.volumes }; hosts = s.closed }

@@ -6,17 +6,17 @@ use Rattle.job_text.specs.declared.job.Item.{Item}
 use Rattle.job_text.specs.declared.job.Item.TheVariants as items
 use Rattle.job_text.specs.Lines.{LineData, mss, volume, host, done, mount, demount, program, ccw, tic, end}
 
-abbrev pub said : Line → LineData
-said (variant.Mss f r) = mss f r
-said (variant.Volume n s read_only) = volume n s read_only
-said (variant.Host n) = host n
-said variant.Done = done
-said (variant.Mount s bind) = mount s bind
-said variant.Demount = demount
-said variant.Program = program
-said (variant.Ccw code argument) = ccw code argument.items
-said (variant.Tic to) = tic to
-said variant.End = end
+abbrev pub line_data : Line → LineData
+line_data (variant.Mss f r) = mss f r
+line_data (variant.Volume n s read_only) = volume n s read_only
+line_data (variant.Host n) = host n
+line_data variant.Done = done
+line_data (variant.Mount s bind) = mount s bind
+line_data variant.Demount = demount
+line_data variant.Program = program
+line_data (variant.Ccw code argument) = ccw code argument.items
+line_data (variant.Tic to) = tic to
+line_data variant.End = end
 
 abbrev pub item_of : Item → ItemData
 item_of (items.Mount v bind) = mounting v bind

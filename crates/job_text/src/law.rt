@@ -4,7 +4,7 @@ ghost use Rattle.std.specs.List.{flat_map};
 ghost use Rattle.mss_base.specs.Decimal.{number_of};
 ghost use Rattle.job_text.specs.Words.{is_number, number_word};
 ghost use Rattle.job_text.specs.Lines.{LineData, line_of};
-ghost use Rattle.job_text.specs.Grammar.{SoFar, TEXT_LIMIT, nothing, judged, line_after, is_after, job, job_of};
+ghost use Rattle.job_text.specs.Grammar.{SoFar, TEXT_LIMIT, nothing, after_line, line_after, is_after, job, job_of};
 ghost use Rattle.job_text.specs.Jobs.{JobData, IsJob, AreRunnableScripts};
 ghost use Rattle.job_text.specs.Canonical.{job_text, IsLine, IsAllowed, keyword_of, words_said, line_bytes, line_text, LeadsTo};
 
@@ -23,7 +23,7 @@ pub fn line_back()
 /// A line's canonical text, where its keyword may stand, is judged as what it says.
 pub fn text_back()
     ensures { (s : SoFar) (line : LineData) → IsLine line → IsAllowed s.place (keyword_of line)
-        → line_after s (line_bytes line) ≡ judged s line }
+        → line_after s (line_bytes line) ≡ after_line s line }
 {}
 
 /// Each job that is read keeps what jobs keep.

@@ -3,6 +3,8 @@
 //! `read_job` equals the grammar of `specs/Grammar.antt`, in both directions: a job, or the first bad line with the
 //! first kind that applies. `specs/Lines.antt` has the form of each line and `specs/Jobs.antt` what a job keeps.
 //! A job's programs and items are those of `channel_program`, so that following a script speaks of the same lists.
+//!
+//! Layers above cite lemmas of `proofs/`: the test of a serial's word (`Serials`).
 #![tactic(auto)]
 
 mod command;

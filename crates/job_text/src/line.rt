@@ -6,7 +6,7 @@ ghost use Rattle.job_text.specs.Words.{is_number, is_serial, is_hex_byte, byte_o
 ghost use Rattle.job_text.specs.declared.kind.Keyword.TheVariants.{Mss, Volume, Host, Mount, Ccw, Tic};
 ghost use Rattle.job_text.specs.Lines.{line_of};
 ghost use Rattle.job_text.specs.Outcomes.{Gives, Tests};
-ghost use Rattle.job_text.specs.Views.{said};
+ghost use Rattle.job_text.specs.Views.{line_data};
 
 use crate::kind::{JobKind, Keyword};
 use crate::words::{append_copies, byte, bytes_of, is_word, number, serial};
@@ -141,7 +141,7 @@ fn mss_line(
     for_recorders: &[u8],
     recorders: &[u8],
 ) -> Result<Line, LineFault>
-    ensures { Gives said result (line_of Mss (version.now ∷ for_frames.now ∷ frames.now ∷ for_recorders.now ∷ recorders.now ∷ [])) }
+    ensures { Gives line_data result (line_of Mss (version.now ∷ for_frames.now ∷ frames.now ∷ for_recorders.now ∷ recorders.now ∷ [])) }
 {
     let version = spelled_number(version)?;
     spelled_as(for_frames, "frames")?;
@@ -158,7 +158,7 @@ fn mss_line(
 }
 
 fn volume_line(volume: &[u8], serial: &[u8]) -> Result<Line, LineFault>
-    ensures { Gives said result (line_of Volume (volume.now ∷ serial.now ∷ [])) }
+    ensures { Gives line_data result (line_of Volume (volume.now ∷ serial.now ∷ [])) }
 {
     let volume = spelled_number(volume)?;
     let serial = spelled_serial(serial)?;
@@ -174,7 +174,7 @@ fn volume_line(volume: &[u8], serial: &[u8]) -> Result<Line, LineFault>
 }
 
 fn volume_readonly_line(volume: &[u8], serial: &[u8], readonly: &[u8]) -> Result<Line, LineFault>
-    ensures { Gives said result (line_of Volume (volume.now ∷ serial.now ∷ readonly.now ∷ [])) }
+    ensures { Gives line_data result (line_of Volume (volume.now ∷ serial.now ∷ readonly.now ∷ [])) }
 {
     let volume = spelled_number(volume)?;
     let serial = spelled_serial(serial)?;
@@ -191,7 +191,7 @@ fn volume_readonly_line(volume: &[u8], serial: &[u8], readonly: &[u8]) -> Result
 }
 
 fn host_line(host: &[u8]) -> Result<Line, LineFault>
-    ensures { Gives said result (line_of Host (host.now ∷ [])) }
+    ensures { Gives line_data result (line_of Host (host.now ∷ [])) }
 {
     let host = spelled_number(host)?;
     in_range(host, 1, 8)?;
@@ -202,7 +202,7 @@ fn host_line(host: &[u8]) -> Result<Line, LineFault>
 }
 
 fn mount_line(serial: &[u8]) -> Result<Line, LineFault>
-    ensures { Gives said result (line_of Mount (serial.now ∷ [])) }
+    ensures { Gives line_data result (line_of Mount (serial.now ∷ [])) }
 {
     let serial = spelled_serial(serial)?;
     Ok(Line::Mount {
@@ -212,7 +212,7 @@ fn mount_line(serial: &[u8]) -> Result<Line, LineFault>
 }
 
 fn mount_bind_line(serial: &[u8], bind: &[u8]) -> Result<Line, LineFault>
-    ensures { Gives said result (line_of Mount (serial.now ∷ bind.now ∷ [])) }
+    ensures { Gives line_data result (line_of Mount (serial.now ∷ bind.now ∷ [])) }
 {
     let serial = spelled_serial(serial)?;
     spelled_as(bind, "bind")?;
@@ -220,7 +220,7 @@ fn mount_bind_line(serial: &[u8], bind: &[u8]) -> Result<Line, LineFault>
 }
 
 fn tic_line(to: &[u8]) -> Result<Line, LineFault>
-    ensures { Gives said result (line_of Tic (to.now ∷ [])) }
+    ensures { Gives line_data result (line_of Tic (to.now ∷ [])) }
 {
     let to = spelled_number(to)?;
     in_range(to, 0, 255)?;
@@ -228,7 +228,7 @@ fn tic_line(to: &[u8]) -> Result<Line, LineFault>
 }
 
 fn ccw_line(alloc: Global, code: &[u8]) -> Result<Line, LineFault>
-    ensures { Gives said result (line_of Ccw (code.now ∷ [])) }
+    ensures { Gives line_data result (line_of Ccw (code.now ∷ [])) }
 {
     let code = spelled_byte(code)?;
     Ok(Line::Ccw {
@@ -238,7 +238,7 @@ fn ccw_line(alloc: Global, code: &[u8]) -> Result<Line, LineFault>
 }
 
 fn ccw_hex_line(alloc: Global, code: &[u8], hex: &[u8]) -> Result<Line, LineFault>
-    ensures { Gives said result (line_of Ccw (code.now ∷ hex.now ∷ [])) }
+    ensures { Gives line_data result (line_of Ccw (code.now ∷ hex.now ∷ [])) }
 {
     let code = spelled_byte(code)?;
     let Some(argument) = bytes_of(alloc, hex)? else {
@@ -254,7 +254,7 @@ fn ccw_fill_line(
     byte: &[u8],
     count: &[u8],
 ) -> Result<Line, LineFault>
-    ensures { Gives said result (line_of Ccw (code.now ∷ fill.now ∷ byte.now ∷ count.now ∷ [])) }
+    ensures { Gives line_data result (line_of Ccw (code.now ∷ fill.now ∷ byte.now ∷ count.now ∷ [])) }
 {
     let code = spelled_byte(code)?;
     spelled_as(fill, "fill")?;
@@ -274,7 +274,7 @@ fn ccw_hex_fill_line(
     byte: &[u8],
     count: &[u8],
 ) -> Result<Line, LineFault>
-    ensures { Gives said result (line_of Ccw (code.now ∷ hex.now ∷ fill.now ∷ byte.now ∷ count.now ∷ [])) }
+    ensures { Gives line_data result (line_of Ccw (code.now ∷ hex.now ∷ fill.now ∷ byte.now ∷ count.now ∷ [])) }
 {
     let code = spelled_byte(code)?;
     let Some(mut argument) = bytes_of(alloc, hex)? else {
@@ -289,7 +289,7 @@ fn ccw_hex_fill_line(
 }
 
 fn mss_words(words: &[&[u8]]) -> Result<Line, LineFault>
-    ensures { Gives said result (line_of Mss (map (λ w. w.now) words.now)) }
+    ensures { Gives line_data result (line_of Mss (map (λ w. w.now) words.now)) }
 {
     match words {
         [version, for_frames, frames, for_recorders, recorders] => {
@@ -300,7 +300,7 @@ fn mss_words(words: &[&[u8]]) -> Result<Line, LineFault>
 }
 
 fn volume_words(words: &[&[u8]]) -> Result<Line, LineFault>
-    ensures { Gives said result (line_of Volume (map (λ w. w.now) words.now)) }
+    ensures { Gives line_data result (line_of Volume (map (λ w. w.now) words.now)) }
 {
     match words {
         [volume, serial] => volume_line(volume, serial),
@@ -310,7 +310,7 @@ fn volume_words(words: &[&[u8]]) -> Result<Line, LineFault>
 }
 
 fn host_words(words: &[&[u8]]) -> Result<Line, LineFault>
-    ensures { Gives said result (line_of Host (map (λ w. w.now) words.now)) }
+    ensures { Gives line_data result (line_of Host (map (λ w. w.now) words.now)) }
 {
     match words {
         [host] => host_line(host),
@@ -319,7 +319,7 @@ fn host_words(words: &[&[u8]]) -> Result<Line, LineFault>
 }
 
 fn mount_words(words: &[&[u8]]) -> Result<Line, LineFault>
-    ensures { Gives said result (line_of Mount (map (λ w. w.now) words.now)) }
+    ensures { Gives line_data result (line_of Mount (map (λ w. w.now) words.now)) }
 {
     match words {
         [serial] => mount_line(serial),
@@ -329,7 +329,7 @@ fn mount_words(words: &[&[u8]]) -> Result<Line, LineFault>
 }
 
 fn ccw_words(alloc: Global, words: &[&[u8]]) -> Result<Line, LineFault>
-    ensures { Gives said result (line_of Ccw (map (λ w. w.now) words.now)) }
+    ensures { Gives line_data result (line_of Ccw (map (λ w. w.now) words.now)) }
 {
     match words {
         [code] => ccw_line(alloc, code),
@@ -341,7 +341,7 @@ fn ccw_words(alloc: Global, words: &[&[u8]]) -> Result<Line, LineFault>
 }
 
 fn tic_words(words: &[&[u8]]) -> Result<Line, LineFault>
-    ensures { Gives said result (line_of Tic (map (λ w. w.now) words.now)) }
+    ensures { Gives line_data result (line_of Tic (map (λ w. w.now) words.now)) }
 {
     match words {
         [to] => tic_line(to),
@@ -351,7 +351,7 @@ fn tic_words(words: &[&[u8]]) -> Result<Line, LineFault>
 
 /// What the words after a keyword say.
 pub fn line_of(alloc: Global, keyword: Keyword, words: &[&[u8]]) -> Result<Line, LineFault>
-    ensures { Gives said result (line_of keyword (map (λ w. w.now) words.now)) }
+    ensures { Gives line_data result (line_of keyword (map (λ w. w.now) words.now)) }
 {
     match keyword {
         Keyword::Mss => mss_words(words),

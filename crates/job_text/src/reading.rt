@@ -4,10 +4,10 @@ ghost use Rattle.std.specs.Option.{option_map, option_map_or};
 ghost use Rattle.std.specs.List.{list_all, list_any, find};
 ghost use Rattle.job_text.specs.Words.{is_printable};
 ghost use Rattle.std.specs.Str.{bytes_eq};
-ghost use Rattle.job_text.specs.Lines.{spelling, allowed, keyword_at, mss, volume, host, done, mount, demount, program, ccw, tic, end};
-ghost use Rattle.job_text.specs.Grammar.{nothing, judged, spoken, line_after, scripts, is_twice, number_of_serial};
+ghost use Rattle.job_text.specs.Lines.{spelling, keywords_at, keyword_at, mss, volume, host, done, mount, demount, program, ccw, tic, end};
+ghost use Rattle.job_text.specs.Grammar.{nothing, after_line, line_of_words, line_after, scripts, is_twice, number_of_serial};
 ghost use Rattle.job_text.specs.Outcomes.{Steps};
-ghost use Rattle.job_text.specs.Views.{said};
+ghost use Rattle.job_text.specs.Views.{line_data};
 ghost use Rattle.job_text.specs.SoFar.{so_far};
 
 use crate::job::{HostScript, HostScripts, Item, ItemList};
@@ -48,7 +48,7 @@ pub fn spelling(keyword: Keyword) -> &'static str
 
 /// The keywords that are allowed at a place.
 fn allowed(place: Place) -> &'static [Keyword]
-    ensures { result.now ≡ allowed place }
+    ensures { result.now ≡ keywords_at place }
 {
     match place {
         Place::Head => &[Keyword::Mss],
@@ -164,7 +164,7 @@ impl Reading {
     }
 
     fn put_mss(&mut self, frames: u16, recorders: u8) -> Result<(), LineFault>
-        ensures { Steps result (so_far self.new) (judged (so_far self.old) (mss frames recorders)) }
+        ensures { Steps result (so_far self.new) (after_line (so_far self.old) (mss frames recorders)) }
     {
         self.place = Place::Volumes;
         self.frames = frames;
@@ -179,7 +179,7 @@ impl Reading {
         read_only: bool,
     ) -> Result<(), LineFault>
         ensures { Steps result (so_far self.new)
-            (judged (so_far self.old) (volume number serial read_only)) }
+            (after_line (so_far self.old) (volume number serial read_only)) }
     {
         if self.is_volume_twice(number, &serial) {
             return Err(LineFault::Bad(JobKind::Twice));
@@ -210,7 +210,7 @@ impl Reading {
     }
 
     fn put_host(&mut self, alloc: Global, number: HostNo) -> Result<(), LineFault>
-        ensures { Steps result (so_far self.new) (judged (so_far self.old) (host number)) }
+        ensures { Steps result (so_far self.new) (after_line (so_far self.old) (host number)) }
     {
         if self.is_host_twice(number) {
             return Err(LineFault::Bad(JobKind::Twice));
@@ -222,7 +222,7 @@ impl Reading {
     }
 
     fn put_done(&mut self, alloc: Global) -> Result<(), LineFault>
-        ensures { Steps result (so_far self.new) (judged (so_far self.old) done) }
+        ensures { Steps result (so_far self.new) (after_line (so_far self.old) done) }
     {
         self.close(alloc)?;
         self.place = Place::After;
@@ -230,7 +230,7 @@ impl Reading {
     }
 
     fn put_mount(&mut self, serial: Serial, bind: bool) -> Result<(), LineFault>
-        ensures { Steps result (so_far self.new) (judged (so_far self.old) (mount serial bind)) }
+        ensures { Steps result (so_far self.new) (after_line (so_far self.old) (mount serial bind)) }
     {
         let Some(volume) = self.volume_of(&serial) else {
             return Err(LineFault::Bad(JobKind::Absent));
@@ -243,7 +243,7 @@ impl Reading {
     }
 
     fn put_demount(&mut self) -> Result<(), LineFault>
-        ensures { Steps result (so_far self.new) (judged (so_far self.old) demount) }
+        ensures { Steps result (so_far self.new) (after_line (so_far self.old) demount) }
     {
         if self.items.as_slice().len() >= ITEM_LIMIT {
             return Err(LineFault::Bad(JobKind::Count));
@@ -253,7 +253,7 @@ impl Reading {
     }
 
     fn put_program(&mut self, alloc: Global) -> Result<(), LineFault>
-        ensures { Steps result (so_far self.new) (judged (so_far self.old) program) }
+        ensures { Steps result (so_far self.new) (after_line (so_far self.old) program) }
     {
         if self.items.as_slice().len() >= ITEM_LIMIT {
             return Err(LineFault::Bad(JobKind::Count));
@@ -265,7 +265,7 @@ impl Reading {
 
     /// Puts a command into the open program.
     pub fn put_ccw(&mut self, code: u8, argument: Bytes) -> Result<(), LineFault>
-        ensures { Steps result (so_far self.new) (judged (so_far self.old) (ccw code argument.items)) }
+        ensures { Steps result (so_far self.new) (after_line (so_far self.old) (ccw code argument.items)) }
     {
         let length = argument.as_slice().len();
         if self.words.len() >= WORD_LIMIT {
@@ -283,7 +283,7 @@ impl Reading {
     }
 
     fn put_tic(&mut self, to: u8) -> Result<(), LineFault>
-        ensures { Steps result (so_far self.new) (judged (so_far self.old) (tic to)) }
+        ensures { Steps result (so_far self.new) (after_line (so_far self.old) (tic to)) }
     {
         if self.words.len() >= WORD_LIMIT {
             return Err(LineFault::Bad(JobKind::Count));
@@ -293,7 +293,7 @@ impl Reading {
     }
 
     fn put_end(&mut self, alloc: Global) -> Result<(), LineFault>
-        ensures { Steps result (so_far self.new) (judged (so_far self.old) end) }
+        ensures { Steps result (so_far self.new) (after_line (so_far self.old) end) }
     {
         if self.words.is_empty() {
             return Err(LineFault::Bad(JobKind::Count));
@@ -305,7 +305,7 @@ impl Reading {
     }
 
     fn put(&mut self, alloc: Global, line: Line) -> Result<(), LineFault>
-        ensures { Steps result (so_far self.new) (judged (so_far self.old) (said line)) }
+        ensures { Steps result (so_far self.new) (after_line (so_far self.old) (line_data line)) }
     {
         match line {
             Line::Mss { frames, recorders } => self.put_mss(frames, recorders),
@@ -326,7 +326,7 @@ impl Reading {
     }
 
     fn put_words(&mut self, alloc: Global, words: &[&[u8]]) -> Result<(), LineFault>
-        ensures { Steps result (so_far self.new) (spoken (so_far self.old) (map (λ w. w.now) words.now)) }
+        ensures { Steps result (so_far self.new) (line_of_words (so_far self.old) (map (λ w. w.now) words.now)) }
     {
         let [first, rest @ ..] = words else {
             return Err(LineFault::Bad(JobKind::Unknown));

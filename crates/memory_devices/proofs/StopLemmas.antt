@@ -4,11 +4,11 @@ use Rattle.std.proofs.lemmas.List.{length-replicate}
 use Rattle.std.proofs.lemmas.Bool.{cases_Bool, false≢true}
 use Rattle.mss_base.specs.Listing.{Listing}
 use Rattle.mss_base.specs.declared.place.UnitNo.{UnitNo}
-use Rattle.mss_base.specs.Content.{Content, Write, Item, wrote, synced, synced_all, unsynced, written, fitted, after, Places, nowhere, in_range, loose_with, loose_after, SiteLog, torn_byte, with_tear, open_with, length-written, length-after}
+use Rattle.mss_base.specs.Content.{Content, Write, Item, wrote, synced, synced_all, unsynced, with_write, fitted_bytes, after, Places, nowhere, in_range, loose_with, loose_after, SiteLog, torn_byte, with_tear, open_with, length-with_write, length-after}
 use Rattle.mss_base.proofs.ContentLemmas.{length-fitted}
 use Rattle.mss_base.proofs.TornLemmas.{bare}
-use Rattle.memory_devices.specs.Tears.{firm_after, bytes_at, stopped}
-use Rattle.memory_devices.specs.Redone.{loose_under, filled, redone, covered}
+use Rattle.memory_devices.specs.Tears.{firm_after, bytes_at, left_by_stop}
+use Rattle.memory_devices.specs.Redone.{loose_under, filled_write, redone, covered_content}
 use Rattle.memory_devices.specs.declared.tearing.Loose.TheVariants.{Kept, Filled, LeftOut}
 use Rattle.memory_devices.specs.declared.tearing.Tear.{Tear as TestTear}
 use Rattle.memory_devices.specs.declared.tearing.Tear.TheVariants as tear
@@ -26,9 +26,9 @@ put_out l true byte was out = absurd (false≢true (sym out))
 put_out true false byte was out = refl
 put_out false false byte was out = refl
 
-covers_bytes : (c : Content) (l : Places) (x : Option Item) (bytes : Listing ℕ) → covered c x (tear.Write bytes) ≡ with_tear c (open_with l x) (bytes_at x bytes.items)
+covers_bytes : (c : Content) (l : Places) (x : Option Item) (bytes : Listing ℕ) → covered_content c x (tear.Write bytes) ≡ with_tear c (open_with l x) (bytes_at x bytes.items)
 covers_bytes c l (Some (wrote w)) bytes =
-    by_bytes c (written c over) (loose_with l (wrote w)) (bytes_at (Some (wrote w)) bytes.items) (length-written c over)
+    by_bytes c (with_write c over) (loose_with l (wrote w)) (bytes_at (Some (wrote w)) bytes.items) (length-with_write c over)
     (λ unit block place lt. elim (cases_Bool (in_range w unit block place)) [
       | inl is ↦
           byte_in_other c w left unit block place (length-fitted (length w.bytes) bytes.items) lt is
@@ -39,7 +39,7 @@ covers_bytes c l (Some (wrote w)) bytes =
     ])
   where
     left : List ℕ
-    left = fitted (length w.bytes) bytes.items
+    left = fitted_bytes (length w.bytes) bytes.items
 
     over : Write
     over = record w { bytes = left }
@@ -73,9 +73,9 @@ module _ (byte : ℕ) (c d : Content) (l : Places) (long : (unit : UnitNo) (bloc
   rests_filled : d ≡ with_tear c l (λ unit block place. Some byte)
   rests_filled = by_bytes c d l (λ unit block place. Some byte) long each
 
-  covers_filled : (x : Option Item) → covered d x (tear.Fill byte) ≡ with_tear c (open_with l x) (λ unit block place. Some byte)
+  covers_filled : (x : Option Item) → covered_content d x (tear.Fill byte) ≡ with_tear c (open_with l x) (λ unit block place. Some byte)
   covers_filled (Some (wrote w)) =
-      by_bytes c (written d (filled byte w)) (loose_with l (wrote w)) (λ unit block place. Some byte) (λ unit block. length-written d (filled byte w) unit block ∙ long unit block)
+      by_bytes c (with_write d (filled_write byte w)) (loose_with l (wrote w)) (λ unit block place. Some byte) (λ unit block. length-with_write d (filled_write byte w) unit block ∙ long unit block)
       (λ unit block place lt. elim (cases_Bool (in_range w unit block place)) [
         | inl is ↦
             byte_filled byte d w unit block place (omega (arith, long unit block, lt)) is ∙ fill_in (l unit block place) (in_range w unit block place) byte (get_or (c unit block) place 0) is
@@ -101,7 +101,7 @@ shut_before l (Some synced_all) unit block place out = out
 shut_before l (Some unsynced) unit block place out = out
 shut_before l None unit block place out = out
 
-covers_none : (c : Content) (x : Option Item) → covered c x tear.Lost ≡ c
+covers_none : (c : Content) (x : Option Item) → covered_content c x tear.Lost ≡ c
 covers_none c (Some (wrote w)) = refl
 covers_none c (Some (synced u)) = refl
 covers_none c (Some synced_all) = refl
@@ -122,13 +122,13 @@ rests_firm c d l x long same =
 
 -- ---- all of it
 
-pub stopped_bare : (s : SiteLog) (k : ℕ) → redone Kept s.start (take k s.log) ≡ stopped s k None
+pub stopped_bare : (s : SiteLog) (k : ℕ) → redone Kept s.start (take k s.log) ≡ left_by_stop s k None
 stopped_bare s k = redone_kept s.start (take k s.log) ∙ sym (bare (after s.start (take k s.log)) (open_with (loose_after nowhere (take k s.log)) (slice_get s.log k)))
 
-pub stopped_torn : (s : SiteLog) (k : ℕ) (t : TestTear) → covered (redone (loose_under t) s.start (take k s.log)) (slice_get s.log k) t ≡ stopped s k (Some t)
+pub stopped_torn : (s : SiteLog) (k : ℕ) (t : TestTear) → covered_content (redone (loose_under t) s.start (take k s.log)) (slice_get s.log k) t ≡ left_by_stop s k (Some t)
 stopped_torn s k (tear.Write bytes) =
     let xs = take k s.log in
-    ap (λ (c : Content). covered c (slice_get s.log k) (tear.Write bytes)) (redone_kept s.start xs) ∙ covers_bytes (after s.start xs) (loose_after nowhere xs) (slice_get s.log k) bytes
+    ap (λ (c : Content). covered_content c (slice_get s.log k) (tear.Write bytes)) (redone_kept s.start xs) ∙ covers_bytes (after s.start xs) (loose_after nowhere xs) (slice_get s.log k) bytes
 stopped_torn s k (tear.Fill byte) =
     covers_filled byte (after s.start xs) (redone (Filled byte) s.start xs) (loose_after nowhere xs) (λ unit block. length-redone (Filled byte) s.start xs unit block ∙ sym (length-after s.start xs unit block))
     (λ unit block place lt.

@@ -5,18 +5,18 @@ use Rattle.std.proofs.lemmas.List.{ext_get_or, get_or-replicate, length-replicat
 use Rattle.std.proofs.lemmas.Bool.{cases_Bool, cases_lt, cond-true, cond-false, and_from, and_parts, false≢true}
 use Rattle.std.proofs.lemmas.Bool.Decides.{nat_tests}
 use Rattle.mss_base.specs.declared.place.UnitNo.{UnitNo}
-use Rattle.mss_base.specs.Content.{Content, Write, Item, wrote, synced, synced_all, unsynced, same_unit, splice, written, with_item, after, Places, in_range, loose_with, loose_after, Tear, torn, torn_byte, with_tear, length-written}
+use Rattle.mss_base.specs.Content.{Content, Write, Item, wrote, synced, synced_all, unsynced, same_unit, splice, with_write, with_item, after, Places, in_range, loose_with, loose_after, Tear, torn_block, torn_byte, with_tear, length-with_write}
 use Rattle.mss_base.proofs.ContentLemmas.{same_unit-true, get_or-splice_below, get_or-splice_above, get_or-splice_in}
 use Rattle.mss_base.proofs.TornLemmas.{length-torn}
 use Rattle.memory_devices.specs.Tears.{is_synced, firm_after}
-use Rattle.memory_devices.specs.Redone.{filled, loosely, redone_item, redone}
+use Rattle.memory_devices.specs.Redone.{filled_write, loosely, redone_item, redone}
 use Rattle.memory_devices.specs.declared.tearing.Loose.{Loose}
 use Rattle.memory_devices.specs.declared.tearing.Loose.TheVariants.{Kept, Filled, LeftOut}
 
 -- ---- bytes by their places
 
 -- a byte under a tear
-get_or_torn : (is_open : ℕ → Bool) (tear : ℕ → Option ℕ) (xs : List ℕ) (i : ℕ) → i < length xs → get_or (torn is_open tear xs) i 0 ≡ torn_byte (is_open i) (tear i) (get_or xs i 0)
+get_or_torn : (is_open : ℕ → Bool) (tear : ℕ → Option ℕ) (xs : List ℕ) (i : ℕ) → i < length xs → get_or (torn_block is_open tear xs) i 0 ≡ torn_byte (is_open i) (tear i) (get_or xs i 0)
 get_or_torn is_open tear [] i lt = absurd (omega arith)
 get_or_torn is_open tear (x ∷ xs) zero lt = refl
 get_or_torn is_open tear (x ∷ xs) (suc i) lt = get_or_torn (λ n. is_open (suc n)) (λ n. tear (suc n)) xs i (omega arith)
@@ -35,7 +35,7 @@ by_bytes c d is_open tear long each = λ i unit block. at unit block i
         each unit block i within ∙ sym (get_or_torn (is_open unit block) (tear unit block) (c unit block) i within))
 
 -- a byte after a write: in its range, and out of it
-pub byte_in : (c : Content) (w : Write) (unit : UnitNo) (block place : ℕ) → place < length (c unit block) → in_range w unit block place ≡ true → get_or (written c w unit block) place 0 ≡ get_or w.bytes (place - w.offset) 0
+pub byte_in : (c : Content) (w : Write) (unit : UnitNo) (block place : ℕ) → place < length (c unit block) → in_range w unit block place ≡ true → get_or (with_write c w unit block) place 0 ≡ get_or w.bytes (place - w.offset) 0
 byte_in c w unit block place lt is =
     let parts = and_parts (same_unit w.unit unit && (w.block == block)) (nat_le w.offset place && nat_lt place (w.offset + length w.bytes)) is in
     let from : w.offset ≤ place = grind (arith, nat_tests, and_parts (nat_le w.offset place) (nat_lt place (w.offset + length w.bytes)) parts.1) in
@@ -43,7 +43,7 @@ byte_in c w unit block place lt is =
     ap (λ (l : List ℕ). get_or l place 0) (cond-true (same_unit w.unit unit && (w.block == block)) (splice w.offset w.bytes (c unit block)) (c unit block) parts.0)
     ∙ get_or-splice_in w.offset w.bytes (c unit block) place (place - w.offset) (omega arith) (omega arith) lt
 
-pub byte_out : (c : Content) (w : Write) (unit : UnitNo) (block place : ℕ) → in_range w unit block place ≡ false → get_or (written c w unit block) place 0 ≡ get_or (c unit block) place 0
+pub byte_out : (c : Content) (w : Write) (unit : UnitNo) (block place : ℕ) → in_range w unit block place ≡ false → get_or (with_write c w unit block) place 0 ≡ get_or (c unit block) place 0
 byte_out c w unit block place out = elim (cases_Bool (same_unit w.unit unit && (w.block == block))) [
   | inl here ↦
       ap (λ (l : List ℕ). get_or l place 0) (cond-true (same_unit w.unit unit && (w.block == block)) (splice w.offset w.bytes (c unit block)) (c unit block) here)
@@ -66,11 +66,11 @@ same_range : (w : Write) (bytes : List ℕ) (unit : UnitNo) (block place : ℕ) 
 same_range w bytes unit block place long = ap (λ (n : ℕ). (same_unit w.unit unit && (w.block == block)) && (nat_le w.offset place && nat_lt place (w.offset + n))) long
 
 pub byte_in_other : (c : Content) (w : Write) (bytes : List ℕ) (unit : UnitNo) (block place : ℕ) → length bytes ≡ length w.bytes → place < length (c unit block) → in_range w unit block place ≡ true
-    → get_or (written c (record w { bytes = bytes }) unit block) place 0 ≡ get_or bytes (place - w.offset) 0
+    → get_or (with_write c (record w { bytes = bytes }) unit block) place 0 ≡ get_or bytes (place - w.offset) 0
 byte_in_other c w bytes unit block place long lt is = byte_in c (record w { bytes = bytes }) unit block place lt (same_range w bytes unit block place long ∙ is)
 
 pub byte_out_other : (c : Content) (w : Write) (bytes : List ℕ) (unit : UnitNo) (block place : ℕ) → length bytes ≡ length w.bytes → in_range w unit block place ≡ false
-    → get_or (written c (record w { bytes = bytes }) unit block) place 0 ≡ get_or (c unit block) place 0
+    → get_or (with_write c (record w { bytes = bytes }) unit block) place 0 ≡ get_or (c unit block) place 0
 byte_out_other c w bytes unit block place long out = byte_out c (record w { bytes = bytes }) unit block place (same_range w bytes unit block place long ∙ out)
 
 -- the unit of a place in a write's range
@@ -81,7 +81,7 @@ in_unit w unit block place is =
 
 -- one byte over and over
 pub byte_filled : (byte : ℕ) (c : Content) (w : Write) (unit : UnitNo) (block place : ℕ) → place < length (c unit block) → in_range w unit block place ≡ true
-    → get_or (written c (filled byte w) unit block) place 0 ≡ byte
+    → get_or (with_write c (filled_write byte w) unit block) place 0 ≡ byte
 byte_filled byte c w unit block place lt is =
     let parts = and_parts (same_unit w.unit unit && (w.block == block)) (nat_le w.offset place && nat_lt place (w.offset + length w.bytes)) is in
     let from : w.offset ≤ place = grind (arith, nat_tests, and_parts (nat_le w.offset place) (nat_lt place (w.offset + length w.bytes)) parts.1) in
@@ -94,12 +94,12 @@ length-redone_item : (how : Loose) (is_firm : UnitNo → Bool) (c : Content) (x 
 length-redone_item how is_firm c (wrote w) unit block = by_firm (is_firm w.unit)
   where
     loose : (how : Loose) → length (loosely how c w unit block) ≡ length (c unit block)
-    loose Kept = length-written c w unit block
-    loose (Filled byte) = length-written c (filled byte w) unit block
+    loose Kept = length-with_write c w unit block
+    loose (Filled byte) = length-with_write c (filled_write byte w) unit block
     loose LeftOut = refl
 
-    by_firm : (b : Bool) → length (cond b (written c w) (loosely how c w) unit block) ≡ length (c unit block)
-    by_firm true = length-written c w unit block
+    by_firm : (b : Bool) → length (cond b (with_write c w) (loosely how c w) unit block) ≡ length (c unit block)
+    by_firm true = length-with_write c w unit block
     by_firm false = loose how
 length-redone_item how is_firm c (synced u) unit block = refl
 length-redone_item how is_firm c synced_all unit block = refl
@@ -114,7 +114,7 @@ length-redone how c (x ∷ xs) unit block =
 kept_item : (is_firm : UnitNo → Bool) (c : Content) (x : Item) → redone_item Kept is_firm c x ≡ with_item c x
 kept_item is_firm c (wrote w) = both (is_firm w.unit)
   where
-    both : (b : Bool) → cond b (written c w) (written c w) ≡ written c w
+    both : (b : Bool) → cond b (with_write c w) (with_write c w) ≡ with_write c w
     both true = refl
     both false = refl
 kept_item is_firm c (synced u) = refl
@@ -128,7 +128,7 @@ redone_kept c (x ∷ xs) = ap (λ (d : Content). redone Kept d xs) (kept_item (�
 -- the firm ones
 pub redone_firm : (c : Content) (xs : List Item) → redone LeftOut c xs ≡ firm_after c xs
 redone_firm c [] = refl
-redone_firm c (wrote w ∷ xs) = redone_firm (cond (is_synced w.unit xs) (written c w) c) xs
+redone_firm c (wrote w ∷ xs) = redone_firm (cond (is_synced w.unit xs) (with_write c w) c) xs
 redone_firm c (synced u ∷ xs) = redone_firm c xs
 redone_firm c (synced_all ∷ xs) = redone_firm c xs
 redone_firm c (unsynced ∷ xs) = redone_firm c xs
@@ -143,7 +143,7 @@ stays_out how is_firm c w unit block place out = by_firm (is_firm w.unit)
     loose (Filled byte) = byte_out_other c w (replicate (length w.bytes) byte) unit block place (length-replicate (length w.bytes) byte) out
     loose LeftOut = refl
 
-    by_firm : (b : Bool) → get_or (cond b (written c w) (loosely how c w) unit block) place 0 ≡ get_or (c unit block) place 0
+    by_firm : (b : Bool) → get_or (cond b (with_write c w) (loosely how c w) unit block) place 0 ≡ get_or (c unit block) place 0
     by_firm true = byte_out c w unit block place out
     by_firm false = loose how
 
@@ -188,12 +188,12 @@ pub agrees : (how : Loose) (c d : Content) (p : Places) (xs : List Item) (unit :
     → loose_after p xs unit block place ≡ false → get_or (redone how d xs unit block) place 0 ≡ get_or (after c xs unit block) place 0
 agrees how c d p [] unit block place in_c in_d same shut = same (unloose (p unit block place) ∙ shut)
 agrees how c d p (wrote w ∷ xs) unit block place in_c in_d same shut =
-    agrees how (written c w) (redone_item how firm d (wrote w)) (loose_with p (wrote w)) xs unit block place
-    (omega (arith, length-written c w unit block)) (omega (arith, length-redone_item how firm d (wrote w) unit block))
+    agrees how (with_write c w) (redone_item how firm d (wrote w)) (loose_with p (wrote w)) xs unit block place
+    (omega (arith, length-with_write c w unit block)) (omega (arith, length-redone_item how firm d (wrote w) unit block))
     (λ none. elim (cases_Bool (in_range w unit block place)) [
       | inl is ↦
           let here : is_synced w.unit xs ≡ true = ap (λ (u : UnitNo). is_synced u xs) (in_unit w unit block place is) ∙ firm_in (p unit block place) (in_range w unit block place) (is_synced unit xs) is none in
-          ap (λ (e : Content). get_or (e unit block) place 0) (cond-true (is_synced w.unit xs) (written d w) (loosely how d w) here)
+          ap (λ (e : Content). get_or (e unit block) place 0) (cond-true (is_synced w.unit xs) (with_write d w) (loosely how d w) here)
           ∙ byte_in d w unit block place in_d is ∙ sym (byte_in c w unit block place in_c is)
       | inr out ↦
           stays_out how firm d w unit block place out ∙ same (still_out (p unit block place) (in_range w unit block place) (is_synced unit xs) out ∙ none)
@@ -219,7 +219,7 @@ fills byte d p (wrote w ∷ xs) unit block place in_d same is_open =
     (λ some. elim (cases_Bool (in_range w unit block place)) [
       | inl is ↦
           let here : is_synced w.unit xs ≡ false = ap (λ (u : UnitNo). is_synced u xs) (in_unit w unit block place is) ∙ loose_in (p unit block place || in_range w unit block place) (is_synced unit xs) some in
-          ap (λ (e : Content). get_or (e unit block) place 0) (cond-false (is_synced w.unit xs) (written d w) (loosely (Filled byte) d w) here)
+          ap (λ (e : Content). get_or (e unit block) place 0) (cond-false (is_synced w.unit xs) (with_write d w) (loosely (Filled byte) d w) here)
           ∙ byte_filled byte d w unit block place in_d is
       | inr out ↦
           stays_out (Filled byte) firm d w unit block place out ∙ same (still_out (p unit block place) (in_range w unit block place) (is_synced unit xs) out ∙ some)

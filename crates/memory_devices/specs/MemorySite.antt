@@ -2,7 +2,7 @@
 use Rattle.std.specs.Prelude.{◌≡◌, ℕ, true, min, vec_len, Bool, List, All, Any, Option}
 use Rattle.indexmap.specs.IndexMap.{spare as map_spare}
 use Rattle.mss_base.specs.Content.{SiteLog}
-use Rattle.memory_devices.specs.Memory.{held}
+use Rattle.memory_devices.specs.Memory.{content_in}
 use Rattle.mss_base.specs.Counts.{next_count}
 use Rattle.memory_devices.specs.SiteFaults.{strikes, IsReadOf}
 use Rattle.mss_base.specs.declared.place.UnitNo.{UnitNo}
@@ -10,7 +10,7 @@ use Rattle.memory_devices.specs.declared.memory_site.SiteFault.{SiteFault}
 use Rattle.memory_devices.specs.declared.memory_site.MemorySite.{MemorySite}
 
 abbrev pub told_of : MemorySite → SiteLog
-told_of s = record { start = held s.start; log = s.log.items }
+told_of s = record { start = content_in s.start; log = s.log.items }
 
 -- how many writes and syncs it has room for
 abbrev pub room_of : MemorySite → ℕ

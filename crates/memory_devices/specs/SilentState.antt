@@ -10,9 +10,9 @@ pub record SilentState : Type 0 where
   pub calls : CallsMade
 
 -- a block of one byte over and over
-unfoldable pub filled : ℕ → List ℕ
-filled byte = replicate 16384 byte
+unfoldable pub filled_block : ℕ → List ℕ
+filled_block byte = replicate 16384 byte
 
-pub length-filled : (byte : ℕ) → length (filled byte) ≡ 16384
-unfolding filled
-length-filled byte = length-replicate {A = ℕ} 16384 byte
+pub length-filled_block : (byte : ℕ) → length (filled_block byte) ≡ 16384
+unfolding filled_block
+length-filled_block byte = length-replicate {A = ℕ} 16384 byte

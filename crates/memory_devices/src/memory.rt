@@ -1,8 +1,8 @@
 // The blocks of a site in memory.
 ghost use Rattle.std.specs.Prelude.{◌≡◌, ℕ, ◌≤◌, ◌+◌, ◌++◌, [], ◌∷◌, length, vec_len, false, if◌then◌else◌, OnOk};
 ghost use Rattle.indexmap.specs.IndexMap.{spare as map_spare};
-ghost use Rattle.mss_base.specs.Content.{written, write_at};
-ghost use Rattle.memory_devices.specs.Memory.{held, same_place};
+ghost use Rattle.mss_base.specs.Content.{with_write, write_at};
+ghost use Rattle.memory_devices.specs.Memory.{content_in, same_place};
 ghost use Rattle.mss_base.specs.Zeros.{zeros};
 ghost use Rattle.mss_base.specs.declared.place.UnitNo.{UnitNo};
 
@@ -16,7 +16,7 @@ pub type Blocks = IndexMap<BlockPlace, Block>;
 /// The bytes of a block.
 pub fn read_block(blocks: &Blocks, place: &BlockPlace, into: &mut [u8])
     requires { length into.old ≡ 16384 }
-    ensures { into.new ≡ held blocks.now place.now.unit place.now.block }
+    ensures { into.new ≡ content_in blocks.now place.now.unit place.now.block }
 {
     match blocks.get(place) {
         Some(block) => into.copy_from_slice(block.as_slice()),
@@ -27,7 +27,7 @@ pub fn read_block(blocks: &Blocks, place: &BlockPlace, into: &mut [u8])
 /// The block at a place; where none was written, the blank one, which is zeros.
 pub fn block_of<'a>(blocks: &'a Blocks, place: &BlockPlace, blank: &'a Block) -> &'a [u8]
     requires { blank.now ≡ zeros }
-    ensures { result.now ≡ held blocks.now place.now.unit place.now.block }
+    ensures { result.now ≡ content_in blocks.now place.now.unit place.now.block }
 {
     match blocks.get(place) {
         Some(block) => block.as_slice(),
@@ -38,10 +38,10 @@ pub fn block_of<'a>(blocks: &'a Blocks, place: &BlockPlace, blank: &'a Block) ->
 /// Takes a block out, or a new one of zeros.
 fn take_block(blocks: &mut Blocks, room: &mut Vec<Block>, place: &BlockPlace) -> Block
     requires { 1 ≤ vec_len room.old }
-    ensures block { result ≡ held blocks.old place.now.unit place.now.block }
+    ensures block { result ≡ content_in blocks.old place.now.unit place.now.block }
     ensures others { (unit : UnitNo) (block : ℕ)
         → same_place place.now (record { unit = unit; block = block }) ≡ false
-        → held blocks.new unit block ≡ held blocks.old unit block }
+        → content_in blocks.new unit block ≡ content_in blocks.old unit block }
     ensures room { vec_len room.old ≤ vec_len room.new + 1 }
     ensures spare { map_spare blocks.old ≤ map_spare blocks.new }
 {
@@ -58,8 +58,8 @@ fn take_block(blocks: &mut Blocks, room: &mut Vec<Block>, place: &BlockPlace) ->
 /// Puts a block in.
 fn put_block(blocks: &mut Blocks, place: BlockPlace, block: Block)
     requires { 1 ≤ map_spare blocks.old }
-    ensures held { (unit : UnitNo) (at : ℕ) → held blocks.new unit at
-        ≡ (if same_place place (record { unit = unit; block = at }) then block else held blocks.old unit at) }
+    ensures held { (unit : UnitNo) (at : ℕ) → content_in blocks.new unit at
+        ≡ (if same_place place (record { unit = unit; block = at }) then block else content_in blocks.old unit at) }
     ensures spare { map_spare blocks.old ≤ map_spare blocks.new + 1 }
 {
     match blocks.insert(place, block) {
@@ -79,8 +79,8 @@ pub fn write_block(
     requires room { 1 ≤ vec_len room.old }
     requires spare { 1 ≤ map_spare blocks.old }
     requires inside { offset + length bytes.now ≤ 16384 }
-    ensures written { held blocks.new
-        ≡ written (held blocks.old) (write_at place.now offset bytes.now) }
+    ensures written { content_in blocks.new
+        ≡ with_write (content_in blocks.old) (write_at place.now offset bytes.now) }
     ensures room { vec_len room.old ≤ vec_len room.new + 1 }
     ensures spare { map_spare blocks.old ≤ map_spare blocks.new + 1 }
 {
@@ -111,7 +111,7 @@ pub fn grow_block(
 ) -> Result<(), NoMemory>
     requires inside { offset + length bytes.now ≤ 16384 }
     ensures written { OnOk result
-        (held blocks.new ≡ written (held blocks.old) (write_at place.now offset bytes.now)) }
+        (content_in blocks.new ≡ with_write (content_in blocks.old) (write_at place.now offset bytes.now)) }
 {
     reserve_blocks(alloc, room, 1)?;
     blocks.reserve(1)?;

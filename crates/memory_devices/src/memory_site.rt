@@ -1,7 +1,7 @@
 // A site in memory.
 ghost use Rattle.std.specs.Prelude.{◌≡◌, ℕ, ◌≤◌, ◌<◌, ◌+◌, ◌++◌, [], ◌∷◌, length, option_map, vec_len, IsTrue, OnOk, OnErr, IfOk, IfErr, ◌↔◌};
-ghost use Rattle.memory_devices.specs.Memory.{held};
-ghost use Rattle.memory_devices.specs.Tears.{stopped, tear_in};
+ghost use Rattle.memory_devices.specs.Memory.{content_in};
+ghost use Rattle.memory_devices.specs.Tears.{left_by_stop, tear_in};
 ghost use Rattle.mss_base.specs.Zeros.{zeros};
 ghost use Rattle.mss_base.specs.Content.{after, content, image};
 ghost use Rattle.mss_base.specs.declared.place.UnitNo.{UnitNo};
@@ -46,9 +46,9 @@ pub struct MemorySite {
     brought: BlockPlace,
     // Shown where none was written.
     blank: Block,
-    ghost whole: { (unit : _) (block : ℕ) → length (held start unit block) ≡ 16384 },
+    ghost whole: { (unit : _) (block : ℕ) → length (content_in start unit block) ≡ 16384 },
     ghost kept: { (unit : _) (block : ℕ)
-        → held blocks unit block ≡ after (held start) log.items unit block },
+        → content_in blocks unit block ≡ after (content_in start) log.items unit block },
     ghost zeros_: { blank ≡ zeros },
 }
 
@@ -85,10 +85,10 @@ impl MemorySite {
     // Devices that hold these blocks, handed in twice, of which no call fails.
     fn holding(alloc: Global, start: Blocks, blocks: Blocks) -> Result<Self, NoMemory>
         requires whole { (unit : UnitNo) (block : ℕ)
-            → length (held start unit block) ≡ BLOCK_BYTES }
-        requires same { held blocks ≡ held start }
+            → length (content_in start unit block) ≡ BLOCK_BYTES }
+        requires same { content_in blocks ≡ content_in start }
         ensures told { IfOk result (λ site. told_of site
-            ≡ record { start = held start; log = [] }) }
+            ≡ record { start = content_in start; log = [] }) }
         ensures faults { IfOk result (λ site. faults_of site ≡ 0) }
         ensures failing { IfOk result (λ site. failing_of site ≡ []) }
     {
@@ -151,7 +151,7 @@ impl MemorySite {
     fn stopped_at(&self, moment: usize, tear: Option<&Tear>) -> Result<MemorySite, NoMemory>
         requires within { moment ≤ length (told_of self.now).log }
         ensures content { IfOk result (λ site. content (told_of site)
-            ≡ stopped (told_of self.now) moment (option_map (λ t. t.now) tear.entry)) }
+            ≡ left_by_stop (told_of self.now) moment (option_map (λ t. t.now) tear.entry)) }
         ensures log { IfOk result (λ site. (told_of site).log ≡ []) }
         ensures faults { IfOk result (λ site. faults_of site ≡ 0) }
         ensures failing { IfOk result (λ site. failing_of site ≡ []) }
@@ -163,8 +163,8 @@ impl MemorySite {
 
     fn blocks_left(&self, moment: usize, tear: Option<&Tear>) -> Result<Blocks, NoMemory>
         requires within { moment ≤ length (told_of self.now).log }
-        ensures { IfOk result (λ blocks. held blocks
-            ≡ stopped (told_of self.now) moment (option_map (λ t. t.now) tear.entry)) }
+        ensures { IfOk result (λ blocks. content_in blocks
+            ≡ left_by_stop (told_of self.now) moment (option_map (λ t. t.now) tear.entry)) }
     {
         let mut blocks = self.start.clone()?;
         self.log.stop(self.alloc, moment, tear, &mut blocks)?;

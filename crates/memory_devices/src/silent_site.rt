@@ -21,14 +21,14 @@ pub struct SilentSite {
 
 impl Model for SilentSite {
     ghost use Rattle.std.specs.Prelude.{◌≡◌};
-    ghost use Rattle.memory_devices.specs.SilentState.{filled};
+    ghost use Rattle.memory_devices.specs.SilentState.{filled_block};
     ghost use Rattle.memory_devices.specs.SilentState.{SilentState};
 
     ghost Value = { SilentState };
 
     ghost view = { λ s. record { filler = s.filler; writes = s.writes; calls = s.calls } };
 
-    ghost invariant = { λ s. s.block.items ≡ filled s.filler };
+    ghost invariant = { λ s. s.block.items ≡ filled_block s.filler };
 }
 
 impl SilentSite {
@@ -51,7 +51,7 @@ impl SilentSite {
 
 impl Site for SilentSite {
     ghost use Rattle.std.specs.Prelude.{◌≡◌, []};
-    ghost use Rattle.memory_devices.specs.SilentState.{filled, length-filled};
+    ghost use Rattle.memory_devices.specs.SilentState.{filled_block, length-filled_block};
 
     ghost tells = { ⊥ };
 
@@ -65,11 +65,11 @@ impl Site for SilentSite {
 
     ghost never_fails_but = { λ s _. s.calls.failing ≡ [] };
 
-    ghost brought = { λ s. filled s.filler };
+    ghost brought = { λ s. filled_block s.filler };
 
     ghost whole = { λ _ _ _ none. absurd none };
 
-    ghost full = { λ s. length-filled s.filler };
+    ghost full = { λ s. length-filled_block s.filler };
 
     ghost counted = { λ _ none. absurd none };
 
@@ -104,7 +104,7 @@ impl Site for SilentSite {
     }
 
     fn brought(&self) -> &[u8]
-        ensures shown { result.now ≡ filled self.now.filler }
+        ensures shown { result.now ≡ filled_block self.now.filler }
         ensures whole { length result.now ≡ BLOCK_BYTES }
     {
         &self.block

@@ -1,11 +1,11 @@
 // The list of writes and syncs, with the bytes of the writes one after another.
 ghost use Rattle.std.specs.Prelude.{◌≡◌, ℕ, ◌+◌, ◌*◌, ◌-◌, ◌≤◌, ◌++◌, [], ◌∷◌, length, take, replicate, slice_get, option_map, vec_len, vec_capacity, None, MatchOption, OnOk};
 ghost use Rattle.std.specs.List.{AllByRecursion};
-ghost use Rattle.mss_base.specs.Content.{write_at, written, wrote};
-ghost use Rattle.memory_devices.specs.Memory.{held};
+ghost use Rattle.mss_base.specs.Content.{write_at, with_write, wrote};
+ghost use Rattle.memory_devices.specs.Memory.{content_in};
 ghost use Rattle.memory_devices.specs.Logged.{IsInside, IsLogged, has_sync, item_of, span, sync_of, syncs_unit, total_length};
-ghost use Rattle.memory_devices.specs.Redone.{covered, covered_range, loosely, redone, redone_from, redone_item};
-ghost use Rattle.memory_devices.specs.Tears.{stopped};
+ghost use Rattle.memory_devices.specs.Redone.{covered_content, covered_range, loosely, redone, redone_from, redone_item};
+ghost use Rattle.memory_devices.specs.Tears.{left_by_stop};
 
 use crate::memory::{Blocks, grow_block};
 use crate::tearing::{Loose, Tear, loose_under};
@@ -92,8 +92,8 @@ impl WriteLog {
         blocks: &mut Blocks,
     ) -> Result<(), NoMemory>
         requires within { moment ≤ length self.now.items }
-        ensures { OnOk result (held blocks.new
-            ≡ stopped (record { start = held blocks.old; log = self.now.items }) moment
+        ensures { OnOk result (content_in blocks.new
+            ≡ left_by_stop (record { start = content_in blocks.old; log = self.now.items }) moment
             (option_map (λ t. t.now) tear.entry)) }
     {
         let Some(tear) = tear else {
@@ -113,7 +113,7 @@ impl WriteLog {
     ) -> Result<(), NoMemory>
         requires within { count ≤ length self.now.items }
         ensures { OnOk result
-            (held blocks.new ≡ redone how (held blocks.old) (take count self.now.items)) }
+            (content_in blocks.new ≡ redone how (content_in blocks.old) (take count self.now.items)) }
     {
         redo_all(alloc, blocks, &self.entries[..count], &self.bytes, how)
     }
@@ -126,8 +126,8 @@ impl WriteLog {
         tear: &Tear,
         blocks: &mut Blocks,
     ) -> Result<(), NoMemory>
-        ensures { OnOk result (held blocks.new
-            ≡ covered (held blocks.old) (slice_get self.now.items index) tear.now) }
+        ensures { OnOk result (content_in blocks.new
+            ≡ covered_content (content_in blocks.old) (slice_get self.now.items index) tear.now) }
     {
         let Some(item) = self.get(index) else {
             return Ok(());
@@ -240,8 +240,8 @@ fn redo(
 ) -> Result<(), NoMemory>
     requires whole { length bytes.now ≡ span item.now }
     requires inside { IsInside item.now }
-    ensures { OnOk result (held blocks.new ≡ redone_item how (λ unit. has_sync unit later.now)
-        (held blocks.old) (item_of item.now bytes.now)) }
+    ensures { OnOk result (content_in blocks.new ≡ redone_item how (λ unit. has_sync unit later.now)
+        (content_in blocks.old) (item_of item.now bytes.now)) }
 {
     match item {
         LoggedItem::Wrote { place, offset, .. } => {
@@ -267,8 +267,8 @@ fn redo_loose(
     how: Loose,
 ) -> Result<(), NoMemory>
     requires inside { offset + length bytes.now ≤ 16384 }
-    ensures { OnOk result (held blocks.new
-        ≡ loosely how (held blocks.old) (write_at place.now offset bytes.now)) }
+    ensures { OnOk result (content_in blocks.new
+        ≡ loosely how (content_in blocks.old) (write_at place.now offset bytes.now)) }
 {
     match how {
         Loose::Kept => grow_block(alloc, blocks, room, place, offset, bytes),
@@ -288,7 +288,7 @@ fn redo_all(
     requires whole { total_length entries.now ≤ length bytes.now }
     requires inside { AllByRecursion IsInside entries.now }
     ensures { OnOk result
-        (held blocks.new ≡ redone_from how (held blocks.old) entries.now bytes.now) }
+        (content_in blocks.new ≡ redone_from how (content_in blocks.old) entries.now bytes.now) }
 {
     let mut room = Vec::new(alloc);
     let mut entries = entries;
@@ -337,7 +337,7 @@ fn tear_block(
 ) -> Result<(), NoMemory>
     requires inside { offset + length ≤ 16384 }
     ensures { OnOk result
-        (held blocks.new ≡ covered_range (held blocks.old) place.now offset length tear.now) }
+        (content_in blocks.new ≡ covered_range (content_in blocks.old) place.now offset length tear.now) }
 {
     let mut room = Vec::new(alloc);
     let length = length as usize;
@@ -363,7 +363,8 @@ fn fill_block(
 ) -> Result<(), NoMemory>
     requires inside { offset + length ≤ 16384 }
     ensures { OnOk result
-        (held blocks.new ≡ written (held blocks.old) (write_at place.now offset (replicate length byte))) }
+        (content_in blocks.new ≡ with_write (content_in blocks.old)
+        (write_at place.now offset (replicate length byte))) }
 {
     let mut filling = Vec::new(alloc);
     filling.resize(length, byte)?;

@@ -1,6 +1,6 @@
 -- The text of an audit: a title, a line for each finding, the last line.
 use Rattle.std.specs.Prelude.{ℕ, List, ◌++◌, codes, decimal}
-use Rattle.report_text.specs.Texts.{numbered, end_text, stopped_text}
+use Rattle.report_text.specs.Texts.{numbered_lines, end_text, stopped_text}
 use Rattle.report_text.specs.Refusals.{copy_name, row_field_text, refused_text}
 use Rattle.mss_audit.specs.declared.finding.Finding.{Finding}
 use Rattle.mss_audit.specs.declared.finding.Finding.TheVariants.{Refusal, CopyClosed, CopyDamaged, CopyDiffers}
@@ -30,7 +30,7 @@ audit_title = codes "MSS AUDIT 1\n"
 
 -- the lines behind it
 unfoldable pub lines_text : List Finding → List ℕ
-lines_text findings = numbered finding_line 1 findings
+lines_text findings = numbered_lines finding_line 1 findings
 
 unfoldable pub rest_text : List Finding → List ℕ
 rest_text findings = lines_text findings ++ end_text

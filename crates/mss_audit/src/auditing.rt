@@ -2,7 +2,7 @@
 ghost use Rattle.std.specs.Prelude.{◌≡◌, ◌++◌, IfOk, OnOk};
 ghost use Rattle.mss_base.specs.Content.{content};
 ghost use Rattle.mss_base.specs.Configs.{serial_in};
-ghost use Rattle.volume_table.specs.Listed.{listed};
+ghost use Rattle.volume_table.specs.Listed.{row_in_list};
 ghost use Rattle.mss_audit.specs.Auditing.{Inspects};
 ghost use Rattle.mss_audit.specs.Findings.{findings, rest_findings};
 
@@ -24,7 +24,7 @@ fn list_rest<S: Site>(
     findings: &mut Findings,
 ) -> Result<(), AuditFault>
     ensures list { S.tells → OnOk result (findings.new.items ≡ findings.old.items
-        ++ rest_findings frames (listed rows.now) (content (S.told site.old))) }
+        ++ rest_findings frames (row_in_list rows.now) (content (S.told site.old))) }
     ensures inspects { Inspects S.Site site.old site.new result }
 {
     list_halves(rows, findings)?;

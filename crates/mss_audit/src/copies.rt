@@ -3,7 +3,7 @@ ghost use Rattle.std.specs.Prelude.{◌≡◌, ◌≢◌, ◌<◌, ◌+◌, ◌+
 ghost use Rattle.mss_base.specs.Firsts.{first_below};
 ghost use Rattle.volume_table.specs.declared.layout.TheConstants.{BODY, BODY_BYTES};
 ghost use Rattle.table_pair.specs.Pair.{reading, unread};
-ghost use Rattle.table_pair.specs.Reads.{seen};
+ghost use Rattle.table_pair.specs.Reads.{read_of_copy};
 ghost use Rattle.shown_volumes.specs.Shown.{told_row};
 ghost use Rattle.mss_audit.specs.declared.finding.Finding.TheVariants.{CopyDiffers};
 ghost use Rattle.mss_audit.specs.Findings.{
@@ -64,7 +64,7 @@ fn differs_at(volume: VolumeNo, a: &VolumeRow, b: &VolumeRow) -> Option<Finding>
 
 /// What copy B says beside the row of copy A.
 fn beside_a(volume: VolumeNo, row: &VolumeRow, other: &CopyState) -> Option<Finding>
-    ensures { result ≡ beside_a volume row.now (seen other.now) }
+    ensures { result ≡ beside_a volume row.now (read_of_copy other.now) }
 {
     let copy = TableCopy::B;
     match other {
@@ -81,7 +81,7 @@ fn beside_a(volume: VolumeNo, row: &VolumeRow, other: &CopyState) -> Option<Find
 
 /// That copy A is closed, where copy B has a row.
 fn beside_b(volume: VolumeNo, other: &CopyState) -> Option<Finding>
-    ensures { result ≡ beside_b volume (seen other.now) }
+    ensures { result ≡ beside_b volume (read_of_copy other.now) }
 {
     match other {
         CopyState::Open(Ok(_)) => Some(Finding::CopyClosed {
@@ -96,7 +96,7 @@ fn beside_b(volume: VolumeNo, other: &CopyState) -> Option<Finding>
 
 /// What the copy says that doesn't count, where there is a row.
 fn copies_finding(volume: VolumeNo, a: &CopyState, b: &CopyState) -> Option<Finding>
-    ensures { result ≡ copies_finding volume (seen a.now) (seen b.now) }
+    ensures { result ≡ copies_finding volume (read_of_copy a.now) (read_of_copy b.now) }
 {
     match a {
         CopyState::Open(Ok(row)) => beside_a(volume, row, b),
@@ -114,11 +114,11 @@ pub fn list_copies(
     asked: Option<Serial>,
     findings: &mut Findings,
 ) -> Result<Option<VolumeRow>, NoMemory>
-    requires a { seen a ≢ unread }
-    requires b { seen b ≢ unread }
-    ensures row { IfOk result (λ row. row ≡ told_row (reading (seen a) (seen b))) }
+    requires a { read_of_copy a ≢ unread }
+    requires b { read_of_copy b ≢ unread }
+    ensures row { IfOk result (λ row. row ≡ told_row (reading (read_of_copy a) (read_of_copy b))) }
     ensures list { OnOk result (findings.new.items
-        ≡ findings.old.items ++ copies_findings volume asked (seen a) (seen b)) }
+        ≡ findings.old.items ++ copies_findings volume asked (read_of_copy a) (read_of_copy b)) }
 {
     list(findings, copies_finding(volume, &a, &b))?;
     match by_table(a, b) {

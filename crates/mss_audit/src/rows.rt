@@ -2,11 +2,11 @@
 ghost use Rattle.std.specs.Prelude.{◌≡◌, ◌≢◌, ◌++◌, IfOk, OnOk};
 ghost use Rattle.mss_base.specs.Content.{content};
 ghost use Rattle.mss_base.specs.Configs.{serial_in};
-ghost use Rattle.volume_table.specs.Listed.{listed};
+ghost use Rattle.volume_table.specs.Listed.{row_in_list};
 ghost use Rattle.table_pair.specs.Copies.{copy_at};
 ghost use Rattle.table_pair.specs.Pair.{read_of, row_of, unread};
 ghost use Rattle.table_pair.specs.Places.{unit_of};
-ghost use Rattle.table_pair.specs.Reads.{seen};
+ghost use Rattle.table_pair.specs.Reads.{read_of_copy};
 ghost use Rattle.shown_volumes.specs.Shown.{rows_of, told_row};
 ghost use Rattle.mss_audit.specs.Auditing.{Inspects};
 ghost use Rattle.mss_audit.specs.Findings.{row_findings};
@@ -29,8 +29,8 @@ fn read_copy<S: Site>(
     block: &mut Block,
 ) -> Result<CopyState, AuditFault>
     ensures copy { S.tells → IfOk result (λ read.
-        seen read ≡ read_of (copy_at (content (S.told site.old) (unit_of copy) volume))) }
-    ensures there { IfOk result (λ read. seen read ≢ unread) }
+        read_of_copy read ≡ read_of (copy_at (content (S.told site.old) (unit_of copy) volume))) }
+    ensures there { IfOk result (λ read. read_of_copy read ≢ unread) }
     ensures inspects { Inspects S.Site site.old site.new result }
 {
     if block.read(site, &place_of(copy, volume)).is_err() {
@@ -71,7 +71,7 @@ pub fn list_rows<S: Site>(
     findings: &mut Findings,
 ) -> Result<Rows, AuditFault>
     ensures rows { S.tells → IfOk result (λ rows.
-        listed rows ≡ rows_of (content (S.told site.old))) }
+        row_in_list rows ≡ rows_of (content (S.told site.old))) }
     ensures list { S.tells → OnOk result (findings.new.items ≡ findings.old.items
         ++ joined_below 32 (row_findings (serial_in volumes.now) (content (S.told site.old)))) }
     ensures inspects { Inspects S.Site site.old site.new result }

@@ -2,7 +2,7 @@
 ghost use Rattle.std.specs.Prelude.{◌≡◌, ◌++◌, ℕ, Option, IfOk, OnOk};
 ghost use Rattle.mss_base.specs.Content.{content};
 ghost use Rattle.mss_base.specs.declared.numbers.TheConstants.{CYLINDERS};
-ghost use Rattle.volume_table.specs.Listed.{listed};
+ghost use Rattle.volume_table.specs.Listed.{row_in_list};
 ghost use Rattle.shown_volumes.specs.Faults.{row_track_fault};
 ghost use Rattle.shown_volumes.specs.declared.refused.Refused.{Refused};
 ghost use Rattle.mss_restart.specs.Survey.{CountsFaults, Finds, TellsNoFailure};
@@ -109,7 +109,7 @@ fn list_volume<S: Site>(
     findings: &mut Findings,
 ) -> Result<(), AuditFault>
     ensures list { S.tells → OnOk result (findings.new.items ≡ findings.old.items
-        ++ track_findings (listed rows.now) (content (S.told site.old)) volume) }
+        ++ track_findings (row_in_list rows.now) (content (S.told site.old)) volume) }
     ensures inspects { Inspects S.Site site.old site.new result }
 {
     let Some(row) = rows.row(volume) else {
@@ -128,7 +128,7 @@ pub fn list_tracks<S: Site>(
     findings: &mut Findings,
 ) -> Result<(), AuditFault>
     ensures list { S.tells → OnOk result (findings.new.items ≡ findings.old.items
-        ++ joined_below 32 (track_findings (listed rows.now) (content (S.told site.old)))) }
+        ++ joined_below 32 (track_findings (row_in_list rows.now) (content (S.told site.old)))) }
     ensures inspects { Inspects S.Site site.old site.new result }
 {
     let mut blocks = Blocks {

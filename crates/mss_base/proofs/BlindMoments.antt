@@ -3,7 +3,7 @@ use Rattle.std.proofs.Common.{◌≡◌, ℕ, zero, suc, ◌+◌, ◌≤◌, Boo
 use Rattle.std.specs.Prelude.{nat_le, nat_lt}
 use Rattle.std.proofs.lemmas.Bool.{and_left, and_right, cases_lt, false≢true, or_from}
 use Rattle.mss_base.specs.declared.place.UnitNo.{UnitNo}
-use Rattle.mss_base.specs.Content.{Content, Write, Item, wrote, synced, synced_all, unsynced, with_item, after, SiteLog, content, same_unit, splice, written, Places, nowhere, in_range, loose_with, loose_after, open_with, Tear, with_tear, Got, IsWithin, AreWithin, Writes, ChangesBlock, length-written}
+use Rattle.mss_base.specs.Content.{Content, Write, Item, wrote, synced, synced_all, unsynced, with_item, after, SiteLog, content, same_unit, splice, with_write, Places, nowhere, in_range, loose_with, loose_after, open_with, Tear, with_tear, Got, IsWithin, AreWithin, Writes, ChangesBlock, length-with_write}
 use Rattle.mss_base.proofs.ContentLemmas.{written_here, written_elsewhere, get_or-splice_below, get_or-splice_above}
 use Rattle.mss_base.proofs.TornLemmas.{above_range, below_range, get_or-torn, length-torn, torn_shut}
 
@@ -19,10 +19,10 @@ record IsOpenIn (unit : UnitNo) (block : ℕ) (places : ℕ → Bool) (is_open :
   outside : (i : ℕ) → places i ≡ false → is_open unit block i ≡ false
 
 module _ (w : Write) (places : ℕ → Bool) (covers : (i : ℕ) → w.offset ≤ i → suc i ≤ w.offset + length w.bytes → places i ≡ true) where
-  agrees_here : (c d : Content) → Agrees w.unit w.block places c d → Agrees w.unit w.block places c (written d w)
+  agrees_here : (c d : Content) → Agrees w.unit w.block places c d → Agrees w.unit w.block places c (with_write d w)
   agrees_here c d agrees = record {
     others = λ u b other. written_elsewhere d w u b other ∙ agrees.others u b other;
-    long = length-written d w w.unit w.block ∙ agrees.long;
+    long = length-with_write d w w.unit w.block ∙ agrees.long;
     outside = λ i shut. ap (λ (l : List ℕ). get_or l i 0) (written_here d w) ∙ past i shut ∙ agrees.outside i shut;
   }
     where
@@ -51,10 +51,10 @@ module _ (w : Write) (places : ℕ → Bool) (covers : (i : ℕ) → w.offset �
       ]
 
 module _ (unit : UnitNo) (block : ℕ) (places : ℕ → Bool) where
-  agrees_written : (w : Write) → IsWithin unit block places (wrote w) → (c d : Content) → Agrees unit block places c d → Agrees unit block places c (written d w)
+  agrees_written : (w : Write) → IsWithin unit block places (wrote w) → (c d : Content) → Agrees unit block places c d → Agrees unit block places c (with_write d w)
   agrees_written w within c d =
-      subst (λ (u : UnitNo). Agrees u block places c d → Agrees u block places c (written d w)) within.0
-      (subst (λ (b : ℕ). Agrees w.unit b places c d → Agrees w.unit b places c (written d w)) within.1
+      subst (λ (u : UnitNo). Agrees u block places c d → Agrees u block places c (with_write d w)) within.0
+      (subst (λ (b : ℕ). Agrees w.unit b places c d → Agrees w.unit b places c (with_write d w)) within.1
       (agrees_here w places within.2 c d))
 
   open_written : (w : Write) → IsWithin unit block places (wrote w) → (p : Places) → IsOpenIn unit block places p → IsOpenIn unit block places (loose_with p (wrote w))

@@ -2,7 +2,7 @@
 use Rattle.std.proofs.Common.{◌≡◌, ℕ, zero, suc, ◌+◌, ◌<◌, List, [], ◌∷◌, ◌++◌, length, take, slice_get, None, refl, ap, arith}
 use Rattle.std.proofs.lemmas.List.{take-append-le, take_all}
 use Rattle.std.proofs.lemmas.Option.{slice_get_past}
-use Rattle.mss_base.specs.Content.{Content, Item, with_item, after, Places, nowhere, loose_with, loose_after, loose, SiteLog, content, Tear, with_tear, open_with, image}
+use Rattle.mss_base.specs.Content.{Content, Item, with_item, after, Places, nowhere, loose_with, loose_after, loose_places, SiteLog, content, Tear, with_tear, open_with, image}
 use Rattle.mss_base.proofs.ContentLemmas.{image_front}
 
 -- an image over a content with some loose places
@@ -20,7 +20,7 @@ pub front_append : (start : Content) (a b : List Item) (k : ℕ) → k < length 
 front_append start a b k lt tear = image_front (record { start = start; log = a ++ b }) (record { start = start; log = a }) k tear refl (take-append-le (suc k) a b (omega arith))
 
 -- where all items were made a stop opens what is loose
-pub rest_image : (s : SiteLog) (k : ℕ) (tear : Tear) → k ≡ length s.log → image s k tear ≡ with_tear (content s) (loose s) tear
+pub rest_image : (s : SiteLog) (k : ℕ) (tear : Tear) → k ≡ length s.log → image s k tear ≡ with_tear (content s) (loose_places s) tear
 rest_image s k tear e =
     let whole : take k s.log ≡ s.log = take_all k s.log (omega (arith, e)) in
     let past : slice_get s.log k ≡ None = slice_get_past s.log k (omega (arith, e)) in

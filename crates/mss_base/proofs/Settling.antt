@@ -3,7 +3,7 @@ use Rattle.std.proofs.Common.{◌≡◌, inl, inr, List, [], ◌∷◌, ◌++◌
 use Rattle.std.proofs.lemmas.List.{append-nil, append_cancel_left}
 use Rattle.std.proofs.lemmas.Bool.{false≢true}
 use Rattle.mss_base.specs.declared.place.UnitNo.{UnitNo}
-use Rattle.mss_base.specs.Content.{Write, Item, wrote, synced, synced_all, SiteLog, Places, nowhere, loose_with, loose_after, loose, NoLooser, Got, AreSettled, Settles}
+use Rattle.mss_base.specs.Content.{Write, Item, wrote, synced, synced_all, SiteLog, Places, nowhere, loose_with, loose_after, loose_places, NoLooser, Got, AreSettled, Settles}
 use Rattle.mss_base.proofs.Splitting.{split_after, split_none}
 use Rattle.mss_base.proofs.WriteMoments.{firm_behind}
 
@@ -53,8 +53,8 @@ settles_sync_all old new got = record { items = synced_all ∷ []; grown = got; 
 pub settles_no_looser : (old new : SiteLog) → Settles old new → NoLooser old new
 settles_no_looser old new s = λ unit block is_loose.
     let place = is_loose.0 in
-    let all : loose new ≡ loose_after (loose old) s.items = ap loose s.grown ∙ loose-append nowhere old.log s.items in
-    elim ((split_after (loose old) (loose old) nowhere s.items (split_none (loose old))).parts unit block place (sym (ap (λ (p : Places). p unit block place) all) ∙ is_loose.1)) [
+    let all : loose_places new ≡ loose_after (loose_places old) s.items = ap loose_places s.grown ∙ loose-append nowhere old.log s.items in
+    elim ((split_after (loose_places old) (loose_places old) nowhere s.items (split_none (loose_places old))).parts unit block place (sym (ap (λ (p : Places). p unit block place) all) ∙ is_loose.1)) [
       | inl was ↦ (place, was)
       | inr since ↦ absurd (false≢true (sym (s.settled unit block place) ∙ since))
     ]

@@ -5,7 +5,7 @@ use Rattle.std.proofs.lemmas.List.{length-replicate}
 use Rattle.std.proofs.lemmas.Bool.{false≢true}
 use Rattle.std.proofs.lemmas.Bool.Decides.{nat_tests}
 use Rattle.mss_base.specs.declared.place.UnitNo.{UnitNo}
-use Rattle.mss_base.specs.Content.{Content, Places, Tear, no_tear, splice, torn, torn_byte, with_tear}
+use Rattle.mss_base.specs.Content.{Content, Places, Tear, no_tear, splice, torn_block, torn_byte, with_tear}
 
 byte_none : (is_open : Bool) (was : ℕ) → torn_byte is_open None was ≡ was
 byte_none true was = refl
@@ -16,23 +16,23 @@ byte_shut true byte was shut = absurd (false≢true (sym shut))
 byte_shut false byte was shut = refl
 
 -- a tear without bytes changes nothing
-pub torn_none : (is_open : ℕ → Bool) (xs : List ℕ) → torn is_open (λ i. None) xs ≡ xs
+pub torn_none : (is_open : ℕ → Bool) (xs : List ℕ) → torn_block is_open (λ i. None) xs ≡ xs
 torn_none is_open [] = refl
 torn_none is_open (x ∷ xs) = (λ i. byte_none (is_open 0) x i ∷ torn_none (λ n. is_open (suc n)) xs i)
 
 -- nor does any where no place is open
-pub torn_shut : (is_open : ℕ → Bool) (tear : ℕ → Option ℕ) (xs : List ℕ) → ((i : ℕ) → is_open i ≡ false) → torn is_open tear xs ≡ xs
+pub torn_shut : (is_open : ℕ → Bool) (tear : ℕ → Option ℕ) (xs : List ℕ) → ((i : ℕ) → is_open i ≡ false) → torn_block is_open tear xs ≡ xs
 torn_shut is_open tear [] shut = refl
 torn_shut is_open tear (x ∷ xs) shut =
     (λ i. byte_shut (is_open 0) (tear 0) x (shut 0) i ∷ torn_shut (λ n. is_open (suc n)) (λ n. tear (suc n)) xs (λ n. shut (suc n)) i)
 
 -- and none changes the length
-pub length-torn : (is_open : ℕ → Bool) (tear : ℕ → Option ℕ) (xs : List ℕ) → length (torn is_open tear xs) ≡ length xs
+pub length-torn : (is_open : ℕ → Bool) (tear : ℕ → Option ℕ) (xs : List ℕ) → length (torn_block is_open tear xs) ≡ length xs
 length-torn is_open tear [] = refl
 length-torn is_open tear (x ∷ xs) = ap suc (length-torn (λ n. is_open (suc n)) (λ n. tear (suc n)) xs)
 
 -- or a byte at a place that isn't open
-pub get_or-torn : (is_open : ℕ → Bool) (tear : ℕ → Option ℕ) (xs : List ℕ) (i : ℕ) → is_open i ≡ false → get_or (torn is_open tear xs) i 0 ≡ get_or xs i 0
+pub get_or-torn : (is_open : ℕ → Bool) (tear : ℕ → Option ℕ) (xs : List ℕ) (i : ℕ) → is_open i ≡ false → get_or (torn_block is_open tear xs) i 0 ≡ get_or xs i 0
 get_or-torn is_open tear [] i shut = refl
 get_or-torn is_open tear (x ∷ xs) zero shut = byte_shut (is_open 0) (tear 0) x shut
 get_or-torn is_open tear (x ∷ xs) (suc i) shut = get_or-torn (λ n. is_open (suc n)) (λ n. tear (suc n)) xs i shut
@@ -47,7 +47,7 @@ byte_fewer true false byte was gives = absurd (false≢true (gives refl))
 byte_fewer false many byte was gives = sym (byte_none many was)
 
 -- what fewer open places allow, more do
-pub torn_fewer : (few many : ℕ → Bool) (tear : ℕ → Option ℕ) (xs : List ℕ) → ((i : ℕ) → few i ≡ true → many i ≡ true) → torn few tear xs ≡ torn many (kept_to few tear) xs
+pub torn_fewer : (few many : ℕ → Bool) (tear : ℕ → Option ℕ) (xs : List ℕ) → ((i : ℕ) → few i ≡ true → many i ≡ true) → torn_block few tear xs ≡ torn_block many (kept_to few tear) xs
 torn_fewer few many tear [] gives = refl
 torn_fewer few many tear (x ∷ xs) gives =
     (λ i. byte_fewer (few 0) (many 0) (tear 0) x (gives 0) i ∷ torn_fewer (λ n. few (suc n)) (λ n. many (suc n)) (λ n. tear (suc n)) xs (λ n. gives (suc n)) i)
@@ -66,7 +66,7 @@ byte_twice false false false byte x parts within = refl
 
 -- a tear of all open places is one of some of them, and then one of the others
 pub torn_twice : (all some was : ℕ → Bool) (tear : ℕ → Option ℕ) (xs : List ℕ) → ((i : ℕ) → all i ≡ true → (was i ≡ true) ⊎ (some i ≡ true)) → ((i : ℕ) → some i ≡ true → all i ≡ true)
-    → torn all tear xs ≡ torn was (kept_to all tear) (torn some tear xs)
+    → torn_block all tear xs ≡ torn_block was (kept_to all tear) (torn_block some tear xs)
 torn_twice all some was tear [] parts within = refl
 torn_twice all some was tear (x ∷ xs) parts within =
     (λ i. byte_twice (all 0) (some 0) (was 0) (tear 0) x (parts 0) (within 0) i
@@ -81,7 +81,7 @@ above_range at n i le = grind (arith, nat_tests)
 
 -- where the open places lie in a range, a tear is other bytes in that range
 pub torn_range : (at n : ℕ) (is_open : ℕ → Bool) (tear : ℕ → Option ℕ) (block : List ℕ) → ((i : ℕ) → i < at → is_open i ≡ false) → ((i : ℕ) → at + n ≤ i → is_open i ≡ false)
-    → (left : List ℕ) × (length left ≡ n) × (torn is_open tear block ≡ splice at left block)
+    → (left : List ℕ) × (length left ≡ n) × (torn_block is_open tear block ≡ splice at left block)
 unfolding splice
 torn_range zero zero is_open tear block below above = ([], refl, torn_shut is_open tear block (λ i. above i (omega arith)) ∙ none block)
   where

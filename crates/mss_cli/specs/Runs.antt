@@ -3,13 +3,13 @@ use Rattle.std.specs.Prelude.{◌≡◌, ℕ, List, [], Option}
 use Rattle.core_state.specs.declared.session.Session.{Session}
 use Rattle.command_words.specs.declared.command.Command.{Command}
 use Rattle.mss_base.specs.Counts.{Rises}
-use Rattle.mss_files.specs.Output.{Input, AlwaysKnown, known}
+use Rattle.mss_files.specs.Output.{Input, AlwaysKnown, known_bytes}
 use Rattle.mss_files.specs.Output as file
 use Rattle.mss_top.specs.Obeying.{Does, IsWhole, Parties}
 use Rattle.mss_top.specs.Serial.{Chooses, Output, until}
 use Rattle.mss_top.specs.declared.status.Status.{Status}
 use Rattle.mss_top.specs.declared.status.Status.TheVariants.{OutputFault}
-use Rattle.session_report.specs.Parties.{Stream, between}
+use Rattle.session_report.specs.Parties.{Stream, party_between}
 
 -- The last write, of a run whose status is due: nothing waits any more, or the output failed.
 pub data IsFlushed (due : Status) (before now : ℕ) (waiting : List ℕ) (told : Status)
@@ -27,13 +27,13 @@ up_to p mid = record p { sink = until p.sink mid }
 
 -- an input, between two of its states
 abbrev pub input_of : {R : Type 0} → (R → Option (List ℕ)) → Input → Input → Stream
-input_of remaining old new = between (AlwaysKnown remaining) (λ (input : Input). known input.left)
+input_of remaining old new = party_between (AlwaysKnown remaining) (λ (input : Input). known_bytes input.left)
     (λ (input : Input). input.faults) old new
 
 -- an output, between two of its states
 abbrev pub output_of : {W : Type 0} → (W → Option (List ℕ)) → file.Output → file.Output → Stream
-output_of contents old new = between (AlwaysKnown contents)
-    (λ (output : file.Output). known output.contents)
+output_of contents old new = party_between (AlwaysKnown contents)
+    (λ (output : file.Output). known_bytes output.contents)
     (λ (output : file.Output). output.faults) old new
 
 -- What the words ask for was done, and what that put was written. Input, devices and output are seen

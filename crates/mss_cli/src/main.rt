@@ -8,7 +8,7 @@ ghost use Rattle.std.specs.Prelude.{◌≡◌, ◌⊎◌, [], codes, map, string
 ghost use Rattle.std.specs.Prelude.{IfOk, OnErr};
 ghost use Rattle.command_words.specs.Words.{meaning};
 ghost use Rattle.job_runs.specs.Parties.{devices};
-ghost use Rattle.mss_files.specs.Output.{AlwaysKnown, known};
+ghost use Rattle.mss_files.specs.Output.{AlwaysKnown, known_bytes};
 ghost use Rattle.mss_top.specs.Obeying.{parties};
 ghost use Rattle.mss_top.specs.Status.{code_of};
 ghost use Rattle.victim_rules.specs.Closures.{IsTest, NarrowMay};
@@ -114,7 +114,7 @@ fn finish<W: Write + Drop>(output: &mut StdSink<W>, due: Status) -> Status
     ensures failed { (result ≡ Status.OutputFault) ⊎ (output.new.faults ≡ output.old.faults) }
     ensures flushed { IsFlushed due output.old.faults output.new.faults output.new.waiting result }
     ensures told { AlwaysKnown W.contents
-        → known output.new.contents ≡ known output.old.contents }
+        → known_bytes output.new.contents ≡ known_bytes output.old.contents }
 {
     if output.flush().is_err() {
         return Status::OutputFault;

@@ -19,9 +19,9 @@ abbrev pub AppendsFront : Option (List ℕ) → Option (List ℕ) → List ℕ �
 AppendsFront old new bytes = (count : ℕ) × Appends old new (take count bytes)
 
 -- bytes, where they are known
-abbrev pub known : Option (List ℕ) → List ℕ
-known None = []
-known (Some bytes) = bytes
+abbrev pub known_bytes : Option (List ℕ) → List ℕ
+known_bytes None = []
+known_bytes (Some bytes) = bytes
 
 abbrev pub IsKnown : Option (List ℕ) → Type 0
 IsKnown None = ⊥

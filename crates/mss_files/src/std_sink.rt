@@ -4,7 +4,7 @@ ghost use Rattle.std.specs.IoError.{error_kind};
 ghost use Rattle.std.specs.Io.KnownBytes.{Appends, Keeps, WriteAppends, append_known};
 ghost use Rattle.mss_base.specs.Puts.{Puts};
 ghost use Rattle.mss_base.specs.Counts.{HasCause, count_after};
-ghost use Rattle.mss_files.specs.Output.{AppendsFront, AlwaysKnown, known};
+ghost use Rattle.mss_files.specs.Output.{AppendsFront, AlwaysKnown, known_bytes};
 
 use mss_base::{Failed, NoMemory, Sink};
 use std::alloc::Global;
@@ -54,7 +54,7 @@ impl<W: Write + Drop> StdSink<W> {
         ensures written { OnOk result (self.new.waiting ≡ []) }
         ensures kept { Keeps self.old.contents self.new.contents }
         ensures told { AlwaysKnown W.contents
-            → known self.new.contents ≡ known self.old.contents }
+            → known_bytes self.new.contents ≡ known_bytes self.old.contents }
         ensures counted { self.new.faults ≡ count_after (is_err result) self.old.faults }
         ensures cause { HasCause self.old.faults self.new.faults result }
     {
@@ -76,14 +76,14 @@ impl<W: Write + Drop> Drop for StdSink<W> {
 impl<W: Write + Drop> Sink for StdSink<W> {
     ghost tells = { AlwaysKnown W.contents };
 
-    ghost told = { λ output. known output.contents };
+    ghost told = { λ output. known_bytes output.contents };
 
     ghost faults = { λ output. output.faults };
 
     /// Puts the bytes behind those before them. A call that failed has put a front of them.
     fn put(&mut self, bytes: &[u8]) -> Result<(), Failed>
         ensures bytes { AlwaysKnown W.contents
-            → Puts result (known self.old.contents) (known self.new.contents) bytes.now }
+            → Puts result (known_bytes self.old.contents) (known_bytes self.new.contents) bytes.now }
         ensures appended { OnOk result (Appends self.old.contents self.new.contents bytes.now) }
         ensures front { OnErr result (AppendsFront self.old.contents self.new.contents bytes.now) }
         ensures counted { self.new.faults ≡ count_after (is_err result) self.old.faults }

@@ -4,7 +4,7 @@ ghost use Rattle.std.specs.Prelude.{is_err, IfOk, IfErr, OnErr};
 ghost use Rattle.std.specs.IoError.{error_kind};
 ghost use Rattle.std.specs.Io.KnownBytes.{Consumes, IsAtEnd, Keeps};
 ghost use Rattle.mss_base.specs.Counts.{HasCause, count_after};
-ghost use Rattle.mss_files.specs.Output.{AlwaysKnown, known};
+ghost use Rattle.mss_files.specs.Output.{AlwaysKnown, known_bytes};
 
 use mss_base::{Failed, Source};
 use std::io;
@@ -39,7 +39,7 @@ impl<R: Read> StdSource<R> {
 impl<R: Read> Source for StdSource<R> {
     ghost tells = { AlwaysKnown R.remaining };
 
-    ghost left = { λ input. known input.left };
+    ghost left = { λ input. known_bytes input.left };
 
     ghost faults = { λ input. input.faults };
 
@@ -47,11 +47,11 @@ impl<R: Read> Source for StdSource<R> {
     fn take(&mut self, into: &mut [u8]) -> Result<usize, Failed>
         ensures within { IfOk result (λ n. n ≤ length into.old) }
         ensures moved { AlwaysKnown R.remaining → IfOk result
-            (λ n. known self.old.left ≡ take n into.new ++ known self.new.left) }
+            (λ n. known_bytes self.old.left ≡ take n into.new ++ known_bytes self.new.left) }
         ensures ended { AlwaysKnown R.remaining → IfOk result
-            (λ n. n ≡ 0 → 1 ≤ length into.old → known self.old.left ≡ []) }
+            (λ n. n ≡ 0 → 1 ≤ length into.old → known_bytes self.old.left ≡ []) }
         ensures stayed { AlwaysKnown R.remaining
-            → OnErr result (known self.new.left ≡ known self.old.left) }
+            → OnErr result (known_bytes self.new.left ≡ known_bytes self.old.left) }
         ensures bytes { IfOk result (λ n. Consumes self.old.left self.new.left (take n into.new)) }
         ensures end { IfOk result (λ n. n ≡ 0 → 1 ≤ length into.old → IsAtEnd self.new.left) }
         ensures kept { OnErr result (Keeps self.old.left self.new.left) }

@@ -12,11 +12,11 @@ use Rattle.volume_table.specs.Row.{RowValue}
 use Rattle.table_pair.specs.Pair.{known}
 use Rattle.table_pair.specs.Repairs.{HoldsToldRow}
 use Rattle.table_pair.specs.declared.copy.SlotsUsed.{SlotsUsed}
-use Rattle.shown_volumes.specs.Shown.{RowsOf, rows_of, shown}
+use Rattle.shown_volumes.specs.Shown.{RowsOf, rows_of, volumes_shown}
 use Rattle.shown_volumes.specs.Sound.{IsSound, SoundAs}
 use Rattle.shown_volumes.specs.Faults.{first_fault}
 use Rattle.shown_volumes.proofs.FaultFacts.{sound_from_none}
-use Rattle.volume_table.specs.Listed.{listed}
+use Rattle.volume_table.specs.Listed.{row_in_list}
 use Rattle.mss_restart.specs.Opening.{OpeningChange, volume_of, opened_by, opened_all, opening_changes, RowsAre, AreHeld, ShowsFront, OpensRows, AreOpened, IsOpened}
 use Rattle.mss_restart.specs.Creations.{RepairsOthers, AreTold, AreWritten, ChangesWhole}
 use Rattle.mss_restart.specs.declared.steps.OpeningStep.{OpeningStep}
@@ -40,7 +40,7 @@ no_front frames changes volumes s t w =
 
 module _ (rows : List (Option RowValue)) (s mid : SiteLog) (long : length rows ≡ 32) (are : RowsAre rows (content s)) where
   -- each row stands in both copies after the repair
-  pub rows_held : ((v : ℕ) → v < 32 → HoldsToldRow v (content s) (content mid)) → AreHeld (listed rows) (content mid)
+  pub rows_held : ((v : ℕ) → v < 32 → HoldsToldRow v (content s) (content mid)) → AreHeld (row_in_list rows) (content mid)
   rows_held held v row at = elim (cases_lt v 32) [
     | inl low ↦ held v low row (are v low ∙ ap (λ (o : Option RowValue). known o false) at)
     | inr past ↦ (let e : ◌≡◌ {A = Option RowValue} None (Some row) = sym (get_or_past rows v None (omega (arith, long, past))) ∙ at in absurd cc)
@@ -90,22 +90,22 @@ front_behind frames xs ys volumes between c at is = record {
   same = is.same ∙ ap (opened_all is.done_) at ∙ sym (opened_append xs is.done_ volumes);
 }
 
-pub moments_more : (frames : ℕ) (xs ys : List OpeningChange) (s t : SiteLog) → Writes (ShowsFront frames xs (shown (content s))) s t → Writes (ShowsFront frames (xs ++ ys) (shown (content s))) s t
+pub moments_more : (frames : ℕ) (xs ys : List OpeningChange) (s t : SiteLog) → Writes (ShowsFront frames xs (volumes_shown (content s))) s t → Writes (ShowsFront frames (xs ++ ys) (volumes_shown (content s))) s t
 moments_more frames xs ys s t w =
-    weaker (ShowsFront frames xs (shown (content s))) (ShowsFront frames (xs ++ ys) (shown (content s))) (λ d is. front_more frames xs ys (shown (content s)) d is) s t w
+    weaker (ShowsFront frames xs (volumes_shown (content s))) (ShowsFront frames (xs ++ ys) (volumes_shown (content s))) (λ d is. front_more frames xs ys (volumes_shown (content s)) d is) s t w
 
 pub others_more : (xs ys : List OpeningChange) (s t : SiteLog) → RepairsOthers xs s t → RepairsOthers (xs ++ ys) s t
 others_more xs ys s t others = others_of xs (xs ++ ys) s t (λ P holds. front_holds P xs ys holds) others
 
 -- all of the first were made, and then some of the others
 module _ (xs ys : List OpeningChange) (s mid t : SiteLog) (before between rows : List (Option RowValue)) (used_mid used : List SlotsUsed) (firm : Settles s mid) (opened : AreOpened xs (content s) (content mid) before between used_mid) where
-  pub moments_behind : ((frames : ℕ) → IsSound frames (content s) → Writes (ShowsFront frames xs (shown (content s))) s mid) → ((frames : ℕ) → IsSound frames (content mid) → Writes (ShowsFront frames ys (shown (content mid))) mid t)
-      → (frames : ℕ) → IsSound frames (content s) → Writes (ShowsFront frames (xs ++ ys) (shown (content s))) s t
+  pub moments_behind : ((frames : ℕ) → IsSound frames (content s) → Writes (ShowsFront frames xs (volumes_shown (content s))) s mid) → ((frames : ℕ) → IsSound frames (content mid) → Writes (ShowsFront frames ys (volumes_shown (content mid))) mid t)
+      → (frames : ℕ) → IsSound frames (content s) → Writes (ShowsFront frames (xs ++ ys) (volumes_shown (content s))) s t
   moments_behind first second frames sound =
       let at = opened.shows frames sound in
-      then_firm (ShowsFront frames (xs ++ ys) (shown (content s))) s mid t firm (moments_more frames xs ys s mid (first frames sound))
-      (weaker (ShowsFront frames ys (shown (content mid))) (ShowsFront frames (xs ++ ys) (shown (content s)))
-      (λ d is. front_behind frames xs ys (shown (content s)) (shown (content mid)) d at.same is) mid t (second frames at.sound))
+      then_firm (ShowsFront frames (xs ++ ys) (volumes_shown (content s))) s mid t firm (moments_more frames xs ys s mid (first frames sound))
+      (weaker (ShowsFront frames ys (volumes_shown (content mid))) (ShowsFront frames (xs ++ ys) (volumes_shown (content s)))
+      (λ d is. front_behind frames xs ys (volumes_shown (content s)) (volumes_shown (content mid)) d at.same is) mid t (second frames at.sound))
 
   pub others_behind : RepairsOthers xs s mid → RepairsOthers ys mid t → RepairsOthers (xs ++ ys) s t
   others_behind first second =
@@ -113,12 +113,12 @@ module _ (xs ys : List OpeningChange) (s mid t : SiteLog) (before between rows :
 
   pub opened_behind : AreOpened ys (content mid) (content t) between rows used → AreOpened (xs ++ ys) (content s) (content t) before rows used
   opened_behind second = record {
-    opens = opens_append xs ys (listed before) (listed between) (listed rows) opened.opens second.opens;
+    opens = opens_append xs ys (row_in_list before) (row_in_list between) (row_in_list rows) opened.opens second.opens;
     known = second.known;
     shows = λ frames sound.
         let at = opened.shows frames sound in
         let then_ = second.shows frames at.sound in
-        record { sound = then_.sound; same = then_.same ∙ ap (opened_all ys) at.same ∙ sym (opened_append xs ys (shown (content s))) };
+        record { sound = then_.sound; same = then_.same ∙ ap (opened_all ys) at.same ∙ sym (opened_append xs ys (volumes_shown (content s))) };
   }
 
 -- each of them to its end
@@ -149,14 +149,14 @@ changes_more xs ys a b start last other s t _ is = tt
 
 -- ---- behind repairs and migrations
 
-module _ (s mid t : SiteLog) (changes : List OpeningChange) (firm : Settles s mid) (same : (frames : ℕ) → IsSound frames (content s) → Writes (SoundAs frames (shown (content s))) s mid) where
-  at_mid : (frames : ℕ) → IsSound frames (content s) → SoundAs frames (shown (content s)) (content mid)
-  at_mid frames sound = ended_with (SoundAs frames (shown (content s))) s mid (same frames sound)
+module _ (s mid t : SiteLog) (changes : List OpeningChange) (firm : Settles s mid) (same : (frames : ℕ) → IsSound frames (content s) → Writes (SoundAs frames (volumes_shown (content s))) s mid) where
+  at_mid : (frames : ℕ) → IsSound frames (content s) → SoundAs frames (volumes_shown (content s)) (content mid)
+  at_mid frames sound = ended_with (SoundAs frames (volumes_shown (content s))) s mid (same frames sound)
 
-  pub then_opened : ((frames : ℕ) → IsSound frames (content mid) → Writes (ShowsFront frames changes (shown (content mid))) mid t) → (frames : ℕ) → IsSound frames (content s) → Writes (ShowsFront frames changes (shown (content s))) s t
+  pub then_opened : ((frames : ℕ) → IsSound frames (content mid) → Writes (ShowsFront frames changes (volumes_shown (content mid))) mid t) → (frames : ℕ) → IsSound frames (content s) → Writes (ShowsFront frames changes (volumes_shown (content s))) s t
   then_opened opens frames sound =
       let is = at_mid frames sound in
-      then_firm (ShowsFront frames changes (shown (content s))) s mid t firm (no_front frames changes (shown (content s)) s mid (same frames sound))
+      then_firm (ShowsFront frames changes (volumes_shown (content s))) s mid t firm (no_front frames changes (volumes_shown (content s)) s mid (same frames sound))
       (subst (λ (x : Volumes). Writes (ShowsFront frames changes x) mid t) is.same (opens frames is.sound))
 
   pub opened_since : (before rows : List (Option RowValue)) (used : List SlotsUsed) → AreOpened changes (content mid) (content t) before rows used → AreOpened changes (content s) (content t) before rows used
@@ -170,16 +170,16 @@ module _ (s mid t : SiteLog) (changes : List OpeningChange) (firm : Settles s mi
 
 -- what is opened
 pub opened : (config : ConfigData) (c d : Content) (before rows : List (Option RowValue)) (used : List SlotsUsed) → AreRising config.volumes → length before ≡ 32 → RowsAre before c → first_fault config.frames (serial_in config.volumes) c ≡ None
-    → length rows ≡ 32 → AreOpened (opening_changes (listed before) config.volumes) c d before rows used → IsOpened config c d rows used
+    → length rows ≡ 32 → AreOpened (opening_changes (row_in_list before) config.volumes) c d before rows used → IsOpened config c d rows used
 opened config c d before rows used rising long are none rows_long made_ =
-    let was : listed before ≡ rows_of c = rows_listed before c long are in
-    let is : listed rows ≡ rows_of d = rows_listed rows d rows_long made_.known.told in
+    let was : row_in_list before ≡ rows_of c = rows_listed before c long are in
+    let is : row_in_list rows ≡ rows_of d = rows_listed rows d rows_long made_.known.told in
     let sound = sound_from_none config.frames (serial_in config.volumes) c none in
     let opens : OpensRows (opening_changes (rows_of c) config.volumes) (rows_of c) (rows_of d) =
-    subst (λ (x : RowsOf). OpensRows (opening_changes (rows_of c) config.volumes) (rows_of c) x) is (subst (λ (x : RowsOf). OpensRows (opening_changes x config.volumes) x (listed rows)) was made_.opens) in
+    subst (λ (x : RowsOf). OpensRows (opening_changes (rows_of c) config.volumes) (rows_of c) x) is (subst (λ (x : RowsOf). OpensRows (opening_changes x config.volumes) x (row_in_list rows)) was made_.opens) in
     record {
       faultless = none;
-      shows = subst (λ (x : RowsOf). SoundAs config.frames (opened_all (opening_changes x config.volumes) (shown c)) d) was (made_.shows config.frames sound.0);
+      shows = subst (λ (x : RowsOf). SoundAs config.frames (opened_all (opening_changes x config.volumes) (volumes_shown c)) d) was (made_.shows config.frames sound.0);
       rows_are = is;
       held = subst (λ (x : RowsOf). AreHeld x d) is made_.known.held;
       slots_ = made_.known.slots_;
@@ -191,14 +191,14 @@ opened config c d before rows used rising long are none rows_long made_ =
 
 -- the same moments, by the rows of the content
 pub moments_at : (s mid now : SiteLog) (rows : List (Option RowValue)) (volumes : List VolumeData) → mid ≡ s → length rows ≡ 32 → RowsAre rows (content s)
-    → ((frames : ℕ) → IsSound frames (content mid) → Writes (ShowsFront frames (opening_changes (listed rows) volumes) (shown (content mid))) mid now)
-    → (frames : ℕ) → IsSound frames (content s) → Writes (ShowsFront frames (opening_changes (rows_of (content s)) volumes) (shown (content s))) s now
+    → ((frames : ℕ) → IsSound frames (content mid) → Writes (ShowsFront frames (opening_changes (row_in_list rows) volumes) (volumes_shown (content mid))) mid now)
+    → (frames : ℕ) → IsSound frames (content s) → Writes (ShowsFront frames (opening_changes (rows_of (content s)) volumes) (volumes_shown (content s))) s now
 moments_at s mid now rows volumes same long are moments frames sound =
-    subst (λ (x : RowsOf). Writes (ShowsFront frames (opening_changes x volumes) (shown (content s))) s now) (rows_listed rows (content s) long are)
-    (subst (λ (x : SiteLog). (n : ℕ) → IsSound n (content x) → Writes (ShowsFront n (opening_changes (listed rows) volumes) (shown (content x))) x now) same moments frames sound)
+    subst (λ (x : RowsOf). Writes (ShowsFront frames (opening_changes x volumes) (volumes_shown (content s))) s now) (rows_listed rows (content s) long are)
+    (subst (λ (x : SiteLog). (n : ℕ) → IsSound n (content x) → Writes (ShowsFront n (opening_changes (row_in_list rows) volumes) (volumes_shown (content x))) x now) same moments frames sound)
 
 -- so are the other rows
 pub others_at : (s mid now : SiteLog) (rows : List (Option RowValue)) (volumes : List VolumeData) → mid ≡ s → length rows ≡ 32 → RowsAre rows (content s)
-    → RepairsOthers (opening_changes (listed rows) volumes) mid now → RepairsOthers (opening_changes (rows_of (content s)) volumes) s now
+    → RepairsOthers (opening_changes (row_in_list rows) volumes) mid now → RepairsOthers (opening_changes (rows_of (content s)) volumes) s now
 others_at s mid now rows volumes same long are others =
-    subst (λ (x : RowsOf). RepairsOthers (opening_changes x volumes) s now) (rows_listed rows (content s) long are) (subst (λ (x : SiteLog). RepairsOthers (opening_changes (listed rows) volumes) x now) same others)
+    subst (λ (x : RowsOf). RepairsOthers (opening_changes x volumes) s now) (rows_listed rows (content s) long are) (subst (λ (x : SiteLog). RepairsOthers (opening_changes (row_in_list rows) volumes) x now) same others)

@@ -16,11 +16,11 @@ use Rattle.ckd_track.specs.Data.{Volumes}
 use Rattle.volume_table.specs.Row.{RowValue}
 use Rattle.table_pair.specs.declared.copy.SlotsUsed.{SlotsUsed}
 use Rattle.table_pair.specs.Slots.{AreUsed}
-use Rattle.shown_volumes.specs.Shown.{RowsOf, shown}
+use Rattle.shown_volumes.specs.Shown.{RowsOf, volumes_shown}
 use Rattle.shown_volumes.specs.Sound.{IsSound, SoundAs}
 use Rattle.shown_volumes.specs.Changing.{with_row}
 use Rattle.std.proofs.Math.Seq.{drop-cons}
-use Rattle.volume_table.specs.Listed.{listed}
+use Rattle.volume_table.specs.Listed.{row_in_list}
 use Rattle.mss_restart.specs.Creations.{RepairsOthers}
 use Rattle.mss_restart.proofs.OtherRows.{nothing_else, others_then, others_of, one_holds}
 use Rattle.mss_restart.specs.Opening.{OpeningChange, made, marked, volume_of, opened_by, opened_all, BeforeOrAfter, to_make, to_mark, is_marked_as, AreKnown, ShowsFront, IsRowAfter, OpensRows, IsOpeningDone, AreOpened, used_by}
@@ -29,29 +29,29 @@ abbrev pub AreRising : List VolumeData → Type 0
 AreRising vs = IsStrictlySortedBy nat_cmp (map (λ v. v.0) vs)
 
 -- no change is shown yet, since nothing was written
-pub none_shown : (frames : ℕ) (changes : List OpeningChange) (s t : SiteLog) → t ≡ s → IsSound frames (content s) → Writes (ShowsFront frames changes (shown (content s))) s t
+pub none_shown : (frames : ℕ) (changes : List OpeningChange) (s t : SiteLog) → t ≡ s → IsSound frames (content s) → Writes (ShowsFront frames changes (volumes_shown (content s))) s t
 none_shown frames changes s t same sound =
-    subst (λ (u : SiteLog). Writes (ShowsFront frames changes (shown (content s))) s u) (sym same)
-    (started (ShowsFront frames changes (shown (content s))) s (record { sound = sound; done_ = []; later = changes; order = refl; same = refl }))
+    subst (λ (u : SiteLog). Writes (ShowsFront frames changes (volumes_shown (content s))) s u) (sym same)
+    (started (ShowsFront frames changes (volumes_shown (content s))) s (record { sound = sound; done_ = []; later = changes; order = refl; same = refl }))
 
 pub none_made : (frames : ℕ) (change : OpeningChange) (s t : SiteLog) → t ≡ s → IsSound frames (content s)
-    → Writes (λ d. IsSound frames d × BeforeOrAfter change (shown (content s)) (shown d)) s t
+    → Writes (λ d. IsSound frames d × BeforeOrAfter change (volumes_shown (content s)) (volumes_shown d)) s t
 none_made frames change s t same sound =
-    let Shows : Content → Type 0 = λ d. IsSound frames d × BeforeOrAfter change (shown (content s)) (shown d) in
+    let Shows : Content → Type 0 = λ d. IsSound frames d × BeforeOrAfter change (volumes_shown (content s)) (volumes_shown d) in
     subst (λ (u : SiteLog). Writes Shows s u) (sym same) (started Shows s (sound, inl refl))
 
 -- the last of these changes are to come, those before them are done, and firm
 pub record IsOpening (all : List OpeningChange) (start : RowsOf) (begun now : SiteLog) (rows : List (Option RowValue)) (used : List SlotsUsed) (rest : List OpeningChange) : Type 0 where
   pub done_ : List OpeningChange
   pub order : done_ ++ rest ≡ all
-  pub moments : (frames : ℕ) → IsSound frames (content begun) → Writes (ShowsFront frames all (shown (content begun))) begun now
-  pub shows : (frames : ℕ) → IsSound frames (content begun) → SoundAs frames (opened_all done_ (shown (content begun))) (content now)
+  pub moments : (frames : ℕ) → IsSound frames (content begun) → Writes (ShowsFront frames all (volumes_shown (content begun))) begun now
+  pub shows : (frames : ℕ) → IsSound frames (content begun) → SoundAs frames (opened_all done_ (volumes_shown (content begun))) (content now)
   pub known : AreKnown rows used (content now)
-  pub opens : OpensRows done_ start (listed rows)
+  pub opens : OpensRows done_ start (row_in_list rows)
   pub others : RepairsOthers all begun now
   pub firm : Settles begun now
 
-pub nothing_opened : (all : List OpeningChange) (s : SiteLog) (rows : List (Option RowValue)) (used : List SlotsUsed) → AreKnown rows used (content s) → IsOpening all (listed rows) s s rows used all
+pub nothing_opened : (all : List OpeningChange) (s : SiteLog) (rows : List (Option RowValue)) (used : List SlotsUsed) → AreKnown rows used (content s) → IsOpening all (row_in_list rows) s s rows used all
 nothing_opened all s rows used known = record {
   done_ = [];
   order = refl;
@@ -115,7 +115,7 @@ module _ (all : List OpeningChange) (start : RowsOf) (begun mid : SiteLog) (rows
       others_then all begun mid now so_far.firm so_far.others (others_of (change ∷ []) all mid now (λ P holds.
       (one_holds P so_far.done_ change rest (subst (AllByRecursion P) (sym so_far.order) holds), tt)) one)
 
-  within : (frames : ℕ) → IsSound frames (content begun) → (d : Content) → IsSound frames d × BeforeOrAfter change (shown (content mid)) (shown d) → ShowsFront frames all (shown (content begun)) d
+  within : (frames : ℕ) → IsSound frames (content begun) → (d : Content) → IsSound frames d × BeforeOrAfter change (volumes_shown (content mid)) (volumes_shown d) → ShowsFront frames all (volumes_shown (content begun)) d
   within frames sound d is =
       let at_mid = (so_far.shows frames sound).same in
       elim is.1 [
@@ -125,15 +125,15 @@ module _ (all : List OpeningChange) (start : RowsOf) (begun mid : SiteLog) (rows
           done_ = so_far.done_ ++ change ∷ [];
           later = rest;
           order = front_with;
-          same = after ∙ ap (opened_by change) at_mid ∙ sym (opened_last so_far.done_ change (shown (content begun)));
+          same = after ∙ ap (opened_by change) at_mid ∙ sym (opened_last so_far.done_ change (volumes_shown (content begun)));
         }
       ]
 
-  module _ (now : SiteLog) (moments : (frames : ℕ) → IsSound frames (content mid) → Writes (λ d. IsSound frames d × BeforeOrAfter change (shown (content mid)) (shown d)) mid now) where
-    pub moments_on : (frames : ℕ) → IsSound frames (content begun) → Writes (ShowsFront frames all (shown (content begun))) begun now
+  module _ (now : SiteLog) (moments : (frames : ℕ) → IsSound frames (content mid) → Writes (λ d. IsSound frames d × BeforeOrAfter change (volumes_shown (content mid)) (volumes_shown d)) mid now) where
+    pub moments_on : (frames : ℕ) → IsSound frames (content begun) → Writes (ShowsFront frames all (volumes_shown (content begun))) begun now
     moments_on frames sound =
-        then_firm (ShowsFront frames all (shown (content begun))) begun mid now so_far.firm (so_far.moments frames sound)
-        (weaker (λ d. IsSound frames d × BeforeOrAfter change (shown (content mid)) (shown d)) (ShowsFront frames all (shown (content begun))) (within frames sound) mid now
+        then_firm (ShowsFront frames all (volumes_shown (content begun))) begun mid now so_far.firm (so_far.moments frames sound)
+        (weaker (λ d. IsSound frames d × BeforeOrAfter change (volumes_shown (content mid)) (volumes_shown d)) (ShowsFront frames all (volumes_shown (content begun))) (within frames sound) mid now
         (moments frames (so_far.shows frames sound).sound))
 
     pub opened_too : RepairsOthers (change ∷ []) mid now → Settles mid now → (after : List (Option RowValue)) (used_after : List SlotsUsed) → IsOpeningDone change (content mid) (content now) rows after → length used ≡ 32 → used_after ≡ used_by change used
@@ -145,25 +145,25 @@ module _ (all : List OpeningChange) (start : RowsOf) (begun mid : SiteLog) (rows
       shows = λ frames sound.
           let at_mid = so_far.shows frames sound in
           let done = one.shows frames at_mid.sound in
-          record { sound = done.sound; same = done.same ∙ ap (opened_by change) at_mid.same ∙ sym (opened_last so_far.done_ change (shown (content begun))) };
+          record { sound = done.sound; same = done.same ∙ ap (opened_by change) at_mid.same ∙ sym (opened_last so_far.done_ change (volumes_shown (content begun))) };
       known = record {
         told = one.are;
         held = one.held so_far.known.held;
         slots_ = subst (λ (xs : List SlotsUsed). AreUsed xs (content now)) (sym used_is) (one.slots_ used places so_far.known.slots_);
       };
-      opens = opens_last so_far.done_ change start (listed rows) (listed after) one.row so_far.opens one.is_row one.now;
+      opens = opens_last so_far.done_ change start (row_in_list rows) (row_in_list after) one.row so_far.opens one.is_row one.now;
       others = others_on now others;
       firm = settles_then begun mid now so_far.firm firm;
     }
 
 -- none are to come
-pub all_opened : (all : List OpeningChange) (s t : SiteLog) (before rows : List (Option RowValue)) (used : List SlotsUsed) → IsOpening all (listed before) s t rows used [] → AreOpened all (content s) (content t) before rows used
+pub all_opened : (all : List OpeningChange) (s t : SiteLog) (before rows : List (Option RowValue)) (used : List SlotsUsed) → IsOpening all (row_in_list before) s t rows used [] → AreOpened all (content s) (content t) before rows used
 all_opened all s t before rows used is =
     let whole : is.done_ ≡ all = sym (append-nil is.done_) ∙ is.order in
     record {
-      opens = subst (λ (xs : List OpeningChange). OpensRows xs (listed before) (listed rows)) whole is.opens;
+      opens = subst (λ (xs : List OpeningChange). OpensRows xs (row_in_list before) (row_in_list rows)) whole is.opens;
       known = is.known;
-      shows = λ frames sound. subst (λ (xs : List OpeningChange). SoundAs frames (opened_all xs (shown (content s))) (content t)) whole (is.shows frames sound);
+      shows = λ frames sound. subst (λ (xs : List OpeningChange). SoundAs frames (opened_all xs (volumes_shown (content s))) (content t)) whole (is.shows frames sound);
     }
 
 -- what is to come: this one, and those behind it

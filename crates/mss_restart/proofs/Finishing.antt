@@ -9,7 +9,7 @@ use Rattle.shown_volumes.specs.declared.refused.Refused.TheVariants.{Stopped, Me
 use Rattle.shown_volumes.specs.Shown.{RowsOf, rows_in, rows_of}
 use Rattle.shown_volumes.specs.Faults.{first_fault}
 use Rattle.mss_base.proofs.FirstFacts.{or_none}
-use Rattle.volume_table.specs.Listed.{listed}
+use Rattle.volume_table.specs.Listed.{row_in_list}
 use Rattle.mss_restart.specs.Walks.{rest_fault}
 use Rattle.mss_restart.specs.Survey.{AreFaultless}
 use Rattle.mss_restart.specs.Opening.{OpeningChange, opening_changes, RowsAre}
@@ -99,7 +99,7 @@ faultless_rows : (config : ConfigData) (c : Content) (rows : List (Option RowVal
 faultless_rows config c rows are none =
     let asked = serial_in config.volumes in
     record {
-      known = λ v low un. (let is : known (listed rows v) false ≡ unknown = sym (are v low) ∙ un in cc);
+      known = λ v low un. (let is : known (row_in_list rows v) false ≡ unknown = sym (are v low) ∙ un in cc);
       none = (or_none (row_walk config.frames asked (row_of c) c) (rest_fault config.frames (rows_in (row_of c)) c) (sym (is_rest config.frames asked (row_of c) c) ∙ none)).0;
     }
 

@@ -10,7 +10,7 @@ use Rattle.volume_table.specs.declared.fault.RowFault.{RowFault}
 use Rattle.table_pair.specs.declared.copy.TableCopy.{TableCopy}
 use Rattle.table_pair.specs.declared.copy.TableCopy.TheVariants as copy
 use Rattle.table_pair.specs.Copies.{CopyView, copy_at}
-use Rattle.table_pair.specs.Pair.{known, reading, read_of, row_told, taken, row_of, row_of_copies, AreClosed, HoldsRow, ChangesRow}
+use Rattle.table_pair.specs.Pair.{known, reading, read_of, row_told, copy_reading, row_of, row_of_copies, AreClosed, HoldsRow, ChangesRow}
 use Rattle.table_pair.proofs.PairFacts.{open_read, closed_read, held_row}
 use Rattle.shown_volumes.specs.Shown.{RowsOf, told_row, rows_of}
 use Rattle.shown_volumes.specs.Sound.{cartridge_of}
@@ -20,11 +20,11 @@ use Rattle.shown_volumes.specs.Changing.{IsFresh}
 use Rattle.mss_base.proofs.FirstFacts.{or_none, none_below, none_where, none_is}
 use Rattle.shown_volumes.proofs.WalkFacts.{is_that_number}
 use Rattle.shown_volumes.proofs.FaultFacts.{few_rows, row_in}
-use Rattle.volume_table.specs.Listed.{listed}
+use Rattle.volume_table.specs.Listed.{row_in_list}
 use Rattle.mss_restart.specs.Cartridges.{is_named, IsLowestFree}
 use Rattle.mss_restart.specs.Opening.{RowsAre}
 
-taken_none : (which : TableCopy) (read : Result RowValue RowFault) → taken which false read ≡ known None false → ⊥
+taken_none : (which : TableCopy) (read : Result RowValue RowFault) → copy_reading which false read ≡ known None false → ⊥
 taken_none which (Ok row) is = cc
 taken_none which (Err fault) is = cc
 
@@ -56,16 +56,16 @@ named_from rows v s n low is = elim (cases_Bool (is_named rows n)) [
     clash true one two at = let no = none_where (is_number (cartridge_of rows v true) n) (half v true) two in let yes = is_that_number (cartridge_of rows v true) n at in cc
 
 module _ (rows : List (Option RowValue)) (c : Content) (are : RowsAre rows c) where
-  row_there : (v : ℕ) → v < 32 → rows_of c v ≡ listed rows v
+  row_there : (v : ℕ) → v < 32 → rows_of c v ≡ row_in_list rows v
   row_there v low = row_in (row_of c) v low ∙ ap told_row (are v low)
 
-  module _ (volume first second : ℕ) (low : volume < 32) (none : listed rows volume ≡ None) (one : IsLowestFree (listed rows) None first) (two : IsLowestFree (listed rows) (Some first) second) where
-    unnamed : (n : ℕ) → (is_named (listed rows) n ≡ true → ⊥) → (v : ℕ) (r : RowValue) → rows_of c v ≡ Some r → (r.first ≢ n) × (r.second ≢ n)
+  module _ (volume first second : ℕ) (low : volume < 32) (none : row_in_list rows volume ≡ None) (one : IsLowestFree (row_in_list rows) None first) (two : IsLowestFree (row_in_list rows) (Some first) second) where
+    unnamed : (n : ℕ) → (is_named (row_in_list rows) n ≡ true → ⊥) → (v : ℕ) (r : RowValue) → rows_of c v ≡ Some r → (r.first ≢ n) × (r.second ≢ n)
     unnamed n free v r is =
         let v_low = few_rows (row_of c) v r is in
-        let at : listed rows v ≡ Some r = sym (row_there v v_low) ∙ is in (
-          λ same. free (named_from (listed rows) v false n v_low (ap (λ (o : Option RowValue). option_map (λ q. q.first) o) at ∙ ap (λ (m : ℕ). Some m) same)),
-          λ same. free (named_from (listed rows) v true n v_low (ap (λ (o : Option RowValue). option_map (λ q. q.second) o) at ∙ ap (λ (m : ℕ). Some m) same)),
+        let at : row_in_list rows v ≡ Some r = sym (row_there v v_low) ∙ is in (
+          λ same. free (named_from (row_in_list rows) v false n v_low (ap (λ (o : Option RowValue). option_map (λ q. q.first) o) at ∙ ap (λ (m : ℕ). Some m) same)),
+          λ same. free (named_from (row_in_list rows) v true n v_low (ap (λ (o : Option RowValue). option_map (λ q. q.second) o) at ∙ ap (λ (m : ℕ). Some m) same)),
         )
 
     pub is_fresh : IsFresh volume first second c
@@ -83,7 +83,7 @@ rows_with rows c d volume row P are long low within holds v v_low = elim (cases_
   | inl same ↦
       let e : v ≡ volume = eqb-true v volume same in
       ap (row_of d) e ∙ held_row row volume d holds ∙ ap (λ (o : Option RowValue). known o false) (sym (get_or-set_same rows volume (Some row) None (omega (arith, long, low))))
-      ∙ ap (λ (x : ℕ). known (listed (set rows volume (Some row)) x) false) (sym e)
+      ∙ ap (λ (x : ℕ). known (row_in_list (set rows volume (Some row)) x) false) (sym e)
   | inr other ↦
       let apart : volume ≢ v = λ e. let yes = eq-eqb v volume (sym e) in cc in
       let off = ne_eqb volume v apart in

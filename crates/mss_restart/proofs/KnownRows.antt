@@ -15,7 +15,7 @@ use Rattle.shown_volumes.specs.Shown.{RowsOf, told_row, rows_in, rows_of}
 use Rattle.mss_base.specs.Firsts.{first_below}
 use Rattle.shown_volumes.specs.Faults.{read_fault, row_fault, first_fault}
 use Rattle.mss_base.proofs.FirstFacts.{none_below, all_none, or_none}
-use Rattle.volume_table.specs.Listed.{listed}
+use Rattle.volume_table.specs.Listed.{row_in_list}
 use Rattle.mss_restart.specs.Walks.{rest_fault}
 use Rattle.mss_restart.specs.Survey.{KeepsCause, IsReading, FirstAlone, AreRead, StandApart, Surveys, IsExact}
 use Rattle.mss_restart.specs.Opening.{RowsAre}
@@ -48,16 +48,16 @@ known_row before now v c o is = elim is.a_read [
 ]
 
 module _ (before now : ℕ) (asked : ℕ → Option (List ℕ)) (c : Content) (rows : List (Option RowValue)) (read : AreRead before now asked c rows None) where
-  told : (v : ℕ) → v < 32 → read.readings.row v ≡ known (listed rows v) false
+  told : (v : ℕ) → v < 32 → read.readings.row v ≡ known (row_in_list rows v) false
   told v low =
       let row = read.known v low in
       elim (cases_Bool row.0) [
-        | inl lacks ↦ absurd (read.alone v low (listed rows v, row.1 ∙ ap (known (listed rows v)) lacks))
-        | inr both ↦ row.1 ∙ ap (known (listed rows v)) both
+        | inl lacks ↦ absurd (read.alone v low (row_in_list rows v, row.1 ∙ ap (known (row_in_list rows v)) lacks))
+        | inr both ↦ row.1 ∙ ap (known (row_in_list rows v)) both
       ]
 
   pub rows_told : RowsAre rows c
-  rows_told v low = known_row (read.readings.counts v) (read.readings.counts (v + 1)) v c (listed rows v) (subst (λ (r : RowReading). IsReading (read.readings.counts v) (read.readings.counts (v + 1)) v c r) (told v low) (read.readings.each v))
+  rows_told v low = known_row (read.readings.counts v) (read.readings.counts (v + 1)) v c (row_in_list rows v) (subst (λ (r : RowReading). IsReading (read.readings.counts v) (read.readings.counts (v + 1)) v c r) (told v low) (read.readings.each v))
 
   same_walk : first_below 32 (row_fault asked (row_of c)) ≡ None
   same_walk =
@@ -65,10 +65,10 @@ module _ (before now : ℕ) (asked : ℕ → Option (List ℕ)) (c : Content) (r
       (λ v low. ap (read_fault v (asked v)) (rows_told v low ∙ sym (told v low)) ∙ none_below 32 (row_fault asked read.readings.row) read.none v low)
 
 -- a list of all rows is the rows of the content
-pub rows_listed : (rows : List (Option RowValue)) (c : Content) → length rows ≡ 32 → RowsAre rows c → listed rows ≡ rows_of c
+pub rows_listed : (rows : List (Option RowValue)) (c : Content) → length rows ≡ 32 → RowsAre rows c → row_in_list rows ≡ rows_of c
 rows_listed rows c long are = λ i v. at v i
   where
-    at : (v : ℕ) → listed rows v ≡ rows_of c v
+    at : (v : ℕ) → row_in_list rows v ≡ rows_of c v
     at v = elim (cases_lt v 32) [
       | inl low ↦ sym (ap told_row (are v low)) ∙ sym (cond-true _ _ _ (lt-ltb v 32 low))
       | inr past ↦ get_or_past rows v None (omega (arith, long, past)) ∙ sym (cond-false _ _ _ (le-ltb v 32 past))

@@ -8,13 +8,13 @@ use Rattle.mss_base.specs.Content.{Content, SiteLog, content, Writes}
 use Rattle.mss_base.proofs.Moments.{ended_with}
 use Rattle.volume_table.specs.Row.{RowValue}
 use Rattle.volume_table.specs.Changes.{with_mark}
-use Rattle.volume_table.specs.Listed.{listed}
+use Rattle.volume_table.specs.Listed.{row_in_list}
 use Rattle.volume_table.specs.declared.changes.Change.TheVariants.{Protect}
 use Rattle.table_pair.specs.declared.copy.SlotsUsed.{SlotsUsed}
 use Rattle.table_pair.specs.Pair.{HoldsRow, ChangesRow, OldOrNew}
 use Rattle.table_pair.specs.Slots.{HasSlots, IsDue, used_after, used_at}
 use Rattle.table_pair.proofs.PairFacts.{held_row}
-use Rattle.shown_volumes.specs.Shown.{RowsOf, rows_of, shown}
+use Rattle.shown_volumes.specs.Shown.{RowsOf, rows_of, volumes_shown}
 use Rattle.shown_volumes.specs.Sound.{IsSound}
 use Rattle.shown_volumes.specs.Changing.{with_row}
 use Rattle.shown_volumes.proofs.MarkFacts.{marked_new, marking_moments}
@@ -29,11 +29,11 @@ same_used : (u v : SlotsUsed) (volume : ℕ) (c : Content) → HasSlots u volume
 same_used u v volume c first second = λ i. record { a = (sym first.a ∙ second.a) i; b = (sym first.b ∙ second.b) i }
 
 module _ (before : List (Option RowValue)) (used : List SlotsUsed) (s t : SiteLog) (known : AreKnown before used (content s)) (long : length before ≡ 32) (volume : ℕ) (on : Bool) (r : RowValue) (low : volume < 32)
-    (there : listed before volume ≡ Some r) (w : Writes (ChangesRow volume (OldOrNew volume (with_mark on r) (content s)) (content s)) s t) where
+    (there : row_in_list before volume ≡ Some r) (w : Writes (ChangesRow volume (OldOrNew volume (with_mark on r) (content s)) (content s)) s t) where
   has_row : rows_of (content s) volume ≡ Some r
   has_row = ap (λ (rows : RowsOf). rows volume) (sym (rows_listed before (content s) long known.told)) ∙ there
 
-  pub moments_of : (frames : ℕ) → IsSound frames (content s) → Writes (λ d. IsSound frames d × BeforeOrAfter (marked volume on) (shown (content s)) (shown d)) s t
+  pub moments_of : (frames : ℕ) → IsSound frames (content s) → Writes (λ d. IsSound frames d × BeforeOrAfter (marked volume on) (volumes_shown (content s)) (volumes_shown d)) s t
   moments_of frames sound = marking_moments frames volume on r s t sound has_row w
 
   within : ChangesRow volume (OldOrNew volume (with_mark on r) (content s)) (content s) (content t)
@@ -43,13 +43,13 @@ module _ (before : List (Option RowValue)) (used : List SlotsUsed) (s t : SiteLo
       → IsOpeningDone (marked volume on) (content s) (content t) before rows
   marked_of other holds slots rows set_is =
       let P : Content → Type 0 = OldOrNew volume (with_mark on r) (content s) in
-      let now : listed rows ≡ with_row volume (with_mark on r) (listed before) = ap listed set_is ∙ listed_set before volume (with_mark on r) (omega (arith, long, low)) in
+      let now : row_in_list rows ≡ with_row volume (with_mark on r) (row_in_list before) = ap row_in_list set_is ∙ listed_set before volume (with_mark on r) (omega (arith, long, low)) in
       record {
         row = with_mark on r;
         is_row = record { old = r; there = there; other = other; becomes = (λ i. with_mark on r) };
         now = now;
         are = subst (λ (x : List (Option RowValue)). RowsAre x (content t)) (sym set_is) (rows_with before (content s) (content t) volume (with_mark on r) P known.told long low within holds);
-        held = λ held. subst (λ (x : RowsOf). AreHeld x (content t)) (sym now) (held_with (listed before) (content s) (content t) volume (with_mark on r) P within holds held);
+        held = λ held. subst (λ (x : RowsOf). AreHeld x (content t)) (sym now) (held_with (row_in_list before) (content s) (content t) volume (with_mark on r) P within holds held);
         slots_ = λ others places are_used v v_low.
             let same = same_used (used_at used volume) (used_at others volume) volume (content s) (known.slots_ volume low) (are_used volume low) in
             slots_with volume P (content s) (content t) within others (used_after (used_at others volume)) (omega (arith, places, low))
@@ -58,7 +58,7 @@ module _ (before : List (Option RowValue)) (used : List SlotsUsed) (s t : SiteLo
       }
 
 -- the change of a mark is due: both copies hold the row that they tell, and so many of their slots are in use
-pub marking_due : (before : List (Option RowValue)) (used : List SlotsUsed) (s mid : SiteLog) → mid ≡ s → AreKnown before used (content s) → (volume : ℕ) (on : Bool) (r row : RowValue) (slots : SlotsUsed) → volume < 32 → listed before volume ≡ Some r → r.read_only ≢ on
+pub marking_due : (before : List (Option RowValue)) (used : List SlotsUsed) (s mid : SiteLog) → mid ≡ s → AreKnown before used (content s) → (volume : ℕ) (on : Bool) (r row : RowValue) (slots : SlotsUsed) → volume < 32 → row_in_list before volume ≡ Some r → r.read_only ≢ on
     → row ≡ with_mark on r → slots ≡ used_at used volume → IsDue volume (Protect on) row slots (content mid)
 marking_due before used s mid same known volume on r row slots low there other becomes slots_is =
     subst (λ (x : SiteLog × SlotsUsed). IsDue volume (Protect on) row x.1 (content x.0)) (λ i. (sym same i, sym slots_is i))

@@ -5,14 +5,14 @@ use Rattle.mss_base.specs.Content.{SiteLog, content, Settles, Writes}
 use Rattle.mss_base.proofs.Moments.{ended_with, then_firm}
 use Rattle.ckd_track.specs.Data.{Volumes}
 use Rattle.volume_table.specs.Row.{RowValue}
-use Rattle.volume_table.specs.Listed.{listed}
+use Rattle.volume_table.specs.Listed.{row_in_list}
 use Rattle.table_pair.specs.declared.copy.SlotsUsed.{SlotsUsed}
 use Rattle.table_pair.specs.Pair.{ChangesRow, HoldsRow}
 use Rattle.table_pair.specs.Slots.{HasSlots, used_at}
 use Rattle.table_pair.specs.Repairs.{KeepsRow}
 use Rattle.table_pair.specs.Migrating.{IsMigrated}
 use Rattle.table_pair.proofs.RepairLemmas.{unwritten, no_marks, none_firm}
-use Rattle.shown_volumes.specs.Shown.{RowsOf, shown}
+use Rattle.shown_volumes.specs.Shown.{RowsOf, volumes_shown}
 use Rattle.shown_volumes.specs.Sound.{IsSound, SoundAs}
 use Rattle.shown_volumes.specs.Changing.{with_row}
 use Rattle.shown_volumes.proofs.MomentFacts.{all_rows}
@@ -42,7 +42,7 @@ same_rows rows volume row there = λ i v. at v i
       | inr other ↦ cond-false _ _ _ other
     ]
 
-module _ (rows : List (Option RowValue)) (used : List SlotsUsed) (s t : SiteLog) (known : AreKnown rows used (content s)) (volume : ℕ) (low : volume < 32) (row : RowValue) (there : listed rows volume ≡ Some row)
+module _ (rows : List (Option RowValue)) (used : List SlotsUsed) (s t : SiteLog) (known : AreKnown rows used (content s)) (volume : ℕ) (low : volume < 32) (row : RowValue) (there : row_in_list rows volume ≡ Some row)
     (w : Writes (ChangesRow volume (KeepsRow volume (content s)) (content s)) s t) (now : SlotsUsed) (places : length used ≡ 32) (is : IsMigrated row now volume s t) where
   change : ChangesRow volume (KeepsRow volume (content s)) (content s) (content t)
   change = ended_with (ChangesRow volume (KeepsRow volume (content s)) (content s)) s t w
@@ -50,17 +50,17 @@ module _ (rows : List (Option RowValue)) (used : List SlotsUsed) (s t : SiteLog)
   pub known_on : (after : List SlotsUsed) → after ≡ set used volume now → AreKnown rows after (content t)
   known_on after after_is = record {
     told = λ v v_low. all_rows volume (KeepsRow volume (content s)) (content s) (content t) change change.here v ∙ known.told v v_low;
-    held = subst (λ (r : RowsOf). AreHeld r (content t)) (same_rows (listed rows) volume row there)
-        (held_with (listed rows) (content s) (content t) volume row (KeepsRow volume (content s)) change is.holds.holds known.held);
+    held = subst (λ (r : RowsOf). AreHeld r (content t)) (same_rows (row_in_list rows) volume row there)
+        (held_with (row_in_list rows) (content s) (content t) volume row (KeepsRow volume (content s)) change is.holds.holds known.held);
     slots_ = λ v v_low. subst (λ (u : List SlotsUsed). HasSlots (used_at u v) v (content t)) (sym after_is)
         (slots_with volume (KeepsRow volume (content s)) (content s) (content t) change used now (omega (arith, places, low)) is.holds.slots_ v (λ _. known.slots_ v v_low));
   }
 
 -- one run after another that shows the same
-pub shows_then : (s mid t : SiteLog) → Settles s mid → ((frames : ℕ) → IsSound frames (content s) → Writes (SoundAs frames (shown (content s))) s mid) → ((frames : ℕ) → IsSound frames (content mid) → Writes (SoundAs frames (shown (content mid))) mid t)
-    → (frames : ℕ) → IsSound frames (content s) → Writes (SoundAs frames (shown (content s))) s t
+pub shows_then : (s mid t : SiteLog) → Settles s mid → ((frames : ℕ) → IsSound frames (content s) → Writes (SoundAs frames (volumes_shown (content s))) s mid) → ((frames : ℕ) → IsSound frames (content mid) → Writes (SoundAs frames (volumes_shown (content mid))) mid t)
+    → (frames : ℕ) → IsSound frames (content s) → Writes (SoundAs frames (volumes_shown (content s))) s t
 shows_then s mid t firm first second frames sound =
     let before = first frames sound in
-    let at = ended_with (SoundAs frames (shown (content s))) s mid before in
-    then_firm (SoundAs frames (shown (content s))) s mid t firm before
+    let at = ended_with (SoundAs frames (volumes_shown (content s))) s mid before in
+    then_firm (SoundAs frames (volumes_shown (content s))) s mid t firm before
     (subst (λ (V : Volumes). Writes (SoundAs frames V) mid t) at.same (second frames at.sound))

@@ -15,7 +15,7 @@ use Rattle.mss_base.specs.Firsts.{first_below}
 use Rattle.shown_volumes.specs.Faults.{serial_fault, read_fault, row_fault}
 use Rattle.shown_volumes.specs.Sound.{HasSerialsAsked}
 use Rattle.mss_base.proofs.FirstFacts.{none_yet, none_next}
-use Rattle.volume_table.specs.Listed.{listed}
+use Rattle.volume_table.specs.Listed.{row_in_list}
 use Rattle.mss_restart.specs.Survey.{IsReading, Readings, TellsRow, ReadsVolume, AreKnown, IsAlone, FirstAlone, IsKnown, AreRead, EndsAtRow, ReadsRows, KeepsFirst}
 use Rattle.mss_restart.proofs.RowLemmas.{right_reading, since}
 use Rattle.mss_restart.proofs.UsableFacts.{row_asked}
@@ -30,7 +30,7 @@ pub record SoFar (begun now n : ℕ) (asked : ℕ → Option (List ℕ)) (c : Co
   pub readings : Readings begun now c
   pub rest : (v : ℕ) → n ≤ v → readings.row v ≡ row_of c v
   pub past : (v : ℕ) → n ≤ v → readings.counts v ≡ now
-  pub known : (v : ℕ) → v < n → IsKnown (listed rows v) (readings.row v)
+  pub known : (v : ℕ) → v < n → IsKnown (row_in_list rows v) (readings.row v)
   pub none : first_below n (row_fault asked readings.row) ≡ None
   pub alone : FirstAlone n readings.row readings.counts unread
 
@@ -113,7 +113,7 @@ module _ (begun mid now n : ℕ) (asked : ℕ → Option (List ℕ)) (c : Conten
   none_before = first_same n (row_fault asked row) (row_fault asked so_far.readings.row) (λ v lt. ap (read_fault v (asked v)) (row_before v lt)) ∙ so_far.none
 
   known_before : AreKnown n row
-  known_before v lt un = known_not (so_far.readings.row v) (listed rows v) (so_far.known v lt) (sym (row_before v lt) ∙ un)
+  known_before v lt un = known_not (so_far.readings.row v) (row_in_list rows v) (so_far.known v lt) (sym (row_before v lt) ∙ un)
 
   -- the walk ends here
   pub row_ends : (e : Refused) → TellsRow n (asked n) one.read (Err e) → EndsAtRow begun now asked c e
@@ -128,18 +128,18 @@ module _ (begun mid now n : ℕ) (asked : ℕ → Option (List ℕ)) (c : Conten
 
   -- the walk goes on
   module _ (read : RowRead) (tells : TellsRow n (asked n) one.read (Ok read)) (long : length rows ≡ 32) where
-    placed : listed (set rows n read.row) n ≡ read.row
+    placed : row_in_list (set rows n read.row) n ≡ read.row
     placed = get_or-set_same rows n read.row None (omega (arith, few, long))
 
-    known_now : (v : ℕ) → v < n + 1 → IsKnown (listed (set rows n read.row) v) (row v)
+    known_now : (v : ℕ) → v < n + 1 → IsKnown (row_in_list (set rows n read.row) v) (row v)
     known_now v lt = elim (cases_lt v n) [
       | inl less ↦
           let was = so_far.known v less in
-          let same : listed (set rows n read.row) v ≡ listed rows v = get_or-set_other rows n v read.row None (λ e. omega (arith, e, less)) in
+          let same : row_in_list (set rows n read.row) v ≡ row_in_list rows v = get_or-set_other rows n v read.row None (λ e. omega (arith, e, less)) in
           (was.0, row_before v less ∙ was.1 ∙ ap (λ (o : Option RowValue). known o was.0) (sym same))
       | inr le ↦
           let e : n ≡ v = omega (arith, le, lt) in
-          subst (λ (x : ℕ). IsKnown (listed (set rows n read.row) x) (row x)) e (is_some read.unread, row_here ∙ tells.0 ∙ ap (λ (o : Option RowValue). known o (is_some read.unread)) (sym placed))
+          subst (λ (x : ℕ). IsKnown (row_in_list (set rows n read.row) x) (row x)) e (is_some read.unread, row_here ∙ tells.0 ∙ ap (λ (o : Option RowValue). known o (is_some read.unread)) (sym placed))
     ]
 
     alone_same : (v : ℕ) → v < n → IsAlone (row v) → IsAlone (so_far.readings.row v)
@@ -193,20 +193,20 @@ first_kept begun mid now None (Some f) before start end keeps = let same : f ≡
 first_kept begun mid now (Some f) b before start end keeps = record { rises = before.rises; past = omega (arith, before.past, end) }
 
 -- one row more, whose serial is no fault
-pub serials_on : (asked : ℕ → Option (List ℕ)) (rows : List (Option RowValue)) (n : ℕ) (o : Option RowValue) → length rows ≡ 32 → n < 32 → HasSerialsAsked asked (listed rows) → serial_fault n o (asked n) ≡ None → HasSerialsAsked asked (listed (set rows n o))
+pub serials_on : (asked : ℕ → Option (List ℕ)) (rows : List (Option RowValue)) (n : ℕ) (o : Option RowValue) → length rows ≡ 32 → n < 32 → HasSerialsAsked asked (row_in_list rows) → serial_fault n o (asked n) ≡ None → HasSerialsAsked asked (row_in_list (set rows n o))
 serials_on asked rows n o long few before none v = elim (cases_lt v n) [
   | inl less ↦ stays (λ e. omega (arith, e, less))
   | inr le ↦ elim (cases_lt n v) [
     | inl past ↦ stays (λ e. omega (arith, e, past))
     | inr ge ↦
         let e : n ≡ v = omega (arith, le, ge) in
-        let here : listed (set rows n o) n ≡ o = get_or-set_same rows n o None (omega (arith, few, long)) in
-        subst (λ (x : ℕ). ForSome (listed (set rows n o) x) (λ r. ForSome (asked x) (λ s. r.serial ≡ s))) e
+        let here : row_in_list (set rows n o) n ≡ o = get_or-set_same rows n o None (omega (arith, few, long)) in
+        subst (λ (x : ℕ). ForSome (row_in_list (set rows n o) x) (λ r. ForSome (asked x) (λ s. r.serial ≡ s))) e
         (subst (λ (x : Option RowValue). ForSome x (λ r. ForSome (asked n) (λ s. r.serial ≡ s))) (sym here) (row_asked n o (asked n) none))
   ]
 ] where
-  stays : (v ≡ n → ⊥) → ForSome (listed (set rows n o) v) (λ r. ForSome (asked v) (λ s. r.serial ≡ s))
+  stays : (v ≡ n → ⊥) → ForSome (row_in_list (set rows n o) v) (λ r. ForSome (asked v) (λ s. r.serial ≡ s))
   stays apart = subst (λ (x : Option RowValue). ForSome x (λ r. ForSome (asked v) (λ s. r.serial ≡ s))) (sym (get_or-set_other rows n v o None apart)) (before v)
 
-pub no_serials : (asked : ℕ → Option (List ℕ)) (rows : List (Option RowValue)) → ((v : ℕ) → listed rows v ≡ None) → HasSerialsAsked asked (listed rows)
+pub no_serials : (asked : ℕ → Option (List ℕ)) (rows : List (Option RowValue)) → ((v : ℕ) → row_in_list rows v ≡ None) → HasSerialsAsked asked (row_in_list rows)
 no_serials asked rows none v r at = let e : ◌≡◌ {A = Option RowValue} None (Some r) = sym (none v) ∙ at in absurd cc

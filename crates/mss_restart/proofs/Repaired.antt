@@ -15,18 +15,18 @@ use Rattle.mss_base.specs.declared.site.Site.{Ghosts}
 use Rattle.shown_volumes.specs.declared.refused.Refused.{Refused}
 use Rattle.shown_volumes.specs.declared.refused.Refused.TheVariants.{Memory}
 use Rattle.mss_restart.specs.Creations.{IsStop, StopsAlone, StepsOn, WritesOn, IsRepair, AreRepaired, RepairsWhole, IsMigration, AreMigrated, MigratesWhole}
-use Rattle.shown_volumes.specs.Shown.{shown}
+use Rattle.shown_volumes.specs.Shown.{volumes_shown}
 use Rattle.shown_volumes.specs.Sound.{IsSound, SoundAs}
 use Rattle.shown_volumes.proofs.MomentFacts.{repair_moments}
 use Rattle.mss_restart.proofs.SlotFacts.{slots_with}
 
 -- at each moment since then a sound content shows the same, and the rows are the same now
 pub record IsRepaired (begun now : SiteLog) : Type 0 where
-  pub moments : (frames : ℕ) → IsSound frames (content begun) → Writes (SoundAs frames (shown (content begun))) begun now
+  pub moments : (frames : ℕ) → IsSound frames (content begun) → Writes (SoundAs frames (volumes_shown (content begun))) begun now
   pub rows : (v : ℕ) → row_of (content now) v ≡ row_of (content begun) v
 
 pub nothing_repaired : (s : SiteLog) → IsRepaired s s
-nothing_repaired s = record { moments = λ frames sound. started (SoundAs frames (shown (content s))) s (record { sound = sound; same = refl }); rows = λ v. refl }
+nothing_repaired s = record { moments = λ frames sound. started (SoundAs frames (volumes_shown (content s))) s (record { sound = sound; same = refl }); rows = λ v. refl }
 
 -- one of the first, and not the last of them
 before_last : (volume n v : ℕ) → volume ≡ n → v < n + 1 → (volume == v) ≡ false → v < n
@@ -49,8 +49,8 @@ module _ (begun mid now : SiteLog) (volume : ℕ) (so_far : IsRepaired begun mid
   repaired_too = record {
     moments = λ frames sound.
         let before = so_far.moments frames sound in
-        let at_mid = ended_with (SoundAs frames (shown (content begun))) begun mid before in
-        then_firm (SoundAs frames (shown (content begun))) begun mid now firm before
+        let at_mid = ended_with (SoundAs frames (volumes_shown (content begun))) begun mid before in
+        then_firm (SoundAs frames (volumes_shown (content begun))) begun mid now firm before
         (subst (λ (V : Volumes). Writes (SoundAs frames V) mid now) at_mid.same (repair_moments frames volume mid now at_mid.sound one));
     rows = λ v. row_kept v ∙ so_far.rows v;
   }

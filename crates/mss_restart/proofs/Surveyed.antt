@@ -16,7 +16,7 @@ use Rattle.mss_base.specs.Firsts.{◌or◌, first_below}
 use Rattle.shown_volumes.specs.Faults.{read_fault, row_fault, halves_fault, pages_fault, tracks_fault, first_fault_of, first_fault}
 use Rattle.shown_volumes.proofs.FaultFacts.{row_in}
 use Rattle.mss_base.proofs.FirstFacts.{none_below, found_first, or_first, or_none}
-use Rattle.volume_table.specs.Listed.{listed}
+use Rattle.volume_table.specs.Listed.{row_in_list}
 use Rattle.mss_restart.specs.Walks.{rest_fault}
 use Rattle.mss_restart.specs.Survey.{FindsFault, KeepsFault, CountsCause, CountsSince, IsReading, Readings, TellsRow, AreKnown, IsKnown, IsFirstUnread, AreBehindFaults, AreFaultless, AreRead, EndsAtRow, ReadsRows, StandApart, StopsBehind, SurveyTells, Surveys, IsExact}
 use Rattle.mss_restart.proofs.ReadRows.{first_same, right_readings}
@@ -92,17 +92,17 @@ rest_counts mid now Memory found finds counts = omega (arith, counts)
 rest_counts mid now _ found finds counts = counts
 
 -- of known rows nothing is unknown
-pub are_known : (rows : List (Option RowValue)) (row : ℕ → RowReading) → ((v : ℕ) → v < 32 → IsKnown (listed rows v) (row v)) → AreKnown 32 row
+pub are_known : (rows : List (Option RowValue)) (row : ℕ → RowReading) → ((v : ℕ) → v < 32 → IsKnown (row_in_list rows v) (row v)) → AreKnown 32 row
 are_known rows row each v low un = let is = (each v low).1 in cc
 
 module _ (before mid now frames : ℕ) (asked : ℕ → Option (List ℕ)) (c : Content) (rows : List (Option RowValue)) (unread : Option ℕ) (read : AreRead before mid asked c rows unread) (long : length rows ≡ 32) where
-  listed_at : (v : ℕ) → listed rows v ≡ rows_in read.readings.row v
+  listed_at : (v : ℕ) → row_in_list rows v ≡ rows_in read.readings.row v
   listed_at v = elim (cases_lt v 32) [
     | inl low ↦ let row = read.known v low in sym (ap told_row row.1) ∙ sym (cond-true _ _ _ (lt-ltb v 32 low))
     | inr past ↦ get_or_past rows v None (omega (arith, long, past)) ∙ sym (cond-false _ _ _ (le-ltb v 32 past))
   ]
 
-  pub listed_is : listed rows ≡ rows_in read.readings.row
+  pub listed_is : row_in_list rows ≡ rows_in read.readings.row
   listed_is = λ i v. listed_at v i
 
   pub faultless_rows : AreFaultless asked read.readings.row
@@ -111,18 +111,18 @@ module _ (before mid now frames : ℕ) (asked : ℕ → Option (List ℕ)) (c : 
   pub later_rows : now ≡ mid → AreRead before now asked c rows unread
   later_rows same = subst (λ (n : ℕ). AreRead before n asked c rows unread) (sym same) read
 
-  rest : (o : Option Refused) → rest_fault frames (listed rows) c ≡ o → first_fault_of frames asked read.readings.row c ≡ o
+  rest : (o : Option Refused) → rest_fault frames (row_in_list rows) c ≡ o → first_fault_of frames asked read.readings.row c ≡ o
   rest o is = behind frames asked read.readings.row c o read.none (ap (λ (x : RowsOf). rest_fault frames x c) (sym listed_is) ∙ is)
 
-  pub good_survey : now ≡ mid → rest_fault frames (listed rows) c ≡ None → Surveys before now frames asked c (Ok rows)
+  pub good_survey : now ≡ mid → rest_fault frames (row_in_list rows) c ≡ None → Surveys before now frames asked c (Ok rows)
   good_survey same none = record { mid = mid; readings = read.readings; tells = (faultless_rows, listed_is, rest None none); counts = same }
 
-  pub bad_survey : (e : Refused) → StopsBehind frames (listed rows) e → FindsFault e (rest_fault frames (listed rows) c) → CountsCause mid now e → Surveys before now frames asked c (Err e)
+  pub bad_survey : (e : Refused) → StopsBehind frames (row_in_list rows) e → FindsFault e (rest_fault frames (row_in_list rows) c) → CountsCause mid now e → Surveys before now frames asked c (Err e)
   bad_survey e apart found counts = record {
     mid = mid;
     readings = read.readings;
-    tells = tells_rest frames asked read.readings.row c faultless_rows e (rest_fault frames (listed rows) c) (subst (λ (x : RowsOf). StopsBehind frames x e) listed_is apart) found (rest (Some e));
-    counts = rest_counts mid now e (rest_fault frames (listed rows) c) found counts;
+    tells = tells_rest frames asked read.readings.row c faultless_rows e (rest_fault frames (row_in_list rows) c) (subst (λ (x : RowsOf). StopsBehind frames x e) listed_is apart) found (rest (Some e));
+    counts = rest_counts mid now e (rest_fault frames (row_in_list rows) c) found counts;
   }
 
 abbrev most : ℕ

@@ -19,7 +19,7 @@ use Rattle.shown_volumes.specs.declared.refused.Refused.TheVariants.{SerialDiffe
 use Rattle.shown_volumes.proofs.HalfLemmas.{cartridges_once}
 use Rattle.shown_volumes.proofs.PageLemmas.{frames_below, frames_once}
 use Rattle.shown_volumes.proofs.RowFacts.{at_row}
-use Rattle.volume_table.specs.Listed.{listed}
+use Rattle.volume_table.specs.Listed.{row_in_list}
 use Rattle.mss_restart.specs.Cartridges.{is_named}
 use Rattle.volume_table.specs.Changes.{with_mark}
 use Rattle.shown_volumes.proofs.MarkFacts.{cartridges_kept, frames_kept, frames_apart}
@@ -35,7 +35,7 @@ use Rattle.mss_restart.proofs.OpenedRows.{AreMarks, to_mark_marks, opens_asked}
 abbrev pub AreFew : RowsOf → Type 0
 AreFew rows = (v : ℕ) (r : RowValue) → rows v ≡ Some r → v < 32
 
-pub few_listed : (rows : List (Option RowValue)) → length rows ≡ 32 → AreFew (listed rows)
+pub few_listed : (rows : List (Option RowValue)) → length rows ≡ 32 → AreFew (row_in_list rows)
 few_listed rows long v r at = elim (cases_lt v 32) [
   | inl low ↦ low
   | inr past ↦ let e : ◌≡◌ {A = Option RowValue} None (Some r) = sym (get_or_past rows v None (omega (arith, long, past))) ∙ at in absurd cc
@@ -214,15 +214,15 @@ asked_opening rows vs good rising =
     asked_made (serial_in vs) rows vs (to_mark rows vs) (asks_own vs good rising) (asked_marks (serial_in vs) (to_mark rows vs) (to_mark_marks rows vs))
 
 -- the rows of a configuration after the changes
-pub usable_for : (config : ConfigData) (before rows : List (Option RowValue)) → IsConfig config → length before ≡ 32 → AreUsable config.frames (serial_in config.volumes) (listed before)
-    → OpensRows (opening_changes (listed before) config.volumes) (listed before) (listed rows) → AreUsableFor config (listed rows)
+pub usable_for : (config : ConfigData) (before rows : List (Option RowValue)) → IsConfig config → length before ≡ 32 → AreUsable config.frames (serial_in config.volumes) (row_in_list before)
+    → OpensRows (opening_changes (row_in_list before) config.volumes) (row_in_list before) (row_in_list rows) → AreUsableFor config (row_in_list rows)
 usable_for config before rows good long was opens =
     let asked = serial_in config.volumes in
     record {
-      usable = opens_usable config.frames asked (opening_changes (listed before) config.volumes) (listed before) (listed rows)
-          (asked_opening (listed before) config.volumes good.volumes_ good.rising)
+      usable = opens_usable config.frames asked (opening_changes (row_in_list before) config.volumes) (row_in_list before) (row_in_list rows)
+          (asked_opening (row_in_list before) config.volumes good.volumes_ good.rising)
           (few_listed before long) was opens;
-      each = opens_asked config.volumes (listed before) (listed rows) good.rising opens was.serials;
+      each = opens_asked config.volumes (row_in_list before) (row_in_list rows) good.rising opens was.serials;
     }
 
 -- the rows after told changes

@@ -7,10 +7,10 @@ use Rattle.mss_base.specs.declared.site.Site.{Ghosts}
 use Rattle.mss_base.specs.Configs.{serial_in}
 use Rattle.shown_volumes.specs.declared.refused.Refused.{Refused}
 use Rattle.shown_volumes.specs.declared.refused.Refused.TheVariants.{RowUnread, Stopped, Memory}
-use Rattle.shown_volumes.specs.Shown.{RowsOf, rows_in, rows_of, shown}
+use Rattle.shown_volumes.specs.Shown.{RowsOf, rows_in, rows_of, volumes_shown}
 use Rattle.shown_volumes.specs.Sound.{IsSound}
 use Rattle.shown_volumes.specs.Faults.{first_fault}
-use Rattle.volume_table.specs.Listed.{listed}
+use Rattle.volume_table.specs.Listed.{row_in_list}
 use Rattle.mss_restart.specs.Survey.{Readings, AreFaultless, StandApart, IsFirstAlone, Surveys}
 use Rattle.mss_restart.specs.Usable.{AreUsableFor}
 use Rattle.mss_restart.specs.OneCopy.{StayPaired}
@@ -88,7 +88,7 @@ pub record HasNoSteps (opened : Opened) (count : ℕ) : Type 0 where
 -- the opening changes that lead from some rows to others
 abbrev pub run_of : List VolumeData → Opened → Opened → OpeningRun
 run_of volumes before left = record {
-  changes = opening_changes (listed before.rows) volumes;
+  changes = opening_changes (row_in_list before.rows) volumes;
   before = before.rows;
   rows = left.rows;
   used = left.used.items;
@@ -97,7 +97,7 @@ run_of volumes before left = record {
 
 abbrev pub MakesCounted : ConfigData → ℕ → ℕ → Result Opened Refused → Type 0
 MakesCounted config written writes (Ok opened) =
-    TellsChanges config written writes (listed opened.rows) (steps_of opened)
+    TellsChanges config written writes (row_in_list opened.rows) (steps_of opened)
 MakesCounted config written writes (Err e) = Unit {0}
 
 -- an opening's account, by the rows that its contents tell
@@ -121,7 +121,7 @@ abbrev pub ShowsFronts : ConfigData → SiteLog → SiteLog → Type 0
 ShowsFronts config old new =
     (frames : ℕ) → IsSound frames (content old)
     → let changes = opening_changes (rows_of (content old)) config.volumes in
-    Writes (ShowsFront frames changes (shown (content old))) old new
+    Writes (ShowsFront frames changes (volumes_shown (content old))) old new
 
 -- what an opening leaves of a site that tells, however it ends: what a stop or a failing call leaves at each moment;
 -- that no row but those of the changes is more than repaired and migrated, and that no made marks change but those of
@@ -157,7 +157,7 @@ counters g old new = record { written = g.writes old; writes = g.writes new; bef
 
 -- the rows can be used, each configured volume has one, and there is a count of slots for each of the 32 volumes
 pub record IsUsable (config : ConfigData) (opened : Opened) : Type 0 where
-  pub rows_ : AreUsableFor config (listed opened.rows)
+  pub rows_ : AreUsableFor config (row_in_list opened.rows)
   pub used_ : length opened.used.items ≡ 32
 
 -- of every site: what was opened can be used; the changes are told with rising counts of writes; what a refusal

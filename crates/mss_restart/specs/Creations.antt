@@ -8,7 +8,7 @@ use Rattle.mss_base.specs.declared.place.UnitNo.TheVariants.{TableA, TableB}
 use Rattle.mss_base.specs.Counts.{IsFaultSince}
 use Rattle.mss_base.specs.declared.site.Site.{Ghosts}
 use Rattle.volume_table.specs.Row.{RowValue}
-use Rattle.volume_table.specs.Listed.{listed}
+use Rattle.volume_table.specs.Listed.{row_in_list}
 use Rattle.volume_table.specs.declared.changes.Change.{Change}
 use Rattle.volume_table.specs.declared.changes.Change.TheVariants.{Create, Protect}
 use Rattle.table_pair.specs.Pair.{known, row_of, ChangesRow, NoneOrNew, OldOrNew, HoldsRow}
@@ -18,7 +18,7 @@ use Rattle.table_pair.specs.Slots.{AreUsed}
 use Rattle.table_pair.specs.declared.copy.SlotsUsed.{SlotsUsed}
 use Rattle.shown_volumes.specs.declared.refused.Refused.{Refused}
 use Rattle.shown_volumes.specs.declared.refused.Refused.TheVariants.{Stopped, Memory}
-use Rattle.shown_volumes.specs.Shown.{RowsOf, shown}
+use Rattle.shown_volumes.specs.Shown.{RowsOf, volumes_shown}
 use Rattle.shown_volumes.specs.Sound.{IsSound, SoundAs}
 use Rattle.shown_volumes.specs.Changing.{with_row}
 use Rattle.mss_restart.specs.Opening.{OpeningChange, made, marked, volume_of, AreKnown, AreOpened, BeforeOrAfter, IsOpeningDone, IsRowAfter, ShowsFront}
@@ -208,24 +208,25 @@ RewritesWhole old new (Err e) = Unit {0}
 -- all made marks stay; the rows are known where none failed; and each was written to its end
 pub record RewritesRows {T : Type 0} (rows : List (Option RowValue)) (used : List SlotsUsed) (old new : SiteLog)
     (result : Result T Refused) : Type 0 where
-  pub moments : (frames : ℕ) → IsSound frames (content old) → Writes (SoundAs frames (shown (content old))) old new
+  pub moments : (frames : ℕ) → IsSound frames (content old)
+      → Writes (SoundAs frames (volumes_shown (content old))) old new
   pub others : RepairsOthers [] old new
   pub known_ : OnOk result (AreKnown rows used (content new))
   pub complete : RewritesWhole old new result
 
 -- what a run leaves of a site, by its account and by how it ended
-abbrev pub Leaves : Type 1
-Leaves = Account → SiteLog → SiteLog → Result (Unit {0}) Refused → Type 0
+abbrev pub LeavesByAccount : Type 1
+LeavesByAccount = Account → SiteLog → SiteLog → Result (Unit {0}) Refused → Type 0
 
 -- what opening changes leave: all of them, or after want of memory a front, each to its end
-abbrev pub ChangesWhole : Leaves
+abbrev pub ChangesWhole : LeavesByAccount
 ChangesWhole a old new (Ok value) = AreWritten a.changes a.steps a.before a.after old new
 ChangesWhole a old new (Err Memory) = IsFrontWritten a.changes a.before old new
 ChangesWhole a old new (Err e) = Unit {0}
 
 -- what repairs, migrations and then changes leave: all of them, or after want of memory some of the first and a front
 -- of the changes
-abbrev pub CompletesWhole : Leaves
+abbrev pub CompletesWhole : LeavesByAccount
 CompletesWhole a old new (Ok value) =
     (mid : SiteLog) × AreRewritten 32 32 old mid × AreWritten a.changes a.steps a.before a.after mid new
 CompletesWhole a old new (Err Memory) =
@@ -245,8 +246,8 @@ pub record OpeningRun : Type 0 where
 abbrev pub account_of : OpeningRun → Account
 account_of run = record {
   changes = run.changes;
-  before = listed run.before;
-  after = listed run.rows;
+  before = row_in_list run.before;
+  after = row_in_list run.rows;
   steps = run.steps;
 }
 
@@ -255,18 +256,19 @@ account_of run = record {
 pub record DoesChange (change : OpeningChange) (before rows : List (Option RowValue)) (old new : SiteLog)
     (result : Result OpeningStep Refused) : Type 0 where
   pub moments : (frames : ℕ) → IsSound frames (content old)
-      → Writes (λ d. IsSound frames d × BeforeOrAfter change (shown (content old)) (shown d)) old new
+      → Writes (λ d. IsSound frames d × BeforeOrAfter change (volumes_shown (content old)) (volumes_shown d)) old new
   pub others : RepairsOthers (change ∷ []) old new
   pub done_ : OnOk result (IsOpeningDone change (content old) (content new) before rows)
-  pub complete : IfOk result (λ step. IsWritten (listed before) (listed rows) change step old new)
+  pub complete : IfOk result (λ step. IsWritten (row_in_list before) (row_in_list rows) change step old new)
 
 -- several changes: what a sound content shows at each moment; that no other row is more than repaired and migrated, and
 -- that no made marks change but those of new volumes; what is left where none failed; and, as `IsWhole` says, that each
 -- was written to its end
-pub record OpensVolumes (IsWhole : Leaves) (run : OpeningRun) (old new : SiteLog) (result : Result (Unit {0}) Refused)
+pub record OpensVolumes (IsWhole : LeavesByAccount) (run : OpeningRun) (old new : SiteLog)
+    (result : Result (Unit {0}) Refused)
     : Type 0 where
   pub moments : (frames : ℕ) → IsSound frames (content old)
-      → Writes (ShowsFront frames run.changes (shown (content old))) old new
+      → Writes (ShowsFront frames run.changes (volumes_shown (content old))) old new
   pub others : RepairsOthers run.changes old new
   pub opened : OnOk result (AreOpened run.changes (content old) (content new) run.before run.rows run.used)
   pub complete : IsWhole (account_of run) old new result

@@ -9,17 +9,17 @@ use Rattle.volume_table.specs.Changes.{with_mark}
 use Rattle.table_pair.specs.Pair.{HoldsRow, known, row_of}
 use Rattle.table_pair.specs.Slots.{AreUsed, with_none_used, with_used_after}
 use Rattle.table_pair.specs.declared.copy.SlotsUsed.{SlotsUsed}
-use Rattle.shown_volumes.specs.Shown.{RowsOf, rows_of, is_marked, shown}
+use Rattle.shown_volumes.specs.Shown.{RowsOf, rows_of, is_marked, volumes_shown}
 use Rattle.shown_volumes.specs.Sound.{IsSound, SoundAs}
 use Rattle.shown_volumes.specs.Faults.{first_fault}
 use Rattle.shown_volumes.specs.Changing.{with_row, with_blank, with_marked}
-use Rattle.volume_table.specs.Listed.{listed}
+use Rattle.volume_table.specs.Listed.{row_in_list}
 use Rattle.mss_restart.specs.Cartridges.{IsLowestFree}
 use Rattle.mss_restart.specs.Usable.{HasRowWith}
 
 -- each row is what both copies of the content tell
 abbrev pub RowsAre : List (Option RowValue) → Content → Type 0
-RowsAre rows c = (volume : ℕ) → volume < 32 → row_of c volume ≡ known (listed rows volume) false
+RowsAre rows c = (volume : ℕ) → volume < 32 → row_of c volume ≡ known (row_in_list rows volume) false
 
 -- both copies of each row are open with it
 abbrev pub AreHeld : RowsOf → Content → Type 0
@@ -29,7 +29,7 @@ AreHeld rows c = (volume : ℕ) (row : RowValue) → rows volume ≡ Some row �
 -- are in use
 pub record AreKnown (rows : List (Option RowValue)) (used : List SlotsUsed) (c : Content) : Type 0 where
   pub told : RowsAre rows c
-  pub held : AreHeld (listed rows) c
+  pub held : AreHeld (row_in_list rows) c
   pub slots_ : AreUsed used c
 
 -- ---- the changes that opening makes to the volumes
@@ -82,7 +82,7 @@ pub record ShowsFront (frames : ℕ) (changes : List OpeningChange) (volumes : V
   pub done_ : List OpeningChange
   pub later : List OpeningChange
   pub order : done_ ++ later ≡ changes
-  pub same : shown c ≡ opened_all done_ volumes
+  pub same : volumes_shown c ≡ opened_all done_ volumes
 
 -- ---- what they make of the rows
 
@@ -119,19 +119,19 @@ used_by (marked volume on) used = with_used_after volume used
 pub record IsOpeningDone (change : OpeningChange) (c d : Content) (before rows : List (Option RowValue))
     : Type 0 where
   pub row : RowValue
-  pub is_row : IsRowAfter (listed before) change row
-  pub now : listed rows ≡ with_row (volume_of change) row (listed before)
+  pub is_row : IsRowAfter (row_in_list before) change row
+  pub now : row_in_list rows ≡ with_row (volume_of change) row (row_in_list before)
   pub are : RowsAre rows d
-  pub held : AreHeld (listed before) c → AreHeld (listed rows) d
+  pub held : AreHeld (row_in_list before) c → AreHeld (row_in_list rows) d
   pub slots_ : (used : List SlotsUsed) → length used ≡ 32 → AreUsed used c → AreUsed (used_by change used) d
-  pub shows : (frames : ℕ) → IsSound frames c → SoundAs frames (opened_by change (shown c)) d
+  pub shows : (frames : ℕ) → IsSound frames c → SoundAs frames (opened_by change (volumes_shown c)) d
 
 -- these changes were made; so many slots of each volume are in use now
 pub record AreOpened (changes : List OpeningChange) (c d : Content) (before rows : List (Option RowValue))
     (used : List SlotsUsed) : Type 0 where
-  pub opens : OpensRows changes (listed before) (listed rows)
+  pub opens : OpensRows changes (row_in_list before) (row_in_list rows)
   pub known : AreKnown rows used d
-  pub shows : (frames : ℕ) → IsSound frames c → SoundAs frames (opened_all changes (shown c)) d
+  pub shows : (frames : ℕ) → IsSound frames c → SoundAs frames (opened_all changes (volumes_shown c)) d
 
 -- an opened site: it was without a fault; it shows its volumes after the opening changes; the rows handed back are its
 -- rows, in both copies, with so many slots in use; each configured volume has one, with its mark, and those from before
@@ -139,8 +139,8 @@ pub record AreOpened (changes : List OpeningChange) (c d : Content) (before rows
 pub record IsOpened (config : ConfigData) (old new : Content) (rows : List (Option RowValue))
     (used : List SlotsUsed) : Type 0 where
   pub faultless : first_fault config.frames (serial_in config.volumes) old ≡ None
-  pub shows : SoundAs config.frames (opened_all (opening_changes (rows_of old) config.volumes) (shown old)) new
-  pub rows_are : listed rows ≡ rows_of new
+  pub shows : SoundAs config.frames (opened_all (opening_changes (rows_of old) config.volumes) (volumes_shown old)) new
+  pub rows_are : row_in_list rows ≡ rows_of new
   pub held : AreHeld (rows_of new) new
   pub slots_ : AreUsed used new
   pub opens : OpensRows (opening_changes (rows_of old) config.volumes) (rows_of old) (rows_of new)

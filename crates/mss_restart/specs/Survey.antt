@@ -7,7 +7,7 @@ use Rattle.std.specs.Option.{ForSome}
 use Rattle.mss_base.specs.declared.place.BlockPlace.{BlockPlace}
 use Rattle.mss_base.specs.declared.place.UnitNo.TheVariants.{TableA, TableB}
 use Rattle.volume_table.specs.Row.{RowValue}
-use Rattle.volume_table.specs.Listed.{listed}
+use Rattle.volume_table.specs.Listed.{row_in_list}
 use Rattle.mss_restart.specs.declared.rows.RowsRead.{RowsRead}
 use Rattle.table_pair.specs.Pair.{CopyRead, RowReading, known, unknown, reading}
 use Rattle.table_pair.specs.Reads.{IsReadable, IsReadOf, MissingKeeps}
@@ -175,7 +175,7 @@ IsKnown row r = (missing : Bool) × (r ≡ known row missing)
 pub record AreRead (before now : ℕ) (asked : ℕ → Option (List ℕ)) (c : Content)
     (rows : List (Option RowValue)) (unread : Option ℕ) : Type 0 where
   pub readings : Readings before now c
-  pub known : (volume : ℕ) → volume < 32 → IsKnown (listed rows volume) (readings.row volume)
+  pub known : (volume : ℕ) → volume < 32 → IsKnown (row_in_list rows volume) (readings.row volume)
   pub none : first_below 32 (row_fault asked readings.row) ≡ None
   pub alone : FirstAlone 32 readings.row readings.counts unread
 
@@ -226,7 +226,7 @@ StopsBehind frames rows _ = Unit {0}
 abbrev pub SurveyTells : ℕ → (ℕ → Option (List ℕ)) → (ℕ → RowReading) → Content
     → Result (List (Option RowValue)) Refused → Type 0
 SurveyTells frames asked row c (Ok rows) =
-    AreFaultless asked row × (listed rows ≡ rows_in row) × (first_fault_of frames asked row c ≡ None)
+    AreFaultless asked row × (row_in_list rows ≡ rows_in row) × (first_fault_of frames asked row c ≡ None)
 SurveyTells frames asked row c (Err (RowUnread volume fault)) = IsFirstUnread asked row volume
 SurveyTells frames asked row c (Err (Stopped fault)) =
     AreFaultless asked row × StandApart frames (rows_in row)
@@ -255,7 +255,7 @@ rows_read (Err e) = Err e
 
 -- what a survey without a failed read answers: the rows of the content, which has no fault, or its first fault
 abbrev pub IsExact : ℕ → (ℕ → Option (List ℕ)) → Content → Result (List (Option RowValue)) Refused → Type 0
-IsExact frames asked c (Ok rows) = (listed rows ≡ rows_of c) × (first_fault frames asked c ≡ None)
+IsExact frames asked c (Ok rows) = (row_in_list rows ≡ rows_of c) × (first_fault frames asked c ≡ None)
 IsExact frames asked c (Err (RowUnread volume fault)) = ⊥
 IsExact frames asked c (Err (Stopped fault)) = ⊥
 IsExact frames asked c (Err Memory) = Unit {0}

@@ -6,7 +6,7 @@ ghost use Rattle.mss_base.specs.Content.{content};
 ghost use Rattle.table_pair.specs.Repairs.{LeavesSite};
 ghost use Rattle.table_pair.specs.Slots.{with_none_used};
 ghost use Rattle.shown_volumes.specs.declared.refused.Refused.TheVariants.{Memory};
-ghost use Rattle.volume_table.specs.Listed.{listed};
+ghost use Rattle.volume_table.specs.Listed.{row_in_list};
 ghost use Rattle.mss_restart.specs.Opening.{AreKnown, RowsAre, made, to_make};
 ghost use Rattle.mss_restart.specs.Creations.{
   AreTold,
@@ -33,12 +33,12 @@ fn create_volume<S: Site>(
     volume: VolumeNo,
     serial: Serial,
 ) -> Result<OpeningStep, Refused>
-    requires none { listed rows.old volume ≡ None }
+    requires none { row_in_list rows.old volume ≡ None }
     requires told { S.tells → RowsAre rows.old (content (S.told site.old)) }
     ensures does { S.tells → DoesChange (made volume serial) rows.old rows.new
         (S.told site.old) (S.told site.new) result }
     ensures row { IfOk result (λ step. MakesRow (made volume serial) step
-        (listed rows.old) (listed rows.new) (S.writes site.new)) }
+        (row_in_list rows.old) (row_in_list rows.new) (S.writes site.new)) }
     ensures memory { result ≡ Err Memory → LeavesSite S.Site site.old site.new }
     ensures site_ { StepsOn S.Site site.old site.new result }
 {
@@ -90,7 +90,7 @@ pub fn create_volumes<S: Site>(
     requires places { length used.old.items ≡ 32 }
     ensures told { S.tells → OpensVolumes ChangesWhole
         (record {
-          changes = to_make (listed rows.old) volumes.now;
+          changes = to_make (row_in_list rows.old) volumes.now;
           before = rows.old;
           rows = rows.new;
           used = used.new.items;
@@ -98,8 +98,8 @@ pub fn create_volumes<S: Site>(
         })
         (S.told site.old) (S.told site.new) result }
     ensures places { length used.new.items ≡ 32 }
-    ensures rows { OnOk result (AreTold (to_make (listed rows.old) volumes.now) creations.new.items
-        (listed rows.old) (listed rows.new) (S.writes site.old) (S.writes site.new)) }
+    ensures rows { OnOk result (AreTold (to_make (row_in_list rows.old) volumes.now) creations.new.items
+        (row_in_list rows.old) (row_in_list rows.new) (S.writes site.old) (S.writes site.new)) }
     ensures site_ { StepsOn S.Site site.old site.new result }
 {
     for entry in volumes {

@@ -12,6 +12,10 @@
 //! `serial_asked`, `serial_fault`, `half_fault`, `page_fault` and `check_track_of` look at one item each, for a list
 //! of all that is wrong; a proof above may cite `ListedFacts` (what a blank cylinder and a volume without a row
 //! lack).
+//!
+//! Layers above also cite lemmas of `proofs/`: one creation (`FreshFacts`), opening changes one after another
+//! (`Creating`), the rows after all of them (`OpenedRows`), repairs (`Repaired`), what is loose of all these
+//! (`Settling`), and rows that stand beside each other (`UsableFacts`).
 #![tactic(auto)]
 
 mod cartridges;

@@ -7,7 +7,7 @@ ghost use Rattle.mss_base.specs.Content.{content};
 ghost use Rattle.table_pair.specs.Repairs.{LeavesSite};
 ghost use Rattle.table_pair.specs.Slots.{with_used_after};
 ghost use Rattle.shown_volumes.specs.declared.refused.Refused.TheVariants.{Memory};
-ghost use Rattle.volume_table.specs.Listed.{HasRow, listed};
+ghost use Rattle.volume_table.specs.Listed.{HasRow, row_in_list};
 ghost use Rattle.mss_restart.specs.Opening.{AreKnown, is_marked_as, marked, to_mark};
 ghost use Rattle.mss_restart.specs.Creations.{
   AreTold,
@@ -38,7 +38,7 @@ fn mark_volume<S: Site>(
     ensures does { S.tells → DoesChange (marked volume on) rows.old rows.new
         (S.told site.old) (S.told site.new) result }
     ensures row { IfOk result (λ step. MakesRow (marked volume on) step
-        (listed rows.old) (listed rows.new) (S.writes site.new)) }
+        (row_in_list rows.old) (row_in_list rows.new) (S.writes site.new)) }
     ensures used { OnOk result (used.new.items ≡ with_used_after volume used.old.items) }
     ensures places { length used.new.items ≡ 32 }
     ensures memory { result ≡ Err Memory → LeavesSite S.Site site.old site.new }
@@ -67,7 +67,7 @@ fn mark_volume<S: Site>(
 
 /// Whether a volume has the mark that is asked for. One without a row isn't read-only.
 fn is_marked_as(rows: &Rows, volume: VolumeNo, asked: bool) -> bool
-    ensures { result ≡ is_marked_as asked (listed rows.now volume) }
+    ensures { result ≡ is_marked_as asked (row_in_list rows.now volume) }
 {
     match rows.row(volume) {
         Some(row) => row.read_only == asked,
@@ -88,12 +88,12 @@ pub fn mark_volumes<S: Site>(
     requires none { marks.old.items ≡ [] }
     requires room { length volumes.now ≤ marks.old.spare }
     requires rising { IsStrictlySortedBy nat_cmp (map (λ v. v.0) volumes.now) }
-    requires there { AllByRecursion (λ v. IsSome (listed rows.old v.0)) volumes.now }
+    requires there { AllByRecursion (λ v. IsSome (row_in_list rows.old v.0)) volumes.now }
     requires known { S.tells → AreKnown rows.old used.old.items (content (S.told site.old)) }
     requires places { length used.old.items ≡ 32 }
     ensures told { S.tells → OpensVolumes ChangesWhole
         (record {
-          changes = to_mark (listed rows.old) volumes.now;
+          changes = to_mark (row_in_list rows.old) volumes.now;
           before = rows.old;
           rows = rows.new;
           used = used.new.items;
@@ -101,8 +101,8 @@ pub fn mark_volumes<S: Site>(
         })
         (S.told site.old) (S.told site.new) result }
     ensures places { length used.new.items ≡ 32 }
-    ensures rows { OnOk result (AreTold (to_mark (listed rows.old) volumes.now) marks.new.items
-        (listed rows.old) (listed rows.new) (S.writes site.old) (S.writes site.new)) }
+    ensures rows { OnOk result (AreTold (to_mark (row_in_list rows.old) volumes.now) marks.new.items
+        (row_in_list rows.old) (row_in_list rows.new) (S.writes site.old) (S.writes site.new)) }
     ensures site_ { StepsOn S.Site site.old site.new result }
 {
     for entry in volumes {

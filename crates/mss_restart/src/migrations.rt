@@ -4,7 +4,7 @@ ghost use Rattle.mss_base.specs.Content.{content, Writes};
 ghost use Rattle.table_pair.specs.Pair.{ChangesRow};
 ghost use Rattle.table_pair.specs.Repairs.{KeepsRow, LeavesSite};
 ghost use Rattle.shown_volumes.specs.declared.refused.Refused.TheVariants.{Memory};
-ghost use Rattle.shown_volumes.specs.Shown.{shown};
+ghost use Rattle.shown_volumes.specs.Shown.{volumes_shown};
 ghost use Rattle.shown_volumes.specs.Sound.{IsSound, SoundAs};
 ghost use Rattle.mss_restart.specs.Opening.{AreKnown};
 ghost use Rattle.mss_restart.specs.Creations.{
@@ -64,7 +64,7 @@ pub fn migrate_rows<S: Site>(
     requires known { S.tells → AreKnown rows.now used.old.items (content (S.told site.old)) }
     requires places { length used.old.items ≡ 32 }
     ensures moments { S.tells → (frames : ℕ) → IsSound frames (content (S.told site.old))
-        → Writes (SoundAs frames (shown (content (S.told site.old))))
+        → Writes (SoundAs frames (volumes_shown (content (S.told site.old))))
         (S.told site.old) (S.told site.new) }
     ensures known { S.tells → OnOk result
         (AreKnown rows.now used.new.items (content (S.told site.new))) }

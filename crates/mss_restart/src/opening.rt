@@ -6,7 +6,7 @@ ghost use Rattle.mss_base.specs.Content.{content};
 ghost use Rattle.mss_base.specs.Sites.{OnlyReads};
 ghost use Rattle.mss_base.specs.Configs.{serial_in};
 ghost use Rattle.shown_volumes.specs.Faults.{first_fault};
-ghost use Rattle.volume_table.specs.Listed.{listed};
+ghost use Rattle.volume_table.specs.Listed.{row_in_list};
 ghost use Rattle.mss_restart.specs.Usable.{AreUsable};
 ghost use Rattle.mss_restart.specs.Opening.{AreKnown, RowsAre, answer_of, opening_changes, site_of};
 ghost use Rattle.mss_restart.specs.Creations.{
@@ -67,7 +67,7 @@ fn known_rows<S: Site>(alloc: Global, site: &mut S, config: &Config) -> Result<R
     ensures faultless { S.tells → OnOk result (first_fault config.now.frames
         (serial_in config.now.volumes) (content (S.told site.old)) ≡ None) }
     ensures usable { IfOk result (λ rows. AreUsable config.now.frames (serial_in config.now.volumes)
-        (listed rows)) }
+        (row_in_list rows)) }
     ensures refused { S.tells → IfErr result (RefusesAs (S.faults site.old) (S.faults site.new)
         config.now (S.told site.old) (S.told site.new)) }
     ensures exact { S.tells → S.faults site.new ≡ S.faults site.old
@@ -120,8 +120,8 @@ fn change_volumes<S: Site>(
         (run_of volumes.now opened.old opened.new) (S.told site.old) (S.told site.new) result }
     ensures places { length opened.new.used.items ≡ 32 }
     ensures rows { OnOk result (AreTold
-        (opening_changes (listed opened.old.rows) volumes.now) (steps_of opened.new)
-        (listed opened.old.rows) (listed opened.new.rows) (S.writes site.old) (S.writes site.new)) }
+        (opening_changes (row_in_list opened.old.rows) volumes.now) (steps_of opened.new)
+        (row_in_list opened.old.rows) (row_in_list opened.new.rows) (S.writes site.old) (S.writes site.new)) }
     ensures site_ { StepsOn S.Site site.old site.new result }
 {
     create_volumes(
@@ -156,8 +156,8 @@ fn complete_rows<S: Site>(
         (S.told site.old) (S.told site.new) result }
     ensures places { length opened.new.used.items ≡ 32 }
     ensures rows { OnOk result (AreTold
-        (opening_changes (listed opened.old.rows) config.now.volumes) (steps_of opened.new)
-        (listed opened.old.rows) (listed opened.new.rows) (S.writes site.old) (S.writes site.new)) }
+        (opening_changes (row_in_list opened.old.rows) config.now.volumes) (steps_of opened.new)
+        (row_in_list opened.old.rows) (row_in_list opened.new.rows) (S.writes site.old) (S.writes site.new)) }
     ensures site_ { StepsOn S.Site site.old site.new result }
 {
     rewrite_rows(alloc, site, &opened.rows, &mut opened.used)?;

@@ -6,7 +6,7 @@ ghost use Rattle.table_pair.specs.Repairs.{FailsNever, KeepsRepairFault};
 ghost use Rattle.table_pair.specs.declared.copy.SlotsUsed.{SlotsUsed};
 ghost use Rattle.table_pair.specs.declared.copy.RepairFault.TheVariants as trouble;
 ghost use Rattle.shown_volumes.specs.declared.refused.Refused.TheVariants.{Memory};
-ghost use Rattle.shown_volumes.specs.Shown.{shown};
+ghost use Rattle.shown_volumes.specs.Shown.{volumes_shown};
 ghost use Rattle.shown_volumes.specs.Sound.{IsSound, SoundAs};
 ghost use Rattle.mss_restart.specs.Creations.{
   AreEqual,
@@ -45,7 +45,7 @@ pub fn repair_rows<S: Site>(
 ) -> Result<(), Refused>
     requires places { length used.old.items ≡ 32 }
     ensures moments { S.tells → (frames : ℕ) → IsSound frames (content (S.told site.old))
-        → Writes (SoundAs frames (shown (content (S.told site.old))))
+        → Writes (SoundAs frames (volumes_shown (content (S.told site.old))))
         (S.told site.old) (S.told site.new) }
     ensures rows { S.tells → (volume : ℕ)
         → row_of (content (S.told site.new)) volume ≡ row_of (content (S.told site.old)) volume }

@@ -7,7 +7,7 @@ ghost use Rattle.table_pair.specs.Pair.{RowReading};
 ghost use Rattle.table_pair.specs.Reads.{Tells, KeepsCount, MissesNone};
 ghost use Rattle.shown_volumes.specs.Faults.{serial_fault};
 ghost use Rattle.shown_volumes.specs.Sound.{HasSerialsAsked};
-ghost use Rattle.volume_table.specs.Listed.{listed};
+ghost use Rattle.volume_table.specs.Listed.{row_in_list};
 ghost use Rattle.mss_restart.specs.Survey.{
   CanReadTable,
   IsNoFailure,
@@ -126,7 +126,7 @@ pub fn read_rows<S: Site>(
     ensures read { S.tells → ReadsRows (S.faults site.old) (S.faults site.new)
         (serial_in volumes.now) (content (S.told site.old)) result }
     ensures serials { IfOk result (λ read.
-        HasSerialsAsked (serial_in volumes.now) (listed read.rows)) }
+        HasSerialsAsked (serial_in volumes.now) (row_in_list read.rows)) }
     ensures counts { KeepsRows (S.faults site.old) (S.faults site.new) result }
     ensures works { CanReadTable S.Site site.old → ReadsWholeRows result }
     ensures one_copy { S.tells → LosesOneTable S.Site site.old

@@ -3,7 +3,7 @@ ghost use Rattle.std.specs.Prelude.{◌≡◌, ◌<◌, ℕ, List, Option, IfOk,
 ghost use Rattle.mss_base.specs.Content.{content};
 ghost use Rattle.mss_base.specs.Sites.{OnlyReads};
 ghost use Rattle.mss_base.specs.Configs.{serial_in};
-ghost use Rattle.volume_table.specs.Listed.{listed};
+ghost use Rattle.volume_table.specs.Listed.{row_in_list};
 ghost use Rattle.mss_restart.specs.Walks.{rest_fault};
 ghost use Rattle.mss_restart.specs.OneCopy.{ArePaired, LosesOneTable};
 ghost use Rattle.mss_restart.specs.Survey.{
@@ -38,12 +38,12 @@ use volume_table::Rows;
 /// Checks the halves, then the pages, then the tracks of rows.
 fn check_rows<S: Site>(alloc: Global, site: &mut S, frames: u16, rows: &Rows) -> Result<(), Refused>
     ensures finds { S.tells → Finds result
-        (rest_fault frames (listed rows.now) (content (S.told site.old))) }
-    ensures behind { IfErr result (StopsBehind frames (listed rows.now)) }
-    ensures usable { (asked : ℕ → Option (List ℕ)) → HasSerialsAsked asked (listed rows.now)
-        → OnOk result (AreUsable frames asked (listed rows.now)) }
+        (rest_fault frames (row_in_list rows.now) (content (S.told site.old))) }
+    ensures behind { IfErr result (StopsBehind frames (row_in_list rows.now)) }
+    ensures usable { (asked : ℕ → Option (List ℕ)) → HasSerialsAsked asked (row_in_list rows.now)
+        → OnOk result (AreUsable frames asked (row_in_list rows.now)) }
     ensures counts { CountsFaults (S.faults site.old) (S.faults site.new) result }
-    ensures works { CanReadRows S.Site site.old (listed rows.now) → TellsNoFailure result }
+    ensures works { CanReadRows S.Site site.old (row_in_list rows.now) → TellsNoFailure result }
     ensures devices { OnlyReads S.Site site.old site.new }
 {
     rows.look();
@@ -69,7 +69,7 @@ pub fn survey_rows<S: Site>(
     ensures read { S.tells → IfOk result (λ read. AreRead (S.faults site.old) (S.faults site.new)
         (serial_in config.now.volumes) (content (S.told site.old)) read.rows read.unread) }
     ensures usable { IfOk result (λ read. AreUsable config.now.frames (serial_in config.now.volumes)
-        (listed read.rows)) }
+        (row_in_list read.rows)) }
     ensures counts { KeepsRows (S.faults site.old) (S.faults site.new) result }
     ensures works { NeverFails S.Site site.old → ReadsWholeRows result }
     ensures reads { S.tells → CanReadTable S.Site site.old
@@ -101,7 +101,7 @@ pub fn survey<S: Site>(alloc: Global, site: &mut S, config: &Config) -> Result<R
         → IsExact config.now.frames (serial_in config.now.volumes) (content (S.told site.old))
         result }
     ensures usable { IfOk result (λ rows. AreUsable config.now.frames (serial_in config.now.volumes)
-        (listed rows)) }
+        (row_in_list rows)) }
     ensures kept { KeepsFault (S.faults site.old) (S.faults site.new) result }
     ensures works { NeverFails S.Site site.old → TellsNoFailure result }
     ensures reads { S.tells → CanReadTable S.Site site.old

@@ -9,7 +9,7 @@ ghost use Rattle.shown_volumes.specs.Shown.{block_at};
 ghost use Rattle.mss_base.specs.Firsts.{where_so, first_below};
 ghost use Rattle.shown_volumes.specs.Faults.{is_torn, is_blank, is_same_list, row_track_fault, tracks_fault};
 ghost use Rattle.shown_volumes.specs.declared.refused.Refused.TheVariants.{TornTrack, StagedDiffers};
-ghost use Rattle.volume_table.specs.Listed.{listed};
+ghost use Rattle.volume_table.specs.Listed.{row_in_list};
 ghost use Rattle.mss_restart.specs.Walks.{row_cylinder_fault, row_tracks_fault};
 ghost use Rattle.table_pair.specs.Reads.{IsReadable};
 ghost use Rattle.mss_restart.specs.Survey.{FindsFault, Finds, CanReadRow, CanReadRows, CountsFaults, TellsNoFailure};
@@ -229,9 +229,9 @@ fn check_volume<S: Site>(
     staged: &mut Block,
 ) -> Result<(), Refused>
     ensures finds { S.tells → Finds result
-        (tracks_fault (listed rows.now) (content (S.told site.old)) volume) }
+        (tracks_fault (row_in_list rows.now) (content (S.told site.old)) volume) }
     ensures counts { CountsFaults (S.faults site.old) (S.faults site.new) result }
-    ensures works { ForSome (listed rows.now volume) (CanReadRow S.Site site.old)
+    ensures works { ForSome (row_in_list rows.now volume) (CanReadRow S.Site site.old)
         → TellsNoFailure result }
     ensures devices { OnlyReads S.Site site.old site.new }
 {
@@ -251,9 +251,9 @@ pub fn check_tracks<S: Site>(
     staged: &mut Block,
 ) -> Result<(), Refused>
     ensures finds { S.tells → Finds result
-        (first_below 32 (tracks_fault (listed rows.now) (content (S.told site.old)))) }
+        (first_below 32 (tracks_fault (row_in_list rows.now) (content (S.told site.old)))) }
     ensures counts { CountsFaults (S.faults site.old) (S.faults site.new) result }
-    ensures works { CanReadRows S.Site site.old (listed rows.now) → TellsNoFailure result }
+    ensures works { CanReadRows S.Site site.old (row_in_list rows.now) → TellsNoFailure result }
     ensures devices { OnlyReads S.Site site.old site.new }
 {
     for number in 0..32 {

@@ -13,7 +13,7 @@ use Rattle.mss_base.specs.declared.site.Site.{Ghosts}
 use Rattle.volume_copy.specs.Beside.{ReadsBeside}
 use Rattle.volume_copy.specs.Copies.{AskedCopy}
 use Rattle.core_state.specs.Beginning.{Continues, IsLater}
-use Rattle.core_state.specs.CoreValue.{CoreData, CoreValue, seen}
+use Rattle.core_state.specs.CoreValue.{CoreData, CoreValue, seen_core}
 use Rattle.core_state.specs.HostEvents.{halts}
 use Rattle.core_state.specs.IsCore.{opening_of}
 use Rattle.core_state.proofs.Later.{later_none, later_then}
@@ -117,17 +117,17 @@ module _ {S C : Type 0} (g : Ghosts S) (v w : CoreValue S C) where
   history_read false same = ap (λ (x : CoreValue S C). x.history) same
   history_read true reads = ap (λ (x : CoreValue S C). x.history) reads.core
 
-  pub opens_read : (opening : OpeningData) (setup : SetupData) → OpensWith opening setup g.tells (g.never_fails_but v.site) (seen g v) → (g.tells → v.first_write ≤ length (g.told v.site).log)
-      → (copies : Bool) → ReadsBeside g copies v w → OpensWith opening setup g.tells (g.never_fails_but w.site) (seen g w)
-  opens_read opening setup opens before false same = subst (λ (x : CoreValue S C). OpensWith opening setup g.tells (g.never_fails_but x.site) (seen g x)) (sym same) opens
+  pub opens_read : (opening : OpeningData) (setup : SetupData) → OpensWith opening setup g.tells (g.never_fails_but v.site) (seen_core g v) → (g.tells → v.first_write ≤ length (g.told v.site).log)
+      → (copies : Bool) → ReadsBeside g copies v w → OpensWith opening setup g.tells (g.never_fails_but w.site) (seen_core g w)
+  opens_read opening setup opens before false same = subst (λ (x : CoreValue S C). OpensWith opening setup g.tells (g.never_fails_but x.site) (seen_core g x)) (sym same) opens
   opens_read opening setup opens before true reads =
       let read : CoreValue S C = record v { site = w.site } in
-      let later : IsLater g.tells (seen g v) (seen g read) = record {
+      let later : IsLater g.tells (seen_core g v) (seen_core g read) = record {
         beginning = record { config = refl; first_write = refl; first_faults = refl; handed = λ rows. refl };
-        grown = λ tl. subst (λ (s : SiteLog). Continues (g.told v.site) s) (sym (reads.site_.log tl)) ((later_none g.tells (seen g v)).grown tl);
+        grown = λ tl. subst (λ (s : SiteLog). Continues (g.told v.site) s) (sym (reads.site_.log tl)) ((later_none g.tells (seen_core g v)).grown tl);
       } in
-      subst (λ (x : CoreValue S C). OpensWith opening setup g.tells (g.never_fails_but x.site) (seen g x)) (sym reads.core)
-      (opens_still opening setup g.tells (g.never_fails_but v.site) (g.never_fails_but w.site) (seen g v) (seen g read) opens before later reads.site_.sound (λ but none going. going))
+      subst (λ (x : CoreValue S C). OpensWith opening setup g.tells (g.never_fails_but x.site) (seen_core g x)) (sym reads.core)
+      (opens_still opening setup g.tells (g.never_fails_but v.site) (g.never_fails_but w.site) (seen_core g v) (seen_core g read) opens before later reads.site_.sound (λ but none going. going))
 
 -- the book that is there has the list that is kept
 pub list_is : (b : Option BookData) (x : BookData) (log : List EntryData) (made : List ℕ) → b ≡ Some x → b ≡ Some record { list = log; made = made } → x.list ≡ log

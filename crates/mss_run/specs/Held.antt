@@ -3,7 +3,7 @@ use Rattle.std.specs.Prelude.{◌≡◌, ℕ, List, Option, Some}
 use Rattle.seen_book.specs.Openings.{OpeningData}
 use Rattle.seen_book.specs.Books.{BookData}
 use Rattle.core_state.specs.CoreValue.{CoreData}
-use Rattle.volume_copy.specs.Beside.{asked}
+use Rattle.volume_copy.specs.Beside.{asked_copy}
 use Rattle.volume_copy.specs.Copies.{CopyData}
 use Rattle.mss_run.specs.Beginning.{Failing, SetupData, OpensWith}
 
@@ -15,4 +15,4 @@ pub record IsHeld (opening : OpeningData) (setup : SetupData) (tells : Type 0)
   pub made : List ℕ
   pub book_ : book ≡ Some record { list = core.history; made = made }
   pub opens : OpensWith opening setup tells never_fails_but core
-  pub copy : asked copier ≡ setup.copy
+  pub copy : asked_copy copier ≡ setup.copy

@@ -22,8 +22,8 @@ with_host host is_in p = record p { hosts = slice_set p.hosts host is_in }
 abbrev pub with_worker : ℕ → Bool → Presence → Presence
 with_worker recorder is_in p = record p { workers = slice_set p.workers recorder is_in }
 
-abbrev pub ended : Presence → Presence
-ended p = record p { ended = true }
+abbrev pub ended_presence : Presence → Presence
+ended_presence p = record p { ended = true }
 
 -- some host is in
 abbrev pub has_hosts : Presence → Bool

@@ -7,7 +7,7 @@ use Rattle.mss_base.specs.declared.place.UnitNo.{UnitNo}
 use Rattle.mss_base.specs.declared.site.Site.{Ghosts}
 use Rattle.ckd_plain.specs.History.{EntryData, IsLegal}
 use Rattle.core_state.specs.Beginning.{IsLater}
-use Rattle.core_state.specs.CoreValue.{CoreValue, seen}
+use Rattle.core_state.specs.CoreValue.{CoreValue, seen_core}
 use Rattle.core_state.specs.IsCore.{opening_of}
 use Rattle.core_state.specs.declared.session.TheConstants.{ENTRY_LIMIT}
 use Rattle.channel_program.specs.Items.{EndsScript}
@@ -48,8 +48,8 @@ AreEndsIn log (s ∷ ss) (e ∷ es) = IsEndIn log s e × AreEndsIn log ss es
 AreEndsIn log _ _ = ⊥
 
 -- a run leaves the ends of all hosts; or of none, for want of memory before any made a call
-abbrev pub Leaves : List EntryData → List ScriptData → List EndData → Type 0
-Leaves log scripts ends = AreEndsIn log scripts ends ⊎ ((ends ≡ []) × (log ≡ []))
+abbrev pub LeavesEnds : List EntryData → List ScriptData → List EndData → Type 0
+LeavesEnds log scripts ends = AreEndsIn log scripts ends ⊎ ((ends ≡ []) × (log ≡ []))
 
 -- what each host asked follows its script, also the call that stopped the core
 abbrev pub AskByScript : List EntryData → List ScriptData → Type 0
@@ -103,12 +103,12 @@ run_answer None entries hosts ends =
 -- ended, and what ended the run
 pub record LeavesRun {S C : Type 0} (g : Ghosts S) (job : JobData) (core after : CoreValue S C)
     (ends : List EndData) (answer : RunAnswer) : Type 0 where
-  pub later : IsLater g.tells (seen g core) (seen g after)
+  pub later : IsLater g.tells (seen_core g core) (seen_core g after)
   pub sound : StaysSound g.never_fails_but core.site after.site
   pub only_reads_fail : (but : UnitNo → Bool) → g.never_fails_but core.site but
       → core.stopped ≡ None → after.stopped ≡ None
   pub legal : g.tells → IsLegal (opening_of (g.told core.site) core) after.history
   pub hosts : AreOfThese (hosts_of job.hosts) after.history
-  pub ends_ : Leaves after.history job.hosts ends
+  pub ends_ : LeavesEnds after.history job.hosts ends
   pub follow : AskByScript after.history job.hosts
   pub answer_ : answer ≡ run_answer after.stopped (length after.history) (length job.hosts) ends

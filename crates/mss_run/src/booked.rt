@@ -5,11 +5,11 @@ ghost use Rattle.std.specs.Option.{option_map};
 ghost use Rattle.channel_commands.specs.Views.{call_of};
 ghost use Rattle.seen_book.specs.Openings.{IsLegalFrom};
 ghost use Rattle.host_events.specs.Answers.{told_of};
-ghost use Rattle.core_state.specs.CoreValue.{seen};
+ghost use Rattle.core_state.specs.CoreValue.{seen_core};
 ghost use Rattle.core_state.specs.HostEvents.{IsSame};
 ghost use Rattle.core_state.specs.declared.rule.WorkAnswer.TheVariants.{Idle};
 ghost use Rattle.core_state.specs.declared.session.TheConstants.{ENTRY_LIMIT};
-ghost use Rattle.volume_copy.specs.Beside.{IsReadyFor, ReadsBeside, StandsBeside, TakesBeside, asked};
+ghost use Rattle.volume_copy.specs.Beside.{IsReadyFor, ReadsBeside, StandsBeside, TakesBeside, asked_copy};
 ghost use Rattle.mss_run.specs.Answers.{Answered};
 ghost use Rattle.mss_run.specs.Beginning.{OpensWith};
 ghost use Rattle.mss_run.specs.Happens.{Happens, IsSameButRead};
@@ -34,7 +34,7 @@ pub(crate) struct BookedCore<N: Setup, S: Site, C: Choose> {
 }
 
 impl<N: Setup, S: Site, C: Choose> Model for BookedCore<N, S, C> {
-    ghost use Rattle.core_state.specs.CoreValue.{seen};
+    ghost use Rattle.core_state.specs.CoreValue.{seen_core};
     ghost use Rattle.volume_copy.specs.Beside.{CopiedValue};
     ghost use Rattle.mss_run.specs.Held.{IsHeld};
 
@@ -44,7 +44,7 @@ impl<N: Setup, S: Site, C: Choose> Model for BookedCore<N, S, C> {
 
     ghost invariant = { λ b.
         IsHeld N.opening N.setup S.tells (S.never_fails_but b.copied.core.site)
-        (seen S.Site b.copied.core) b.copied.copier b.book };
+        (seen_core S.Site b.copied.core) b.copied.copier b.book };
 }
 
 /// The entry at a place.
@@ -93,10 +93,10 @@ impl<N: Setup, S: Site, C: Choose> BookedCore<N, S, C> {
     /// A core of the session that the name names, with its book and the copier that is asked for.
     pub fn new(core: Core<S, C>, copier: Option<Copier>, book: Book<N>) -> Self
         requires opening { OpensWith N.opening N.setup S.tells (S.never_fails_but core.site)
-            (seen S.Site core) }
+            (seen_core S.Site core) }
         requires history { book.list ≡ core.history }
         requires ready { IfSome copier (IsReadyFor core.history) }
-        requires copy { asked copier ≡ N.setup.copy }
+        requires copy { asked_copy copier ≡ N.setup.copy }
     {
         BookedCore {
             copied: CopiedCore::new(core, copier),
@@ -107,9 +107,9 @@ impl<N: Setup, S: Site, C: Choose> BookedCore<N, S, C> {
     /// The core, the copier and the book.
     pub fn into_parts(self) -> (Core<S, C>, Option<Copier>, Book<N>)
         ensures opening { OpensWith N.opening N.setup S.tells
-            (S.never_fails_but result.0.site) (seen S.Site result.0) }
+            (S.never_fails_but result.0.site) (seen_core S.Site result.0) }
         ensures history { result.2.list ≡ result.0.history }
-        ensures copy { asked result.1 ≡ N.setup.copy }
+        ensures copy { asked_copy result.1 ≡ N.setup.copy }
         ensures stands { IfSome result.1 (StandsBeside S.Site result.0) }
     {
         let BookedCore { copied, book } = self;
@@ -134,9 +134,9 @@ impl<N: Setup, S: Site, C: Choose> BookedCore<N, S, C> {
         call: &Call,
     ) -> (HostPass<N>, HostAnswer, bool)
         ensures answered { Answered (call_of call.now) pass (told_of result.1) result.0 }
-        ensures in_vain { result.2 ≡ true → IsSameButRead (is_some (asked self.old.copier)) S.tells
-            (seen S.Site self.old.core) (seen S.Site self.new.core) }
-        ensures copier { asked self.new.copier ≡ asked self.old.copier }
+        ensures in_vain { result.2 ≡ true → IsSameButRead (is_some (asked_copy self.old.copier)) S.tells
+            (seen_core S.Site self.old.core) (seen_core S.Site self.new.core) }
+        ensures copier { asked_copy self.new.copier ≡ asked_copy self.old.copier }
     {
         let host = pass.host();
         let before = entries_beside(&self.copied);
@@ -154,8 +154,8 @@ impl<N: Setup, S: Site, C: Choose> BookedCore<N, S, C> {
     /// One event of a recorder; none of one that isn't configured. An idle one changes nothing.
     pub fn work(&mut self, recorder: RecorderNo) -> WorkAnswer
         ensures idle { result ≡ Idle → IsSame S.tells
-            (seen S.Site self.old.core) (seen S.Site self.new.core) }
-        ensures copier { asked self.new.copier ≡ asked self.old.copier }
+            (seen_core S.Site self.old.core) (seen_core S.Site self.new.core) }
+        ensures copier { asked_copy self.new.copier ≡ asked_copy self.old.copier }
     {
         if recorder.get() >= self.recorders() {
             return WorkAnswer::Idle;
@@ -169,9 +169,9 @@ impl<N: Setup, S: Site, C: Choose> BookedCore<N, S, C> {
     pub fn take(&mut self) -> Result<Option<CopyState>, NoMemory>
         ensures takes { OnOk result (TakesBeside S.Site self.old self.new) }
         ensures memory { OnErr result (self.new ≡ self.old) }
-        ensures core { ReadsBeside S.Site (is_some (asked self.old.copier))
+        ensures core { ReadsBeside S.Site (is_some (asked_copy self.old.copier))
             self.old.core self.new.core }
-        ensures copier { asked self.new.copier ≡ asked self.old.copier }
+        ensures copier { asked_copy self.new.copier ≡ asked_copy self.old.copier }
         ensures state { IfOk result (λ state.
             state ≡ option_map (λ c. c.state) self.new.copier) }
     {

@@ -5,13 +5,13 @@ ghost use Rattle.mss_base.specs.declared.place.UnitNo.{UnitNo};
 ghost use Rattle.channel_commands.specs.Views.{call_of};
 ghost use Rattle.ckd_plain.specs.History.{IsLegal};
 ghost use Rattle.core_state.specs.Beginning.{IsLater};
-ghost use Rattle.core_state.specs.CoreValue.{seen};
+ghost use Rattle.core_state.specs.CoreValue.{seen_core};
 ghost use Rattle.core_state.specs.HostEvents.{IsSame};
 ghost use Rattle.core_state.specs.IsCore.{IsCore, opening_of};
 ghost use Rattle.core_state.specs.declared.rule.WorkAnswer.TheVariants.{Idle};
 ghost use Rattle.core_state.specs.declared.session.TheConstants.{ENTRY_LIMIT};
 ghost use Rattle.host_events.specs.Answers.{told_of};
-ghost use Rattle.volume_copy.specs.Beside.{asked};
+ghost use Rattle.volume_copy.specs.Beside.{asked_copy};
 ghost use Rattle.mss_run.specs.Happens.{Happens, IsSameButRead, is_in_vain};
 
 use channel_commands::Call;
@@ -84,13 +84,13 @@ pub(crate) fn host_step<S: Site, C: Choose>(
 ) -> (HostAnswer, bool)
     ensures history { Happens host (call_of call.now) (told_of result.0)
         copied.old.core.history copied.new.core.history }
-    ensures in_vain { result.1 ≡ true → IsSameButRead (is_some (asked copied.old.copier)) S.tells
-        (seen S.Site copied.old.core) (seen S.Site copied.new.core) }
-    ensures later { IsLater S.tells (seen S.Site copied.old.core) (seen S.Site copied.new.core) }
+    ensures in_vain { result.1 ≡ true → IsSameButRead (is_some (asked_copy copied.old.copier)) S.tells
+        (seen_core S.Site copied.old.core) (seen_core S.Site copied.new.core) }
+    ensures later { IsLater S.tells (seen_core S.Site copied.old.core) (seen_core S.Site copied.new.core) }
     ensures sound { StaysSound S.never_fails_but copied.old.core.site copied.new.core.site }
     ensures only_reads_fail { (but : UnitNo → Bool) → S.never_fails_but copied.old.core.site but
         → copied.old.core.stopped ≡ None → copied.new.core.stopped ≡ None }
-    ensures copier { asked copied.new.copier ≡ asked copied.old.copier }
+    ensures copier { asked_copy copied.new.copier ≡ asked_copy copied.old.copier }
 {
     events_add_one_entry_at_most::<S>();
     answers_have_their_causes::<S>();
@@ -111,9 +111,9 @@ pub(crate) fn work_step<S: Site, C: Choose>(
 ) -> WorkAnswer
     requires { recorder < copied.old.core.config.recorders }
     ensures history { copied.new.core.history ≡ copied.old.core.history }
-    ensures idle { result ≡ Idle → IsSame S.tells (seen S.Site copied.old.core)
-        (seen S.Site copied.new.core) }
-    ensures later { IsLater S.tells (seen S.Site copied.old.core) (seen S.Site copied.new.core) }
+    ensures idle { result ≡ Idle → IsSame S.tells (seen_core S.Site copied.old.core)
+        (seen_core S.Site copied.new.core) }
+    ensures later { IsLater S.tells (seen_core S.Site copied.old.core) (seen_core S.Site copied.new.core) }
     ensures sound { StaysSound S.never_fails_but copied.old.core.site copied.new.core.site }
     ensures only_reads_fail { (but : UnitNo → Bool) → S.never_fails_but copied.old.core.site but
         → copied.old.core.stopped ≡ None → copied.new.core.stopped ≡ None }

@@ -2,11 +2,11 @@
 ghost use Rattle.std.specs.Prelude.{◌≡◌, IfSome, None, Some, false, is_some, true};
 ghost use Rattle.std.specs.Option.{option_map};
 ghost use Rattle.channel_commands.specs.Views.{call_of};
-ghost use Rattle.core_state.specs.CoreValue.{seen};
+ghost use Rattle.core_state.specs.CoreValue.{seen_core};
 ghost use Rattle.core_state.specs.HostEvents.{IsSame};
 ghost use Rattle.core_state.specs.declared.rule.WorkAnswer.TheVariants.{Idle};
 ghost use Rattle.host_events.specs.Answers.{told_of};
-ghost use Rattle.volume_copy.specs.Beside.{IsReadyFor, ReadsBeside, StandsBeside, asked};
+ghost use Rattle.volume_copy.specs.Beside.{IsReadyFor, ReadsBeside, StandsBeside, asked_copy};
 ghost use Rattle.mss_run.specs.Answers.{Answered, Stepped};
 ghost use Rattle.mss_run.specs.Beginning.{OpensWith};
 ghost use Rattle.mss_run.specs.Happens.{IsSameButRead};
@@ -15,7 +15,7 @@ ghost use Rattle.mss_run.specs.Presence.{
   IsRest,
   TakesInTurn,
   Turns,
-  ended,
+  ended_presence,
   nobody,
   with_host,
   with_worker,
@@ -57,10 +57,10 @@ impl<N: Setup, S: Site, C: Choose> Held<N, S, C> {
     /// Before any actor is in.
     pub fn new(core: Core<S, C>, copier: Option<Copier>, book: Book<N>) -> Self
         requires opening { OpensWith N.opening N.setup S.tells (S.never_fails_but core.site)
-            (seen S.Site core) }
+            (seen_core S.Site core) }
         requires history { book.list ≡ core.history }
         requires ready { IfSome copier (IsReadyFor core.history) }
-        requires copy { asked copier ≡ N.setup.copy }
+        requires copy { asked_copy copier ≡ N.setup.copy }
         ensures { result.present ≡ nobody }
     {
         Held {
@@ -72,9 +72,9 @@ impl<N: Setup, S: Site, C: Choose> Held<N, S, C> {
     /// The core, the copier and the book, when the lock is gone.
     pub fn into_parts(self) -> (Core<S, C>, Option<Copier>, Book<N>)
         ensures opening { OpensWith N.opening N.setup S.tells
-            (S.never_fails_but result.0.site) (seen S.Site result.0) }
+            (S.never_fails_but result.0.site) (seen_core S.Site result.0) }
         ensures history { result.2.list ≡ result.0.history }
-        ensures copy { asked result.1 ≡ N.setup.copy }
+        ensures copy { asked_copy result.1 ≡ N.setup.copy }
         ensures stands { IfSome result.1 (StandsBeside S.Site result.0) }
     {
         let Held { session, .. } = self;
@@ -116,8 +116,8 @@ impl<N: Setup, S: Site, C: Choose> Held<N, S, C> {
         ensures over { self.old.present.ended ≡ true
             → (result.1 ≡ None) × (self.new.session ≡ self.old.session) }
         ensures idle { result.2 ≡ Some Idle
-            → IsSameButRead (is_some (asked self.old.session.copier)) S.tells
-            (seen S.Site self.old.session.core) (seen S.Site self.new.session.core) }
+            → IsSameButRead (is_some (asked_copy self.old.session.copier)) S.tells
+            (seen_core S.Site self.old.session.core) (seen_core S.Site self.new.session.core) }
     {
         if self.present.is_over() {
             return (pass, None, None);
@@ -133,8 +133,8 @@ impl<N: Setup, S: Site, C: Choose> Held<N, S, C> {
     /// One event of the first recorder that has one and whose own worker isn't in.
     fn help(&mut self) -> WorkAnswer
         ensures present { self.new.present ≡ self.old.present }
-        ensures idle { result ≡ Idle → IsSame S.tells (seen S.Site self.old.session.core)
-            (seen S.Site self.new.session.core) }
+        ensures idle { result ≡ Idle → IsSame S.tells (seen_core S.Site self.old.session.core)
+            (seen_core S.Site self.new.session.core) }
     {
         for number in 0..self.session.recorders() {
             let Some(recorder) = RecorderNo::of(number) else {
@@ -156,8 +156,8 @@ impl<N: Setup, S: Site, C: Choose> Held<N, S, C> {
     pub fn turn(&mut self, recorder: RecorderNo) -> Option<WorkAnswer>
         ensures turns { Turns recorder self.old.present result self.new.present }
         ensures over { self.old.present.ended ≡ true → self.new.session ≡ self.old.session }
-        ensures idle { IsRest result → IsSame S.tells (seen S.Site self.old.session.core)
-            (seen S.Site self.new.session.core) }
+        ensures idle { IsRest result → IsSame S.tells (seen_core S.Site self.old.session.core)
+            (seen_core S.Site self.new.session.core) }
     {
         if self.present.is_over() {
             self.present.set_worker(recorder, false);
@@ -183,7 +183,7 @@ impl<N: Setup, S: Site, C: Choose> Held<N, S, C> {
         ensures turns { CopyTurns self.old.present result
             (option_map (λ c. c.state) self.new.session.copier) }
         ensures present { self.new.present ≡ self.old.present }
-        ensures core { ReadsBeside S.Site (is_some (asked self.old.session.copier))
+        ensures core { ReadsBeside S.Site (is_some (asked_copy self.old.session.copier))
             self.old.session.core self.new.session.core }
         ensures over { self.old.present.ended ≡ true → self.new.session ≡ self.old.session }
     {
@@ -222,7 +222,7 @@ impl<N: Setup, S: Site, C: Choose> Held<N, S, C> {
 
     /// Ends the run, for every actor.
     pub fn end(&mut self)
-        ensures { self.new ≡ record self.old { present = ended self.old.present } }
+        ensures { self.new ≡ record self.old { present = ended_presence self.old.present } }
     {
         self.present.end();
     }

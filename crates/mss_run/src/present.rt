@@ -1,7 +1,7 @@
 // Who is in a run, and whether it is over.
 ghost use Rattle.std.specs.Prelude.{◌≡◌, false, slice_index_or};
 ghost use Rattle.std.specs.List.{list_any};
-ghost use Rattle.mss_run.specs.Presence.{ended, has_hosts, nobody, with_host, with_worker};
+ghost use Rattle.mss_run.specs.Presence.{ended_presence, has_hosts, nobody, with_host, with_worker};
 
 use mss_base::{HostNo, RecorderNo};
 
@@ -51,7 +51,7 @@ impl Presence {
 
     /// Ends the run, for every actor.
     pub fn end(&mut self)
-        ensures { self.new ≡ ended self.old }
+        ensures { self.new ≡ ended_presence self.old }
     {
         self.ended = true;
     }

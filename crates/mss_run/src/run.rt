@@ -7,9 +7,9 @@ ghost use Rattle.mss_base.specs.declared.place.UnitNo.{UnitNo};
 ghost use Rattle.ckd_plain.specs.History.{IsLegal};
 ghost use Rattle.seen_book.specs.Books.{AreOfThese};
 ghost use Rattle.core_state.specs.Beginning.{IsLater};
-ghost use Rattle.core_state.specs.CoreValue.{seen};
+ghost use Rattle.core_state.specs.CoreValue.{seen_core};
 ghost use Rattle.core_state.specs.IsCore.{opening_of};
-ghost use Rattle.volume_copy.specs.Beside.{IsReadyFor, StandsBeside, asked};
+ghost use Rattle.volume_copy.specs.Beside.{IsReadyFor, StandsBeside, asked_copy};
 ghost use Rattle.mss_run.specs.Beginning.{OpensWith};
 ghost use Rattle.mss_run.specs.Runs.{
   AreRuns,
@@ -18,7 +18,7 @@ ghost use Rattle.mss_run.specs.Runs.{
   IsEmptyFor,
   IsRun,
   IsStart,
-  Leaves,
+  LeavesEnds,
   LeavesRun,
   hosts_of,
   run_answer,
@@ -303,7 +303,7 @@ fn without_ends<S: Site, C: Choose>(
     requires empty { core.history ≡ [] }
     requires ready { IfSome copier (IsReadyFor core.history) }
     ensures leaves { LeavesRun S.Site job.now core result.core result.hosts.items result.answer }
-    ensures copier { asked result.copier ≡ asked copier }
+    ensures copier { asked_copy result.copier ≡ asked_copy copier }
     ensures stands { IfSome result.copier (StandsBeside S.Site result.core) }
 {
     let scripts = job.hosts.as_slice();
@@ -337,16 +337,16 @@ fn run_named<
 ) -> RunEnd<S, C>
     requires word { blank ≡ N.table }
     requires opening { OpensWith N.opening N.setup S.tells (S.never_fails_but core.site)
-        (seen S.Site core) }
-    requires began { N.setup.began ≡ seen S.Site core }
+        (seen_core S.Site core) }
+    requires began { N.setup.began ≡ seen_core S.Site core }
     requires sound { (but : UnitNo → Bool)
         → S.never_fails_but core.site but → N.setup.never_fails_but but }
     requires hosts { N.hosts ≡ hosts_of job.now.hosts }
     requires empty { core.history ≡ [] }
     requires ready { IfSome copier (IsReadyFor core.history) }
-    requires copy { asked copier ≡ N.setup.copy }
+    requires copy { asked_copy copier ≡ N.setup.copy }
     ensures leaves { LeavesRun S.Site job.now core result.core result.hosts.items result.answer }
-    ensures copier { asked result.copier ≡ asked copier }
+    ensures copier { asked_copy result.copier ≡ asked_copy copier }
     ensures stands { IfSome result.copier (StandsBeside S.Site result.core) }
 {
     let hosts = job.hosts.as_slice().len();
@@ -376,16 +376,16 @@ fn run_supplied<
     requires passes { IsEmptyFor (length job.now.hosts) taken.passes }
     requires ends { IsEmptyFor (length job.now.hosts) taken.ends }
     requires opening { OpensWith N.opening N.setup S.tells (S.never_fails_but core.site)
-        (seen S.Site core) }
-    requires began { N.setup.began ≡ seen S.Site core }
+        (seen_core S.Site core) }
+    requires began { N.setup.began ≡ seen_core S.Site core }
     requires sound { (but : UnitNo → Bool)
         → S.never_fails_but core.site but → N.setup.never_fails_but but }
     requires hosts { N.hosts ≡ hosts_of job.now.hosts }
     requires empty { core.history ≡ [] }
     requires ready { IfSome copier (IsReadyFor core.history) }
-    requires copy { asked copier ≡ N.setup.copy }
+    requires copy { asked_copy copier ≡ N.setup.copy }
     ensures leaves { LeavesRun S.Site job.now core result.core result.hosts.items result.answer }
-    ensures copier { asked result.copier ≡ asked copier }
+    ensures copier { asked_copy result.copier ≡ asked_copy copier }
     ensures stands { IfSome result.copier (StandsBeside S.Site result.core) }
 {
     let Supplies {
@@ -437,17 +437,17 @@ pub fn run_actors<S: Site + Send, C: Choose + Send, G: Gate + Sync, R: Threads +
     requires empty { core.history ≡ [] }
     requires ready { IfSome copier (IsReadyFor core.history) }
     requires config { core.config ≡ job.now.config }
-    ensures later { IsLater S.tells (seen S.Site core) (seen S.Site result.core) }
+    ensures later { IsLater S.tells (seen_core S.Site core) (seen_core S.Site result.core) }
     ensures sound { StaysSound S.never_fails_but core.site result.core.site }
     ensures only_reads_fail { (but : UnitNo → Bool) → S.never_fails_but core.site but
         → core.stopped ≡ None → result.core.stopped ≡ None }
     ensures legal { S.tells → IsLegal (opening_of (S.told core.site) core) result.core.history }
     ensures hosts { AreOfThese (hosts_of job.now.hosts) result.core.history }
-    ensures ends { Leaves result.core.history job.now.hosts result.hosts.items }
+    ensures ends { LeavesEnds result.core.history job.now.hosts result.hosts.items }
     ensures follow { AskByScript result.core.history job.now.hosts }
     ensures answer { result.answer ≡ run_answer result.core.stopped (length result.core.history)
         (length job.now.hosts) result.hosts.items }
-    ensures copier { asked result.copier ≡ asked copier }
+    ensures copier { asked_copy result.copier ≡ asked_copy copier }
     ensures stands { IfSome result.copier (StandsBeside S.Site result.core) }
 {
     let Ok(blank) = make::<Brand>(alloc) else {

@@ -3,10 +3,10 @@ ghost use Rattle.std.specs.Prelude.{◌≡◌, ◌≤◌, All, IfSome, length};
 ghost use Rattle.channel_commands.specs.Views.{call_of};
 ghost use Rattle.seen_book.specs.Books.{AreNested, AreOfThese, Begins, HaveOneEach};
 ghost use Rattle.seen_book.specs.Openings.{IsLegalFrom};
-ghost use Rattle.core_state.specs.CoreValue.{seen};
+ghost use Rattle.core_state.specs.CoreValue.{seen_core};
 ghost use Rattle.core_state.specs.declared.session.TheConstants.{ENTRY_LIMIT};
 ghost use Rattle.host_events.specs.Answers.{told_of};
-ghost use Rattle.volume_copy.specs.Beside.{IsReadyFor, StandsBeside, asked};
+ghost use Rattle.volume_copy.specs.Beside.{IsReadyFor, StandsBeside, asked_copy};
 ghost use Rattle.mss_run.specs.Answers.{Answered};
 ghost use Rattle.mss_run.specs.Beginning.{OpensWith};
 
@@ -38,10 +38,10 @@ impl<N: Setup, S: Site, C: Choose> Shared<N, S, C> {
     /// names the core's session and the copy.
     pub fn new(word: Word<N>, book: Book<N>, core: Core<S, C>, copier: Option<Copier>) -> Self
         requires opening { OpensWith N.opening N.setup S.tells (S.never_fails_but core.site)
-            (seen S.Site core) }
+            (seen_core S.Site core) }
         requires history { book.list ≡ core.history }
         requires ready { IfSome copier (IsReadyFor core.history) }
-        requires copy { asked copier ≡ N.setup.copy }
+        requires copy { asked_copy copier ≡ N.setup.copy }
     {
         let recorders = core.recorder_count();
         let copies = copier.is_some();
@@ -92,14 +92,14 @@ impl<N: Setup, S: Site, C: Choose> Shared<N, S, C> {
     /// beginning of it, and has all entries of its host there. A pass that isn't handed in is given up.
     pub fn close(self, passes: PassList<N>) -> (Core<S, C>, Option<Copier>)
         ensures opening { OpensWith N.opening N.setup S.tells
-            (S.never_fails_but result.0.site) (seen S.Site result.0) }
+            (S.never_fails_but result.0.site) (seen_core S.Site result.0) }
         ensures legal { IsLegalFrom N.opening result.0.history }
         ensures few { length result.0.history ≤ ENTRY_LIMIT }
         ensures hosts { AreOfThese N.hosts result.0.history }
         ensures passes { All (Begins result.0.history) passes.items }
         ensures nested { AreNested passes.items }
         ensures one_each { HaveOneEach passes.items }
-        ensures copy { asked result.1 ≡ N.setup.copy }
+        ensures copy { asked_copy result.1 ≡ N.setup.copy }
         ensures stands { IfSome result.1 (StandsBeside S.Site result.0) }
     {
         let Shared { word, held, .. } = self;

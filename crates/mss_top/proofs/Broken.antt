@@ -3,7 +3,7 @@ use Rattle.std.proofs.Common.{◌≡◌, ℕ, List, Option, None, Some, Ok, Err,
 use Rattle.mss_base.specs.Content.{SiteLog, content}
 use Rattle.mss_base.specs.Sites.{OnlyReads}
 use Rattle.mss_base.specs.declared.site.Site.{Ghosts}
-use Rattle.volume_table.specs.Listed.{listed}
+use Rattle.volume_table.specs.Listed.{row_in_list}
 use Rattle.volume_table.specs.Row.{RowValue}
 use Rattle.shown_volumes.specs.Shown.{shown_by}
 use Rattle.report_text.specs.declared.one_line.OneLine.{OneLine}
@@ -82,7 +82,7 @@ look_broken g old mid new rows sink reads survey broke = record {
       there = broke.off.there;
       few = broke.off.few;
       unread_ = unread_since g old mid reads.sound _ broke.off.unread_;
-      put = λ t. broke.off.put t ∙ ap (λ (log : SiteLog). sink.was ++ told_text (listing_matter (shown_by (listed rows) (content log))) (unread broke.off.place broke.off.tracks broke.fault)) (reads.log t.0);
+      put = λ t. broke.off.put t ∙ ap (λ (log : SiteLog). sink.was ++ told_text (listing_matter (shown_by (row_in_list rows) (content log))) (unread broke.off.place broke.off.tracks broke.fault)) (reads.log t.0);
     };
   };
 }

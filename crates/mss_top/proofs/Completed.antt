@@ -14,7 +14,7 @@ use Rattle.session_report.specs.Parties.{Stream}
 use Rattle.job_runs.specs.Parties.{Devices}
 use Rattle.volume_copy.specs.Copies.{AskedCopy}
 use Rattle.mss_top.specs.Admission.{copy_asked, task_of, AskInVain, AskToRun, IsAdmitted, IsJobOf, IsJobless, IsUnread, command_of}
-use Rattle.mss_top.specs.Serial.{AsksJob, Chooses, Closes, Ends, GoesWell, IsComplete, IsRefused, IsRunOf, IsToldOf, IsUntaken, Output, since, until}
+use Rattle.mss_top.specs.Serial.{AsksJob, Chooses, Closes, EndsCommand, GoesWell, IsComplete, IsRefused, IsRunOf, IsToldOf, IsUntaken, Output, since, until}
 use Rattle.mss_top.specs.Status.{line_status}
 use Rattle.mss_top.specs.declared.admission.Admitted.{Admitted}
 use Rattle.mss_top.specs.declared.admission.Settings.{Settings}
@@ -75,6 +75,6 @@ module _ (asked : Option Command) (input : Stream) (site : Devices) (sink : Stre
     run_done may run s same is = session_complete may run.settings.load run.turns.items is.mid is.end is.answer s (copy_asked run.settings.copy) is.closes
         (subst (λ (j : JobData). IsToldOf may run.settings.load (task_of j run.settings.copy) run.turns.items site (until sink is.mid) is.end is.answer s) same is.session)
 
-    pub run_complete : (may : Chooses) (left : Option Session) → Ends asked may input site sink told left → IsComplete told
+    pub run_complete : (may : Chooses) (left : Option Session) → EndsCommand asked may input site sink told left → IsComplete told
     run_complete may None is = refused_complete is
     run_complete may (Some session) is = run_done may is.run (session_data session) (same_job is.run is.admitted) is.done

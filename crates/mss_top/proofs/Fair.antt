@@ -18,13 +18,13 @@ use Rattle.core_state.specs.SessionData.{SessionData}
 use Rattle.serial_driver.specs.declared.answer.DriveAnswer.{DriveAnswer}
 use Rattle.serial_driver.specs.declared.answer.DriveAnswer.TheVariants as ended
 use Rattle.session_report.specs.Answers.{Answer, IsPut, whole as put_whole, broken, cut}
-use Rattle.session_report.specs.Parties.{Stream, IsUntouched, Devices as ToldDevices, seen_with}
+use Rattle.session_report.specs.Parties.{Stream, IsUntouched, ToldDevices, seen_with}
 use Rattle.session_report.specs.Summaries.{summary_text}
 use Rattle.session_report.specs.declared.reporting.Last.{Last}
 use Rattle.session_report.specs.declared.reporting.Last.TheVariants.{End, Limit}
 use Rattle.session_report.specs.Reports.{Ending, HasReason, IsReported, Matter, Telling, finished, told_answer, told_text, whole, unread}
 use Rattle.volume_copy.specs.Copies.{AskedCopy}
-use Rattle.job_runs.specs.Parties.{Devices, reported, since as devices_since, until as devices_until}
+use Rattle.job_runs.specs.Parties.{Devices, told_devices, since as devices_since, until as devices_until}
 use Rattle.job_runs.specs.Runs.{IsHalted, IsPromised, IsReportOf, IsSummed, TellsOf, matter_of}
 use Rattle.mss_top.specs.Admission.{IsJobText, IsNoJob}
 use Rattle.mss_top.specs.Serial.{Closes, IsComplete, IsUntaken, NothingFails, Output, since, until}
@@ -109,8 +109,8 @@ module _ (job : JobData) (input : Stream) (site : Devices) (sink : Stream) (fair
       -- its report was put
       pub reported_complete : (copy : Option AskedCopy) (at : DevicesSeen) → IsPromised job.config (devices_until site at) s → IsReportOf (record { job = job; copy = copy }) site.was.told (devices_since site at) (until sink mid) end answer s → IsComplete told
       reported_complete copy at promised is =
-          ended_complete s.stopped (λ (ending : Ending). IsReported (matter_of job (content site.was.told) s is.behind) ending (reported (devices_since site at)) (until sink mid) answer) answer (going at is.read.later promised)
-          (λ last end complete puts put. report_complete (matter_of job (content site.was.told) s is.behind) (finished last) end (reported (devices_since site at)) (until sink mid) answer
+          ended_complete s.stopped (λ (ending : Ending). IsReported (matter_of job (content site.was.told) s is.behind) ending (told_devices (devices_since site at)) (until sink mid) answer) answer (going at is.read.later promised)
+          (λ last end complete puts put. report_complete (matter_of job (content site.was.told) s is.behind) (finished last) end (told_devices (devices_since site at)) (until sink mid) answer
           (λ rose. no_rise _ _ _ _ fair.site_none (omega (arith, promised.began, promised.counted.began)) (omega arith) rose) puts complete put)
           end halts is.report closes
 

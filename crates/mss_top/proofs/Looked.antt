@@ -8,22 +8,22 @@ use Rattle.mss_base.specs.Counts.{Rises}
 use Rattle.mss_base.specs.Configs.{serial_in}
 use Rattle.command_words.specs.declared.command.Command.{Command}
 use Rattle.volume_table.specs.Row.{RowValue}
-use Rattle.volume_table.specs.Listed.{listed}
+use Rattle.volume_table.specs.Listed.{row_in_list}
 use Rattle.report_text.specs.OneLines.{one_line_text}
 use Rattle.report_text.specs.declared.one_line.OneLine.{OneLine}
 use Rattle.report_text.specs.declared.one_line.OneLine.TheVariants as line
-use Rattle.shown_volumes.specs.Shown.{RowsOf, rows_of, shown, shown_by}
+use Rattle.shown_volumes.specs.Shown.{RowsOf, rows_of, volumes_shown, shown_by}
 use Rattle.shown_volumes.specs.declared.refused.Refused.{Refused}
 use Rattle.shown_volumes.specs.declared.refused.Refused.TheVariants as refused
 use Rattle.mss_restart.specs.Survey.{IsExact, KeepsFault, Surveys}
 use Rattle.core_restart.specs.TakingUp.{NoneFailed}
 use Rattle.serial_driver.specs.declared.answer.DriveAnswer.TheVariants as ended
 use Rattle.session_report.specs.Answers.{Answer, IsPut, whole as put_whole, broken, cut}
-use Rattle.session_report.specs.Parties.{Devices as ToldDevices, Stream, seen_with}
+use Rattle.session_report.specs.Parties.{ToldDevices, Stream, seen_with}
 use Rattle.session_report.specs.Reports.{AnswersNoRead, Ending, HasReason, IsReported, SiteCounts, Telling, finished, listing_matter, told_answer, told_text, whole, unread}
 use Rattle.session_report.specs.declared.fault.ReportFault.TheVariants as report_fault
 use Rattle.session_report.specs.declared.reporting.Last.TheVariants.{End}
-use Rattle.job_runs.specs.Parties.{Devices, reported, since}
+use Rattle.job_runs.specs.Parties.{Devices, told_devices, since}
 use Rattle.mss_top.specs.Ending.{line_of}
 use Rattle.mss_top.specs.Showing.{EndsShown, FRAMES, IsFaultPut, IsListed, IsShown, IsSurvey, IsSurveyLine, IsUnlisted, Lists, LooksWell, Put, RowsFound, fault_shown, none_asked}
 use Rattle.mss_top.specs.Status.{IsLinePut, whole as line_whole, broken as line_broken, status_of}
@@ -81,19 +81,19 @@ fault_put site why sink tells none is put = record { why = why; first = is.exact
 
 -- a content without a fault, as it was told
 module _ (c : Content) (sink : Stream) (faultless : fault_shown c ≡ None) (sink_none : Rises sink.faults_was sink.faults_now → ⊥) where
-  telling_shown : (site : ToldDevices) (answer : Answer) → site.tells → AnswersNoRead answer → (telling : Telling) → HasReason (finished End) (listing_matter (shown c)).volumes site.faults_was site.faults_now telling
-      → IsPut (told_answer telling) (told_text (listing_matter (shown c)) telling) (seen_with site sink) answer → IsShown c sink (status_of ended.Done answer)
+  telling_shown : (site : ToldDevices) (answer : Answer) → site.tells → AnswersNoRead answer → (telling : Telling) → HasReason (finished End) (listing_matter (volumes_shown c)).volumes site.faults_was site.faults_now telling
+      → IsPut (told_answer telling) (told_text (listing_matter (volumes_shown c)) telling) (seen_with site sink) answer → IsShown c sink (status_of ended.Done answer)
   telling_shown site answer tells read (whole e) reason (put_whole is bytes) = subst (λ (a : Answer). IsShown c sink (status_of ended.Done a)) (sym is)
-      (faultless, λ t. bytes (tells, t) ∙ ap (λ (e : Ending). sink.was ++ told_text (listing_matter (shown c)) (whole e)) reason)
+      (faultless, λ t. bytes (tells, t) ∙ ap (λ (e : Ending). sink.was ++ told_text (listing_matter (volumes_shown c)) (whole e)) reason)
   telling_shown site answer tells read (unread place tracks fault) reason (put_whole is bytes) = absurd (subst (λ (a : Answer). AnswersNoRead a) is read)
   telling_shown site answer tells read telling reason (broken is rose front) = absurd (sink_none rose)
   telling_shown site answer tells read telling reason (cut is counted front) = subst (λ (a : Answer). IsShown c sink (status_of ended.Done a)) (sym is) tt
 
-  pub lists_shown : (rows : List (Option RowValue)) (site : Devices) (told : Status) → site.tells → content site.was.told ≡ c → listed rows ≡ rows_of c → (lists : Lists rows site sink told) → AnswersNoRead lists.answer → IsShown c sink told
+  pub lists_shown : (rows : List (Option RowValue)) (site : Devices) (told : Status) → site.tells → content site.was.told ≡ c → row_in_list rows ≡ rows_of c → (lists : Lists rows site sink told) → AnswersNoRead lists.answer → IsShown c sink told
   lists_shown rows site told tells holds same lists read =
-      let is : IsReported (listing_matter (shown c)) (finished End) (reported site) sink lists.answer =
-      subst (λ (p : RowsOf × Content). IsReported (listing_matter (shown_by p.0 p.1)) (finished End) (reported site) sink lists.answer) (λ i. (same i, holds i)) lists.listing in
-      subst (λ (s : Status). IsShown c sink s) (sym lists.ends) (telling_shown (reported site) lists.answer tells read is.telling is.reason is.put)
+      let is : IsReported (listing_matter (volumes_shown c)) (finished End) (told_devices site) sink lists.answer =
+      subst (λ (p : RowsOf × Content). IsReported (listing_matter (shown_by p.0 p.1)) (finished End) (told_devices site) sink lists.answer) (λ i. (same i, holds i)) lists.listing in
+      subst (λ (s : Status). IsShown c sink s) (sym lists.ends) (telling_shown (told_devices site) lists.answer tells read is.telling is.reason is.put)
 
 module _ (asked : Option Command) (site : Devices) (sink : Stream) (well : LooksWell asked site sink) (told : Status) where
   line_shown : (said : OneLine) → IsUnlisted asked site said → IsLinePut said sink told → IsShown (content site.was.told) sink told

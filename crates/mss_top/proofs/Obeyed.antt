@@ -11,7 +11,7 @@ use Rattle.session_report.specs.Parties.{IsUntouched}
 use Rattle.job_runs.specs.Parties.{Devices}
 use Rattle.mss_top.specs.Admission.{Asks}
 use Rattle.mss_top.specs.Obeying.{Does, IsRefusalLine, IsWhole, Parties}
-use Rattle.mss_top.specs.Serial.{Chooses, Ends}
+use Rattle.mss_top.specs.Serial.{Chooses, EndsCommand}
 use Rattle.mss_top.specs.Showing.{IsUnlisted, LooksExactly}
 use Rattle.mss_top.specs.Status.{IsLinePut}
 use Rattle.mss_top.specs.declared.status.Status.{Status}
@@ -65,9 +65,9 @@ module _ (asked : Option Command) where
 -- a run of `serial`
 refused_run : (order turns : ℕ) (load : Option ℕ) (copy : Option CopyAsked) (may : Chooses) (p : Parties) (told : Status) (session : Option Session) (said : OneLine)
     → Asks (Some (Serial order turns load copy)) (Err said) → IsUntouched p.input → p.site.now ≡ p.site.was → session ≡ None → IsLinePut said p.sink told
-    → Ends (Some (Serial order turns load copy)) may p.input p.site p.sink told session
+    → EndsCommand (Some (Serial order turns load copy)) may p.input p.site p.sink told session
 refused_run order turns load copy may p told session said is untouched same none put =
-    subst (λ (l : Option Session). Ends (Some (Serial order turns load copy)) may p.input p.site p.sink told l) (sym none)
+    subst (λ (l : Option Session). EndsCommand (Some (Serial order turns load copy)) may p.input p.site p.sink told l) (sym none)
     (record { said = said; cause = inl (record { unread = refused_words (Some (Serial order turns load copy)) p.input said is untouched; devices_ = same }); put = put })
 
 -- of words that ask for a run by rules only want of memory can be told

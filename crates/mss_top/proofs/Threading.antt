@@ -12,7 +12,7 @@ use Rattle.mss_run.specs.Runs.{EndData}
 use Rattle.session_report.specs.Parties.{Stream, IsUntouched}
 use Rattle.job_runs.specs.Parties.{Devices}
 use Rattle.job_runs.specs.declared.run.Outcome.TheVariants as outcome
-use Rattle.thread_runs.specs.Runs.{Ends as EndsAtOnce}
+use Rattle.thread_runs.specs.Runs.{EndsAtOnce}
 use Rattle.job_runs.specs.Copies.{JobAsked}
 use Rattle.mss_top.specs.Admission.{task_of, Asks, IsNoJob}
 use Rattle.mss_top.specs.Ending.{line_of}

@@ -15,7 +15,7 @@ use Rattle.job_runs.specs.Parties.{Devices}
 use Rattle.mss_top.specs.Auditing.{AuditBrokeOff, AuditsWell, EndsAudit, IsWrongPut}
 use Rattle.mss_top.specs.Comparing.{ComparesWell, IsCompared}
 use Rattle.mss_top.specs.Ending.{SaysWhy}
-use Rattle.mss_top.specs.Serial.{Chooses, Ends, GoesWell, IsComplete, OnUnstopped, RunBrokeOff}
+use Rattle.mss_top.specs.Serial.{Chooses, EndsCommand, GoesWell, IsComplete, OnUnstopped, RunBrokeOff}
 use Rattle.mss_top.specs.Showing.{EndsShown, IsShown, LookBrokeOff, LooksWell}
 use Rattle.mss_top.specs.Threads.{EndsThreads, GoesWellAtOnce, ThreadsBrokeOff}
 use Rattle.mss_top.specs.declared.admission.Settings.{Settings}
@@ -56,9 +56,9 @@ Does (Some Compare) may other p told session =
 Does (Some (Threads copy)) may other p told session = (hosts : List EndData)
     × EndsThreads (Some (Threads copy)) p.input p.site p.sink told hosts session
 Does (Some (Serial order turns load copy)) may other p told session =
-    Ends (Some (Serial order turns load copy)) may p.input p.site p.sink told session
+    EndsCommand (Some (Serial order turns load copy)) may p.input p.site p.sink told session
 Does (Some (Policy rules order turns load copy)) may other p told session =
-    Ends (Some (Serial order turns load copy)) (RulesMay rules) p.input p.site p.sink told session
+    EndsCommand (Some (Serial order turns load copy)) (RulesMay rules) p.input p.site p.sink told session
 
 -- and what is answered where nothing fails
 abbrev pub IsWhole : Option Command → Parties → Status → Type 0

@@ -119,16 +119,16 @@ abbrev pub EndsRun : Chooses → Admitted → Devices → Stream → Status → 
 EndsRun may run site sink told session =
     EndsAs (SaysWhy (IsUntaken run.job site) sink told) (IsRunOf may run site sink told) session
 
-abbrev pub Ends : Option Command → Chooses → Stream → Devices → Stream → Status
+abbrev pub EndsCommand : Option Command → Chooses → Stream → Devices → Stream → Status
     → Option Session → Type 0
-Ends asked may input site sink told session =
+EndsCommand asked may input site sink told session =
     EndsAs (IsRefused asked input site sink told) (IsRun may asked input site sink told) session
 
 -- what running it leaves, told or not
-abbrev pub Runs : Chooses → Option ℕ → JobAsked → List ℕ → Devices → Stream → Outcome → Type 0
-Runs may load task turns site sink (outcome.Untaken why) =
+abbrev pub RunsAdmitted : Chooses → Option ℕ → JobAsked → List ℕ → Devices → Stream → Outcome → Type 0
+RunsAdmitted may load task turns site sink (outcome.Untaken why) =
     IsNotTakenUp task.job site sink why
-Runs may load task turns site sink (outcome.Ran session end answer) =
+RunsAdmitted may load task turns site sink (outcome.Ran session end answer) =
     IsToldOf may load task turns site sink end answer (session_data session)
 
 -- ---- a report that broke off

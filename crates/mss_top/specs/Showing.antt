@@ -3,7 +3,7 @@ use Rattle.std.specs.Prelude.{◌≡◌, ◌≢◌, ◌⊎◌, ◌++◌, ℕ, Li
 use Rattle.mss_base.specs.Content.{Content, content}
 use Rattle.mss_base.specs.declared.site.Site.{Ghosts}
 use Rattle.volume_table.specs.Row.{RowValue}
-use Rattle.volume_table.specs.Listed.{listed}
+use Rattle.volume_table.specs.Listed.{row_in_list}
 use Rattle.command_words.specs.declared.command.Command.{Command}
 use Rattle.command_words.specs.declared.command.Command.TheVariants.{Show}
 use Rattle.report_text.specs.OneLines.{one_line_text}
@@ -11,7 +11,7 @@ use Rattle.report_text.specs.Texts.{listing_title}
 use Rattle.report_text.specs.declared.one_line.OneLine.{OneLine}
 use Rattle.report_text.specs.declared.one_line.OneLine.TheVariants as line
 use Rattle.shown_volumes.specs.Faults.{first_fault}
-use Rattle.shown_volumes.specs.Shown.{shown, shown_by}
+use Rattle.shown_volumes.specs.Shown.{volumes_shown, shown_by}
 use Rattle.shown_volumes.specs.declared.refused.Refused.{Refused}
 use Rattle.shown_volumes.specs.declared.refused.Refused.TheVariants as refused
 use Rattle.mss_restart.specs.OneCopy.{ArePaired, LosesOneTable}
@@ -25,7 +25,7 @@ use Rattle.session_report.specs.Parts.{IsUnread}
 use Rattle.session_report.specs.Reports.{BreaksOff, Frames, IsReported, Matter, SiteCounts}
 use Rattle.session_report.specs.Reports.{finished, listing_matter, told_text, whole}
 use Rattle.session_report.specs.declared.reporting.Last.TheVariants.{End}
-use Rattle.job_runs.specs.Parties.{Devices, reported, since, until}
+use Rattle.job_runs.specs.Parties.{Devices, told_devices, since, until}
 use Rattle.mss_top.specs.Ending.{SaysWhy}
 use Rattle.mss_top.specs.Status.{status_of}
 use Rattle.mss_top.specs.declared.status.Status.{Status}
@@ -80,13 +80,13 @@ IsUnlisted asked site said = AskToShow asked × IsSurveyLine site said
 
 -- what a listing of these rows is about
 abbrev pub matter_of : List (Option RowValue) → Devices → Matter
-matter_of rows site = listing_matter (shown_by (listed rows) (content site.was.told))
+matter_of rows site = listing_matter (shown_by (row_in_list rows) (content site.was.told))
 
 -- the volumes were listed that rows show over the devices
 pub record Lists (rows : List (Option RowValue)) (site : Devices) (sink : Stream) (told : Status)
     : Type 0 where
   pub answer : Answer
-  pub listing : IsReported (matter_of rows site) (finished End) (reported site) sink answer
+  pub listing : IsReported (matter_of rows site) (finished End) (told_devices site) sink answer
   -- whatever the devices tell
   pub framed : sink.tells → Frames listing_title (finished End) sink.was sink.now answer
   pub counted : SiteCounts site.was.faults site.now.faults answer
@@ -108,8 +108,8 @@ pub record IsListed (asked : Option Command) (site : Devices) (sink : Stream) (t
 pub record BrokeOff {S : Type 0} (g : Ghosts S) (s : S)
     (rows : List (Option RowValue)) (site : Devices) (sink : Stream) : Type 0 where
   pub fault : ℕ
-  pub off : BreaksOff (IsUnread g s (listed rows) (matter_of rows site).volumes)
-      (matter_of rows site) (seen_with (reported site) sink) fault
+  pub off : BreaksOff (IsUnread g s (row_in_list rows) (matter_of rows site).volumes)
+      (matter_of rows site) (seen_with (told_devices site) sink) fault
 
 -- a look broke off within the listing of the rows that its survey found
 pub record LookBrokeOff {S : Type 0} (g : Ghosts S) (s : S) (site : Devices)
@@ -136,7 +136,7 @@ pub record LooksWell (asked : Option Command) (site : Devices) (sink : Stream) :
 
 -- the whole listing of what a content shows
 abbrev pub listing_text : Content → List ℕ
-listing_text c = told_text (listing_matter (shown c)) (whole (finished End))
+listing_text c = told_text (listing_matter (volumes_shown c)) (whole (finished End))
 
 -- the content's first fault, as a look finds it
 abbrev pub fault_shown : Content → Option Refused

@@ -1,7 +1,7 @@
 //! The copier of a run.
 ghost use Rattle.std.specs.Prelude.{◌≡◌, [], IfOk, IfSome, Some};
 ghost use Rattle.command_words.specs.Words.{IsCopyWithin};
-ghost use Rattle.volume_copy.specs.Beside.{IsReadyFor, asked};
+ghost use Rattle.volume_copy.specs.Beside.{IsReadyFor, asked_copy};
 ghost use Rattle.volume_copy.specs.Copies.{asked_by};
 ghost use Rattle.mss_top.specs.Admission.{copy_asked};
 
@@ -25,7 +25,7 @@ fn armed(alloc: Global, copy: CopyAsked) -> Result<Copier, NoMemory>
 /// The copier of the copy that the words ask for, if they ask for one.
 pub fn copier_for(alloc: Global, copy: Option<CopyAsked>) -> Result<Option<Copier>, NoMemory>
     requires within { IsCopyWithin copy }
-    ensures asked { IfOk result (λ copier. asked copier ≡ copy_asked copy) }
+    ensures asked { IfOk result (λ copier. asked_copy copier ≡ copy_asked copy) }
     ensures ready { IfOk result (λ copier. IfSome copier (IsReadyFor [])) }
 {
     match copy {

@@ -20,7 +20,7 @@ use crate::auditing::audit_for;
 use crate::comparing::compare_beside;
 use crate::ending::{Ended, refuse};
 use crate::run::{policy, run_with};
-use crate::showing::look;
+use crate::showing::list_site;
 use command_words::Command;
 use mss_base::{Sink, Site, Source};
 use mss_run::Gate;
@@ -98,7 +98,7 @@ fn carry_out<
             policy(rt.alloc(), rules, settings, input, output, site)
         }
         Command::Threads { copy } => run_threads(rt, copy, input, output, site, chooser, gate).run,
-        Command::Show => look(rt.alloc(), output, site),
+        Command::Show => list_site(rt.alloc(), output, site),
         Command::Audit { frames } => audit_for(rt.alloc(), frames, output, site),
         Command::Compare => compare_beside(rt.alloc(), input, output, site, other),
     }

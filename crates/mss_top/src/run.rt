@@ -9,9 +9,9 @@ ghost use Rattle.serial_driver.specs.Drives.{AreTurns};
 ghost use Rattle.session_report.specs.Parties.{sink_between, source_between};
 ghost use Rattle.job_runs.specs.Parties.{devices};
 ghost use Rattle.job_runs.specs.Runs.{GoesUnstopped, OnUnread, ReportBrokeOff};
-ghost use Rattle.volume_copy.specs.Beside.{IsReadyFor, asked};
+ghost use Rattle.volume_copy.specs.Beside.{IsReadyFor, asked_copy};
 ghost use Rattle.mss_top.specs.Admission.{IsLoad, command_of, copy_asked, task_of};
-ghost use Rattle.mss_top.specs.Serial.{Closes, Ends, EndsRun, GoesWell, IsComplete, Runs};
+ghost use Rattle.mss_top.specs.Serial.{Closes, EndsCommand, EndsRun, GoesWell, IsComplete, RunsAdmitted};
 ghost use Rattle.mss_top.specs.Serial.{JobBrokeOff, OnUnstopped, RunBrokeOff};
 ghost use Rattle.mss_top.specs.declared.admission.Settings.{Settings};
 ghost use Rattle.mss_top.specs.declared.status.Status.TheVariants.{Stopped};
@@ -54,9 +54,9 @@ fn run_told<S: Site, C: Choose + Drop, O: Sink>(
 ) -> JobEnd<S>
     requires able { C.can_choose chooser }
     requires ready { IfSome copier (IsReadyFor []) }
-    requires copy { asked copier ≡ copy_asked run.now.settings.copy }
+    requires copy { asked_copy copier ≡ copy_asked run.now.settings.copy }
     requires turns { AreTurns run.now.job.hosts run.now.job.config run.now.turns.items }
-    ensures runs { Runs (C.may chooser) run.now.settings.load
+    ensures runs { RunsAdmitted (C.may chooser) run.now.settings.load
         (task_of run.now.job run.now.settings.copy) run.now.turns.items
         (devices S.Site site result.site)
         (sink_between O.Sink output.old output.new) result.outcome }
@@ -84,7 +84,7 @@ fn run_admitted<S: Site, C: Choose + Drop, O: Sink>(
 ) -> Ended<S>
     requires able { C.can_choose chooser }
     requires ready { IfSome copier (IsReadyFor []) }
-    requires copy { asked copier ≡ copy_asked run.now.settings.copy }
+    requires copy { asked_copy copier ≡ copy_asked run.now.settings.copy }
     requires turns { AreTurns run.now.job.hosts run.now.job.config run.now.turns.items }
     ensures ended { EndsRun (C.may chooser) run.now (devices S.Site site result.site)
         (sink_between O.Sink output.old output.new) result.status result.session }
@@ -118,7 +118,7 @@ pub fn run_with<I: Source, O: Sink, S: Site, C: Choose + Drop>(
     requires able { C.can_choose chooser }
     requires load { IsLoad settings.load }
     requires copy { IsCopyWithin settings.copy }
-    ensures ended { Ends (Some (command_of settings)) (C.may chooser)
+    ensures ended { EndsCommand (Some (command_of settings)) (C.may chooser)
         (source_between I.Source input.old input.new) (devices S.Site site result.site)
         (sink_between O.Sink output.old output.new) result.status result.session }
     ensures unread { result.status ≡ Stopped → OnUnstopped result.session (RunBrokeOff
@@ -148,7 +148,7 @@ pub fn policy<I: Source, O: Sink, S: Site>(
 ) -> Ended<S>
     requires load { IsLoad settings.load }
     requires copy { IsCopyWithin settings.copy }
-    ensures ended { Ends (Some (command_of settings)) (RulesMay rules)
+    ensures ended { EndsCommand (Some (command_of settings)) (RulesMay rules)
         (source_between I.Source input.old input.new) (devices S.Site site result.site)
         (sink_between O.Sink output.old output.new) result.status result.session }
     ensures unread { result.status ≡ Stopped → OnUnstopped result.session (RunBrokeOff
@@ -179,7 +179,7 @@ pub fn serial<I: Source, O: Sink, S: Site, C: Choose + Drop>(
     chooser: C,
 ) -> Ended<S>
     requires able { C.can_choose chooser }
-    ensures ended { Ends (meaning (map string_bytes words.now)) (C.may chooser)
+    ensures ended { EndsCommand (meaning (map string_bytes words.now)) (C.may chooser)
         (source_between I.Source input.old input.new) (devices S.Site site result.site)
         (sink_between O.Sink output.old output.new) result.status result.session }
     ensures unread { result.status ≡ Stopped → OnUnstopped result.session (RunBrokeOff

@@ -86,7 +86,7 @@ fn look_at<S: Site, O: Sink>(alloc: Global, output: &mut O, site: &mut S) -> Sta
 }
 
 /// Looks at a site, and puts the listing, or the line of its first fault.
-pub fn look<S: Site, O: Sink>(alloc: Global, output: &mut O, mut site: S) -> Ended<S>
+pub fn list_site<S: Site, O: Sink>(alloc: Global, output: &mut O, mut site: S) -> Ended<S>
     ensures ended { EndsShown (Some Show) (devices S.Site site result.site)
         (sink_between O.Sink output.old output.new) result.status }
     ensures unread { result.status ≡ Stopped → LookBrokeOff S.Site site
@@ -130,7 +130,7 @@ pub fn show<S: Site, O: Sink>(alloc: Global, words: &[String], output: &mut O, s
     ensures session { result.session ≡ None }
 {
     match command_in(alloc, words) {
-        Ok(Command::Show) => look(alloc, output, site),
+        Ok(Command::Show) => list_site(alloc, output, site),
         Ok(_) => refuse(output, site, OneLine::WordsRefused),
         Err(line) => refuse(output, site, line),
     }

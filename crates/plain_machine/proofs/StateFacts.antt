@@ -11,7 +11,7 @@ use Rattle.channel_commands.specs.Data.{ReplyData, command}
 use Rattle.channel_commands.specs.Views.{reply_of}
 use Rattle.ckd_track.specs.Data.{RecordData, Volumes}
 use Rattle.ckd_plain.specs.Data.{State}
-use Rattle.ckd_plain.specs.Plain.{Answer, Replied, plain, fresh_host, with_host, with_track, written_to, written_there, written_mounted, run, tracks_under, tracks_mounted}
+use Rattle.ckd_plain.specs.Plain.{Answer, Replied, plain, fresh_host, with_host, with_track, written_to, written_there, written_mounted, answer_on_tracks, tracks_under, tracks_mounted}
 use Rattle.plain_machine.specs.Outcomes.{cylinder_of, written_in, Answers}
 use Rattle.ckd_plain.specs.Views.{Responds}
 use Rattle.plain_machine.specs.StateData.{VolumeData, StateData, state_of, AnswersOn, volume_at, is_read_only, track_of, volumes_of, hosts_of}
@@ -80,8 +80,8 @@ module _ (volumes : List (Option VolumeData)) (v : ℕ) (bind : Bool) (from : Ho
 
   pub answers_on : (code : ℕ) (argument : List ℕ) (chained : Bool) (host : HostState) (reply : Reply)
       → new.cylinders ≡ slice_set old.cylinders from.cylinder (slice_index_or new.cylinders from.cylinder [])
-      → Answers (run (cylinder_of (slice_index_or old.cylinders from.cylinder [])) from code argument chained) from (slice_index_or old.cylinders from.cylinder []) (slice_index_or new.cylinders from.cylinder []) host reply
-      → AnswersOn (run (tracks_under (volumes_of volumes) from) from code argument chained) from volumes (slice_set volumes v (Some new)) host reply
+      → Answers (answer_on_tracks (cylinder_of (slice_index_or old.cylinders from.cylinder [])) from code argument chained) from (slice_index_or old.cylinders from.cylinder []) (slice_index_or new.cylinders from.cylinder []) host reply
+      → AnswersOn (answer_on_tracks (tracks_under (volumes_of volumes) from) from code argument chained) from volumes (slice_set volumes v (Some new)) host reply
   answers_on code argument chained host reply cylinders a =
       let under : tracks_under (volumes_of volumes) from ≡ cylinder_of (slice_index_or old.cylinders from.cylinder []) =
       ap (λ (m : Option (ℕ × Bool)). tracks_mounted (volumes_of volumes) m from.cylinder) mounted ∙ ap (λ (x : Option VolumeData). track_of x from.cylinder) there in
@@ -102,14 +102,14 @@ blank_cylinder = fun_ext (λ (head : ℕ). blank_at 19 head)
 
 -- a host without a volume
 module _ (volumes : List (Option VolumeData)) (from : HostState) (code : ℕ) (argument : List ℕ) (chained : Bool) (host : HostState) (reply : Reply)
-    (a : Responds (run (λ (head : ℕ). []) from code argument chained) host reply) where
-  pub unmounted_answers : from.mounted ≡ None → AnswersOn (run (tracks_under (volumes_of volumes) from) from code argument chained) from volumes volumes host reply
+    (a : Responds (answer_on_tracks (λ (head : ℕ). []) from code argument chained) host reply) where
+  pub unmounted_answers : from.mounted ≡ None → AnswersOn (answer_on_tracks (tracks_under (volumes_of volumes) from) from code argument chained) from volumes volumes host reply
   unmounted_answers none =
       let under : tracks_under (volumes_of volumes) from ≡ (λ (head : ℕ). []) = ap (λ (m : Option (ℕ × Bool)). tracks_mounted (volumes_of volumes) m from.cylinder) none in
       rw under (record {
         reply_ = a.reply_;
         host_ = a.host_;
-        volumes = sym (ap (λ (m : Option (ℕ × Bool)). written_mounted (volumes_of volumes) m from (run (λ (head : ℕ). []) from code argument chained).written) none);
+        volumes = sym (ap (λ (m : Option (ℕ × Bool)). written_mounted (volumes_of volumes) m from (answer_on_tracks (λ (head : ℕ). []) from code argument chained).written) none);
         length_ = refl;
       })
 
@@ -117,37 +117,37 @@ module _ (volumes : List (Option VolumeData)) (from : HostState) (code : ℕ) (a
   nowhere v gone None bind = refl
   nowhere v gone (Some track) bind = ap (λ (x : Option VolumeData). written_there (volumes_of volumes) v from (option_map (λ (y : VolumeData). y.serial) x) track) gone
 
-  pub gone_answers : (v : ℕ) (bind : Bool) → from.mounted ≡ Some (v, bind) → volume_at volumes v ≡ None → AnswersOn (run (tracks_under (volumes_of volumes) from) from code argument chained) from volumes volumes host reply
+  pub gone_answers : (v : ℕ) (bind : Bool) → from.mounted ≡ Some (v, bind) → volume_at volumes v ≡ None → AnswersOn (answer_on_tracks (tracks_under (volumes_of volumes) from) from code argument chained) from volumes volumes host reply
   gone_answers v bind mounted gone =
       let under : tracks_under (volumes_of volumes) from ≡ (λ (head : ℕ). []) =
       ap (λ (m : Option (ℕ × Bool)). tracks_mounted (volumes_of volumes) m from.cylinder) mounted ∙ ap (λ (x : Option VolumeData). track_of x from.cylinder) gone in
       rw under (record {
         reply_ = a.reply_;
         host_ = a.host_;
-        volumes = sym (ap (λ (m : Option (ℕ × Bool)). written_mounted (volumes_of volumes) m from (run (λ (head : ℕ). []) from code argument chained).written) mounted ∙ nowhere v gone _ bind);
+        volumes = sym (ap (λ (m : Option (ℕ × Bool)). written_mounted (volumes_of volumes) m from (answer_on_tracks (λ (head : ℕ). []) from code argument chained).written) mounted ∙ nowhere v gone _ bind);
         length_ = refl;
       })
 
 pub blank_responds : (blank new : List (List RecordData)) (from : HostState) (code : ℕ) (argument : List ℕ) (chained : Bool) (host : HostState) (reply : Reply)
-    → blank ≡ replicate 19 [] → Answers (run (cylinder_of blank) from code argument chained) from blank new host reply → Responds (run (λ (head : ℕ). []) from code argument chained) host reply
+    → blank ≡ replicate 19 [] → Answers (answer_on_tracks (cylinder_of blank) from code argument chained) from blank new host reply → Responds (answer_on_tracks (λ (head : ℕ). []) from code argument chained) host reply
 blank_responds blank new from code argument chained host reply e a =
     let tracks : cylinder_of blank ≡ (λ (head : ℕ). []) = ap cylinder_of e ∙ blank_cylinder in
     record {
-      reply_ = a.reply_ ∙ ap (λ (t : ℕ → List RecordData). (run t from code argument chained).reply) tracks;
-      host_ = a.host_ ∙ ap (λ (t : ℕ → List RecordData). (run t from code argument chained).host) tracks;
+      reply_ = a.reply_ ∙ ap (λ (t : ℕ → List RecordData). (answer_on_tracks t from code argument chained).reply) tracks;
+      host_ = a.host_ ∙ ap (λ (t : ℕ → List RecordData). (answer_on_tracks t from code argument chained).host) tracks;
     }
 
 pub host_put : (s : StateData) (h : ℕ) (x : HostState) → h < length s.hosts → state_of (record s { hosts = slice_set s.hosts h x }) ≡ with_host (state_of s) h x
 host_put s h x lt = ap (λ (f : ℕ → HostState). let w : State = record { volumes = volumes_of s.volumes; host = f } in w) (host_set s.hosts h x lt)
 
 pub command_is : (hosts : List HostState) (old new : List (Option VolumeData)) (h code : ℕ) (argument : List ℕ) (chained : Bool) (now host : HostState) (reply : Reply)
-    → now ≡ hosts_of hosts h → AnswersOn (run (tracks_under (volumes_of old) now) now code argument chained) now old new host reply
+    → now ≡ hosts_of hosts h → AnswersOn (answer_on_tracks (tracks_under (volumes_of old) now) now code argument chained) now old new host reply
     → ◌≡◌ {A = Replied} (reply_of reply, with_host (state_of (record { hosts = hosts; volumes = new })) h host) (plain (state_of (record { hosts = hosts; volumes = old })) h (command code argument chained))
 unfolding plain
 command_is hosts old new h code argument chained now host reply e x =
-    let y : AnswersOn (run (tracks_under (volumes_of old) (hosts_of hosts h)) (hosts_of hosts h) code argument chained) (hosts_of hosts h) old new host reply =
-    subst (λ (n : HostState). AnswersOn (run (tracks_under (volumes_of old) n) n code argument chained) n old new host reply) e x in
-    let a : Answer = run (tracks_under (volumes_of old) (hosts_of hosts h)) (hosts_of hosts h) code argument chained in
+    let y : AnswersOn (answer_on_tracks (tracks_under (volumes_of old) (hosts_of hosts h)) (hosts_of hosts h) code argument chained) (hosts_of hosts h) old new host reply =
+    subst (λ (n : HostState). AnswersOn (answer_on_tracks (tracks_under (volumes_of old) n) n code argument chained) n old new host reply) e x in
+    let a : Answer = answer_on_tracks (tracks_under (volumes_of old) (hosts_of hosts h)) (hosts_of hosts h) code argument chained in
     ap (λ (r : ReplyData). let p : Replied = (r, with_host (state_of (record { hosts = hosts; volumes = new })) h host) in p) y.reply_
     ∙ ap (λ (v : Volumes). let p : Replied = (a.reply, with_host (record { volumes = v; host = hosts_of hosts }) h host) in p) y.volumes
     ∙ ap (λ (t : HostState). let p : Replied = (a.reply, with_host (record { volumes = written_to (volumes_of old) (hosts_of hosts h) a.written; host = hosts_of hosts }) h t) in p) y.host_

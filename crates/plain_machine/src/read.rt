@@ -1,6 +1,6 @@
 // Reads.
 ghost use Rattle.std.specs.Prelude.{◌≡◌, ◌≢◌, length};
-ghost use Rattle.ckd_plain.specs.Effects.{at_hand, record_zero_read, home_read, read};
+ghost use Rattle.ckd_plain.specs.Effects.{at_hand, record_zero_read, home_read, read_outcome};
 ghost use Rattle.ckd_plain.specs.Views.{effect_of};
 ghost use Rattle.plain_machine.specs.Outcomes.{cylinder_of, GivesUnless};
 
@@ -14,7 +14,7 @@ use mss_base::HEADS;
 use std::alloc::Global;
 
 /// A read of a record.
-#[tactic(auto, unfolding(ckd_plain::specs::Effects::read))]
+#[tactic(auto, unfolding(ckd_plain::specs::Effects::read_outcome))]
 fn read_record(
     alloc: Global,
     tracks: &[Track],
@@ -25,7 +25,7 @@ fn read_record(
     requires cylinder { length tracks.now ≡ HEADS }
     requires no_home { what ≢ ReadWhat.Home }
     requires no_zero { what ≢ ReadWhat.RecordZero }
-    ensures { GivesUnless effect_of result (read (cylinder_of tracks.now) host.now what multi) }
+    ensures { GivesUnless effect_of result (read_outcome (cylinder_of tracks.now) host.now what multi) }
 {
     match &this_or_next(tracks, host, at_hand(what, host.position), multi) {
         Ok(found) => Ok(found.given(alloc, what)?),
@@ -34,7 +34,7 @@ fn read_record(
 }
 
 /// A read of any kind.
-#[tactic(auto, unfolding(ckd_plain::specs::Effects::read))]
+#[tactic(auto, unfolding(ckd_plain::specs::Effects::read_outcome))]
 pub fn read(
     alloc: Global,
     tracks: &[Track],
@@ -43,7 +43,7 @@ pub fn read(
     multi: bool,
 ) -> Result<DoneCommand, Trouble>
     requires cylinder { length tracks.now ≡ HEADS }
-    ensures { GivesUnless effect_of result (read (cylinder_of tracks.now) host.now what multi) }
+    ensures { GivesUnless effect_of result (read_outcome (cylinder_of tracks.now) host.now what multi) }
 {
     match what {
         ReadWhat::Home => Ok(home_read(alloc, &to_home(*host, multi)?)?),

@@ -4,7 +4,7 @@ ghost use Rattle.channel_commands.specs.Codes.{least};
 ghost use Rattle.channel_commands.specs.Views.{for_command};
 ghost use Rattle.ckd_plain.specs.Checks.{is_address, is_prior_permitted, Passes};
 ghost use Rattle.ckd_plain.specs.Effects.{effect, write_};
-ghost use Rattle.ckd_plain.specs.Plain.{performed, run};
+ghost use Rattle.ckd_plain.specs.Plain.{command_answer, answer_on_tracks};
 ghost use Rattle.plain_machine.specs.Outcomes.{cylinder_of, GivesEffect, Answers};
 
 use crate::read::read;
@@ -68,7 +68,7 @@ fn outcome(
 }
 
 /// A command that passed the checks, of a host whose chain is open, with its reply.
-#[tactic(auto, unfolding(ckd_plain::specs::Plain::performed))]
+#[tactic(auto, unfolding(ckd_plain::specs::Plain::command_answer))]
 fn performed(
     alloc: Global,
     tracks: &mut [Track],
@@ -80,7 +80,7 @@ fn performed(
     requires cylinder { length tracks.old ≡ HEADS }
     requires passes { Passes host.old command argument.now }
     ensures answer { IfOk result (Answers
-        (performed (cylinder_of tracks.old) host.old command argument.now chained)
+        (command_answer (cylinder_of tracks.old) host.old command argument.now chained)
         host.old tracks.old tracks.new host.new) }
     ensures host_stays { OnErr result (host.new ≡ host.old) }
     ensures tracks_stay { OnErr result (tracks.new ≡ tracks.old) }
@@ -96,7 +96,7 @@ fn performed(
 /// A command on the tracks of the host's cylinder.
 ///
 /// After want of memory the host and the tracks are as they were.
-#[tactic(auto, unfolding(ckd_plain::specs::Plain::run))]
+#[tactic(auto, unfolding(ckd_plain::specs::Plain::answer_on_tracks))]
 pub fn run_command(
     alloc: Global,
     tracks: &mut [Track],
@@ -105,7 +105,7 @@ pub fn run_command(
 ) -> Result<Reply, NoMemory>
     requires cylinder { length tracks.old ≡ HEADS }
     ensures answer { IfOk result (Answers
-        (for_command (run (cylinder_of tracks.old) host.old) command.now)
+        (for_command (answer_on_tracks (cylinder_of tracks.old) host.old) command.now)
         host.old tracks.old tracks.new host.new) }
     ensures host_stays { OnErr result (host.new ≡ host.old) }
     ensures tracks_stay { OnErr result (tracks.new ≡ tracks.old) }

@@ -1,7 +1,7 @@
 // Volumes of the plain machine, with every track.
 ghost use Rattle.std.specs.Prelude.{◌≡◌, ◌<◌, [], length, replicate, slice_set, slice_index_or, IfOk, OnErr};
 ghost use Rattle.channel_commands.specs.Views.{for_command};
-ghost use Rattle.ckd_plain.specs.Plain.{run, tracks_under};
+ghost use Rattle.ckd_plain.specs.Plain.{answer_on_tracks, tracks_under};
 ghost use Rattle.ckd_plain.specs.Views.{Responds};
 ghost use Rattle.plain_machine.specs.StateData.{volumes_of, AnswersOn};
 ghost use Rattle.plain_machine.specs.Outcomes.{cylinder_of, Answers};
@@ -59,7 +59,7 @@ impl CylinderTracks {
         command: &DeviceCommand,
     ) -> Result<Reply, NoMemory>
         ensures answer { IfOk result (Answers
-            (for_command (run (cylinder_of self.old) host.old) command.now)
+            (for_command (answer_on_tracks (cylinder_of self.old) host.old) command.now)
             host.old self.old self.new host.new) }
         ensures host_stays { OnErr result (host.new ≡ host.old) }
         ensures tracks_stay { OnErr result (self.new ≡ self.old) }
@@ -135,7 +135,7 @@ impl PlainVolume {
             self.new.cylinders ≡ slice_set self.old.cylinders c (slice_index_or self.new.cylinders c []) }
         ensures answer { let old = slice_index_or self.old.cylinders host.old.cylinder [] in
             let new = slice_index_or self.new.cylinders host.old.cylinder [] in
-            IfOk result (Answers (for_command (run (cylinder_of old) host.old) command.now)
+            IfOk result (Answers (for_command (answer_on_tracks (cylinder_of old) host.old) command.now)
             host.old old new host.new) }
         ensures host_stays { OnErr result (host.new ≡ host.old) }
         ensures tracks_stay { OnErr result (self.new ≡ self.old) }
@@ -156,7 +156,7 @@ fn run_blank(
     command: &DeviceCommand,
 ) -> Result<Reply, NoMemory>
     ensures answer { IfOk result (Responds
-        (for_command (run (λ head. []) host.old) command.now) host.new) }
+        (for_command (answer_on_tracks (λ head. []) host.old) command.now) host.new) }
     ensures host_stays { OnErr result (host.new ≡ host.old) }
 {
     let mut blank = CylinderTracks::blank(alloc)?;
@@ -172,7 +172,7 @@ pub fn run_under(
 ) -> Result<Reply, NoMemory>
     requires { length volumes.old ≡ 32 }
     ensures answer { IfOk result (AnswersOn
-        (for_command (run (tracks_under (volumes_of volumes.old) host.old) host.old) command.now)
+        (for_command (answer_on_tracks (tracks_under (volumes_of volumes.old) host.old) host.old) command.now)
         host.old volumes.old volumes.new host.new) }
     ensures host_stays { OnErr result (host.new ≡ host.old) }
     ensures volumes_stay { OnErr result (volumes.new ≡ volumes.old) }

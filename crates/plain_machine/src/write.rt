@@ -3,7 +3,7 @@ ghost use Rattle.std.specs.Prelude.{◌≡◌, ◌+◌, ◌-◌, ◌<◌, ◌≤
 ghost use Rattle.channel_commands.specs.Codes.{least};
 ghost use Rattle.ckd_track.specs.Data.{blank_record, cost_of, cost, HasCount};
 ghost use Rattle.ckd_plain.specs.Checks.{is_prior_permitted};
-ghost use Rattle.ckd_plain.specs.Data.{padded};
+ghost use Rattle.ckd_plain.specs.Data.{padded_bytes};
 ghost use Rattle.ckd_plain.specs.Effects.{new_record, write_, prior_number};
 ghost use Rattle.plain_machine.specs.Outcomes.{GivesWritten};
 
@@ -78,9 +78,9 @@ fn key_and_body(
 ) -> Result<(Bytes, Bytes), NoMemory>
     requires { key_length + body_length < 2 ^ 64 }
     ensures key { IfOk result (λ both. both.0.items
-        ≡ take key_length (padded (key_length + body_length) bytes.now)) }
+        ≡ take key_length (padded_bytes (key_length + body_length) bytes.now)) }
     ensures body { IfOk result (λ both. both.1.items
-        ≡ drop key_length (padded (key_length + body_length) bytes.now)) }
+        ≡ drop key_length (padded_bytes (key_length + body_length) bytes.now)) }
     ensures key_length { IfOk result (λ both. length both.0.items ≡ key_length) }
     ensures body_length { IfOk result (λ both. length both.1.items ≡ body_length) }
 {

@@ -6,7 +6,7 @@ use Rattle.mss_base.specs.Content.{Content, SiteLog, Item, Tear, Got, content, i
 use Rattle.mss_base.proofs.ContentLemmas.{image_front}
 use Rattle.ckd_plain.specs.Data.{State}
 use Rattle.ckd_plain.specs.History.{IsLegal, after}
-use Rattle.volume_table.specs.Listed.{listed}
+use Rattle.volume_table.specs.Listed.{row_in_list}
 use Rattle.shown_volumes.specs.Shown.{RowsOf, rows_of}
 use Rattle.shown_volumes.specs.Changing.{with_row}
 use Rattle.mss_restart.specs.Creations.{AreTold, AreWritten}
@@ -62,7 +62,7 @@ module _ (config : ConfigData) (was : DevicesSeen) (began : CoreData) (b : Began
   abbrev changes : List OpeningChange
   changes = opening_changes found config.volumes
 
-  rows_now : listed began.rows ≡ rows_of (content began.site.told)
+  rows_now : row_in_list began.rows ≡ rows_of (content began.site.told)
   rows_now = opened.opens.rows_are
 
   -- the console tells the changes that were written
@@ -70,10 +70,10 @@ module _ (config : ConfigData) (was : DevicesSeen) (began : CoreData) (b : Began
   told_ =
       let counted = b.opened.any.counted in
       subst (λ (xs : List OpeningStep). AreTold changes xs found (rows_of (content began.site.told)) synced.writes began.site.writes) (append-nil (steps_in began.console))
-      (told_of changes (opening_changes counted.before config.volumes) (steps_in began.console ++ []) found (rows_of (content began.site.told)) counted.before (listed began.rows) opened.complete.0 began.site.told synced.writes began.site.writes opened.complete.2 counted.told)
+      (told_of changes (opening_changes counted.before config.volumes) (steps_in began.console ++ []) found (rows_of (content began.site.told)) counted.before (row_in_list began.rows) opened.complete.0 began.site.told synced.writes began.site.writes opened.complete.2 counted.told)
 
   -- the rows before the changes that the console tells are those that were handed in
-  handed_in : handed_rows (listed began.rows) began.console ≡ rows_of (content was.told)
+  handed_in : handed_rows (row_in_list began.rows) began.console ≡ rows_of (content was.told)
   handed_in =
       ap (λ (r : RowsOf). handed_rows r began.console) rows_now
       ∙ handed_are changes began.console found (rows_of (content began.site.told)) synced.writes began.site.writes told_

@@ -6,7 +6,7 @@ use Rattle.ckd_track.specs.Data.{Volumes}
 use Rattle.ckd_plain.specs.Data.{State}
 use Rattle.ckd_plain.specs.Plain.{start_of}
 use Rattle.ckd_plain.specs.History.{EntryData, IsLegal, after}
-use Rattle.shown_volumes.specs.Shown.{rows_of, shown}
+use Rattle.shown_volumes.specs.Shown.{rows_of, volumes_shown}
 use Rattle.core_state.specs.Agrees.{Agrees, rows_after}
 use Rattle.core_state.specs.CoreValue.{CoreData, DevicesSeen}
 use Rattle.core_state.specs.IsCore.{IsTold}
@@ -45,7 +45,7 @@ plain_volumes config c history = (after (plain_start config c) history).volumes
 pub record IsPlainSession (config : ConfigData) (was now : SiteLog) (s : SessionData)
     : Type 0 where
   pub legal : IsLegal (plain_start config (content was)) s.history
-  pub shows : s.stopped ≡ None → shown (content now) ≡ plain_volumes config (content was) s.history
+  pub shows : s.stopped ≡ None → volumes_shown (content now) ≡ plain_volumes config (content was) s.history
   pub agrees : Agrees config.frames s.first_write (rows_of (content was))
       (plain_start config (content was)) s.history s.marks s.console
   pub rows_ : s.stopped ≡ None

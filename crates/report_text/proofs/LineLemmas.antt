@@ -8,7 +8,7 @@ use Rattle.std.proofs.lemmas.List.Concat.{flat_map-append}
 use Rattle.ckd_track.specs.Data.{RecordData}
 use Rattle.mss_base.specs.Puts.{PutsFront, Puts}
 use Rattle.mss_base.proofs.Putting.{Part, part_ends, part_goes_on, part_stops}
-use Rattle.report_text.specs.Texts.{numbered, track_text}
+use Rattle.report_text.specs.Texts.{numbered_lines, track_text}
 
 -- a call that failed has put a front
 pub puts_failed : {T E : Type 0} (r : Result T E) (Q : E → Type 0) (old new text : List ℕ) → IsErrAnd r Q → PutsFront old new text → Puts r old new text
@@ -16,22 +16,22 @@ puts_failed (Ok _) Q old new text failed front = absurd failed
 puts_failed (Err _) Q old new text failed front = front
 
 next_line : {A : Type 0} (text : ℕ → A → List ℕ) (n i : ℕ) (xs : List A) (x : A) → i < length xs → x ≡ get_or xs i x
-    → numbered text n (drop i xs) ≡ text n x ++ numbered text (n + 1) (drop (i + 1) xs)
+    → numbered_lines text n (drop i xs) ≡ text n x ++ numbered_lines text (n + 1) (drop (i + 1) xs)
 next_line text n i xs x lt is =
     let e : drop i xs ≡ x ∷ drop (i + 1) xs = drop-cons xs i x lt ∙ ap (λ y. y ∷ drop (suc i) xs) (sym is) ∙ ap (λ j. x ∷ drop j xs) (sym (add-one i)) in
-    ap (λ ys. numbered text n ys) e
+    ap (λ ys. numbered_lines text n ys) e
 
 -- the line of the next item was put
 pub lines_go_on : {A : Type 0} (text : ℕ → A → List ℕ) (old now new : List ℕ) (n i : ℕ) (xs : List A) (x : A) (whole : List ℕ) → i < length xs → x ≡ get_or xs i x
-    → Part old now (numbered text n (drop i xs)) whole → new ≡ now ++ text n x → Part old new (numbered text (n + 1) (drop (i + 1) xs)) whole
+    → Part old now (numbered_lines text n (drop i xs)) whole → new ≡ now ++ text n x → Part old new (numbered_lines text (n + 1) (drop (i + 1) xs)) whole
 lines_go_on text old now new n i xs x whole lt is part put =
-    part_goes_on old now new (text n x) (numbered text (n + 1) (drop (i + 1) xs)) whole (subst (λ r. Part old now r whole) (next_line text n i xs x lt is) part) put
+    part_goes_on old now new (text n x) (numbered_lines text (n + 1) (drop (i + 1) xs)) whole (subst (λ r. Part old now r whole) (next_line text n i xs x lt is) part) put
 
 -- a front of it was put
 pub lines_stop : {A : Type 0} (text : ℕ → A → List ℕ) (old now new : List ℕ) (n i : ℕ) (xs : List A) (x : A) (whole : List ℕ) → i < length xs → x ≡ get_or xs i x
-    → Part old now (numbered text n (drop i xs)) whole → PutsFront now new (text n x) → PutsFront old new whole
+    → Part old now (numbered_lines text n (drop i xs)) whole → PutsFront now new (text n x) → PutsFront old new whole
 lines_stop text old now new n i xs x whole lt is part front =
-    part_stops old now new (text n x) (numbered text (n + 1) (drop (i + 1) xs)) whole (subst (λ r. Part old now r whole) (next_line text n i xs x lt is) part) front
+    part_stops old now new (text n x) (numbered_lines text (n + 1) (drop (i + 1) xs)) whole (subst (λ r. Part old now r whole) (next_line text n i xs x lt is) part) front
 
 -- of pieces put one behind the other a front of this one was put
 pub pieces_stop : {X : Type 0} (text : X → List ℕ) (old now new : List ℕ) (i : ℕ) (pieces : List X) (other : X)

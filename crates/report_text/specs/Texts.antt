@@ -65,13 +65,13 @@ entry_text n e =
     ++ codes " " ++ reply_text e.reply e.fault ++ codes "\n"
 
 -- lines that are numbered from n on
-abbrev pub numbered : {A : Type 0} → (ℕ → A → List ℕ) → ℕ → List A → List ℕ
-numbered text n [] = []
-numbered text n (x ∷ xs) = text n x ++ numbered text (n + 1) xs
+abbrev pub numbered_lines : {A : Type 0} → (ℕ → A → List ℕ) → ℕ → List A → List ℕ
+numbered_lines text n [] = []
+numbered_lines text n (x ∷ xs) = text n x ++ numbered_lines text (n + 1) xs
 
 -- the first line of a report, and the line of each entry
 unfoldable pub history_text : List EntryData → List ℕ
-history_text entries = codes "MSS REPORT 1\n" ++ numbered entry_text 1 entries
+history_text entries = codes "MSS REPORT 1\n" ++ numbered_lines entry_text 1 entries
 
 -- ---- the changes of rows
 

@@ -6,6 +6,8 @@
 //! (`Failed`). The texts are defined in specs/Texts.antt and specs/OneLines.antt. The layer above puts the parts one
 //! behind the other, by the lemmas of `mss_base`'s proofs/Putting.antt and of proofs/TrackTexts.antt here. What a refusal
 //! says behind other words is `put_refused`'s (specs/Refusals.antt), of which `law` says how it stands to a refusal's line.
+//!
+//! Layers above cite lemmas of `proofs/`: lines one after another (`LineLemmas`).
 #![tactic(auto)]
 
 mod changes;

@@ -5,7 +5,7 @@ ghost use Rattle.mss_base.specs.Puts.{Puts};
 ghost use Rattle.ckd_track.specs.Track.{reading};
 ghost use Rattle.report_text.specs.Causes.{HasOutputCause};
 ghost use Rattle.report_text.specs.Texts.{
-  numbered,
+  numbered_lines,
   entry_text,
   history_text,
   change_line,
@@ -87,7 +87,7 @@ fn put_entries<O: Sink>(
     entries: &[Entry],
 ) -> Result<(), ReportFault>
     ensures bytes { O.tells → Puts result (O.told output.old) (O.told output.new)
-        (numbered entry_text 1 entries.now) }
+        (numbered_lines entry_text 1 entries.now) }
     ensures cause { HasOutputCause (O.faults output.old) (O.faults output.new) result }
 {
     let mut number = 1;

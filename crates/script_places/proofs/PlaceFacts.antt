@@ -7,7 +7,7 @@ use Rattle.channel_commands.specs.declared.call.BreakCause.TheVariants as cause
 use Rattle.channel_commands.specs.declared.call.Call.{Call}
 use Rattle.channel_commands.specs.Data.{command, break, ReplyData, CcwData}
 use Rattle.channel_commands.specs.Views.{call_of}
-use Rattle.channel_program.specs.Script.{ItemData, mounting, demounting, program, Standing, Reached, at_start, next_call, moved, call_for, reached, word_from, word_from_standing, word_after, is_last, CHAIN_LIMIT}
+use Rattle.channel_program.specs.Script.{ItemData, mounting, demounting, program, Standing, Reached, at_start, next_call, standing_after, call_for, word_reached, word_from, word_from_standing, word_after, is_last, CHAIN_LIMIT}
 use Rattle.channel_program.specs.Views.{standing_of, Says, Moves}
 use Rattle.channel_program.specs.declared.cursor.Cursor.{Cursor}
 use Rattle.channel_program.specs.declared.cursor.NextCall.{NextCall}
@@ -155,22 +155,22 @@ module _ (script : List ItemData) (p : Place) (reply : ReplyData) (q : Place) wh
 
   module _ (words : List CcwData) (at : Standing) (more : List ItemData) (is : IsWithin script words at more p) where
     -- the program is finished
-    pub passed_end : (moved words at reply).word ≡ None → StandsAt script (not_begun (drop (p.item + 1) script)) q → IsPassed script words at more reply q
+    pub passed_end : (standing_after words at reply).word ≡ None → StandsAt script (not_begun (drop (p.item + 1) script)) q → IsPassed script words at more reply q
     passed_end ended stands =
-        subst (λ (w : Option ℕ). StandsAt script (program_left words more (moved words at reply) w) q) (sym ended)
+        subst (λ (w : Option ℕ). StandsAt script (program_left words more (standing_after words at reply) w) q) (sym ended)
         (stands_next (program words) more is.items stands)
 
     -- it goes on
-    pub passed_on : p.item ≤ length script → q.item ≡ p.item → q.call ≡ None → (word : Option ℕ) → (moved words at reply).word ≡ word → is_some word ≡ true → KnowsNext words (moved words at reply) q
+    pub passed_on : p.item ≤ length script → q.item ≡ p.item → q.call ≡ None → (word : Option ℕ) → (standing_after words at reply).word ≡ word → is_some word ≡ true → KnowsNext words (standing_after words at reply) q
         → IsPassed script words at more reply q
     passed_on within same fresh None goes live knows = absurd (let e : false ≡ true = live in cc)
     passed_on within same fresh (Some word) goes live knows =
-        subst (λ (w : Option ℕ). StandsAt script (program_left words more (moved words at reply) w) q) (sym goes)
+        subst (λ (w : Option ℕ). StandsAt script (program_left words more (standing_after words at reply) w) q) (sym goes)
         (record {
           within = subst (λ (n : ℕ). n ≤ length script) (sym same) within;
           items = sym is.items ∙ ap (λ (n : ℕ). drop n script) (sym same);
           knows = knows;
-          waits = none_waits (record { items = program words ∷ more; at = moved words at reply }) q fresh;
+          waits = none_waits (record { items = program words ∷ more; at = standing_after words at reply }) q fresh;
         })
 
 -- ---- which call comes next
@@ -186,7 +186,7 @@ next_is script p items left is stands = ap (λ (l : List ItemData). next_of l le
 no_word : (words : List CcwData) (at : Standing) → next_call words at ≡ None → at.word ≡ None
 no_word words at none = by_word at.word none
   where
-    by_word : (w : Option ℕ) → option_map (λ (x : ℕ). call_for words at.executed (reached words x)) w ≡ None → w ≡ None
+    by_word : (w : Option ℕ) → option_map (λ (x : ℕ). call_for words at.executed (word_reached words x)) w ≡ None → w ≡ None
     by_word None is = refl
     by_word (Some w) is = absurd cc
 
@@ -198,26 +198,26 @@ broken_there words executed (Some r) why reply is = by_limit (nat_le CHAIN_LIMIT
     by_limit true same = refl
     by_limit false same = absurd cc
 
-broken_ends : (words : List CcwData) (at : Standing) (why : BreakCause) (reply : ReplyData) → next_call words at ≡ Some (break why) → (moved words at reply).word ≡ None
+broken_ends : (words : List CcwData) (at : Standing) (why : BreakCause) (reply : ReplyData) → next_call words at ≡ Some (break why) → (standing_after words at reply).word ≡ None
 broken_ends words at why reply next = by_word at.word next
   where
-    by_word : (w : Option ℕ) → option_map (λ (x : ℕ). call_for words at.executed (reached words x)) w ≡ Some (break why) → word_from_standing words at.executed w reply ≡ None
+    by_word : (w : Option ℕ) → option_map (λ (x : ℕ). call_for words at.executed (word_reached words x)) w ≡ Some (break why) → word_from_standing words at.executed w reply ≡ None
     by_word None is = absurd cc
-    by_word (Some w) is = let same : call_for words at.executed (reached words w) ≡ break why = cc in broken_there words at.executed (reached words w) why reply same
+    by_word (Some w) is = let same : call_for words at.executed (word_reached words w) ≡ break why = cc in broken_there words at.executed (word_reached words w) why reply same
 
 -- ---- after a reply, by what was to come
 
 pub goes_where : (words : List CcwData) (at : Standing) (p : Place) (word : ℕ) (chained : Bool) → p.next ≡ Command word chained → KnowsNext words at p → (reply : ReplyData) → IsAt words at p.cursor reply
 goes_where words at p word chained is knows = subst (λ (n : NextCall). GoesOnFrom words at n p.cursor) is knows.goes_on
 
-pub ends_by_check : (words : List CcwData) (at : Standing) (p : Place) → p.next ≡ ProgramCheck → KnowsNext words at p → (reply : ReplyData) → (moved words at reply).word ≡ None
+pub ends_by_check : (words : List CcwData) (at : Standing) (p : Place) → p.next ≡ ProgramCheck → KnowsNext words at p → (reply : ReplyData) → (standing_after words at reply).word ≡ None
 ends_by_check words at p is knows reply = broken_ends words at cause.Program reply (subst (λ (n : NextCall). Says words at n) is knows.call)
 
-pub ends_by_limit : (words : List CcwData) (at : Standing) (p : Place) → p.next ≡ ChainLimit → KnowsNext words at p → (reply : ReplyData) → (moved words at reply).word ≡ None
+pub ends_by_limit : (words : List CcwData) (at : Standing) (p : Place) → p.next ≡ ChainLimit → KnowsNext words at p → (reply : ReplyData) → (standing_after words at reply).word ≡ None
 ends_by_limit words at p is knows reply = broken_ends words at cause.Limit reply (subst (λ (n : NextCall). Says words at n) is knows.call)
 
-pub ended_there : (words : List CcwData) (at : Standing) (cursor : Cursor) (reply : ReplyData) → IsAt words at cursor reply → next_call words (standing_of words cursor (Some reply)) ≡ None → (moved words at reply).word ≡ None
-ended_there words at cursor reply same none = no_word words (moved words at reply) (ap (next_call words) (sym same) ∙ none)
+pub ended_there : (words : List CcwData) (at : Standing) (cursor : Cursor) (reply : ReplyData) → IsAt words at cursor reply → next_call words (standing_of words cursor (Some reply)) ≡ None → (standing_after words at reply).word ≡ None
+ended_there words at cursor reply same none = no_word words (standing_after words at reply) (ap (next_call words) (sym same) ∙ none)
 
 pub on_err : {T E : Type 0} {P : Type 0} (r : Result T E) → P → OnErr r P
 on_err (Ok x) p = tt

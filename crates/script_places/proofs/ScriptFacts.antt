@@ -3,7 +3,7 @@ use Rattle.std.proofs.Common.{◌≡◌, ◌⊎◌, inl, inr, ℕ, Bool, true, f
 use Rattle.std.specs.Prelude.{◌==◌, option_map, is_some, not}
 use Rattle.std.proofs.lemmas.Bool.{false≢true}
 use Rattle.channel_commands.specs.Data.{CallData, ReplyData, CcwData, mount, demount}
-use Rattle.channel_program.specs.Script.{ItemData, mounting, demounting, program, Exchange, Standing, at_start, next_call, call_for, reached, moved, Runs, Gives, Follows, FollowsToEnd}
+use Rattle.channel_program.specs.Script.{ItemData, mounting, demounting, program, Exchange, Standing, at_start, next_call, call_for, word_reached, standing_after, RunsWords, Gives, Follows, FollowsToEnd}
 use Rattle.ckd_plain.specs.History.{EntryData}
 use Rattle.script_places.specs.Scripts.{Left, not_begun, next_of, program_left, left_by, left_after, Plays, exchanges_of}
 
@@ -51,7 +51,7 @@ by_live : (items : List ItemData) (at : Standing) (reply : ReplyData) → IsLive
 by_live [] at reply = tt
 by_live (mounting volume bind ∷ more) at reply = begun_live more
 by_live (demounting ∷ more) at reply = begun_live more
-by_live (program words ∷ more) at reply = left_live words more (moved words at reply) (moved words at reply).word refl
+by_live (program words ∷ more) at reply = left_live words more (standing_after words at reply) (standing_after words at reply).word refl
 
 after_live : (left : Left) (xs : List Exchange) → IsLive left.items left.at → IsLive (left_after left xs).items (left_after left xs).at
 after_live left [] live = live
@@ -66,15 +66,15 @@ live_calls words at live = by_word at.word live refl
   where
     by_word : (w : Option ℕ) → is_some w ≡ true → at.word ≡ w → (call : CallData) × (next_call words at ≡ Some call)
     by_word None is same = absurd (let e : false ≡ true = is in cc)
-    by_word (Some w) is same = (call_for words at.executed (reached words w), ap (option_map (λ (x : ℕ). call_for words at.executed (reached words x))) same)
+    by_word (Some w) is same = (call_for words at.executed (word_reached words w), ap (option_map (λ (x : ℕ). call_for words at.executed (word_reached words x))) same)
 
 -- ---- following
 
 -- the exchanges are those of what is left, the last item finished or not
 abbrev FollowsOn : List ItemData → Standing → List Exchange → Type 0
 FollowsOn (program words ∷ more) at xs =
-    ((to : Standing) × Runs words at xs to × (is_some to.word ≡ true))
-    ⊎ ((front : List Exchange) × (rest : List Exchange) × (xs ≡ front ++ rest) × ((to : Standing) × Runs words at front to × (to.word ≡ None)) × Follows more rest)
+    ((to : Standing) × RunsWords words at xs to × (is_some to.word ≡ true))
+    ⊎ ((front : List Exchange) × (rest : List Exchange) × (xs ≡ front ++ rest) × ((to : Standing) × RunsWords words at front to × (to.word ≡ None)) × Follows more rest)
 FollowsOn items at xs = Follows items xs
 
 whole_follows : (items : List ItemData) (xs : List Exchange) → FollowsOn items at_start xs → Follows items xs
@@ -87,7 +87,7 @@ whole_follows (program words ∷ more) xs (inr (front, rest, is, run, follows)) 
 
 -- one exchange of a program, where it is known of those behind it
 program_follows : (words : List CcwData) (more : List ItemData) (at to : Standing) (x : Exchange) (xs : List Exchange) → next_call words at ≡ Some x.0
-    → moved words at x.1 ≡ to → (word : Option ℕ) → to.word ≡ word
+    → standing_after words at x.1 ≡ to → (word : Option ℕ) → to.word ≡ word
     → ((items : List ItemData) (at' : Standing) → IsLive items at' → Plays (record { items = items; at = at' }) xs → FollowsOn items at' xs)
     → Plays (program_left words more to word) xs → FollowsOn (program words ∷ more) at (x ∷ xs)
 program_follows words more at to x xs next is None ended known plays =
@@ -95,9 +95,9 @@ program_follows words more at to x xs next is None ended known plays =
 program_follows words more at to x xs next is (Some word) goes known plays = by_rest (known (program words ∷ more) to (ap is_some goes) plays)
   where
     by_rest : FollowsOn (program words ∷ more) to xs → FollowsOn (program words ∷ more) at (x ∷ xs)
-    by_rest (inl run) = inl (run.0, (next, subst (λ (s : Standing). Runs words s xs run.0) (sym is) run.1), run.2)
+    by_rest (inl run) = inl (run.0, (next, subst (λ (s : Standing). RunsWords words s xs run.0) (sym is) run.1), run.2)
     by_rest (inr (front, rest, same, run, follows)) =
-        inr (x ∷ front, rest, ap (λ (l : List Exchange). x ∷ l) same, (run.0, (next, subst (λ (s : Standing). Runs words s front run.0) (sym is) run.1), run.2), follows)
+        inr (x ∷ front, rest, ap (λ (l : List Exchange). x ∷ l) same, (run.0, (next, subst (λ (s : Standing). RunsWords words s front run.0) (sym is) run.1), run.2), follows)
 
 follows_on : (xs : List Exchange) (items : List ItemData) (at : Standing) → IsLive items at → Plays (record { items = items; at = at }) xs → FollowsOn items at xs
 follows_on [] [] at live plays = refl
@@ -114,7 +114,7 @@ follows_on (x ∷ xs) (demounting ∷ more) at live plays =
     let same : x.0 ≡ demount = cc in
     inr (x ∷ [], xs, refl, (same, refl, refl), whole_follows more xs (follows_on xs more at_start (begun_live more) plays.1))
 follows_on (x ∷ xs) (program words ∷ more) at live plays =
-    program_follows words more at (moved words at x.1) x xs plays.0 refl (moved words at x.1).word refl (follows_on xs) plays.1
+    program_follows words more at (standing_after words at x.1) x xs plays.0 refl (standing_after words at x.1).word refl (follows_on xs) plays.1
 
 pub plays_follows : (items : List ItemData) (xs : List Exchange) → Plays (not_begun items) xs → Follows items xs
 plays_follows items xs plays = whole_follows items xs (follows_on xs items at_start (begun_live items) plays)
@@ -124,7 +124,7 @@ plays_follows items xs plays = whole_follows items xs (follows_on xs items at_st
 -- the exchanges are those of what is left, and every item is finished
 abbrev EndsOn : List ItemData → Standing → List Exchange → Type 0
 EndsOn (program words ∷ more) at xs =
-    (front : List Exchange) × (rest : List Exchange) × (xs ≡ front ++ rest) × ((to : Standing) × Runs words at front to × (to.word ≡ None)) × FollowsToEnd more rest
+    (front : List Exchange) × (rest : List Exchange) × (xs ≡ front ++ rest) × ((to : Standing) × RunsWords words at front to × (to.word ≡ None)) × FollowsToEnd more rest
 EndsOn items at xs = FollowsToEnd items xs
 
 whole_ends : (items : List ItemData) (xs : List Exchange) → EndsOn items at_start xs → FollowsToEnd items xs
@@ -138,7 +138,7 @@ NoneNext : Left → List Exchange → Type 0
 NoneNext left xs = next_of (left_after left xs).items (left_after left xs).at ≡ None
 
 program_ends : (words : List CcwData) (more : List ItemData) (at to : Standing) (x : Exchange) (xs : List Exchange) → next_call words at ≡ Some x.0
-    → moved words at x.1 ≡ to → (word : Option ℕ) → to.word ≡ word
+    → standing_after words at x.1 ≡ to → (word : Option ℕ) → to.word ≡ word
     → ((items : List ItemData) (at' : Standing) → IsLive items at' → Plays (record { items = items; at = at' }) xs → NoneNext (record { items = items; at = at' }) xs → EndsOn items at' xs)
     → Plays (program_left words more to word) xs → NoneNext (program_left words more to word) xs → EndsOn (program words ∷ more) at (x ∷ xs)
 program_ends words more at to x xs next is None ended known plays none =
@@ -147,7 +147,7 @@ program_ends words more at to x xs next is (Some word) goes known plays none = b
   where
     by_rest : EndsOn (program words ∷ more) to xs → EndsOn (program words ∷ more) at (x ∷ xs)
     by_rest (front, rest, same, run, follows) =
-        (x ∷ front, rest, ap (λ (l : List Exchange). x ∷ l) same, (run.0, (next, subst (λ (s : Standing). Runs words s front run.0) (sym is) run.1), run.2), follows)
+        (x ∷ front, rest, ap (λ (l : List Exchange). x ∷ l) same, (run.0, (next, subst (λ (s : Standing). RunsWords words s front run.0) (sym is) run.1), run.2), follows)
 
 ends_on : (xs : List Exchange) (items : List ItemData) (at : Standing) → IsLive items at → Plays (record { items = items; at = at }) xs → NoneNext (record { items = items; at = at }) xs → EndsOn items at xs
 unfolding NoneNext
@@ -165,7 +165,7 @@ ends_on (x ∷ xs) (demounting ∷ more) at live plays none =
     let same : x.0 ≡ demount = cc in
     (x ∷ [], xs, refl, (same, refl, refl), whole_ends more xs (ends_on xs more at_start (begun_live more) plays.1 none))
 ends_on (x ∷ xs) (program words ∷ more) at live plays none =
-    program_ends words more at (moved words at x.1) x xs plays.0 refl (moved words at x.1).word refl (ends_on xs) plays.1 none
+    program_ends words more at (standing_after words at x.1) x xs plays.0 refl (standing_after words at x.1).word refl (ends_on xs) plays.1 none
 
 pub plays_to_end : (items : List ItemData) (xs : List Exchange) → Plays (not_begun items) xs → next_of (left_after (not_begun items) xs).items (left_after (not_begun items) xs).at ≡ None → FollowsToEnd items xs
 unfolding NoneNext
@@ -174,21 +174,21 @@ plays_to_end items xs plays none = whole_ends items xs (ends_on xs items at_star
 -- and then no call comes next
 
 finished_next : (words : List CcwData) (at : Standing) → at.word ≡ None → next_call words at ≡ None
-finished_next words at ended = ap (option_map (λ (x : ℕ). call_for words at.executed (reached words x))) ended
+finished_next words at ended = ap (option_map (λ (x : ℕ). call_for words at.executed (word_reached words x))) ended
 
 -- behind a program that ran to its end the items behind it are left
-left_by_run : (words : List CcwData) (more : List ItemData) (at to : Standing) (front rest : List Exchange) → is_some at.word ≡ true → Runs words at front to → to.word ≡ None
+left_by_run : (words : List CcwData) (more : List ItemData) (at to : Standing) (front rest : List Exchange) → is_some at.word ≡ true → RunsWords words at front to → to.word ≡ None
     → left_after (record { items = program words ∷ more; at = at }) (front ++ rest) ≡ left_after (not_begun more) rest
 left_by_run words more at to [] rest live runs ended = absurd (false≢true (sym (ap (λ (s : Standing). is_some s.word) runs ∙ ap is_some ended) ∙ live))
 left_by_run words more at to (x ∷ front) rest live runs ended =
-    by_word (λ on. left_by_run words more (moved words at x.1) to front rest on runs.1 ended) front runs.1 refl (moved words at x.1).word refl
+    by_word (λ on. left_by_run words more (standing_after words at x.1) to front rest on runs.1 ended) front runs.1 refl (standing_after words at x.1).word refl
   where
-    by_word : (is_some (moved words at x.1).word ≡ true → left_after (record { items = program words ∷ more; at = moved words at x.1 }) (front ++ rest) ≡ left_after (not_begun more) rest)
-        → (xs : List Exchange) → Runs words (moved words at x.1) xs to → xs ≡ front
-        → (word : Option ℕ) → (moved words at x.1).word ≡ word → left_after (program_left words more (moved words at x.1) word) (xs ++ rest) ≡ left_after (not_begun more) rest
-    by_word again xs on same (Some w) is = ap (λ (l : List Exchange). left_after (record { items = program words ∷ more; at = moved words at x.1 }) (l ++ rest)) same ∙ again (ap is_some is)
+    by_word : (is_some (standing_after words at x.1).word ≡ true → left_after (record { items = program words ∷ more; at = standing_after words at x.1 }) (front ++ rest) ≡ left_after (not_begun more) rest)
+        → (xs : List Exchange) → RunsWords words (standing_after words at x.1) xs to → xs ≡ front
+        → (word : Option ℕ) → (standing_after words at x.1).word ≡ word → left_after (program_left words more (standing_after words at x.1) word) (xs ++ rest) ≡ left_after (not_begun more) rest
+    by_word again xs on same (Some w) is = ap (λ (l : List Exchange). left_after (record { items = program words ∷ more; at = standing_after words at x.1 }) (l ++ rest)) same ∙ again (ap is_some is)
     by_word again [] on same None is = refl
-    by_word again (y ∷ ys) on same None is = absurd (let e : None ≡ Some y.0 = sym (finished_next words (moved words at x.1) is) ∙ on.0 in cc)
+    by_word again (y ∷ ys) on same None is = absurd (let e : None ≡ Some y.0 = sym (finished_next words (standing_after words at x.1) is) ∙ on.0 in cc)
 
 no_word : (word : Option ℕ) → true ≡ not (is_some word) → word ≡ None
 no_word None is = refl

@@ -2,7 +2,7 @@
 use Rattle.std.specs.Prelude.{◌≡◌, ◌≢◌, ◌≤◌, List, ◌∷◌, length, drop, Some, IfSome}
 use Rattle.channel_commands.specs.Data.{ReplyData, CcwData}
 use Rattle.channel_commands.specs.Views.{call_of}
-use Rattle.channel_program.specs.Script.{ItemData, program, Standing, moved}
+use Rattle.channel_program.specs.Script.{ItemData, program, Standing, standing_after}
 use Rattle.channel_program.specs.Views.{standing_of, HoldsCommand, Says}
 use Rattle.channel_program.specs.declared.cursor.Cursor.{Cursor}
 use Rattle.channel_program.specs.declared.cursor.NextCall.{NextCall}
@@ -18,7 +18,7 @@ HoldsNext words _ = Unit {0}
 -- from there a cursor goes on with a program's next call
 abbrev pub GoesOnFrom : List CcwData → Standing → NextCall → Cursor → Type 0
 GoesOnFrom words at (Command word chained) cursor =
-    (reply : ReplyData) → standing_of words cursor (Some reply) ≡ moved words at reply
+    (reply : ReplyData) → standing_of words cursor (Some reply) ≡ standing_after words at reply
 GoesOnFrom words at _ cursor = Unit {0}
 
 -- the next call of a program that stands here is known, and there is one
@@ -50,10 +50,10 @@ pub record IsWithin (script : List ItemData) (words : List CcwData) (at : Standi
 
 -- behind the reply the program stands where the cursor does
 abbrev pub IsAt : List CcwData → Standing → Cursor → ReplyData → Type 0
-IsAt words at cursor reply = standing_of words cursor (Some reply) ≡ moved words at reply
+IsAt words at cursor reply = standing_of words cursor (Some reply) ≡ standing_after words at reply
 
 -- behind the reply it goes on, or the next item is begun
 abbrev pub IsPassed : List ItemData → List CcwData → Standing → List ItemData → ReplyData → Place
     → Type 0
 IsPassed script words at more reply p =
-    StandsAt script (program_left words more (moved words at reply) (moved words at reply).word) p
+    StandsAt script (program_left words more (standing_after words at reply) (standing_after words at reply).word) p

@@ -2,7 +2,7 @@
 use Rattle.std.specs.Prelude.{◌≡◌, ℕ, ◌==◌, List, [], ◌∷◌, Option, Some, None, if◌then◌else◌}
 use Rattle.channel_commands.specs.Data.{CallData, mount, demount, ReplyData, CcwData}
 use Rattle.channel_program.specs.Script.{ItemData, mounting, demounting, program, Exchange}
-use Rattle.channel_program.specs.Script.{Standing, at_start, next_call, moved}
+use Rattle.channel_program.specs.Script.{Standing, at_start, next_call, standing_after}
 use Rattle.ckd_plain.specs.History.{EntryData}
 use Rattle.job_text.specs.Jobs.{ScriptData}
 
@@ -32,7 +32,7 @@ left_by [] at reply = not_begun []
 left_by (mounting volume bind ∷ more) at reply = not_begun more
 left_by (demounting ∷ more) at reply = not_begun more
 left_by (program words ∷ more) at reply =
-    program_left words more (moved words at reply) (moved words at reply).word
+    program_left words more (standing_after words at reply) (standing_after words at reply).word
 
 -- and behind a list of calls with their replies
 abbrev pub left_after : Left → List Exchange → Left

@@ -6,6 +6,8 @@
 //! and when a place is there `specs/Places.antt`. The layers above rely on these clauses, and on the lemmas of
 //! `proofs/ScriptFacts.antt`: calls that came next, one by one, follow the script (`plays_follows`), and to its end
 //! where none comes next (`plays_to_end`, `ended_has_none`).
+//!
+//! Layers above cite lemmas of `proofs/`: a place that goes on (`PlaceFacts`).
 #![tactic(auto)]
 
 mod place;

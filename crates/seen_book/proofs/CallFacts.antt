@@ -9,7 +9,7 @@ use Rattle.ckd_plain.specs.History.{EntryData}
 use Rattle.seen_book.specs.declared.rule.View.{View}
 use Rattle.seen_book.specs.Entries.{entries_of}
 use Rattle.seen_book.specs.Openings.{OpeningData, IsLegalFrom}
-use Rattle.seen_book.specs.Views.{book_view, pass_view, with_book, grown, without_book, book_of}
+use Rattle.seen_book.specs.Views.{book_view, pass_view, with_book, view_with_entry, without_book, book_of}
 use Rattle.seen_book.specs.Rule.{Appended, Looked, hosts_of}
 use Rattle.seen_book.specs.Books.{IsOfOne, AreOfThese, IsBook, IsPass, PassData, Begins, Shows, AreNested, HaveOneEach, closing_view}
 use Rattle.seen_book.proofs.Fronts.{prefixes_nest}
@@ -28,9 +28,9 @@ joined_is host seen mine log made pass book joined p b e = e ∙ (λ i. (with_bo
 
 added_is : (v : View) (e : EntryData) (found : ℕ) (joined after : Knows) → joined ≡ (v, [])
     → Appended e joined.0 found after.0 → after.1 ≡ joined.1
-    → (after ≡ (grown e v, [])) × Appended e v found (grown e v)
+    → (after ≡ (view_with_entry e v, [])) × Appended e v found (view_with_entry e v)
 added_is v e found joined after is added same =
-    let view : after.0 ≡ grown e v = added.view ∙ ap (λ (x : Knows). grown e x.0) is in
+    let view : after.0 ≡ view_with_entry e v = added.view ∙ ap (λ (x : Knows). view_with_entry e x.0) is in
     let slots : after.1 ≡ [] = same ∙ ap (λ (x : Knows). x.1) is in
     ((λ i. (view i, slots i)), subst (λ (y : View × View). Appended e y.0 found y.1) (λ i. ((is i).0, view i)) added)
 

@@ -12,7 +12,7 @@ use Rattle.atomic_table.proofs.Lists.{set_again, at_longer, at_last}
 use Rattle.ckd_plain.specs.History.{EntryData}
 use Rattle.seen_book.specs.declared.rule.View.{View}
 use Rattle.seen_book.specs.Entries.{entries_of}
-use Rattle.seen_book.specs.Views.{spent, book_view, with_made, host_of, with_book, grown, without_book, book_of, with_pass}
+use Rattle.seen_book.specs.Views.{spent, book_view, with_made, host_of, with_book, view_with_entry, without_book, book_of, with_pass}
 use Rattle.seen_book.specs.Rule.{IsGone, hosts_of, Fits, Kept, Appended, Looked}
 use Rattle.seen_book.proofs.Fronts.{prefix_self, prefix_same, prefix_more}
 use Rattle.seen_book.proofs.Own.{own_grows, own_stays, own_none}
@@ -128,7 +128,7 @@ other_after log made holder owner e id is here j u apart f = record {
 
 grown_after : (log : List EntryData) (made : List ℕ) (holder : ℕ) (owner : ℕ → Option ℕ) (e : EntryData) (id : ℕ) (v : View)
     → v.holds ≡ true → v.hosted ≡ true → v.host ≡ e.host
-    → Fits log made holder owner id v → Fits (log ++ e ∷ []) made holder owner id (grown e v)
+    → Fits log made holder owner id v → Fits (log ++ e ∷ []) made holder owner id (view_with_entry e v)
 grown_after log made holder owner e id v holds hosted same f =
     let h = f.holder_ holds in
     let o = f.own hosted in
@@ -152,9 +152,9 @@ appends e slots id v c holds hosted same room s h count at fits =
     let is : h.owner e.host ≡ Some id = subst (λ k. h.owner k ≡ Some id) same o.0 in
     let long : (length h.log + 1) % 2 ^ 64 ≡ length (h.log ++ e ∷ []) = omega (arith, length-append h.log (e ∷ []), ap length known.1, room) in
     let hosts = All-push (HostIn h.made) h.log e h.hosts (subst (Contains h.made) same o.2) in
-    let written = set s.views id (grown e v) in
+    let written = set s.views id (view_with_entry e v) in
     let after = grown_after h.log h.made h.holder h.owner e id v holds hosted same mine in (
-      grown e v,
+      view_with_entry e v,
       keeps,
       tt,
       record {
@@ -164,8 +164,8 @@ appends e slots id v c holds hosted same room s h count at fits =
         owner = h.owner;
         word = ap (λ (ws : List ℕ). slice_set ws 0 ((slice_index ws 0 + 1) % 2 ^ 64)) h.word ∙ ap (λ (n : ℕ). n ∷ []) long;
         hosts = hosts;
-        held = (grown e v, subst (λ k. get_elem? written k ≡ some (grown e v)) known.0 (set_there s.views id v (grown e v) at), holds);
-        views = fits_set (Fits (h.log ++ e ∷ []) h.made h.holder h.owner) s.views id (grown e v)
+        held = (view_with_entry e v, subst (λ k. get_elem? written k ≡ some (view_with_entry e v)) known.0 (set_there s.views id v (view_with_entry e v) at), holds);
+        views = fits_set (Fits (h.log ++ e ∷ []) h.made h.holder h.owner) s.views id (view_with_entry e v)
             (λ j u apart there. other_after h.log h.made h.holder h.owner e id is known.0 j u apart (h.views j u there))
             after;
       },

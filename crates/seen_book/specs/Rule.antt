@@ -8,7 +8,7 @@ use Rattle.atomic_table.specs.Table.{State}
 use Rattle.ckd_plain.specs.History.{EntryData}
 use Rattle.seen_book.specs.declared.rule.View.{View}
 use Rattle.seen_book.specs.Entries.{entries_of}
-use Rattle.seen_book.specs.Views.{grown}
+use Rattle.seen_book.specs.Views.{view_with_entry}
 
 -- a pass that ended: its host has no seat any more, these are all its entries, and it counts as made
 abbrev pub IsGone : (ℕ → Option ℕ) → List EntryData → List ℕ → ℕ × List EntryData → Type 0
@@ -43,7 +43,7 @@ pub record Kept (s : State (Unit {0}) View) : Type 0 where
 
 -- the entry was added to the whole history, of which the earlier lists are beginnings
 pub record Appended (e : EntryData) (v : View) (found : ℕ) (w : View) : Type 0 where
-  pub view : w ≡ grown e v
+  pub view : w ≡ view_with_entry e v
   pub length_ : found ≡ length v.seen
   pub olds_ : All (λ old. IsPrefix old v.seen) v.olds
   pub own : entries_of v.host w.seen ≡ w.mine

@@ -28,8 +28,8 @@ abbrev pub with_book : View → View → View
 with_book v w = record v { holds = true; seen = w.seen; made = w.made; olds = v.seen ∷ w.seen ∷ []; taken = w.taken }
 
 -- the entry is added
-abbrev pub grown : EntryData → View → View
-grown e v = record v { seen = v.seen ++ e ∷ []; mine = v.mine ++ e ∷ [] }
+abbrev pub view_with_entry : EntryData → View → View
+view_with_entry e v = record v { seen = v.seen ++ e ∷ []; mine = v.mine ++ e ∷ [] }
 
 -- the book is split off: the host's seat keeps what it has seen
 abbrev pub without_book : View → View

@@ -10,12 +10,12 @@ use Rattle.core_state.specs.Chains.{Terms}
 use Rattle.core_state.specs.declared.rule.WorkAnswer.{WorkAnswer}
 use Rattle.core_state.specs.declared.session.Event.{Event}
 use Rattle.core_state.specs.declared.session.Event.TheVariants.{Host, Work}
-use Rattle.core_state.specs.CoreValue.{CoreData, seen}
+use Rattle.core_state.specs.CoreValue.{CoreData, seen_core}
 use Rattle.core_state.specs.WorkEvents.{WorkEvent}
 use Rattle.serial_driver.specs.Answers.{of_work}
 use Rattle.serial_driver.specs.declared.answer.DriveAnswer.{DriveAnswer}
 use Rattle.serial_driver.specs.declared.answer.DriveAnswer.TheVariants.{Done}
-use Rattle.serial_driver.specs.Drives.{DriveValue, EventTakes, Leaves, RunsEvents, RunsOn, RunsToEnd, event_of, events_of, terms_of}
+use Rattle.serial_driver.specs.Drives.{DriveValue, EventTakes, LeavesDrive, RunsEvents, RunsOn, RunsToEnd, event_of, events_of, terms_of}
 use Rattle.serial_driver.proofs.EventRuns.{same_terms, EventsSoFar, event_leaves, leaves_done, event_goes, event_halts, events_over, leaves_then}
 
 -- ---- whose turn it is
@@ -45,10 +45,10 @@ same_there (x ∷ xs) (suc i) d e below = same_there xs i d e (omega (arith, bel
 module _ {S C : Type 0} (g : Ghosts S) (may : C → List Candidate → ℕ → Type 0)
     (turns : List ℕ) (i other : ℕ) (init now new : DriveValue S C) (answer : DriveAnswer)
     (below : i < length turns)
-    (so_far : EventsSoFar (terms_of g may init) init.scripts (events_of init.scripts turns) (seen g init.core) (drop i (events_of init.scripts turns)) (seen g now.core))
-    (leaves : Leaves g init now Done)
-    (takes : EventTakes (terms_of g may now) now.scripts (event_of now.scripts (get_or turns i other)) (seen g now.core) answer (seen g new.core))
-    (left : Leaves g now new answer) where
+    (so_far : EventsSoFar (terms_of g may init) init.scripts (events_of init.scripts turns) (seen_core g init.core) (drop i (events_of init.scripts turns)) (seen_core g now.core))
+    (leaves : LeavesDrive g init now Done)
+    (takes : EventTakes (terms_of g may now) now.scripts (event_of now.scripts (get_or turns i other)) (seen_core g now.core) answer (seen_core g new.core))
+    (left : LeavesDrive g now new answer) where
   abbrev turn : ℕ
   turn = get_or turns i other
 
@@ -58,20 +58,20 @@ module _ {S C : Type 0} (g : Ghosts S) (may : C → List Candidate → ℕ → T
   there : event_of init.scripts turn ≡ get_or (events_of init.scripts turns) i (event_of init.scripts turn)
   there = view_at (event_of init.scripts) turns i turn below (same_there turns i other turn below)
 
-  takes_so : EventTakes (terms_of g may now) now.scripts (event_of init.scripts turn) (seen g now.core) answer (seen g new.core)
+  takes_so : EventTakes (terms_of g may now) now.scripts (event_of init.scripts turn) (seen_core g now.core) answer (seen_core g new.core)
   takes_so =
-      subst (λ (scripts : List ScriptData). EventTakes (terms_of g may now) now.scripts (event_of scripts turn) (seen g now.core) answer (seen g new.core)) leaves.scripts_ takes
+      subst (λ (scripts : List ScriptData). EventTakes (terms_of g may now) now.scripts (event_of scripts turn) (seen_core g now.core) answer (seen_core g new.core)) leaves.scripts_ takes
 
-  pub turn_leaves : Leaves g init new answer
+  pub turn_leaves : LeavesDrive g init new answer
   turn_leaves = event_leaves g may (events_of init.scripts turns) i (event_of init.scripts turn) init now new answer low there so_far leaves takes_so left
 
-  pub turn_done : answer ≡ Done → Leaves g init new Done
+  pub turn_done : answer ≡ Done → LeavesDrive g init new Done
   turn_done = leaves_done g may (events_of init.scripts turns) i (event_of init.scripts turn) init now new answer low there so_far leaves takes_so left
 
-  pub turn_goes : answer ≡ Done → EventsSoFar (terms_of g may init) init.scripts (events_of init.scripts turns) (seen g init.core) (drop (i + 1) (events_of init.scripts turns)) (seen g new.core)
+  pub turn_goes : answer ≡ Done → EventsSoFar (terms_of g may init) init.scripts (events_of init.scripts turns) (seen_core g init.core) (drop (i + 1) (events_of init.scripts turns)) (seen_core g new.core)
   turn_goes = event_goes g may (events_of init.scripts turns) i (event_of init.scripts turn) init now new answer low there so_far leaves takes_so left
 
-  pub turn_halts : answer ≢ Done → RunsEvents (terms_of g may init) init.scripts (events_of init.scripts turns) (seen g init.core) answer (seen g new.core)
+  pub turn_halts : answer ≢ Done → RunsEvents (terms_of g may init) init.scripts (events_of init.scripts turns) (seen_core g init.core) answer (seen_core g new.core)
   turn_halts = event_halts g may (events_of init.scripts turns) i (event_of init.scripts turn) init now new answer low there so_far leaves takes_so left
 
 pub turns_over : (terms : Terms) (scripts : List ScriptData) (turns : List ℕ) (i : ℕ) (start now : CoreData) → length turns ≤ i
@@ -83,26 +83,26 @@ turns_over terms scripts turns i start now past so_far =
 
 module _ {S C : Type 0} (g : Ghosts S) (may : C → List Candidate → ℕ → Type 0)
     (turns : List ℕ) (init mid : DriveValue S C) (halfway : DriveAnswer)
-    (turned : RunsEvents (terms_of g may init) init.scripts (events_of init.scripts turns) (seen g init.core) halfway (seen g mid.core)) where
-  pub run_halts : halfway ≢ Done → RunsOn (terms_of g may init) init.scripts turns (seen g init.core) halfway (seen g mid.core)
+    (turned : RunsEvents (terms_of g may init) init.scripts (events_of init.scripts turns) (seen_core g init.core) halfway (seen_core g mid.core)) where
+  pub run_halts : halfway ≢ Done → RunsOn (terms_of g may init) init.scripts turns (seen_core g init.core) halfway (seen_core g mid.core)
   run_halts other = record {
-    mid = seen g mid.core;
+    mid = seen_core g mid.core;
     halfway = halfway;
     turned = turned;
     rounds = λ done. absurd (other done);
     halted = λ _. (refl, refl);
   }
 
-  module _ (leaves : Leaves g init mid halfway) (done : halfway ≡ Done) (new : DriveValue S C) (end : DriveAnswer) where
-    pub run_ends : RunsToEnd (terms_of g may mid) mid.scripts (seen g mid.core) end (seen g new.core)
-        → RunsOn (terms_of g may init) init.scripts turns (seen g init.core) end (seen g new.core)
+  module _ (leaves : LeavesDrive g init mid halfway) (done : halfway ≡ Done) (new : DriveValue S C) (end : DriveAnswer) where
+    pub run_ends : RunsToEnd (terms_of g may mid) mid.scripts (seen_core g mid.core) end (seen_core g new.core)
+        → RunsOn (terms_of g may init) init.scripts turns (seen_core g init.core) end (seen_core g new.core)
     run_ends rounds = record {
-      mid = seen g mid.core;
+      mid = seen_core g mid.core;
       halfway = halfway;
       turned = turned;
-      rounds = λ _. subst (λ (t : Terms). RunsToEnd t init.scripts (seen g mid.core) end (seen g new.core)) (same_terms g may init mid leaves) (subst (λ (scripts : List ScriptData). RunsToEnd (terms_of g may mid) scripts (seen g mid.core) end (seen g new.core)) leaves.scripts_ rounds);
+      rounds = λ _. subst (λ (t : Terms). RunsToEnd t init.scripts (seen_core g mid.core) end (seen_core g new.core)) (same_terms g may init mid leaves) (subst (λ (scripts : List ScriptData). RunsToEnd (terms_of g may mid) scripts (seen_core g mid.core) end (seen_core g new.core)) leaves.scripts_ rounds);
       halted = λ other. absurd (other done);
     }
 
-    pub run_leaves : Leaves g mid new end → Leaves g init new end
-    run_leaves last = leaves_then g init mid new end (subst (λ (a : DriveAnswer). Leaves g init mid a) done leaves) last
+    pub run_leaves : LeavesDrive g mid new end → LeavesDrive g init new end
+    run_leaves last = leaves_then g init mid new end (subst (λ (a : DriveAnswer). LeavesDrive g init mid a) done leaves) last

@@ -4,7 +4,7 @@ use Rattle.std.specs.Prelude.{is_some, not, ◌||◌, nat_le, option_map}
 use Rattle.std.proofs.lemmas.Bool.{cond_both, false≢true}
 use Rattle.channel_commands.specs.declared.call.BreakCause.TheVariants as cause
 use Rattle.channel_commands.specs.Data.{CallData, mount, demount, command, break, ReplyData, done, has_trouble, CcwData}
-use Rattle.channel_program.specs.Script.{ItemData, mounting, demounting, program, Standing, Reached, next_call, call_for, reached, moved, word_from, word_from_standing, word_after, is_last, has_modifier, CHAIN_LIMIT}
+use Rattle.channel_program.specs.Script.{ItemData, mounting, demounting, program, Standing, Reached, next_call, call_for, word_reached, standing_after, word_from, word_from_standing, word_after, is_last, has_modifier, CHAIN_LIMIT}
 use Rattle.ckd_plain.specs.declared.host.HostState.{HostState}
 use Rattle.ckd_plain.specs.Plain.{IsSmooth}
 use Rattle.script_places.specs.Scripts.{next_of, program_left, left_by}
@@ -31,11 +31,11 @@ never_for words executed (Some r) is =
 never : (words : List CcwData) (at : Standing) (call : CallData) → next_call words at ≡ Some call → IsNoCall call → ⊥
 never words at call next isnt = by_word at.word next
   where
-    by_word : (w : Option ℕ) → option_map (λ (x : ℕ). call_for words at.executed (reached words x)) w ≡ Some call → ⊥
+    by_word : (w : Option ℕ) → option_map (λ (x : ℕ). call_for words at.executed (word_reached words x)) w ≡ Some call → ⊥
     by_word None is = absurd cc
     by_word (Some w) is =
-        let same : call_for words at.executed (reached words w) ≡ call = cc in
-        never_for words at.executed (reached words w) (subst IsNoCall (sym same) isnt)
+        let same : call_for words at.executed (word_reached words w) ≡ call = cc in
+        never_for words at.executed (word_reached words w) (subst IsNoCall (sym same) isnt)
 
 -- ---- a chain that is open behind a reply
 
@@ -67,15 +67,15 @@ chained_on words executed (Some r) code argument reply is smooth = by_limit (nat
         not_true false e = refl
 
 program_on : (words : List CcwData) (at : Standing) (code : ℕ) (argument : List ℕ) (reply : ReplyData) → next_call words at ≡ Some (command code argument true) → IsSmooth reply
-    → is_some (moved words at reply).word ≡ true
+    → is_some (standing_after words at reply).word ≡ true
 program_on words at code argument reply next smooth = by_word at.word next
   where
-    by_word : (w : Option ℕ) → option_map (λ (x : ℕ). call_for words at.executed (reached words x)) w ≡ Some (command code argument true)
+    by_word : (w : Option ℕ) → option_map (λ (x : ℕ). call_for words at.executed (word_reached words x)) w ≡ Some (command code argument true)
         → is_some (word_from_standing words at.executed w reply) ≡ true
     by_word None is = absurd cc
     by_word (Some w) is =
-        let same : call_for words at.executed (reached words w) ≡ command code argument true = cc in
-        chained_on words at.executed (reached words w) code argument reply same smooth
+        let same : call_for words at.executed (word_reached words w) ≡ command code argument true = cc in
+        chained_on words at.executed (word_reached words w) code argument reply same smooth
 
 goes_on_in : (words : List CcwData) (more : List ItemData) (at : Standing) (word : Option ℕ) → is_some word ≡ true → IsInProgram (program_left words more at word).items
 goes_on_in words more at None is = absurd (false≢true is)
@@ -90,7 +90,7 @@ open_goes_on (mounting volume bind ∷ more) at host call reply next within chai
 open_goes_on (demounting ∷ more) at host call reply next within chains =
     let e : demount ≡ call = cc in absurd (within (subst (λ (k : CallData). ChainsOn host k reply) (sym e) chains))
 open_goes_on (program words ∷ more) at host (command code argument chained) reply next within chains =
-    goes_on_in words more (moved words at reply) (moved words at reply).word
+    goes_on_in words more (standing_after words at reply) (standing_after words at reply).word
     (program_on words at code argument reply (subst (λ (b : Bool). next_call words at ≡ Some (command code argument b)) chains.0 next) chains.1)
 open_goes_on (program words ∷ more) at host (break why) reply next within chains = absurd chains
 open_goes_on (program words ∷ more) at host (mount volume bind) reply next within chains = absurd (never words at (mount volume bind) next tt)

@@ -12,7 +12,7 @@ use Rattle.channel_program.specs.Script.{ItemData, Exchange}
 use Rattle.ckd_plain.specs.declared.host.HostState.{HostState}
 use Rattle.ckd_plain.specs.History.{EntryData}
 use Rattle.job_text.specs.Jobs.{ScriptData}
-use Rattle.core_state.specs.CoreValue.{CoreValue, CoreData, DevicesSeen, seen, seen_site}
+use Rattle.core_state.specs.CoreValue.{CoreValue, CoreData, DevicesSeen, seen_core, seen_site}
 use Rattle.core_state.specs.HostEvents.{HostTold, replied, marked, waits, halts, at_limit, no_memory, HostEvent}
 use Rattle.core_state.specs.IsCore.{IsCore}
 use Rattle.core_state.specs.Pins.{host_at}
@@ -110,16 +110,16 @@ module _ {S C : Type 0} (g : Ghosts S) (v w : CoreValue S C) (scripts : List Scr
 
   -- behind a read for a copy
   abbrev old : CoreData
-  old = record (seen g v) { site = site }
+  old = record (seen_core g v) { site = site }
 
   abbrev new : CoreData
-  new = seen g w
+  new = seen_core g w
 
   is_script : IsScript (get_or scripts n d)
   is_script = all_at IsScript scripts n d driven.scripts_.each below
 
   kept_ : old.stopped ≡ None → IsCore old
-  kept_ going = core_read (seen g v) site (core_seen g v (kept going))
+  kept_ going = core_read (seen_core g v) site (core_seen g v (kept going))
 
   module _ (call : CallData) (told : HostTold) (event : HostEvent g.tells old host call told new)
       (next : calls_of scripts v.history host ≡ Some call) (q : Place)

@@ -10,13 +10,13 @@ use Rattle.job_text.specs.Jobs.{ScriptData}
 use Rattle.core_state.specs.declared.session.Event.{Event}
 use Rattle.core_state.specs.declared.session.Event.TheVariants.{Host, Work}
 use Rattle.core_state.specs.Chains.{Terms, Step, worked, EventTurn, Ended}
-use Rattle.core_state.specs.CoreValue.{CoreData, seen}
+use Rattle.core_state.specs.CoreValue.{CoreData, seen_core}
 use Rattle.serial_driver.specs.declared.answer.DriveAnswer.{DriveAnswer}
 use Rattle.serial_driver.specs.declared.answer.DriveAnswer.TheVariants.{Done}
 use Rattle.serial_driver.specs.Answers.{of_last}
 use Rattle.script_places.specs.Scripts.{Left, not_begun, next_of, left_by, left_after, script_of, exchanges_of, calls_of}
 use Rattle.core_state.proofs.Later.{later_none, later_then}
-use Rattle.serial_driver.specs.Drives.{DriveValue, EventTakes, Halts, Leaves, RunsEvents, terms_of}
+use Rattle.serial_driver.specs.Drives.{DriveValue, EventTakes, Halts, LeavesDrive, RunsEvents, terms_of}
 use Rattle.serial_driver.proofs.ChainFacts.{of_last-cons, host_goes, host_ends, work_goes, work_last}
 
 -- ---- a host that isn't in the job
@@ -40,9 +40,9 @@ not_this (x ∷ xs) (suc n) h s below is other =
 -- ---- what is left of the devices
 
 pub leaves_then : {S C : Type 0} (g : Ghosts S) (old mid new : DriveValue S C) (answer : DriveAnswer)
-    → Leaves g old mid Done → Leaves g mid new answer → Leaves g old new answer
+    → LeavesDrive g old mid Done → LeavesDrive g mid new answer → LeavesDrive g old new answer
 leaves_then g old mid new answer first then_ = record {
-  session = later_then g.tells (seen g old.core) (seen g mid.core) (seen g new.core) first.session then_.session;
+  session = later_then g.tells (seen_core g old.core) (seen_core g mid.core) (seen_core g new.core) first.session then_.session;
   scripts_ = then_.scripts_ ∙ first.scripts_;
   copier_ = then_.copier_ ∙ first.copier_;
   chooser_ = then_.chooser_ ∙ first.chooser_;
@@ -57,9 +57,9 @@ leaves_then g old mid new answer first then_ = record {
   full = then_.full;
 }
 
-pub leaves_none : {S C : Type 0} (g : Ghosts S) (d : DriveValue S C) → Leaves g d d Done
+pub leaves_none : {S C : Type 0} (g : Ghosts S) (d : DriveValue S C) → LeavesDrive g d d Done
 leaves_none g d = record {
-  session = later_none g.tells (seen g d.core);
+  session = later_none g.tells (seen_core g d.core);
   scripts_ = refl;
   copier_ = refl;
   chooser_ = refl;
@@ -73,7 +73,7 @@ leaves_none g d = record {
 }
 
 -- nor are the terms other ones
-pub same_terms : {S C : Type 0} (g : Ghosts S) (may : C → List Candidate → ℕ → Type 0) (old new : DriveValue S C) {answer : DriveAnswer} → Leaves g old new answer → terms_of g may new ≡ terms_of g may old
+pub same_terms : {S C : Type 0} (g : Ghosts S) (may : C → List Candidate → ℕ → Type 0) (old new : DriveValue S C) {answer : DriveAnswer} → LeavesDrive g old new answer → terms_of g may new ≡ terms_of g may old
 same_terms g may old new leaves = λ i. record { tells = g.tells; may = may (leaves.chooser_ i); copies = is_some (leaves.copier_ i) }
 
 -- ---- a list
@@ -121,33 +121,33 @@ rest_is (y ∷ ys) (suc n) x below is =
 module _ {S C : Type 0} (g : Ghosts S) (may : C → List Candidate → ℕ → Type 0)
     (events : List Event) (i : ℕ) (event : Event) (init now new : DriveValue S C) (answer : DriveAnswer)
     (below : i < length events) (is : event ≡ get_or events i event)
-    (so_far : EventsSoFar (terms_of g may init) init.scripts events (seen g init.core) (drop i events) (seen g now.core))
-    (leaves : Leaves g init now Done)
-    (takes : EventTakes (terms_of g may now) now.scripts event (seen g now.core) answer (seen g new.core))
-    (left : Leaves g now new answer) where
-  takes_so : EventTakes (terms_of g may init) init.scripts event (seen g now.core) answer (seen g new.core)
+    (so_far : EventsSoFar (terms_of g may init) init.scripts events (seen_core g init.core) (drop i events) (seen_core g now.core))
+    (leaves : LeavesDrive g init now Done)
+    (takes : EventTakes (terms_of g may now) now.scripts event (seen_core g now.core) answer (seen_core g new.core))
+    (left : LeavesDrive g now new answer) where
+  takes_so : EventTakes (terms_of g may init) init.scripts event (seen_core g now.core) answer (seen_core g new.core)
   takes_so =
-      subst (λ (t : Terms). EventTakes t init.scripts event (seen g now.core) answer (seen g new.core)) (same_terms g may init now leaves)
-      (subst (λ (scripts : List ScriptData). EventTakes (terms_of g may now) scripts event (seen g now.core) answer (seen g new.core)) leaves.scripts_ takes)
+      subst (λ (t : Terms). EventTakes t init.scripts event (seen_core g now.core) answer (seen_core g new.core)) (same_terms g may init now leaves)
+      (subst (λ (scripts : List ScriptData). EventTakes (terms_of g may now) scripts event (seen_core g now.core) answer (seen_core g new.core)) leaves.scripts_ takes)
 
-  from : EventsSoFar (terms_of g may init) init.scripts events (seen g init.core) (event ∷ drop (i + 1) events) (seen g now.core)
+  from : EventsSoFar (terms_of g may init) init.scripts events (seen_core g init.core) (event ∷ drop (i + 1) events) (seen_core g now.core)
   from =
-      subst (λ (l : List Event). EventsSoFar (terms_of g may init) init.scripts events (seen g init.core) l (seen g now.core))
+      subst (λ (l : List Event). EventsSoFar (terms_of g may init) init.scripts events (seen_core g init.core) l (seen_core g now.core))
       (rest_is events i event below is) so_far
 
-  pub event_leaves : Leaves g init new answer
+  pub event_leaves : LeavesDrive g init new answer
   event_leaves = leaves_then g init now new answer leaves left
 
-  pub leaves_done : answer ≡ Done → Leaves g init new Done
-  leaves_done done = subst (λ (a : DriveAnswer). Leaves g init new a) done event_leaves
+  pub leaves_done : answer ≡ Done → LeavesDrive g init new Done
+  leaves_done done = subst (λ (a : DriveAnswer). LeavesDrive g init new a) done event_leaves
 
-  pub event_goes : answer ≡ Done → EventsSoFar (terms_of g may init) init.scripts events (seen g init.core) (drop (i + 1) events) (seen g new.core)
+  pub event_goes : answer ≡ Done → EventsSoFar (terms_of g may init) init.scripts events (seen_core g init.core) (drop (i + 1) events) (seen_core g new.core)
   event_goes done =
-      events_go (terms_of g may init) init.scripts events (seen g init.core) (drop (i + 1) events) (seen g now.core) (seen g new.core) event answer takes_so done from
+      events_go (terms_of g may init) init.scripts events (seen_core g init.core) (drop (i + 1) events) (seen_core g now.core) (seen_core g new.core) event answer takes_so done from
 
-  pub event_halts : answer ≢ Done → RunsEvents (terms_of g may init) init.scripts events (seen g init.core) answer (seen g new.core)
+  pub event_halts : answer ≢ Done → RunsEvents (terms_of g may init) init.scripts events (seen_core g init.core) answer (seen_core g new.core)
   event_halts halted =
-      events_halt (terms_of g may init) init.scripts events (seen g init.core) (drop (i + 1) events) (seen g now.core) (seen g new.core) event answer takes_so halted from
+      events_halt (terms_of g may init) init.scripts events (seen_core g init.core) (drop (i + 1) events) (seen_core g now.core) (seen_core g new.core) event answer takes_so halted from
 
 nothing_left : (xs : List Event) (k : ℕ) → length xs ≤ k → drop k xs ≡ []
 nothing_left [] zero low = refl

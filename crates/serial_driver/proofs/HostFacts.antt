@@ -6,7 +6,7 @@ use Rattle.mss_base.specs.Counts.{IsFaultSince}
 use Rattle.channel_commands.specs.Data.{CallData, mount, demount, command as ask, break, ReplyData, done, equipment_check, no_space}
 use Rattle.ckd_plain.specs.declared.host.HostState.{HostState}
 use Rattle.ckd_plain.specs.declared.unit_check.UnitCheck.TheVariants as check
-use Rattle.ckd_plain.specs.Plain.{responded}
+use Rattle.ckd_plain.specs.Plain.{response_to}
 use Rattle.volume_table.specs.declared.changes.Change.TheVariants as change
 use Rattle.fault_queue.specs.declared.queue.RequestState.TheVariants as request
 use Rattle.fault_queue.specs.Requests.{request_of, without_request}
@@ -19,7 +19,7 @@ use Rattle.core_state.specs.HostEvents.{HostTold, replied, halts, at_limit, no_m
 use Rattle.core_state.specs.HostRules.{request_for, host_rule}
 use Rattle.core_state.specs.IsCore.{IsCore}
 use Rattle.core_state.specs.Pins.{host_at, put_host, page_of}
-use Rattle.core_state.specs.Steps.{noted, with_change, touching, ends_request, going_on, with_request}
+use Rattle.core_state.specs.Steps.{with_event, with_change, touching, ends_request, going_on, with_request}
 use Rattle.core_state.proofs.ChainKept.{run_keeps}
 use Rattle.core_state.proofs.HostFacts.{host_same}
 use Rattle.core_state.proofs.RuleWalks.{none_some}
@@ -35,8 +35,8 @@ use Rattle.host_events.proofs.RuleFacts.{IsLate, rule_goes, rule_stopped, rule_m
 same_chain : (host : HostState) (b : Bool) (r s : ReplyData × HostState) → r.1.chain_open ≡ host.chain_open → s.1.chain_open ≡ host.chain_open → (cond b r s).1.chain_open ≡ host.chain_open
 same_chain host b r s here there = cond_both b r s (λ (p : ReplyData × HostState). p.1.chain_open ≡ host.chain_open) (λ _. here) (λ _. there)
 
-responds_chain : (host : HostState) (mark : Option Bool) (call : CallData) → (responded host mark call).1.chain_open ≡ true → ChainsOn host call (responded host mark call).0
-unfolding responded
+responds_chain : (host : HostState) (mark : Option Bool) (call : CallData) → (response_to host mark call).1.chain_open ≡ true → ChainsOn host call (response_to host mark call).0
+unfolding response_to
 responds_chain host mark (mount volume bind) open_ =
     sym (same_chain host host.chain_open _ _ refl (same_chain host (is_some host.mounted) _ _ refl (by_mark (λ (p : ReplyData × HostState). p.1.chain_open ≡ host.chain_open) host volume bind mark (λ _ _. refl) (λ _. refl)))) ∙ open_
 responds_chain host mark demount open_ =
@@ -80,21 +80,21 @@ module _ (tells : Type 0) (core : CoreData) (kept : core.stopped ≡ None → Is
     held_quiet : Holds tells core h call core' → quiet core' ≡ quiet core
     held_quiet held =
         ap quiet held.1
-        ∙ cond_both (ends_request core h call) (noted (Host h) (going_on core h call)) core (λ (c : CoreData). quiet (record c { site = core'.site }) ≡ quiet core)
-        (λ _. going core h call (λ (c : CoreData). quiet (record (noted (Host h) c) { site = core'.site }) ≡ quiet core) refl refl) (λ _. refl)
+        ∙ cond_both (ends_request core h call) (with_event (Host h) (going_on core h call)) core (λ (c : CoreData). quiet (record c { site = core'.site }) ≡ quiet core)
+        (λ _. going core h call (λ (c : CoreData). quiet (record (with_event (Host h) c) { site = core'.site }) ≡ quiet core) refl refl) (λ _. refl)
 
     asked_quiet : (volume cylinder : ℕ) → Asks tells core h call volume cylinder core' → quiet core' ≡ quiet core
     asked_quiet volume cylinder asks =
         ap quiet asks.1
-        ∙ cond_both (is_some (request_for core h call)) core (noted (Host h) (with_request h volume cylinder request.Queued (going_on core h call))) (λ (c : CoreData). quiet (record c { site = core'.site }) ≡ quiet core)
+        ∙ cond_both (is_some (request_for core h call)) core (with_event (Host h) (with_request h volume cylinder request.Queued (going_on core h call))) (λ (c : CoreData). quiet (record c { site = core'.site }) ≡ quiet core)
         (λ _. refl)
-        (λ _. going core h call (λ (c : CoreData). quiet (record (noted (Host h) (with_request h volume cylinder request.Queued c)) { site = core'.site }) ≡ quiet core) refl refl)
+        (λ _. going core h call (λ (c : CoreData). quiet (record (with_event (Host h) (with_request h volume cylinder request.Queued c)) { site = core'.site }) ≡ quiet core) refl refl)
 
     marked_quiet : (volume cylinder : ℕ) → IsMarked tells core h call volume cylinder core' → quiet core' ≡ quiet core
     marked_quiet volume cylinder marks =
         ap quiet marks.1
         ∙ going core h call
-        (λ (c : CoreData). quiet (noted (Host h) (touching (volume, page_of cylinder) (with_request h volume cylinder request.Ready (with_change volume (change.Changed cylinder) (record c { site = core'.site }))))) ≡ quiet core) refl refl
+        (λ (c : CoreData). quiet (with_event (Host h) (touching (volume, page_of cylinder) (with_request h volume cylinder request.Ready (with_change volume (change.Changed cylinder) (record c { site = core'.site }))))) ≡ quiet core) refl refl
 
     mark_there : (volume cylinder : ℕ) → host_rule core h call ≡ Marks volume cylinder → OnMark core h call volume cylinder
     mark_there volume cylinder is = rule_marks core h call kept volume cylinder is

@@ -13,7 +13,7 @@ use Rattle.core_state.specs.Beginning.{IsLater, Continues}
 use Rattle.victim_choice.specs.declared.choose.Candidate.{Candidate}
 use Rattle.core_state.specs.Chains.{Terms}
 use Rattle.core_state.specs.HostEvents.{HostEvent}
-use Rattle.core_state.specs.CoreValue.{CoreValue, CoreData, seen}
+use Rattle.core_state.specs.CoreValue.{CoreValue, CoreData, seen_core}
 use Rattle.core_state.specs.IsCore.{IsCore}
 use Rattle.core_state.specs.Pins.{host_at}
 use Rattle.host_events.proofs.EventLeaves.{keeps_beginning, leaves_cartridges}
@@ -53,10 +53,10 @@ module _ {S C : Type 0} (g : Ghosts S) (v w : CoreValue S C) (scripts : List Scr
   script = get_or scripts n d
 
   abbrev old : CoreData
-  old = seen g v
+  old = seen_core g v
 
   abbrev new : CoreData
-  new = seen g w
+  new = seen_core g w
 
   abbrev terms : Terms
   terms = record { tells = g.tells; may = may; copies = copies }

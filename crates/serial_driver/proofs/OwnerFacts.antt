@@ -9,7 +9,7 @@ use Rattle.ckd_plain.specs.History.{EntryData}
 use Rattle.fault_queue.specs.declared.queue.Request.{Request}
 use Rattle.fault_queue.specs.Requests.{request_of}
 use Rattle.job_text.specs.Jobs.{ScriptData}
-use Rattle.core_state.specs.CoreValue.{CoreValue, seen}
+use Rattle.core_state.specs.CoreValue.{CoreValue, seen_core}
 use Rattle.core_state.specs.Pins.{host_at, is_on, asks_for}
 use Rattle.core_progress.specs.Progress.{HasCall, OwnersCall}
 use Rattle.script_places.specs.declared.place.Place.{Place}
@@ -73,7 +73,7 @@ by_chain volume true false None is = absurd (false≢true is)
 by_chain volume true false (Some r) is = inr (r, refl)
 
 module _ {S C : Type 0} (g : Ghosts S) (v : CoreValue S C) (scripts : List ScriptData) (places : List Place) (driven : IsDriven v scripts places) where
-  pub owners_call : v.stopped ≡ None → OwnersCall (seen g v) (calls_of scripts v.history)
+  pub owners_call : v.stopped ≡ None → OwnersCall (seen_core g v) (calls_of scripts v.history)
   unfolding Stands
   owners_call going h volume owned =
       let more = driven.more going h in

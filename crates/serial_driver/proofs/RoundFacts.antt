@@ -9,7 +9,7 @@ use Rattle.ckd_plain.specs.History.{EntryData}
 use Rattle.victim_choice.specs.declared.choose.Candidate.{Candidate}
 use Rattle.job_text.specs.Jobs.{ScriptData}
 use Rattle.core_state.specs.Chains.{Reading, Terms, Step, called, is_end, Onward, Settles, HostTurn, Rounds, Ended, has_call}
-use Rattle.core_state.specs.CoreValue.{CoreData, DevicesSeen, seen}
+use Rattle.core_state.specs.CoreValue.{CoreData, DevicesSeen, seen_core}
 use Rattle.core_state.specs.HostEvents.{HostTold, HostEvent, IsSame}
 use Rattle.core_state.specs.IsCore.{IsCore}
 use Rattle.core_progress.specs.Progress.{NextCalls, SomeoneCalls, SomeoneGoesOn, IsKeptOff, is_kept_waiting}
@@ -20,9 +20,9 @@ use Rattle.serial_driver.specs.declared.answer.DriveAnswer.{DriveAnswer}
 use Rattle.serial_driver.specs.declared.answer.DriveAnswer.TheVariants.{Done}
 use Rattle.serial_driver.specs.Answers.{of_host, of_last}
 use Rattle.script_places.specs.Scripts.{script_of, calls_of}
-use Rattle.serial_driver.specs.Drives.{DriveValue, IsScript, AreScripts, Leaves, HostTakes, recorders_of, hosts_of, SettlesIt, HostsTurn, NoneCalls, RunsToEnd, terms_of}
+use Rattle.serial_driver.specs.Drives.{DriveValue, IsScript, AreScripts, LeavesDrive, HostTakes, recorders_of, hosts_of, SettlesIt, HostsTurn, NoneCalls, RunsToEnd, terms_of}
 use Rattle.serial_driver.specs.Turns.{RunFalls}
-use Rattle.volume_copy.specs.Beside.{asked}
+use Rattle.volume_copy.specs.Beside.{asked_copy}
 use Rattle.volume_copy.specs.Copies.{AskedCopy}
 use Rattle.serial_driver.proofs.ReadFacts.{core_read, read_of, read_same, reading_on}
 use Rattle.serial_driver.proofs.ChainFacts.{not_end, of_last-append, host_goes, host_ends, hosts_then, hosts_halted, settles_then, settles_halted}
@@ -318,112 +318,112 @@ module _ (terms : Terms) where
 -- ---- one host more
 
 module _ {S C : Type 0} (g : Ghosts S) (may : C → List Candidate → ℕ → Type 0) (number : ℕ) (init now new : DriveValue S C)
-    (below : number < length init.scripts) (leaves : Leaves g init now Done) (answer : DriveAnswer)
-    (takes : (unknown : ScriptData) → HostTakes (terms_of g may now) (get_or now.scripts number unknown).host (calls_of now.scripts now.core.history (get_or now.scripts number unknown).host) (seen g now.core) answer
-    (seen g new.core)) (left : Leaves g now new answer) where
-  takes_so : HostTakes (terms_of g may init) (nth_host init.scripts number) (calls_of init.scripts now.core.history (nth_host init.scripts number)) (seen g now.core) answer (seen g new.core)
+    (below : number < length init.scripts) (leaves : LeavesDrive g init now Done) (answer : DriveAnswer)
+    (takes : (unknown : ScriptData) → HostTakes (terms_of g may now) (get_or now.scripts number unknown).host (calls_of now.scripts now.core.history (get_or now.scripts number unknown).host) (seen_core g now.core) answer
+    (seen_core g new.core)) (left : LeavesDrive g now new answer) where
+  takes_so : HostTakes (terms_of g may init) (nth_host init.scripts number) (calls_of init.scripts now.core.history (nth_host init.scripts number)) (seen_core g now.core) answer (seen_core g new.core)
   takes_so =
-      subst (λ (t : Terms). HostTakes t (nth_host init.scripts number) (calls_of init.scripts now.core.history (nth_host init.scripts number)) (seen g now.core) answer (seen g new.core)) (same_terms g may init now leaves)
-      (subst (λ (scripts : List ScriptData). HostTakes (terms_of g may now) (nth_host scripts number) (calls_of scripts now.core.history (nth_host scripts number)) (seen g now.core) answer (seen g new.core))
+      subst (λ (t : Terms). HostTakes t (nth_host init.scripts number) (calls_of init.scripts now.core.history (nth_host init.scripts number)) (seen_core g now.core) answer (seen_core g new.core)) (same_terms g may init now leaves)
+      (subst (λ (scripts : List ScriptData). HostTakes (terms_of g may now) (nth_host scripts number) (calls_of scripts now.core.history (nth_host scripts number)) (seen_core g now.core) answer (seen_core g new.core))
       leaves.scripts_ (takes nobody))
 
-  pub host_leaves : Leaves g init new answer
+  pub host_leaves : LeavesDrive g init new answer
   host_leaves = leaves_then g init now new answer leaves left
 
-  pub host_done : answer ≡ Done → Leaves g init new Done
-  host_done done = subst (λ (a : DriveAnswer). Leaves g init new a) done host_leaves
+  pub host_done : answer ≡ Done → LeavesDrive g init new Done
+  host_done done = subst (λ (a : DriveAnswer). LeavesDrive g init new a) done host_leaves
 
-  module _ (so_far : HostsSoFar (terms_of g may init) init.scripts (seen g init.core) number (seen g now.core)) where
-    pub host_on : answer ≡ Done → HostsSoFar (terms_of g may init) init.scripts (seen g init.core) (number + 1) (seen g new.core)
-    host_on done = hosts_go (terms_of g may init) init.scripts (seen g init.core) number below (seen g now.core) (seen g new.core) so_far answer takes_so done
+  module _ (so_far : HostsSoFar (terms_of g may init) init.scripts (seen_core g init.core) number (seen_core g now.core)) where
+    pub host_on : answer ≡ Done → HostsSoFar (terms_of g may init) init.scripts (seen_core g init.core) (number + 1) (seen_core g new.core)
+    host_on done = hosts_go (terms_of g may init) init.scripts (seen_core g init.core) number below (seen_core g now.core) (seen_core g new.core) so_far answer takes_so done
 
-    pub host_halts : answer ≢ Done → HostsTurn (terms_of g may init) init.scripts (seen g init.core) answer (seen g new.core)
-    host_halts halted = hosts_halt (terms_of g may init) init.scripts (seen g init.core) number below (seen g now.core) (seen g new.core) so_far answer takes_so halted
+    pub host_halts : answer ≢ Done → HostsTurn (terms_of g may init) init.scripts (seen_core g init.core) answer (seen_core g new.core)
+    host_halts halted = hosts_halt (terms_of g may init) init.scripts (seen_core g init.core) number below (seen_core g now.core) (seen_core g new.core) so_far answer takes_so halted
 
   pub host_goes_on : AreScripts init.scripts → (now.core.stopped ≡ None → IsCore now.core)
       → ((core : CoreData) (h : ℕ) (call : CallData) (told : HostTold) (left : CoreData) → IsCore core → 1 ≤ h → h ≤ 8 → HostEvent g.tells core h call told left → is_kept_waiting core h call ≡ false
       → is_end (called h call told) ≡ false → run_left left < run_left core)
       → ((core : CoreData) (h : ℕ) (call : CallData) (told : HostTold) (left : CoreData) → IsCore core → HostEvent g.tells core h call told left → is_kept_waiting core h call ≡ true → IsKeptOff told × IsSame g.tells core left)
-      → answer ≡ Done → (init.core.stopped ≡ None → GoesOn init.scripts (seen g init.core) number (seen g now.core)) → init.core.stopped ≡ None
-      → GoesOn init.scripts (seen g init.core) (number + 1) (seen g new.core)
+      → answer ≡ Done → (init.core.stopped ≡ None → GoesOn init.scripts (seen_core g init.core) number (seen_core g now.core)) → init.core.stopped ≡ None
+      → GoesOn init.scripts (seen_core g init.core) (number + 1) (seen_core g new.core)
   host_goes_on scripts_ kept falls rests done so_far going =
       let core = core_seen g now.core (kept (leaves.halts ∙ going)) in
       let script = all_at IsScript init.scripts number nobody scripts_.each below in
-      goes_on init.scripts (seen g init.core) (terms_of g may init) number (seen g now.core) (seen g new.core) (so_far going)
-      (λ site call told event free on. falls (record (seen g now.core) { site = site }) (nth_host init.scripts number) call told (seen g new.core) (core_read (seen g now.core) site core) script.low script.high event free on)
-      (λ site call told event waits_. rests (record (seen g now.core) { site = site }) (nth_host init.scripts number) call told (seen g new.core) (core_read (seen g now.core) site core) event waits_) answer done takes_so
+      goes_on init.scripts (seen_core g init.core) (terms_of g may init) number (seen_core g now.core) (seen_core g new.core) (so_far going)
+      (λ site call told event free on. falls (record (seen_core g now.core) { site = site }) (nth_host init.scripts number) call told (seen_core g new.core) (core_read (seen_core g now.core) site core) script.low script.high event free on)
+      (λ site call told event waits_. rests (record (seen_core g now.core) { site = site }) (nth_host init.scripts number) call told (seen_core g new.core) (core_read (seen_core g now.core) site core) event waits_) answer done takes_so
 
 -- ---- one round more
 
 -- a track was copied, or none
 pub record TakesOne {S C : Type 0} (g : Ghosts S) (old new : DriveValue S C) : Type 0 where
-  pub reads : Reading (is_some (asked old.copier)) g.tells (seen g old.core) (λ r. seen g new.core ≡ r)
-  pub leaves : Leaves g old new Done
+  pub reads : Reading (is_some (asked_copy old.copier)) g.tells (seen_core g old.core) (λ r. seen_core g new.core ≡ r)
+  pub leaves : LeavesDrive g old new Done
 
 module _ {S C : Type 0} (g : Ghosts S) (may : C → List Candidate → ℕ → Type 0) (init now : DriveValue S C)
-    (so_far : RoundsSoFar (terms_of g may init) init.scripts (seen g init.core) (seen g now.core)) (leaves : Leaves g init now Done) where
+    (so_far : RoundsSoFar (terms_of g may init) init.scripts (seen_core g init.core) (seen_core g now.core)) (leaves : LeavesDrive g init now Done) where
   -- whether some host calls
   abbrev calls_in : DriveValue S C → Bool
-  calls_in d = has_call (calls_of d.scripts) (hosts_of d.scripts) (seen g d.core)
+  calls_in d = has_call (calls_of d.scripts) (hosts_of d.scripts) (seen_core g d.core)
 
-  calls_so : (b : Bool) → calls_in now ≡ b → has_call (calls_of init.scripts) (hosts_of init.scripts) (seen g now.core) ≡ b
+  calls_so : (b : Bool) → calls_in now ≡ b → has_call (calls_of init.scripts) (hosts_of init.scripts) (seen_core g now.core) ≡ b
   calls_so b is =
-      subst (λ (scripts : List ScriptData). has_call (calls_of scripts) (hosts_of scripts) (seen g now.core) ≡ b) leaves.scripts_ is
+      subst (λ (scripts : List ScriptData). has_call (calls_of scripts) (hosts_of scripts) (seen_core g now.core) ≡ b) leaves.scripts_ is
 
-  pub round_none : calls_in now ≡ false → RunsToEnd (terms_of g may init) init.scripts (seen g init.core) Done (seen g now.core)
-  round_none none = rounds_end (terms_of g may init) init.scripts (seen g init.core) (seen g now.core) so_far (calls_so false none)
+  pub round_none : calls_in now ≡ false → RunsToEnd (terms_of g may init) init.scripts (seen_core g init.core) Done (seen_core g now.core)
+  round_none none = rounds_end (terms_of g may init) init.scripts (seen_core g init.core) (seen_core g now.core) so_far (calls_so false none)
 
   module _ (some : calls_in now ≡ true) (read : DriveValue S C) (taken : TakesOne g now read) (mid : DriveValue S C) (told : DriveAnswer)
-      (settles : SettlesIt (terms_of g may read) (seen g read.core) told (seen g mid.core)) (left : Leaves g read mid told) where
-    to_read : Leaves g init read Done
+      (settles : SettlesIt (terms_of g may read) (seen_core g read.core) told (seen_core g mid.core)) (left : LeavesDrive g read mid told) where
+    to_read : LeavesDrive g init read Done
     to_read = leaves_then g init now read Done leaves taken.leaves
 
-    reads_so : Reading (is_some (asked init.copier)) g.tells (seen g now.core) (λ r. seen g read.core ≡ r)
-    reads_so = subst (λ (o : Option AskedCopy). Reading (is_some o) g.tells (seen g now.core) (λ r. seen g read.core ≡ r)) leaves.copier_ taken.reads
+    reads_so : Reading (is_some (asked_copy init.copier)) g.tells (seen_core g now.core) (λ r. seen_core g read.core ≡ r)
+    reads_so = subst (λ (o : Option AskedCopy). Reading (is_some o) g.tells (seen_core g now.core) (λ r. seen_core g read.core ≡ r)) leaves.copier_ taken.reads
 
-    settles_so : SettlesIt (terms_of g may init) (seen g read.core) told (seen g mid.core)
-    settles_so = subst (λ (t : Terms). SettlesIt t (seen g read.core) told (seen g mid.core)) (same_terms g may init read to_read) settles
+    settles_so : SettlesIt (terms_of g may init) (seen_core g read.core) told (seen_core g mid.core)
+    settles_so = subst (λ (t : Terms). SettlesIt t (seen_core g read.core) told (seen_core g mid.core)) (same_terms g may init read to_read) settles
 
-    pub round_left : Leaves g init mid told
+    pub round_left : LeavesDrive g init mid told
     round_left = leaves_then g init read mid told to_read left
 
-    pub round_halts : told ≢ Done → RunsToEnd (terms_of g may init) init.scripts (seen g init.core) told (seen g mid.core)
+    pub round_halts : told ≢ Done → RunsToEnd (terms_of g may init) init.scripts (seen_core g init.core) told (seen_core g mid.core)
     round_halts halted =
-        rounds_halt (terms_of g may init) init.scripts (seen g init.core) (seen g now.core) (seen g read.core) (seen g mid.core) so_far (calls_so true some) reads_so told settles_so halted
+        rounds_halt (terms_of g may init) init.scripts (seen_core g init.core) (seen_core g now.core) (seen_core g read.core) (seen_core g mid.core) so_far (calls_so true some) reads_so told settles_so halted
 
     module _ (done : told ≡ Done) (new : DriveValue S C) (answer : DriveAnswer)
-        (hosts : HostsTurn (terms_of g may mid) mid.scripts (seen g mid.core) answer (seen g new.core)) (then_ : Leaves g mid new answer) where
-      to_mid : Leaves g init mid Done
-      to_mid = subst (λ (a : DriveAnswer). Leaves g init mid a) done round_left
+        (hosts : HostsTurn (terms_of g may mid) mid.scripts (seen_core g mid.core) answer (seen_core g new.core)) (then_ : LeavesDrive g mid new answer) where
+      to_mid : LeavesDrive g init mid Done
+      to_mid = subst (λ (a : DriveAnswer). LeavesDrive g init mid a) done round_left
 
-      hosts_so : HostsTurn (terms_of g may init) init.scripts (seen g mid.core) answer (seen g new.core)
+      hosts_so : HostsTurn (terms_of g may init) init.scripts (seen_core g mid.core) answer (seen_core g new.core)
       hosts_so =
-          subst (λ (t : Terms). HostsTurn t init.scripts (seen g mid.core) answer (seen g new.core)) (same_terms g may init mid to_mid)
-          (subst (λ (scripts : List ScriptData). HostsTurn (terms_of g may mid) scripts (seen g mid.core) answer (seen g new.core)) to_mid.scripts_ hosts)
+          subst (λ (t : Terms). HostsTurn t init.scripts (seen_core g mid.core) answer (seen_core g new.core)) (same_terms g may init mid to_mid)
+          (subst (λ (scripts : List ScriptData). HostsTurn (terms_of g may mid) scripts (seen_core g mid.core) answer (seen_core g new.core)) to_mid.scripts_ hosts)
 
-      pub round_leaves : Leaves g init new answer
+      pub round_leaves : LeavesDrive g init new answer
       round_leaves = leaves_then g init mid new answer to_mid then_
 
-      pub round_done : answer ≡ Done → Leaves g init new Done
-      round_done goes = subst (λ (a : DriveAnswer). Leaves g init new a) goes round_leaves
+      pub round_done : answer ≡ Done → LeavesDrive g init new Done
+      round_done goes = subst (λ (a : DriveAnswer). LeavesDrive g init new a) goes round_leaves
 
-      pub round_stops : answer ≢ Done → RunsToEnd (terms_of g may init) init.scripts (seen g init.core) answer (seen g new.core)
+      pub round_stops : answer ≢ Done → RunsToEnd (terms_of g may init) init.scripts (seen_core g init.core) answer (seen_core g new.core)
       round_stops halted =
-          rounds_stop (terms_of g may init) init.scripts (seen g init.core) (seen g now.core) (seen g read.core) (seen g mid.core) so_far (calls_so true some) reads_so told settles_so done
-          (seen g new.core) answer hosts_so halted
+          rounds_stop (terms_of g may init) init.scripts (seen_core g init.core) (seen_core g now.core) (seen_core g read.core) (seen_core g mid.core) so_far (calls_so true some) reads_so told settles_so done
+          (seen_core g new.core) answer hosts_so halted
 
-      pub round_goes : answer ≡ Done → RoundsSoFar (terms_of g may init) init.scripts (seen g init.core) (seen g new.core)
+      pub round_goes : answer ≡ Done → RoundsSoFar (terms_of g may init) init.scripts (seen_core g init.core) (seen_core g new.core)
       round_goes goes =
-          rounds_go (terms_of g may init) init.scripts (seen g init.core) (seen g now.core) (seen g read.core) (seen g mid.core) so_far (calls_so true some) reads_so told settles_so done
-          (seen g new.core) answer hosts_so goes (then_.session.beginning.config ∙ left.session.beginning.config ∙ taken.leaves.session.beginning.config)
+          rounds_go (terms_of g may init) init.scripts (seen_core g init.core) (seen_core g now.core) (seen_core g read.core) (seen_core g mid.core) so_far (calls_so true some) reads_so told settles_so done
+          (seen_core g new.core) answer hosts_so goes (then_.session.beginning.config ∙ left.session.beginning.config ∙ taken.leaves.session.beginning.config)
 
-      pub round_falls : run_left (seen g mid.core) ≤ run_left (seen g read.core) → RunFalls mid.scripts (seen g mid.core) (seen g new.core) → run_left (seen g new.core) < run_left (seen g now.core)
+      pub round_falls : run_left (seen_core g mid.core) ≤ run_left (seen_core g read.core) → RunFalls mid.scripts (seen_core g mid.core) (seen_core g new.core) → run_left (seen_core g new.core) < run_left (seen_core g now.core)
       round_falls run falls =
-          let at = read_of g.tells (seen g now.core) (is_some (asked now.copier)) (λ r. seen g read.core ≡ r) taken.reads in
-          let e : run_left (seen g read.core) ≡ run_left (seen g now.core) = ap run_left at.2 ∙ same_run_left (seen g now.core) at.0 in
+          let at = read_of g.tells (seen_core g now.core) (is_some (asked_copy now.copier)) (λ r. seen_core g read.core ≡ r) taken.reads in
+          let e : run_left (seen_core g read.core) ≡ run_left (seen_core g now.core) = ap run_left at.2 ∙ same_run_left (seen_core g now.core) at.0 in
           let history_ : mid.core.history ≡ now.core.history = settles.history_ ∙ ap (λ (c : CoreData). c.history) at.2 in
-          let same = has_call_same (calls_of now.scripts) (hosts_of now.scripts) (seen g now.core) (seen g mid.core) history_ in
+          let same = has_call_same (calls_of now.scripts) (hosts_of now.scripts) (seen_core g now.core) (seen_core g mid.core) history_ in
           let calls : calls_in mid ≡ true =
-          subst (λ (scripts : List ScriptData). has_call (calls_of scripts) (hosts_of scripts) (seen g mid.core) ≡ true) (sym (left.scripts_ ∙ taken.leaves.scripts_)) (same ∙ some) in
+          subst (λ (scripts : List ScriptData). has_call (calls_of scripts) (hosts_of scripts) (seen_core g mid.core) ≡ true) (sym (left.scripts_ ∙ taken.leaves.scripts_)) (same ∙ some) in
           let less = falls (settles.settled done) (settles.going done) calls in
           omega (arith, less, run, e)

@@ -4,7 +4,7 @@ use Rattle.std.proofs.lemmas.Bool.{false≢true}
 use Rattle.mss_base.specs.declared.site.Site.{Ghosts}
 use Rattle.victim_choice.specs.declared.choose.Candidate.{Candidate}
 use Rattle.core_state.specs.Chains.{Terms, Step, OneOf, Onward, WorkTurn, Settles, Ended, IsSettled}
-use Rattle.core_state.specs.CoreValue.{CoreData, seen}
+use Rattle.core_state.specs.CoreValue.{CoreData, seen_core}
 use Rattle.core_progress.specs.WorkLeft.{run_left}
 use Rattle.serial_driver.specs.declared.answer.DriveAnswer.{DriveAnswer}
 use Rattle.core_state.specs.IsCore.{IsCore}
@@ -14,7 +14,7 @@ use Rattle.host_events.proofs.RuleFacts.{core_seen}
 use Rattle.serial_driver.specs.declared.answer.DriveAnswer.TheVariants.{Done}
 use Rattle.serial_driver.specs.declared.turn.Turn.{Turn}
 use Rattle.serial_driver.specs.Answers.{of_last}
-use Rattle.serial_driver.specs.Drives.{DriveValue, Leaves, recorders_of, SettlesIt, terms_of}
+use Rattle.serial_driver.specs.Drives.{DriveValue, LeavesDrive, recorders_of, SettlesIt, terms_of}
 use Rattle.serial_driver.specs.Turns.{AtTurnEnd, TurnsTo}
 use Rattle.serial_driver.proofs.ChainFacts.{of_last-append, work_then, work_halted}
 use Rattle.serial_driver.proofs.EventRuns.{leaves_then, same_terms}
@@ -102,38 +102,38 @@ module _ (terms : Terms) where
 -- ---- one turn more
 
 module _ {S C : Type 0} (g : Ghosts S) (may : C → List Candidate → ℕ → Type 0) (init now new : DriveValue S C)
-    (so_far : SettlesSoFar (terms_of g may init) (seen g init.core) (seen g now.core))
-    (leaves : Leaves g init now Done) (turn : Turn)
-    (turns : TurnsTo (terms_of g may now) (seen g now.core) turn (seen g new.core))
-    (left : Leaves g now new turn.answer) where
-  turns_so : TurnsTo (terms_of g may init) (seen g now.core) turn (seen g new.core)
-  turns_so = subst (λ (t : Terms). TurnsTo t (seen g now.core) turn (seen g new.core)) (same_terms g may init now leaves) turns
+    (so_far : SettlesSoFar (terms_of g may init) (seen_core g init.core) (seen_core g now.core))
+    (leaves : LeavesDrive g init now Done) (turn : Turn)
+    (turns : TurnsTo (terms_of g may now) (seen_core g now.core) turn (seen_core g new.core))
+    (left : LeavesDrive g now new turn.answer) where
+  turns_so : TurnsTo (terms_of g may init) (seen_core g now.core) turn (seen_core g new.core)
+  turns_so = subst (λ (t : Terms). TurnsTo t (seen_core g now.core) turn (seen_core g new.core)) (same_terms g may init now leaves) turns
 
-  pub turn_leaves : Leaves g init new turn.answer
+  pub turn_leaves : LeavesDrive g init new turn.answer
   turn_leaves = leaves_then g init now new turn.answer leaves left
 
-  pub turn_done : turn.answer ≡ Done → Leaves g init new Done
-  turn_done done = subst (λ (a : DriveAnswer). Leaves g init new a) done turn_leaves
+  pub turn_done : turn.answer ≡ Done → LeavesDrive g init new Done
+  turn_done done = subst (λ (a : DriveAnswer). LeavesDrive g init new a) done turn_leaves
 
-  pub turn_on : turn.answer ≡ Done → turn.idle ≡ false → SettlesSoFar (terms_of g may init) (seen g init.core) (seen g new.core)
+  pub turn_on : turn.answer ≡ Done → turn.idle ≡ false → SettlesSoFar (terms_of g may init) (seen_core g init.core) (seen_core g new.core)
   turn_on done busy =
-      settle_goes (terms_of g may init) (seen g init.core) (seen g now.core) (seen g new.core) so_far turn turns_so done busy left.session.beginning.config
+      settle_goes (terms_of g may init) (seen_core g init.core) (seen_core g now.core) (seen_core g new.core) so_far turn turns_so done busy left.session.beginning.config
 
-  pub turn_ends : turn.answer ≢ Done → SettlesIt (terms_of g may init) (seen g init.core) turn.answer (seen g new.core)
+  pub turn_ends : turn.answer ≢ Done → SettlesIt (terms_of g may init) (seen_core g init.core) turn.answer (seen_core g new.core)
   turn_ends halted =
-      settle_halts (terms_of g may init) (seen g init.core) (seen g now.core) (seen g new.core) so_far turn turns_so halted
+      settle_halts (terms_of g may init) (seen_core g init.core) (seen_core g now.core) (seen_core g new.core) so_far turn turns_so halted
 
-  pub turn_run : turn.answer ≡ Done → run_left (seen g new.core) ≤ run_left (seen g init.core)
+  pub turn_run : turn.answer ≡ Done → run_left (seen_core g new.core) ≤ run_left (seen_core g init.core)
   turn_run done = let less = (turns.leaves done).run in omega (arith, less, so_far.run)
 
   -- all were idle
   pub turn_rests : (new.core.stopped ≡ None → IsCore new.core) → ((core : CoreData) → IsCore core → AreIdle core → IsSettled core) → turn.answer ≡ Done → turn.idle ≡ true
-      → SettlesIt (terms_of g may init) (seen g init.core) Done (seen g new.core)
+      → SettlesIt (terms_of g may init) (seen_core g init.core) Done (seen_core g new.core)
   turn_rests kept law done idle =
       let idle_ = (turns.leaves done).idle_ idle in
-      let kept_ : new.core.stopped ≡ None → IsCore (seen g new.core) = λ going. core_seen g new.core (kept going) in
+      let kept_ : new.core.stopped ≡ None → IsCore (seen_core g new.core) = λ going. core_seen g new.core (kept going) in
       let some = idle_.some in
       let low : 0 < new.core.config.recorders = omega (arith, some) in
-      let going : new.core.stopped ≡ None = rule_idle (seen g new.core) 0 low kept_ (idle_.each 0 low) in
-      settle_rests (terms_of g may init) (seen g init.core) (seen g now.core) (seen g new.core) so_far turn turns_so done idle
-      (law (seen g new.core) (kept_ going) idle_) going
+      let going : new.core.stopped ≡ None = rule_idle (seen_core g new.core) 0 low kept_ (idle_.each 0 low) in
+      settle_rests (terms_of g may init) (seen_core g init.core) (seen_core g now.core) (seen_core g new.core) so_far turn turns_so done idle
+      (law (seen_core g new.core) (kept_ going) idle_) going

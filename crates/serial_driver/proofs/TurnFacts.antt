@@ -9,7 +9,7 @@ use Rattle.core_state.specs.declared.rule.WorkAnswer.{WorkAnswer}
 use Rattle.core_state.specs.declared.rule.WorkAnswer.TheVariants.{Did, Idle, Stopped, Memory}
 use Rattle.core_state.specs.declared.rule.WorkRule.TheVariants.{IsIdle}
 use Rattle.core_state.specs.Chains.{Terms, Step, worked, is_idle, WorkTurn}
-use Rattle.core_state.specs.CoreValue.{CoreValue, CoreData, seen}
+use Rattle.core_state.specs.CoreValue.{CoreValue, CoreData, seen_core}
 use Rattle.core_state.specs.IsCore.{IsCore}
 use Rattle.core_state.specs.WorkEvents.{WorkEvent}
 use Rattle.core_state.specs.WorkRules.{work_rule}
@@ -24,7 +24,7 @@ use Rattle.serial_driver.specs.declared.answer.DriveAnswer.{DriveAnswer}
 use Rattle.serial_driver.specs.declared.answer.DriveAnswer.TheVariants as answer
 use Rattle.serial_driver.specs.declared.turn.Turn.{Turn}
 use Rattle.serial_driver.specs.Answers.{of_work, of_last}
-use Rattle.serial_driver.specs.Drives.{DriveValue, Leaves, recorders_of, terms_of}
+use Rattle.serial_driver.specs.Drives.{DriveValue, LeavesDrive, recorders_of, terms_of}
 use Rattle.serial_driver.specs.Turns.{AtTurnEnd, LeavesLessBy, TurnsTo}
 use Rattle.serial_driver.proofs.ChainFacts.{of_last-cons, work_goes, work_last}
 use Rattle.serial_driver.proofs.EventRuns.{leaves_then}
@@ -53,10 +53,10 @@ module _ (tells : Type 0) (core : CoreData) (n : ℕ) (left : CoreData) where
 module _ {S C : Type 0} (g : Ghosts S) (may : List Candidate → ℕ → Type 0) (v w : CoreValue S C) (kept : v.stopped ≡ None → IsCore v) (n : ℕ)
     (below : n < v.config.recorders) where
   abbrev old : CoreData
-  old = seen g v
+  old = seen_core g v
 
   abbrev new : CoreData
-  new = seen g w
+  new = seen_core g w
 
   module _ (falls : (what : WorkKind) → IsCore old → WorkEvent g.tells may old n (Did what) new → settle_left new < settle_left old)
       (runs : (what : WorkKind) → IsCore old → WorkEvent g.tells may old n (Did what) new → LeavesRun old new) where
@@ -176,27 +176,27 @@ module _ (terms : Terms) (start : CoreData) where
 
 module _ {S C : Type 0} (g : Ghosts S) (may : C → List Candidate → ℕ → Type 0) (number : ℕ) (idle : Bool)
     (init now new : DriveValue S C) (below : number < init.core.config.recorders)
-    (so_far : TurnSoFar (terms_of g may init) (seen g init.core) number idle (seen g now.core))
-    (leaves : Leaves g init now answer.Done) (told : WorkAnswer)
-    (event : WorkEvent g.tells (may now.core.chooser) (seen g now.core) number told (seen g new.core))
-    (left : Leaves g now new (of_work told)) where
-  event_so : WorkEvent g.tells (may init.core.chooser) (seen g now.core) number told (seen g new.core)
-  event_so = subst (λ (c : C). WorkEvent g.tells (may c) (seen g now.core) number told (seen g new.core)) leaves.chooser_ event
+    (so_far : TurnSoFar (terms_of g may init) (seen_core g init.core) number idle (seen_core g now.core))
+    (leaves : LeavesDrive g init now answer.Done) (told : WorkAnswer)
+    (event : WorkEvent g.tells (may now.core.chooser) (seen_core g now.core) number told (seen_core g new.core))
+    (left : LeavesDrive g now new (of_work told)) where
+  event_so : WorkEvent g.tells (may init.core.chooser) (seen_core g now.core) number told (seen_core g new.core)
+  event_so = subst (λ (c : C). WorkEvent g.tells (may c) (seen_core g now.core) number told (seen_core g new.core)) leaves.chooser_ event
 
   low : number < now.core.config.recorders
   low = subst (λ c. number < c.recorders) (sym leaves.session.beginning.config) below
 
-  pub one_leaves : (told_so : DriveAnswer) → told_so ≡ of_work told → Leaves g init new told_so
+  pub one_leaves : (told_so : DriveAnswer) → told_so ≡ of_work told → LeavesDrive g init new told_so
   one_leaves told_so is =
-      subst (λ (a : DriveAnswer). Leaves g init new a) (sym is)
+      subst (λ (a : DriveAnswer). LeavesDrive g init new a) (sym is)
       (leaves_then g init now new (of_work told) leaves left)
 
-  pub one_goes : of_work told ≡ answer.Done → new.core.history ≡ now.core.history → LeavesLessBy (seen g now.core) number told (seen g new.core)
-      → TurnSoFar (terms_of g may init) (seen g init.core) (number + 1) (idle && is_idle (worked number told)) (seen g new.core)
+  pub one_goes : of_work told ≡ answer.Done → new.core.history ≡ now.core.history → LeavesLessBy (seen_core g now.core) number told (seen_core g new.core)
+      → TurnSoFar (terms_of g may init) (seen_core g init.core) (number + 1) (idle && is_idle (worked number told)) (seen_core g new.core)
   one_goes done history_ less =
-      turn_goes (terms_of g may init) (seen g init.core) number idle (seen g now.core) (seen g new.core) so_far low told event_so done left.session.beginning.config history_ less
+      turn_goes (terms_of g may init) (seen_core g init.core) number idle (seen_core g now.core) (seen_core g new.core) so_far low told event_so done left.session.beginning.config history_ less
 
   pub one_halts : of_work told ≢ answer.Done → new.core.history ≡ now.core.history → (turn : Turn) → turn.answer ≡ of_work told
-      → TurnsTo (terms_of g may init) (seen g init.core) turn (seen g new.core)
+      → TurnsTo (terms_of g may init) (seen_core g init.core) turn (seen_core g new.core)
   one_halts halted history_ turn is =
-      turn_halts (terms_of g may init) (seen g init.core) number idle (seen g now.core) (seen g new.core) so_far low told event_so halted history_ turn is
+      turn_halts (terms_of g may init) (seen_core g init.core) number idle (seen_core g now.core) (seen_core g new.core) so_far low told event_so halted history_ turn is

@@ -16,7 +16,7 @@ use Rattle.core_state.specs.Beginning.{IsLater}
 use Rattle.core_state.specs.declared.rule.WorkAnswer.{WorkAnswer}
 use Rattle.core_state.specs.declared.rule.WorkAnswer.TheVariants.{Did, Idle, Stopped, Memory}
 use Rattle.core_state.specs.declared.rule.WorkRule.{WorkRule}
-use Rattle.core_state.specs.CoreValue.{CoreValue, CoreData, seen}
+use Rattle.core_state.specs.CoreValue.{CoreValue, CoreData, seen_core}
 use Rattle.core_state.specs.IsCore.{IsCore}
 use Rattle.core_state.specs.Pins.{host_at}
 use Rattle.core_state.specs.WorkEvents.{WorkEvent}
@@ -63,12 +63,12 @@ still_asked tells core rule left once (inr it) k has = restated core.requests it
 -- ---- over an event of a recorder
 
 module _ {S C : Type 0} (g : Ghosts S) (may : List Candidate → ℕ → Type 0) (v w : CoreValue S C) (kept : v.stopped ≡ None → IsCore v)
-    (n : ℕ) (below : n < v.config.recorders) (told : WorkAnswer) (event : WorkEvent g.tells may (seen g v) n told (seen g w)) where
+    (n : ℕ) (below : n < v.config.recorders) (told : WorkAnswer) (event : WorkEvent g.tells may (seen_core g v) n told (seen_core g w)) where
   abbrev old : CoreData
-  old = seen g v
+  old = seen_core g v
 
   abbrev new : CoreData
-  new = seen g w
+  new = seen_core g w
 
   comes : Outcome g.tells old n (work_rule old n) told new
   comes = outcome g.tells may old n new (work_rule old n) told event

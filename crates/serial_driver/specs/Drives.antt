@@ -17,7 +17,7 @@ use Rattle.fault_queue.specs.Requests.{request_of}
 use Rattle.core_state.specs.Beginning.{IsLater}
 use Rattle.core_state.specs.Chains.{Step, called, worked, IsEvent, EventTurn, Settles, HostTurn}
 use Rattle.core_state.specs.Chains.{Rounds, Onward, Ended, Terms, has_call, IsSettled}
-use Rattle.core_state.specs.CoreValue.{CoreValue, CoreData, seen}
+use Rattle.core_state.specs.CoreValue.{CoreValue, CoreData, seen_core}
 use Rattle.core_state.specs.Pins.{host_at}
 use Rattle.core_state.specs.HostEvents.{HostTold}
 use Rattle.core_state.specs.declared.session.Event.{Event}
@@ -31,7 +31,7 @@ use Rattle.script_places.specs.declared.place.Place.{Place}
 use Rattle.script_places.specs.Places.{StandsAt}
 use Rattle.script_places.specs.Scripts.{Left, not_begun, next_of, left_after, Plays, script_of}
 use Rattle.script_places.specs.Scripts.{exchanges_of, left_of, calls_of}
-use Rattle.volume_copy.specs.Beside.{CopiedValue, asked}
+use Rattle.volume_copy.specs.Beside.{CopiedValue, asked_copy}
 use Rattle.volume_copy.specs.Copies.{CopyData}
 
 -- a core, the copier beside it, if a copy is asked for, and what each host of the job is to do
@@ -50,7 +50,7 @@ abbrev pub terms_by : {S C : Type 0} → Ghosts S → (C → List Candidate → 
 terms_by g may chooser copier = record {
   tells = g.tells;
   may = may chooser;
-  copies = is_some (asked copier);
+  copies = is_some (asked_copy copier);
 }
 
 abbrev pub terms_of : {S C : Type 0} → Ghosts S → (C → List Candidate → ℕ → Type 0)
@@ -161,11 +161,11 @@ pub record IsFull (scripts : List ScriptData) (history : List EntryData) : Type 
 -- The job, the copy and the chooser stay, and no count falls. A fault stopped the core only by a
 -- write that failed since, and none did where reads alone may fail. The limit is told of a full
 -- history alone.
-pub record Leaves {S C : Type 0} (g : Ghosts S) (old new : DriveValue S C) (answer : DriveAnswer)
+pub record LeavesDrive {S C : Type 0} (g : Ghosts S) (old new : DriveValue S C) (answer : DriveAnswer)
     : Type 0 where
-  pub session : IsLater g.tells (seen g old.core) (seen g new.core)
+  pub session : IsLater g.tells (seen_core g old.core) (seen_core g new.core)
   pub scripts_ : new.scripts ≡ old.scripts
-  pub copier_ : asked new.copier ≡ asked old.copier
+  pub copier_ : asked_copy new.copier ≡ asked_copy old.copier
   pub chooser_ : new.core.chooser ≡ old.core.chooser
   pub written : g.writes old.core.site ≤ g.writes new.core.site
   pub later : g.faults old.core.site ≤ g.faults new.core.site

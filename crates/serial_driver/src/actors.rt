@@ -1,7 +1,7 @@
 // Turns of hosts and recorders, by number.
 ghost use Rattle.std.specs.Prelude.{◌≡◌, ◌<◌, ◌+◌, ℕ, length};
 ghost use Rattle.channel_program.specs.Script.{FollowsToEnd};
-ghost use Rattle.core_state.specs.CoreValue.{seen};
+ghost use Rattle.core_state.specs.CoreValue.{seen_core};
 ghost use Rattle.serial_driver.specs.declared.answer.DriveAnswer.TheVariants.{Done};
 ghost use Rattle.script_places.specs.Scripts.{script_of, exchanges_of};
 
@@ -11,7 +11,7 @@ use mss_base::Site;
 use victim_choice::Choose;
 
 impl<'a, S: Site, C: Choose> Drive<'a, S, C> {
-    ghost use Rattle.serial_driver.specs.Drives.{AreTurns, EventTakes, Leaves, RunsEvents};
+    ghost use Rattle.serial_driver.specs.Drives.{AreTurns, EventTakes, LeavesDrive, RunsEvents};
     ghost use Rattle.serial_driver.specs.Drives.{RunsOn, event_of, events_of, terms_of};
 
     /// An event of the host or recorder with a number: the hosts of the job come first, in order, and then the
@@ -19,9 +19,9 @@ impl<'a, S: Site, C: Choose> Drive<'a, S, C> {
     fn act(&mut self, actor: u32) -> DriveAnswer
         requires there { actor < length self.old.scripts + self.old.core.config.recorders }
         ensures takes { EventTakes (terms_of S.Site C.may self.old) self.old.scripts
-            (event_of self.old.scripts actor) (seen S.Site self.old.core) result
-            (seen S.Site self.new.core) }
-        ensures leaves { Leaves S.Site self.old self.new result }
+            (event_of self.old.scripts actor) (seen_core S.Site self.old.core) result
+            (seen_core S.Site self.new.core) }
+        ensures leaves { LeavesDrive S.Site self.old self.new result }
     {
         let hosts = self.host_count();
         let number = actor as usize;
@@ -39,9 +39,9 @@ impl<'a, S: Site, C: Choose> Drive<'a, S, C> {
     pub fn run_turns(&mut self, turns: &[u32]) -> DriveAnswer
         requires turns { AreTurns self.old.scripts self.old.core.config turns.now }
         ensures runs { RunsEvents (terms_of S.Site C.may self.old) self.old.scripts
-            (events_of self.old.scripts turns.now) (seen S.Site self.old.core) result
-            (seen S.Site self.new.core) }
-        ensures leaves { Leaves S.Site self.old self.new result }
+            (events_of self.old.scripts turns.now) (seen_core S.Site self.old.core) result
+            (seen_core S.Site self.new.core) }
+        ensures leaves { LeavesDrive S.Site self.old self.new result }
     {
         for turn in turns {
             match self.act(*turn) {
@@ -57,10 +57,10 @@ impl<'a, S: Site, C: Choose> Drive<'a, S, C> {
     pub fn run(&mut self, turns: &[u32]) -> DriveAnswer
         requires turns { AreTurns self.old.scripts self.old.core.config turns.now }
         ensures runs { RunsOn (terms_of S.Site C.may self.old) self.old.scripts turns.now
-            (seen S.Site self.old.core) result (seen S.Site self.new.core) }
+            (seen_core S.Site self.old.core) result (seen_core S.Site self.new.core) }
         ensures ended { result ≡ Done → (h : ℕ) → FollowsToEnd (script_of self.new.scripts h)
             (exchanges_of h self.new.core.history) }
-        ensures leaves { Leaves S.Site self.old self.new result }
+        ensures leaves { LeavesDrive S.Site self.old self.new result }
     {
         match self.run_turns(turns) {
             DriveAnswer::Done => self.run_to_end(),

@@ -3,7 +3,7 @@ ghost use Rattle.std.specs.Prelude.{◌≡◌, ◌<◌, ℕ, [], length, slice_i
 ghost use Rattle.std.specs.Prelude.{OnErr, OnOk};
 ghost use Rattle.channel_program.specs.Script.{Follows, FollowsToEnd};
 ghost use Rattle.core_state.specs.Chains.{Reading};
-ghost use Rattle.core_state.specs.CoreValue.{seen};
+ghost use Rattle.core_state.specs.CoreValue.{seen_core};
 ghost use Rattle.core_state.specs.WorkEvents.{WorkEvent};
 ghost use Rattle.core_progress.specs.Progress.{OwnersCall};
 ghost use Rattle.job_text.specs.Jobs.{ScriptData};
@@ -11,7 +11,7 @@ ghost use Rattle.serial_driver.specs.Answers.{of_work};
 ghost use Rattle.serial_driver.specs.declared.answer.DriveAnswer.TheVariants.{Done};
 ghost use Rattle.std.specs.List.{AllByRecursion};
 ghost use Rattle.serial_driver.specs.Drives.{AllStand, IsNumberOf};
-ghost use Rattle.volume_copy.specs.Beside.{ReadsBeside, TakesBeside, asked};
+ghost use Rattle.volume_copy.specs.Beside.{ReadsBeside, TakesBeside, asked_copy};
 ghost use Rattle.script_places.specs.Places.{StandsAt};
 ghost use Rattle.script_places.specs.Scripts.{calls_of, script_of, exchanges_of, not_begun};
 
@@ -104,9 +104,9 @@ pub(crate) fn answer_of(told: WorkAnswer) -> DriveAnswer
 fn take_next<S: Site, C: Choose>(session: &mut CopiedCore<S, C>) -> Result<(), NoMemory>
     ensures takes { OnOk result (TakesBeside S.Site session.old session.new) }
     ensures memory { OnErr result (session.new ≡ session.old) }
-    ensures core { ReadsBeside S.Site (is_some (asked session.old.copier))
+    ensures core { ReadsBeside S.Site (is_some (asked_copy session.old.copier))
         session.old.core session.new.core }
-    ensures copier { asked session.new.copier ≡ asked session.old.copier }
+    ensures copier { asked_copy session.new.copier ≡ asked_copy session.old.copier }
 {
     session.take()?;
     Ok(())
@@ -114,7 +114,7 @@ fn take_next<S: Site, C: Choose>(session: &mut CopiedCore<S, C>) -> Result<(), N
 
 impl<'a, S: Site, C: Choose> Drive<'a, S, C> {
     ghost use Rattle.serial_driver.specs.Drives.{AreScripts, HostTakes, EventTakes, IsConfigured};
-    ghost use Rattle.serial_driver.specs.Drives.{IsUnused, Leaves, RunsEvents, copied_of, terms_of};
+    ghost use Rattle.serial_driver.specs.Drives.{IsUnused, LeavesDrive, RunsEvents, copied_of, terms_of};
     ghost use Rattle.volume_copy.specs.Beside.{IsReadyFor, StandsBeside};
 
     /// A serial run of a job, on a core in which nothing has happened, of the job's configuration; with a copier beside
@@ -128,7 +128,7 @@ impl<'a, S: Site, C: Choose> Drive<'a, S, C> {
         requires unused { IsUnused core job.now }
         requires ready { IfSome copier (IsReadyFor core.history) }
         ensures core { IfOk result (λ drive. drive.core ≡ core) }
-        ensures copier { IfOk result (λ drive. asked drive.copier ≡ asked copier) }
+        ensures copier { IfOk result (λ drive. asked_copy drive.copier ≡ asked_copy copier) }
         ensures scripts { IfOk result (λ drive. drive.scripts ≡ job.now.hosts) }
         ensures memory { IfErr result (λ back. (back.0 ≡ core) × (back.1 ≡ copier)) }
     {
@@ -176,8 +176,8 @@ impl<'a, S: Site, C: Choose> Drive<'a, S, C> {
             let h = (slice_index_or self.old.scripts number unknown).host in
             HostTakes (terms_of S.Site C.may self.old) h
             (calls_of self.old.scripts self.old.core.history h)
-            (seen S.Site self.old.core) result (seen S.Site self.new.core) }
-        ensures leaves { Leaves S.Site self.old self.new result }
+            (seen_core S.Site self.old.core) result (seen_core S.Site self.new.core) }
+        ensures leaves { LeavesDrive S.Site self.old self.new result }
     {
         self.session.look();
         let script = &self.scripts[number];
@@ -209,7 +209,7 @@ impl<'a, S: Site, C: Choose> Drive<'a, S, C> {
     /// has none has come to the end of its script.
     pub(crate) fn look_at_hosts(&self)
         ensures scripts { AreScripts self.now.scripts }
-        ensures owners { self.now.core.stopped ≡ None → OwnersCall (seen S.Site self.now.core)
+        ensures owners { self.now.core.stopped ≡ None → OwnersCall (seen_core S.Site self.now.core)
             (calls_of self.now.scripts self.now.core.history) }
         ensures ended { (h : ℕ) → calls_of self.now.scripts self.now.core.history h ≡ None
             → FollowsToEnd (script_of self.now.scripts h) (exchanges_of h self.now.core.history) }
@@ -221,8 +221,8 @@ impl<'a, S: Site, C: Choose> Drive<'a, S, C> {
     pub(crate) fn work(&mut self, recorder: RecorderNo) -> WorkAnswer
         requires { recorder < self.old.core.config.recorders }
         ensures event { WorkEvent S.tells (C.may self.old.core.chooser)
-            (seen S.Site self.old.core) recorder result (seen S.Site self.new.core) }
-        ensures leaves { Leaves S.Site self.old self.new (of_work result) }
+            (seen_core S.Site self.old.core) recorder result (seen_core S.Site self.new.core) }
+        ensures leaves { LeavesDrive S.Site self.old self.new (of_work result) }
     {
         self.session.look();
         self.session.work_event(recorder)
@@ -232,9 +232,9 @@ impl<'a, S: Site, C: Choose> Drive<'a, S, C> {
     pub(crate) fn take(&mut self) -> Result<(), NoMemory>
         ensures takes { OnOk result (TakesBeside S.Site (copied_of self.old) (copied_of self.new)) }
         ensures memory { OnErr result (self.new ≡ self.old) }
-        ensures read { Reading (is_some (asked self.old.copier)) S.tells
-            (seen S.Site self.old.core) (λ read. seen S.Site self.new.core ≡ read) }
-        ensures leaves { Leaves S.Site self.old self.new Done }
+        ensures read { Reading (is_some (asked_copy self.old.copier)) S.tells
+            (seen_core S.Site self.old.core) (λ read. seen_core S.Site self.new.core ≡ read) }
+        ensures leaves { LeavesDrive S.Site self.old self.new Done }
     {
         take_next(&mut self.session)
     }
@@ -243,8 +243,8 @@ impl<'a, S: Site, C: Choose> Drive<'a, S, C> {
     fn named(&mut self, host: HostNo) -> DriveAnswer
         ensures takes { HostTakes (terms_of S.Site C.may self.old) host
             (calls_of self.old.scripts self.old.core.history host)
-            (seen S.Site self.old.core) result (seen S.Site self.new.core) }
-        ensures leaves { Leaves S.Site self.old self.new result }
+            (seen_core S.Site self.old.core) result (seen_core S.Site self.new.core) }
+        ensures leaves { LeavesDrive S.Site self.old self.new result }
     {
         match script_number(self.scripts, host) {
             Some(number) => self.host(number),
@@ -256,8 +256,8 @@ impl<'a, S: Site, C: Choose> Drive<'a, S, C> {
     fn event(&mut self, event: Event) -> DriveAnswer
         requires configured { IsConfigured self.old.core.config event }
         ensures takes { EventTakes (terms_of S.Site C.may self.old) self.old.scripts event
-            (seen S.Site self.old.core) result (seen S.Site self.new.core) }
-        ensures leaves { Leaves S.Site self.old self.new result }
+            (seen_core S.Site self.old.core) result (seen_core S.Site self.new.core) }
+        ensures leaves { LeavesDrive S.Site self.old self.new result }
     {
         match event {
             Event::Host(host) => self.named(host),
@@ -270,8 +270,8 @@ impl<'a, S: Site, C: Choose> Drive<'a, S, C> {
     pub fn run_events(&mut self, events: &[Event]) -> DriveAnswer
         requires configured { AllByRecursion (IsConfigured self.old.core.config) events.now }
         ensures runs { RunsEvents (terms_of S.Site C.may self.old) self.old.scripts events.now
-            (seen S.Site self.old.core) result (seen S.Site self.new.core) }
-        ensures leaves { Leaves S.Site self.old self.new result }
+            (seen_core S.Site self.old.core) result (seen_core S.Site self.new.core) }
+        ensures leaves { LeavesDrive S.Site self.old self.new result }
     {
         for event in events {
             match self.event(*event) {

@@ -4,14 +4,14 @@ ghost use Rattle.mss_base.specs.Sites.{MayWrite};
 ghost use Rattle.mss_base.specs.declared.place.UnitNo.{UnitNo};
 ghost use Rattle.channel_commands.specs.Data.{CallData};
 ghost use Rattle.channel_commands.specs.Views.{call_of};
-ghost use Rattle.core_state.specs.CoreValue.{seen};
+ghost use Rattle.core_state.specs.CoreValue.{seen_core};
 ghost use Rattle.host_events.specs.Answers.{told_of};
 ghost use Rattle.job_text.specs.Views.{item_of};
 ghost use Rattle.serial_driver.specs.Answers.{of_host, IsUnstopped};
 ghost use Rattle.serial_driver.specs.Drives.{HostTakes, terms_by};
 ghost use Rattle.script_places.specs.Places.{StandsAt, IsPlace};
 ghost use Rattle.script_places.specs.Scripts.{Left, left_behind, next_of};
-ghost use Rattle.volume_copy.specs.Beside.{asked};
+ghost use Rattle.volume_copy.specs.Beside.{asked_copy};
 
 use crate::answer::DriveAnswer;
 use channel_commands::Call;
@@ -61,14 +61,14 @@ fn make_call<S: Site, C: Choose>(
     place: &mut Place,
 ) -> DriveAnswer
     ensures event { HostTakes (terms_by S.Site C.may session.old.core.chooser session.old.copier)
-        host (Some (call_of call)) (seen S.Site session.old.core) result
-        (seen S.Site session.new.core) }
+        host (Some (call_of call)) (seen_core S.Site session.old.core) result
+        (seen_core S.Site session.new.core) }
     ensures place { (left : Left) → StandsAt (map item_of items.now) left place.old
         → next_of left.items left.at ≡ Some (call_of call)
         → StandsAt (map item_of items.now)
         (left_behind left (slice_get session.new.core.history (length session.old.core.history)))
         place.new }
-    ensures copier { asked session.new.copier ≡ asked session.old.copier }
+    ensures copier { asked_copy session.new.copier ≡ asked_copy session.old.copier }
     ensures chooser { session.new.core.chooser ≡ session.old.core.chooser }
     ensures devices { MayWrite S.Site EVENT_ITEMS session.old.core.site session.new.core.site }
     ensures only_reads_fail { (but : UnitNo → Bool) → S.never_fails_but session.old.core.site but
@@ -90,7 +90,7 @@ fn make_call<S: Site, C: Choose>(
 fn refuse<S: Site, C: Choose>(session: &CopiedCore<S, C>) -> DriveAnswer
     ensures event { (h : ℕ) (call : CallData)
         → HostTakes (terms_by S.Site C.may session.now.core.chooser session.now.copier)
-        h (Some call) (seen S.Site session.now.core) result (seen S.Site session.now.core) }
+        h (Some call) (seen_core S.Site session.now.core) result (seen_core S.Site session.now.core) }
     ensures only_reads_fail { session.now.core.stopped ≡ None → IsUnstopped result }
 {
     answer_of(&refused(session.core()))
@@ -107,12 +107,12 @@ pub fn call_host<S: Site, C: Choose>(
     ensures event { (left : Left) → StandsAt script.now.items left place.old
         → HostTakes (terms_by S.Site C.may session.old.core.chooser session.old.copier)
         script.now.host (next_of left.items left.at)
-        (seen S.Site session.old.core) result (seen S.Site session.new.core) }
+        (seen_core S.Site session.old.core) result (seen_core S.Site session.new.core) }
     ensures place { (left : Left) → StandsAt script.now.items left place.old
         → StandsAt script.now.items
         (left_behind left (slice_get session.new.core.history (length session.old.core.history)))
         place.new }
-    ensures copier { asked session.new.copier ≡ asked session.old.copier }
+    ensures copier { asked_copy session.new.copier ≡ asked_copy session.old.copier }
     ensures chooser { session.new.core.chooser ≡ session.old.core.chooser }
     ensures devices { MayWrite S.Site EVENT_ITEMS session.old.core.site session.new.core.site }
     ensures only_reads_fail { (but : UnitNo → Bool) → S.never_fails_but session.old.core.site but

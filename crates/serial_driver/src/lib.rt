@@ -7,6 +7,9 @@
 //! `core_state`). What a host does next is `specs/Scripts.antt` of `script_places`. The layers above rely on what the
 //! type keeps: each host's entries, in order, follow its script, and a host with an open chain or a request has a call
 //! left while the core isn't stopped.
+//!
+//! Layers above cite lemmas of `proofs/`: reads of a copy beside a core (`ReadFacts`), and what one of them leaves of
+//! a run (`TakeFacts`).
 #![tactic(auto)]
 
 mod actors;

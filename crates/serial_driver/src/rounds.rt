@@ -2,7 +2,7 @@
 ghost use Rattle.std.specs.Prelude.{◌≡◌, ℕ};
 ghost use Rattle.channel_program.specs.Script.{FollowsToEnd};
 ghost use Rattle.core_state.specs.Chains.{has_call};
-ghost use Rattle.core_state.specs.CoreValue.{seen};
+ghost use Rattle.core_state.specs.CoreValue.{seen_core};
 ghost use Rattle.serial_driver.specs.declared.answer.DriveAnswer.TheVariants.{Done};
 ghost use Rattle.script_places.specs.Scripts.{script_of, exchanges_of, calls_of};
 
@@ -14,13 +14,13 @@ use mss_base::Site;
 use victim_choice::Choose;
 
 impl<'a, S: Site, C: Choose> Drive<'a, S, C> {
-    ghost use Rattle.serial_driver.specs.Drives.{Leaves, HostsTurn, RunsToEnd, hosts_of, terms_of};
+    ghost use Rattle.serial_driver.specs.Drives.{LeavesDrive, HostsTurn, RunsToEnd, hosts_of, terms_of};
     ghost use Rattle.serial_driver.specs.Turns.{RunFalls};
 
     /// Whether some host has a call.
     fn some_host_calls(&self) -> bool
         ensures { result ≡ has_call (calls_of self.now.scripts) (hosts_of self.now.scripts)
-            (seen S.Site self.now.core) }
+            (seen_core S.Site self.now.core) }
     {
         let count = self.host_count();
         for number in 0..count {
@@ -35,10 +35,10 @@ impl<'a, S: Site, C: Choose> Drive<'a, S, C> {
     /// to do before, less of the run is left.
     fn hosts_turn(&mut self) -> DriveAnswer
         ensures turns { HostsTurn (terms_of S.Site C.may self.old) self.old.scripts
-            (seen S.Site self.old.core) result (seen S.Site self.new.core) }
-        ensures falls { result ≡ Done → RunFalls self.old.scripts (seen S.Site self.old.core)
-            (seen S.Site self.new.core) }
-        ensures leaves { Leaves S.Site self.old self.new result }
+            (seen_core S.Site self.old.core) result (seen_core S.Site self.new.core) }
+        ensures falls { result ≡ Done → RunFalls self.old.scripts (seen_core S.Site self.old.core)
+            (seen_core S.Site self.new.core) }
+        ensures leaves { LeavesDrive S.Site self.old self.new result }
     {
         self.look_at_hosts();
         calls_leave_less::<S>();
@@ -62,10 +62,10 @@ impl<'a, S: Site, C: Choose> Drive<'a, S, C> {
     /// Where none does, each host has followed its script to the end.
     pub fn run_to_end(&mut self) -> DriveAnswer
         ensures runs { RunsToEnd (terms_of S.Site C.may self.old) self.old.scripts
-            (seen S.Site self.old.core) result (seen S.Site self.new.core) }
+            (seen_core S.Site self.old.core) result (seen_core S.Site self.new.core) }
         ensures ended { result ≡ Done → (h : ℕ) → FollowsToEnd (script_of self.new.scripts h)
             (exchanges_of h self.new.core.history) }
-        ensures leaves { Leaves S.Site self.old self.new result }
+        ensures leaves { LeavesDrive S.Site self.old self.new result }
     {
         loop {
             if !self.some_host_calls() {

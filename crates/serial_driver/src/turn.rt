@@ -2,7 +2,7 @@
 ghost use Rattle.std.specs.Prelude.{◌≡◌, ◌≤◌, ◌<◌, ℕ};
 ghost use Rattle.core_state.specs.Chains.{is_idle, worked};
 ghost use Rattle.core_state.specs.WorkEvents.{WorkEvent};
-ghost use Rattle.core_state.specs.CoreValue.{seen};
+ghost use Rattle.core_state.specs.CoreValue.{seen_core};
 ghost use Rattle.core_progress.specs.WorkLeft.{run_left};
 ghost use Rattle.serial_driver.specs.declared.answer.DriveAnswer.TheVariants.{Done};
 ghost use Rattle.serial_driver.specs.Answers.{of_work};
@@ -35,7 +35,7 @@ fn is_idle(told: WorkAnswer) -> bool
 }
 
 impl<'a, S: Site, C: Choose> Drive<'a, S, C> {
-    ghost use Rattle.serial_driver.specs.Drives.{Leaves, SettlesIt, terms_of};
+    ghost use Rattle.serial_driver.specs.Drives.{LeavesDrive, SettlesIt, terms_of};
     ghost use Rattle.serial_driver.specs.Turns.{TurnsTo, LeavesLessBy};
 
     /// An event of the recorder with a number, and what it leaves to do.
@@ -43,11 +43,11 @@ impl<'a, S: Site, C: Choose> Drive<'a, S, C> {
         requires low { number < self.old.core.config.recorders }
         requires few { number < 8 }
         ensures event { WorkEvent S.tells (C.may self.old.core.chooser)
-            (seen S.Site self.old.core) number result (seen S.Site self.new.core) }
+            (seen_core S.Site self.old.core) number result (seen_core S.Site self.new.core) }
         ensures less { of_work result ≡ Done → LeavesLessBy
-            (seen S.Site self.old.core) number result (seen S.Site self.new.core) }
+            (seen_core S.Site self.old.core) number result (seen_core S.Site self.new.core) }
         ensures history { self.new.core.history ≡ self.old.core.history }
-        ensures leaves { Leaves S.Site self.old self.new (of_work result) }
+        ensures leaves { LeavesDrive S.Site self.old self.new (of_work result) }
     {
         let Some(recorder) = RecorderNo::of(number) else {
             unreachable!()
@@ -61,8 +61,8 @@ impl<'a, S: Site, C: Choose> Drive<'a, S, C> {
     /// One event of each recorder, in order, until one ends them.
     fn turn(&mut self) -> Turn
         ensures turns { TurnsTo (terms_of S.Site C.may self.old)
-            (seen S.Site self.old.core) result (seen S.Site self.new.core) }
-        ensures leaves { Leaves S.Site self.old self.new result.answer }
+            (seen_core S.Site self.old.core) result (seen_core S.Site self.new.core) }
+        ensures leaves { LeavesDrive S.Site self.old self.new result.answer }
     {
         let mut idle = true;
         let recorders = self.core().recorder_count();
@@ -85,10 +85,10 @@ impl<'a, S: Site, C: Choose> Drive<'a, S, C> {
     /// of a run doesn't grow.
     pub fn settle(&mut self) -> DriveAnswer
         ensures settles { SettlesIt (terms_of S.Site C.may self.old)
-            (seen S.Site self.old.core) result (seen S.Site self.new.core) }
-        ensures run { result ≡ Done → run_left (seen S.Site self.new.core)
-            ≤ run_left (seen S.Site self.old.core) }
-        ensures leaves { Leaves S.Site self.old self.new result }
+            (seen_core S.Site self.old.core) result (seen_core S.Site self.new.core) }
+        ensures run { result ≡ Done → run_left (seen_core S.Site self.new.core)
+            ≤ run_left (seen_core S.Site self.old.core) }
+        ensures leaves { LeavesDrive S.Site self.old self.new result }
     {
         loop {
             let turn = self.turn();

@@ -5,7 +5,7 @@ use Rattle.std.proofs.lemmas.List.{append-nil}
 use Rattle.mss_base.specs.Puts.{PutsFront}
 use Rattle.ckd_plain.specs.History.{EntryData}
 use Rattle.core_state.specs.SessionData.{SessionData}
-use Rattle.report_text.specs.Texts.{entry_text, history_text, listing_title, numbered, stopped_text}
+use Rattle.report_text.specs.Texts.{entry_text, history_text, listing_title, numbered_lines, stopped_text}
 use Rattle.report_text.specs.declared.report.ReportFault.{ReportFault as PartFault}
 use Rattle.report_text.specs.declared.report.ReportFault.TheVariants as part
 use Rattle.report_text.proofs.LineLemmas.{put_some}
@@ -80,7 +80,7 @@ pub history_long : (entries : List EntryData) → 1 ≤ length (history_text ent
 unfolding history_text
 history_long entries =
     let title : length (codes "MSS REPORT 1\n") ≡ 13 = refl in
-    omega (arith, title, length-append (codes "MSS REPORT 1\n") (numbered entry_text 1 entries))
+    omega (arith, title, length-append (codes "MSS REPORT 1\n") (numbered_lines entry_text 1 entries))
 
 pub opening_long : (s : SessionData) → 1 ≤ length (opening_text s)
 opening_long s = omega (arith, history_long s.history, length-append (history_text s.history) (changes_text s.console))

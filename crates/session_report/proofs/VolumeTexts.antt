@@ -17,7 +17,7 @@ use Rattle.report_text.specs.Texts.{track_text, tracks_text, heading_text}
 use Rattle.report_text.proofs.LineLemmas.{no_track_text}
 use Rattle.report_text.proofs.TrackTexts.{Tracks, volume_text_is, no_tracks, tracks_text-next, tracks_go_on, tracks_stop}
 use Rattle.session_report.specs.Parts.{row_tracks, PutsTrack, PutsTracks, PutsVolumes}
-use Rattle.session_report.specs.Reports.{Grows, Heading, untitled, listed_text, volumes_text, begun_text}
+use Rattle.session_report.specs.Reports.{Grows, Heading, untitled_matter, listed_text, volumes_text, begun_text}
 use Rattle.session_report.specs.declared.fault.VolumesFault.{VolumesFault}
 use Rattle.session_report.specs.declared.fault.VolumesFault.TheVariants as volumes_fault
 
@@ -129,7 +129,7 @@ module _ (tells : Type 0) (shown : Volumes) (volumes : List Heading) (i : ℕ) (
     -- the walk was left within the volume
     pub volumes_left : (Here : ℕ → Type 0) (Unread : ℕ → ℕ → Type 0) → ((n : ℕ) → Here n → Unread i n)
         → (e : VolumesFault) → PutsTracks tells Here heading track now new (Err e)
-        → PutsVolumes tells Unread (untitled volumes shown []) (volumes_text shown volumes) old new (Err e)
+        → PutsVolumes tells Unread (untitled_matter volumes shown []) (volumes_text shown volumes) old new (Err e)
     volumes_left Here Unread here (volumes_fault.Read fault) put = record {
       place = i;
       tracks = put.tracks;

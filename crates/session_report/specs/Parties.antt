@@ -23,12 +23,12 @@ abbrev pub Stream : Type 1
 Stream = Party (List ℕ)
 
 -- a site, by its log
-abbrev pub Devices : Type 1
-Devices = Party SiteLog
+abbrev pub ToldDevices : Type 1
+ToldDevices = Party SiteLog
 
 -- the party of a trait's members, between two of its states
-abbrev pub between : {P T : Type 0} → Type 0 → (P → T) → (P → ℕ) → P → P → Party T
-between tells told faults old new = record {
+abbrev pub party_between : {P T : Type 0} → Type 0 → (P → T) → (P → ℕ) → P → P → Party T
+party_between tells told faults old new = record {
   tells = tells;
   was = told old;
   now = told new;
@@ -38,14 +38,14 @@ between tells told faults old new = record {
 
 -- a source, a sink and a site, between two of their states
 abbrev pub source_between : {I : Type 0} → source.Ghosts I → I → I → Stream
-source_between g = between g.tells g.left g.faults
+source_between g = party_between g.tells g.left g.faults
 
 abbrev pub sink_between : {O : Type 0} → sink.Ghosts O → O → O → Stream
-sink_between g = between g.tells g.told g.faults
+sink_between g = party_between g.tells g.told g.faults
 
-abbrev pub site_between : {S : Type 0} → site.Ghosts S → S → S → Devices
-site_between g = between g.tells g.told g.faults
+abbrev pub site_between : {S : Type 0} → site.Ghosts S → S → S → ToldDevices
+site_between g = party_between g.tells g.told g.faults
 
 -- the sink, of which clauses speak where the site tells as well
-abbrev pub seen_with : Devices → Stream → Stream
+abbrev pub seen_with : ToldDevices → Stream → Stream
 seen_with site sink = record sink { tells = site.tells × sink.tells }

@@ -10,14 +10,14 @@ use Rattle.mss_base.specs.declared.numbers.TheConstants.{CYLINDERS, HEADS}
 use Rattle.ckd_track.specs.Data.{Volumes}
 use Rattle.core_state.specs.declared.session.Message.{Message}
 use Rattle.core_state.specs.SessionData.{SessionData}
-use Rattle.report_text.specs.Texts.{numbered, change_line, history_text}
+use Rattle.report_text.specs.Texts.{numbered_lines, change_line, history_text}
 use Rattle.report_text.specs.Texts.{heading_text, tracks_text, volume_text}
 use Rattle.report_text.specs.Texts.{end_text, limit_text, stopped_text, listing_title}
 use Rattle.session_report.specs.declared.fault.ReportFault.TheVariants as report_fault
 use Rattle.session_report.specs.declared.reporting.Last.{Last}
 use Rattle.session_report.specs.declared.reporting.Last.TheVariants as last
 use Rattle.session_report.specs.Answers.{Answer, IsPut}
-use Rattle.session_report.specs.Parties.{Stream, Devices, seen_with}
+use Rattle.session_report.specs.Parties.{Stream, ToldDevices, seen_with}
 
 -- ---- the volumes
 
@@ -59,8 +59,8 @@ pub record Matter : Type 0 where
   pub behind : List ℕ
 
 -- volumes and what stands behind them, with nothing before them
-abbrev pub untitled : List Heading → Volumes → List ℕ → Matter
-untitled volumes shown behind = record {
+abbrev pub untitled_matter : List Heading → Volumes → List ℕ → Matter
+untitled_matter volumes shown behind = record {
   opening = [];
   shown = shown;
   volumes = volumes;
@@ -73,7 +73,7 @@ message_line n m = change_line n m.volume m.change m.freed
 
 -- the changes of rows, a line each
 unfoldable pub changes_text : List Message → List ℕ
-changes_text console = numbered message_line 1 console
+changes_text console = numbered_lines message_line 1 console
 
 -- the history of a session, and its changes of rows
 abbrev pub opening_text : SessionData → List ℕ
@@ -157,7 +157,7 @@ HasReason ending volumes before now (unread place tracks fault) =
     × IsFaultSince before now fault
 
 -- it was told over this site, with the answer that goes with it
-pub record IsReported (m : Matter) (ending : Ending) (site : Devices) (sink : Stream)
+pub record IsReported (m : Matter) (ending : Ending) (site : ToldDevices) (sink : Stream)
     (answer : Answer) : Type 0 where
   pub telling : Telling
   pub reason : HasReason ending m.volumes site.faults_was site.faults_now telling

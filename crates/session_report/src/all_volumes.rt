@@ -3,7 +3,7 @@ ghost use Rattle.std.specs.Prelude.{◌≡◌, ◌≤◌, ◌+◌, ◌++◌, IfO
 ghost use Rattle.std.specs.Option.{option_map};
 ghost use Rattle.mss_base.specs.Content.{content};
 ghost use Rattle.mss_base.specs.Sites.{OnlyReads};
-ghost use Rattle.volume_table.specs.Listed.{listed};
+ghost use Rattle.volume_table.specs.Listed.{row_in_list};
 ghost use Rattle.shown_volumes.specs.Shown.{is_marked, shown_by};
 ghost use Rattle.report_text.specs.Texts.{listing_title};
 ghost use Rattle.session_report.specs.Parts.{CanReadShown, IsUnread};
@@ -30,8 +30,8 @@ const VOLUMES: u8 = 32;
 fn push_volume(volumes: &mut VolumeList, rows: &Rows, volume: VolumeNo)
     requires room { 1 ≤ volumes.old.spare }
     ensures items { volumes.new.items ≡ volumes.old.items
-        ++ heading_of volume (option_map (λ r. r.serial) (listed rows.now volume))
-        (is_marked (listed rows.now volume)) }
+        ++ heading_of volume (option_map (λ r. r.serial) (row_in_list rows.now volume))
+        (is_marked (row_in_list rows.now volume)) }
     ensures spare { volumes.old.spare ≤ volumes.new.spare + 1 }
 {
     if let Some(row) = row_of(rows, volume) {
@@ -42,8 +42,8 @@ fn push_volume(volumes: &mut VolumeList, rows: &Rows, volume: VolumeNo)
 /// The volumes that have a row, by number, each with its serial and its mark.
 fn listed_volumes(alloc: Global, rows: &Rows) -> Result<VolumeList, NoMemory>
     ensures { IfOk result (λ volumes. volumes.items
-        ≡ volumes_below 32 (λ volume. option_map (λ r. r.serial) (listed rows.now volume))
-        (λ volume. is_marked (listed rows.now volume))) }
+        ≡ volumes_below 32 (λ volume. option_map (λ r. r.serial) (row_in_list rows.now volume))
+        (λ volume. is_marked (row_in_list rows.now volume))) }
 {
     let mut volumes = VolumeList::new(alloc);
     volumes.reserve(usize::from(VOLUMES))?;
@@ -66,18 +66,18 @@ pub fn listing<S: Site, O: Sink>(
     rows: &Rows,
     output: &mut O,
 ) -> Result<(), ReportFault>
-    ensures report { let shown = shown_by (listed rows.now) (content (S.told site.old)) in
+    ensures report { let shown = shown_by (row_in_list rows.now) (content (S.told site.old)) in
         IsReported (listing_matter shown) (finished End) (site_between S.Site site.old site.new)
         (sink_between O.Sink output.old output.new) result }
-    ensures unread { let shown = shown_by (listed rows.now) (content (S.told site.old)) in
+    ensures unread { let shown = shown_by (row_in_list rows.now) (content (S.told site.old)) in
         OnRead result (BreaksOff
-        (IsUnread S.Site site.old (listed rows.now) (listing_matter shown).volumes)
+        (IsUnread S.Site site.old (row_in_list rows.now) (listing_matter shown).volumes)
         (listing_matter shown) (seen_with (site_between S.Site site.old site.new)
         (sink_between O.Sink output.old output.new))) }
     ensures framed { O.tells → Frames listing_title (finished End)
         (O.told output.old) (O.told output.new) result }
     ensures counted { SiteCounts (S.faults site.old) (S.faults site.new) result }
-    ensures works { CanReadShown S.Site site.old (listed rows.now) → AnswersNoRead result }
+    ensures works { CanReadShown S.Site site.old (row_in_list rows.now) → AnswersNoRead result }
     ensures site { OnlyReads S.Site site.old site.new }
     ensures output { SinkCounts (O.faults output.old) (O.faults output.new) result }
 {

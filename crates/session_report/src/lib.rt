@@ -9,6 +9,8 @@
 //!
 //! The volumes are those that the rows handed in show over the devices (`shown_by` of `shown_volumes`). Where these are
 //! the rows of the devices' content, they are the volumes that it shows (`law::rows_of_a_content_show_its_volumes`).
+//!
+//! Layers above cite lemmas of `proofs/`: reads of tracks, and calls that fail (`SiteReads`).
 #![tactic(auto)]
 
 mod all_volumes;

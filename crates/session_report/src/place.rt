@@ -1,6 +1,6 @@
 // What a row shows of its volume: the mark, and which cylinders are blank.
 ghost use Rattle.std.specs.Prelude.{◌≡◌, ◌==◌, ◌||◌};
-ghost use Rattle.volume_table.specs.Listed.{listed};
+ghost use Rattle.volume_table.specs.Listed.{row_in_list};
 ghost use Rattle.volume_table.specs.Row.{state_of};
 ghost use Rattle.shown_volumes.specs.Shown.{is_marked};
 
@@ -9,7 +9,7 @@ use volume_table::{CylinderState, Rows, VolumeRow};
 
 /// The row of a volume, if the list has one.
 pub fn row_of(rows: &Rows, volume: VolumeNo) -> &Option<VolumeRow>
-    ensures { result.now ≡ listed rows.now volume }
+    ensures { result.now ≡ row_in_list rows.now volume }
 {
     rows.row(volume)
 }

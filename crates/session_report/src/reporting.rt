@@ -5,7 +5,7 @@ ghost use Rattle.mss_base.specs.Content.{content};
 ghost use Rattle.mss_base.specs.Counts.{HasCause};
 ghost use Rattle.mss_base.specs.Puts.{Puts};
 ghost use Rattle.mss_base.specs.Sites.{OnlyReads};
-ghost use Rattle.volume_table.specs.Listed.{listed};
+ghost use Rattle.volume_table.specs.Listed.{row_in_list};
 ghost use Rattle.shown_volumes.specs.Shown.{shown_by};
 ghost use Rattle.core_state.specs.Sessions.{session_data};
 ghost use Rattle.report_text.specs.Causes.{HasOutputCause};
@@ -18,7 +18,7 @@ ghost use Rattle.session_report.specs.Reports.{AnswersNoRead, IsReported, SiteCo
 ghost use Rattle.session_report.specs.Reports.{BreaksOff, Closes, EndsWith, Frames, Grows, OnRead};
 ghost use Rattle.session_report.specs.Reports.{ending_of, finished};
 ghost use Rattle.session_report.specs.Reports.{last_text, opening_text, report_matter};
-ghost use Rattle.session_report.specs.Reports.{untitled, volumes_text};
+ghost use Rattle.session_report.specs.Reports.{untitled_matter, volumes_text};
 
 use crate::changes::put_changes;
 use crate::copies::put_behind;
@@ -96,17 +96,17 @@ fn put_to_end<S: Site, O: Sink>(
     block: &mut Block,
     line: &mut Bytes,
 ) -> Result<(), VolumesFault>
-    ensures bytes { let shown = shown_by (listed rows.now) (content (S.told site.old)) in
+    ensures bytes { let shown = shown_by (row_in_list rows.now) (content (S.told site.old)) in
         let behind = behind_text (option_map (λ c. c.now) copy.entry) in
-        PutsVolumes (S.tells × O.tells) (IsUnread S.Site site.old (listed rows.now) volumes.now)
-        (untitled volumes.now shown behind)
+        PutsVolumes (S.tells × O.tells) (IsUnread S.Site site.old (row_in_list rows.now) volumes.now)
+        (untitled_matter volumes.now shown behind)
         (volumes_text shown volumes.now ++ (behind ++ last_text last))
         (O.told output.old) (O.told output.new) result }
     ensures grown { O.tells → Grows (O.told output.old) (O.told output.new) }
     ensures ended { O.tells → OnOk result
         (EndsWith (O.told output.old) (O.told output.new) (last_text last)) }
     ensures counted { CountsReads (S.faults site.old) (S.faults site.new) result }
-    ensures works { CanReadShown S.Site site.old (listed rows.now) → TellsNoRead result }
+    ensures works { CanReadShown S.Site site.old (row_in_list rows.now) → TellsNoRead result }
     ensures site { OnlyReads S.Site site.old site.new }
     ensures output { CountsPuts (O.faults output.old) (O.faults output.new) result }
 {
@@ -126,18 +126,18 @@ pub fn put_ending<S: Site, O: Sink>(
     output: &mut O,
     copy: Option<&Copier>,
 ) -> Result<(), ReportFault>
-    ensures report { let shown = shown_by (listed rows.now) (content (S.told site.old)) in
+    ensures report { let shown = shown_by (row_in_list rows.now) (content (S.told site.old)) in
         let behind = behind_text (option_map (λ c. c.now) copy.entry) in
-        IsReported (untitled volumes.now shown behind) (finished last)
+        IsReported (untitled_matter volumes.now shown behind) (finished last)
         (site_between S.Site site.old site.new) (sink_between O.Sink output.old output.new) result }
-    ensures unread { let shown = shown_by (listed rows.now) (content (S.told site.old)) in
+    ensures unread { let shown = shown_by (row_in_list rows.now) (content (S.told site.old)) in
         let behind = behind_text (option_map (λ c. c.now) copy.entry) in
-        OnRead result (BreaksOff (IsUnread S.Site site.old (listed rows.now) volumes.now)
-        (untitled volumes.now shown behind) (seen_with (site_between S.Site site.old site.new)
+        OnRead result (BreaksOff (IsUnread S.Site site.old (row_in_list rows.now) volumes.now)
+        (untitled_matter volumes.now shown behind) (seen_with (site_between S.Site site.old site.new)
         (sink_between O.Sink output.old output.new))) }
     ensures closed { O.tells → Closes last (O.told output.old) (O.told output.new) result }
     ensures counted { SiteCounts (S.faults site.old) (S.faults site.new) result }
-    ensures works { CanReadShown S.Site site.old (listed rows.now) → AnswersNoRead result }
+    ensures works { CanReadShown S.Site site.old (row_in_list rows.now) → AnswersNoRead result }
     ensures site { OnlyReads S.Site site.old site.new }
     ensures output { SinkCounts (O.faults output.old) (O.faults output.new) result }
 {
@@ -171,21 +171,21 @@ pub fn report<S: Site, O: Sink>(
     output: &mut O,
     copy: Option<&Copier>,
 ) -> Result<(), ReportFault>
-    ensures report { let shown = shown_by (listed rows.now) (content (S.told site.old)) in
+    ensures report { let shown = shown_by (row_in_list rows.now) (content (S.told site.old)) in
         let behind = behind_text (option_map (λ c. c.now) copy.entry) in
         IsReported (report_matter (session_data session.now) volumes.now shown behind)
         (ending_of session.now.stopped last) (site_between S.Site site.old site.new)
         (sink_between O.Sink output.old output.new) result }
-    ensures unread { let shown = shown_by (listed rows.now) (content (S.told site.old)) in
+    ensures unread { let shown = shown_by (row_in_list rows.now) (content (S.told site.old)) in
         let behind = behind_text (option_map (λ c. c.now) copy.entry) in
-        OnRead result (BreaksOff (IsUnread S.Site site.old (listed rows.now) volumes.now)
+        OnRead result (BreaksOff (IsUnread S.Site site.old (row_in_list rows.now) volumes.now)
         (report_matter (session_data session.now) volumes.now shown behind)
         (seen_with (site_between S.Site site.old site.new)
         (sink_between O.Sink output.old output.new))) }
     ensures framed { O.tells → Frames (opening_text (session_data session.now))
         (ending_of session.now.stopped last) (O.told output.old) (O.told output.new) result }
     ensures counted { SiteCounts (S.faults site.old) (S.faults site.new) result }
-    ensures works { CanReadShown S.Site site.old (listed rows.now) → AnswersNoRead result }
+    ensures works { CanReadShown S.Site site.old (row_in_list rows.now) → AnswersNoRead result }
     ensures site { OnlyReads S.Site site.old site.new }
     ensures output { SinkCounts (O.faults output.old) (O.faults output.new) result }
 {

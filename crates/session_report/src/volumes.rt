@@ -2,14 +2,14 @@
 ghost use Rattle.std.specs.Prelude.{◌≡◌, [], Some};
 ghost use Rattle.mss_base.specs.Content.{content};
 ghost use Rattle.mss_base.specs.Sites.{OnlyReads};
-ghost use Rattle.volume_table.specs.Listed.{listed};
+ghost use Rattle.volume_table.specs.Listed.{row_in_list};
 ghost use Rattle.shown_volumes.specs.Shown.{is_marked, shown_by, source};
 ghost use Rattle.report_text.specs.Texts.{track_text, heading_text};
 ghost use Rattle.session_report.specs.Parts.{row_tracks, PutsTrack, PutsTracks, PutsVolumes};
 ghost use Rattle.session_report.specs.Parts.{CountsReads, CountsPuts, TellsNoRead};
 ghost use Rattle.session_report.specs.Parts.{CanReadRow, CanReadShown};
 ghost use Rattle.session_report.specs.Parts.{IsUnread, MayFail, block_of};
-ghost use Rattle.session_report.specs.Reports.{Grows, untitled, volumes_text};
+ghost use Rattle.session_report.specs.Reports.{Grows, untitled_matter, volumes_text};
 
 use crate::fault::VolumesFault;
 use crate::place::{is_blank, is_marked, row_of};
@@ -121,13 +121,13 @@ fn put_volume<S: Site, O: Sink>(
     line: &mut Bytes,
 ) -> Result<(), VolumesFault>
     ensures bytes { PutsTracks (S.tells × O.tells)
-        (λ n. MayFail S.Site site.old (block_of (listed rows.now volume) n))
-        (heading_text volume serial.now (is_marked (listed rows.now volume)))
-        (row_tracks (content (S.told site.old)) (listed rows.now volume))
+        (λ n. MayFail S.Site site.old (block_of (row_in_list rows.now volume) n))
+        (heading_text volume serial.now (is_marked (row_in_list rows.now volume)))
+        (row_tracks (content (S.told site.old)) (row_in_list rows.now volume))
         (O.told output.old) (O.told output.new) result }
     ensures grown { O.tells → Grows (O.told output.old) (O.told output.new) }
     ensures counted { CountsReads (S.faults site.old) (S.faults site.new) result }
-    ensures works { CanReadRow S.Site site.old (listed rows.now volume) → TellsNoRead result }
+    ensures works { CanReadRow S.Site site.old (row_in_list rows.now volume) → TellsNoRead result }
     ensures site { OnlyReads S.Site site.old site.new }
     ensures output { CountsPuts (O.faults output.old) (O.faults output.new) result }
 {
@@ -147,13 +147,13 @@ pub fn put_volumes<S: Site, O: Sink>(
     block: &mut Block,
     line: &mut Bytes,
 ) -> Result<(), VolumesFault>
-    ensures bytes { let shown = shown_by (listed rows.now) (content (S.told site.old)) in
-        PutsVolumes (S.tells × O.tells) (IsUnread S.Site site.old (listed rows.now) volumes.now)
-        (untitled volumes.now shown []) (volumes_text shown volumes.now)
+    ensures bytes { let shown = shown_by (row_in_list rows.now) (content (S.told site.old)) in
+        PutsVolumes (S.tells × O.tells) (IsUnread S.Site site.old (row_in_list rows.now) volumes.now)
+        (untitled_matter volumes.now shown []) (volumes_text shown volumes.now)
         (O.told output.old) (O.told output.new) result }
     ensures grown { O.tells → Grows (O.told output.old) (O.told output.new) }
     ensures counted { CountsReads (S.faults site.old) (S.faults site.new) result }
-    ensures works { CanReadShown S.Site site.old (listed rows.now) → TellsNoRead result }
+    ensures works { CanReadShown S.Site site.old (row_in_list rows.now) → TellsNoRead result }
     ensures site { OnlyReads S.Site site.old site.new }
     ensures output { CountsPuts (O.faults output.old) (O.faults output.new) result }
 {

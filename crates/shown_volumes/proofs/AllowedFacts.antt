@@ -7,7 +7,7 @@ use Rattle.mss_base.specs.Content.{Content}
 use Rattle.mss_base.specs.Places.{frame_block}
 use Rattle.mss_base.specs.declared.place.BlockPlace.{BlockPlace}
 use Rattle.volume_table.specs.Row.{RowValue, frame_of, state_of, IsRow}
-use Rattle.volume_table.specs.Changes.{IsAllowed, effect, with_frame, with_state, without_frame, unstaged}
+use Rattle.volume_table.specs.Changes.{IsAllowed, effect, with_frame, with_state, without_frame, unstaged_state}
 use Rattle.volume_table.specs.declared.changes.Change.{Change}
 use Rattle.volume_table.specs.declared.changes.Change.TheVariants.{Create, Assign, Free, Staged, Changed, Destaged, Protect}
 use Rattle.volume_table.proofs.RowFacts.{frame-with_frame, frame-without_frame, state-without_frame}
@@ -101,19 +101,19 @@ module _ (frames v : ℕ) (r : RowValue) (c : Content) (sound : IsSound frames c
           | inr other ↦
               stays c r freed.pages freed.states y h y_low h_low here (state-without_frame page r y ∙ cond-false _ _ _ other) (inl (frame-without_frame page r (y / 8) ∙ cond-false _ _ _ other))
           | inl same ↦
-              let now : state_of freed y ≡ unstaged (state_of r y) = state-without_frame page r y ∙ cond-true _ _ _ same in
+              let now : state_of freed y ≡ unstaged_state (state_of r y) = state-without_frame page r y ∙ cond-true _ _ _ same in
               let changed : state_of r y ≢ 4 = unchanged y (eqb-true (y / 8) page same) in
               let at_most : state_of r y ≤ 4 = row.numbers y in
               elim (cases_Bool (nat_lt (state_of r y) 2)) [
                 | inl low ↦
                     let less = ltb-true (state_of r y) 2 low in
-                    stays c r freed.pages freed.states y h y_low h_low here (now ∙ elim (zero_or_one (state_of r y) less) [ inl none ↦ ap unstaged none ∙ sym none | inr one ↦ ap unstaged one ∙ sym one ]) (inr less)
+                    stays c r freed.pages freed.states y h y_low h_low here (now ∙ elim (zero_or_one (state_of r y) less) [ inl none ↦ ap unstaged_state none ∙ sym none | inr one ↦ ap unstaged_state one ∙ sym one ]) (inr less)
                 | inr high ↦ elim (two_or_three (state_of r y) (ltb-false (state_of r y) 2 high) (omega (arith, changed, at_most))) [
                   | inl two ↦
-                      let zero_now : state_of freed y ≡ 0 = now ∙ ap unstaged two in
+                      let zero_now : state_of freed y ≡ 0 = now ∙ ap unstaged_state two in
                       blank_stays c r freed.pages freed.states y h y_low h_low here (inr two) (inl zero_now) (asks_nothing c (state_of freed y) (in_page freed y h) (on_cartridge r y h) (inl (omega (arith, zero_now))))
                   | inr three ↦
-                      let one_now : state_of freed y ≡ 1 = now ∙ ap unstaged three in
+                      let one_now : state_of freed y ≡ 1 = now ∙ ap unstaged_state three in
                       copy_stays c r freed.pages freed.states y h y_low h_low here (inr three) (inl one_now) (asks_nothing c (state_of freed y) (in_page freed y h) (on_cartridge r y h) (inl (omega (arith, one_now))))
                 ]
               ]

@@ -6,7 +6,7 @@ use Rattle.std.proofs.lemmas.List.{get_or-replicate, get_or_past, length-replica
 use Rattle.mss_base.specs.Content.{Content}
 use Rattle.mss_base.specs.declared.place.BlockPlace.{BlockPlace}
 use Rattle.volume_table.specs.Row.{RowValue, frame_of, state_of, blank_row}
-use Rattle.shown_volumes.specs.Shown.{RowsOf, rows_of, on_cartridge, in_page, source, track_at, is_marked, shown_by, shown}
+use Rattle.shown_volumes.specs.Shown.{RowsOf, rows_of, on_cartridge, in_page, source, track_at, is_marked, shown_by, volumes_shown}
 use Rattle.shown_volumes.specs.Sound.{IsTrackAt, cartridge_of, frame_in, HasCartridgesOnce, HasFramesBelow, HasFramesOnce, IsSoundTrack, AreSound, IsSound}
 use Rattle.shown_volumes.specs.Changing.{with_row, IsFresh, with_blank}
 use Rattle.shown_volumes.proofs.PlaceFacts.{source_blank}
@@ -103,20 +103,20 @@ module _ (frames : ℕ) (c : Content) (v first second : ℕ) (serial : List ℕ)
   pub blank_sound : AreSound frames rows c
   blank_sound = record { cartridges_once = cartridges; frames_below = frames_below; frames_once = frames_once; tracks = tracks }
 
-  serial_is : (w : ℕ) → option_map (λ q. q.serial) (rows w) ≡ (with_blank v serial (shown c)).serial w
+  serial_is : (w : ℕ) → option_map (λ q. q.serial) (rows w) ≡ (with_blank v serial (volumes_shown c)).serial w
   serial_is =
-      at_row (rows_of c) v new (λ w o. option_map (λ q. q.serial) o ≡ cond (w == v) (Some serial) ((shown c).serial w))
-      (sym (cond-true (v == v) (Some serial) ((shown c).serial v) (eq-eqb v v refl))) (λ w other. sym (cond-false (w == v) (Some serial) ((shown c).serial w) other))
+      at_row (rows_of c) v new (λ w o. option_map (λ q. q.serial) o ≡ cond (w == v) (Some serial) ((volumes_shown c).serial w))
+      (sym (cond-true (v == v) (Some serial) ((volumes_shown c).serial v) (eq-eqb v v refl))) (λ w other. sym (cond-false (w == v) (Some serial) ((volumes_shown c).serial w) other))
 
-  mark_is : (w : ℕ) → is_marked (rows w) ≡ (with_blank v serial (shown c)).read_only w
+  mark_is : (w : ℕ) → is_marked (rows w) ≡ (with_blank v serial (volumes_shown c)).read_only w
   mark_is =
-      at_row (rows_of c) v new (λ w o. is_marked o ≡ cond (w == v) false ((shown c).read_only w))
-      (sym (cond-true (v == v) false ((shown c).read_only v) (eq-eqb v v refl))) (λ w other. sym (cond-false (w == v) false ((shown c).read_only w) other))
+      at_row (rows_of c) v new (λ w o. is_marked o ≡ cond (w == v) false ((volumes_shown c).read_only w))
+      (sym (cond-true (v == v) false ((volumes_shown c).read_only v) (eq-eqb v v refl))) (λ w other. sym (cond-false (w == v) false ((volumes_shown c).read_only w) other))
 
-  track_is : (y h w : ℕ) → track_at c (option_and_then (λ q. source q y h) (rows w)) ≡ (with_blank v serial (shown c)).track w y h
+  track_is : (y h w : ℕ) → track_at c (option_and_then (λ q. source q y h) (rows w)) ≡ (with_blank v serial (volumes_shown c)).track w y h
   track_is y h =
-      at_row (rows_of c) v new (λ w o. track_at c (option_and_then (λ q. source q y h) o) ≡ cond (w == v) [] ((shown c).track w y h))
-      (ap (track_at c) (no_source y h) ∙ sym (cond-true (v == v) [] ((shown c).track v y h) (eq-eqb v v refl))) (λ w other. sym (cond-false (w == v) [] ((shown c).track w y h) other))
+      at_row (rows_of c) v new (λ w o. track_at c (option_and_then (λ q. source q y h) o) ≡ cond (w == v) [] ((volumes_shown c).track w y h))
+      (ap (track_at c) (no_source y h) ∙ sym (cond-true (v == v) [] ((volumes_shown c).track v y h) (eq-eqb v v refl))) (λ w other. sym (cond-false (w == v) [] ((volumes_shown c).track w y h) other))
 
-  pub blank_shown : shown_by rows c ≡ with_blank v serial (shown c)
+  pub blank_shown : shown_by rows c ≡ with_blank v serial (volumes_shown c)
   blank_shown = λ i. record { serial = λ w. serial_is w i; read_only = λ w. mark_is w i; track = λ w y h. track_is y h w i }

@@ -12,7 +12,7 @@ use Rattle.ckd_track.specs.Track.{Reading, reading, reading_of}
 use Rattle.ckd_plain.specs.Plain.{with_track}
 use Rattle.volume_table.specs.Row.{RowValue, frame_of, state_of}
 use Rattle.table_pair.specs.Pair.{row_of}
-use Rattle.shown_volumes.specs.Shown.{RowsOf, rows_of, block_at, on_cartridge, source, track_at, shown_by, shown}
+use Rattle.shown_volumes.specs.Shown.{RowsOf, rows_of, block_at, on_cartridge, source, track_at, shown_by, volumes_shown}
 use Rattle.shown_volumes.specs.Sound.{IsSpelled, IsSoundTrack, AreSound, IsSound, SoundAs}
 use Rattle.shown_volumes.specs.Changing.{StandsOn}
 use Rattle.shown_volumes.proofs.PlaceFacts.{source_on_volume, source_blank, source_cartridge, source_frame, in_frame}
@@ -53,7 +53,7 @@ module _ (c : Content) (r : RowValue) (y h f : ℕ) (y_low : y < 404) (h_low : h
 
 -- shown of a staged cylinder in sound content
 pub staged_shown : (frames : ℕ) (c : Content) (v y h f : ℕ) (r : RowValue) → IsSound frames c → rows_of c v ≡ Some r → frame_of r (y / 8) ≡ Some f
-    → 2 ≤ state_of r y → state_of r y ≤ 4 → y < 404 → h < 19 → reading (block_at c (frame_block f y h)) ≡ reading_of ((shown c).track v y h)
+    → 2 ≤ state_of r y → state_of r y ≤ 4 → y < 404 → h < 19 → reading (block_at c (frame_block f y h)) ≡ reading_of ((volumes_shown c).track v y h)
 staged_shown frames c v y h f r sound there has high low y_low h_low =
     staged_reading c r y h f y_low h_low has (sound.agree.tracks v y h y_low h_low r there) high low
     ∙ ap (λ (o : Option RowValue). reading_of (track_at c (option_and_then (λ q. source q y h) o))) (sym there)
@@ -106,10 +106,10 @@ module _ (frames : ℕ) (c d : Content) (sound : IsSound frames c) (v y h f : �
     | inr elsewhere ↦ track_elsewhere w a b (rows_of c w) refl elsewhere ∙ sym (cond-false _ _ _ elsewhere)
   ]
 
-  shows_written : shown d ≡ with_track (shown c) v y h put
+  shows_written : volumes_shown d ≡ with_track (volumes_shown c) v y h put
   shows_written =
       ap (λ (rows : RowsOf). shown_by rows d) (rows_same c d told)
-      ∙ ap (λ (t : ℕ → ℕ → ℕ → List RecordData). let x : Volumes = record { serial = (shown c).serial; read_only = (shown c).read_only; track = t } in x) (fun_ext (λ (w : ℕ). fun_ext (λ (a : ℕ). fun_ext (λ (b : ℕ). track_is w a b))))
+      ∙ ap (λ (t : ℕ → ℕ → ℕ → List RecordData). let x : Volumes = record { serial = (volumes_shown c).serial; read_only = (volumes_shown c).read_only; track = t } in x) (fun_ext (λ (w : ℕ). fun_ext (λ (a : ℕ). fun_ext (λ (b : ℕ). track_is w a b))))
 
   sound_here : IsSoundTrack d r y h
   sound_here = record {
@@ -131,7 +131,7 @@ module _ (frames : ℕ) (c d : Content) (sound : IsSound frames c) (v y h f : �
   ]
 
   -- a write into the frame's block of a changed cylinder shows the track there, and nothing else
-  pub shows_track : SoundAs frames (with_track (shown c) v y h put) d
+  pub shows_track : SoundAs frames (with_track (volumes_shown c) v y h put) d
   shows_track = record {
     sound = record {
       spelled = λ w low. subst IsSpelled (sym (told w)) (sound.spelled w low);

@@ -8,7 +8,7 @@ use Rattle.ckd_track.specs.Data.{Volumes}
 use Rattle.volume_table.specs.Row.{RowValue, frame_of}
 use Rattle.volume_table.specs.Changes.{with_mark}
 use Rattle.table_pair.specs.Pair.{known, row_of, ChangesRow, OldOrNew}
-use Rattle.shown_volumes.specs.Shown.{RowsOf, rows_of, source, track_at, is_marked, shown_by, shown}
+use Rattle.shown_volumes.specs.Shown.{RowsOf, rows_of, source, track_at, is_marked, shown_by, volumes_shown}
 use Rattle.shown_volumes.specs.Sound.{cartridge_of, frame_in, HasCartridgesOnce, HasFramesBelow, HasFramesOnce, IsSoundTrack, AreSound, IsSound, SoundAs}
 use Rattle.shown_volumes.specs.Changing.{with_row, with_marked, MarkedOrNot}
 use Rattle.shown_volumes.proofs.FaultFacts.{few_rows}
@@ -72,29 +72,29 @@ module _ (frames : ℕ) (c : Content) (v : ℕ) (on : Bool) (r : RowValue) (soun
     tracks = tracks;
   }
 
-  mark_is : (w : ℕ) → is_marked (rows w) ≡ (with_marked v on (shown c)).read_only w
+  mark_is : (w : ℕ) → is_marked (rows w) ≡ (with_marked v on (volumes_shown c)).read_only w
   mark_is =
-      at_row (rows_of c) v new (λ w o. is_marked o ≡ cond (w == v) on ((shown c).read_only w))
-      (sym (cond-true (v == v) on ((shown c).read_only v) (eq-eqb v v refl)))
-      (λ w other. sym (cond-false (w == v) on ((shown c).read_only w) other))
+      at_row (rows_of c) v new (λ w o. is_marked o ≡ cond (w == v) on ((volumes_shown c).read_only w))
+      (sym (cond-true (v == v) on ((volumes_shown c).read_only v) (eq-eqb v v refl)))
+      (λ w other. sym (cond-false (w == v) on ((volumes_shown c).read_only w) other))
 
-  track_is : (y h w : ℕ) → track_at c (option_and_then (λ q. source q y h) (rows w)) ≡ (shown c).track w y h
+  track_is : (y h w : ℕ) → track_at c (option_and_then (λ q. source q y h) (rows w)) ≡ (volumes_shown c).track w y h
   track_is y h =
-      at_row (rows_of c) v new (λ w o. track_at c (option_and_then (λ q. source q y h) o) ≡ (shown c).track w y h)
+      at_row (rows_of c) v new (λ w o. track_at c (option_and_then (λ q. source q y h) o) ≡ (volumes_shown c).track w y h)
       (sym (ap (λ (o : Option RowValue). track_at c (option_and_then (λ q. source q y h) o)) there)) (λ w other. refl)
 
-  marked_shown : shown_by rows c ≡ with_marked v on (shown c)
+  marked_shown : shown_by rows c ≡ with_marked v on (volumes_shown c)
   marked_shown = λ i. record { serial = λ w. serial_same (rows_of c) v on r there w i; read_only = λ w. mark_is w i; track = λ w y h. track_is y h w i }
 
   -- once the row with the mark is told
   pub marked_new : (d : Content) (P : Content → Type 0) → ChangesRow v P c d → row_of d v ≡ known (Some new) false
-      → SoundAs frames (with_marked v on (shown c)) d
+      → SoundAs frames (with_marked v on (volumes_shown c)) d
   marked_new d P within here =
       subst (λ (V : Volumes). SoundAs frames V d) marked_shown
       (row_new v P c d within (few_rows (row_of c) v r there) new here frames sound marked_sound)
 
   -- sound, with the mark or without it
-  marking_shows : (d : Content) → ChangesRow v (OldOrNew v new c) c d → IsSound frames d × MarkedOrNot v on (shown c) (shown d)
+  marking_shows : (d : Content) → ChangesRow v (OldOrNew v new c) c d → IsSound frames d × MarkedOrNot v on (volumes_shown c) (volumes_shown d)
   marking_shows d within = elim within.here [
     | inl old ↦ let kept = row_kept v (OldOrNew v new c) c d within old frames sound in (kept.sound, inl kept.same)
     | inr told ↦ let one = marked_new d (OldOrNew v new c) within told in (one.sound, inr one.same)
@@ -103,8 +103,8 @@ module _ (frames : ℕ) (c : Content) (v : ℕ) (on : Bool) (r : RowValue) (soun
 pub marking_moments : (frames volume : ℕ) (on : Bool) (r : RowValue) (s t : SiteLog) → IsSound frames (content s)
     → rows_of (content s) volume ≡ Some r
     → Writes (ChangesRow volume (OldOrNew volume (with_mark on r) (content s)) (content s)) s t
-    → Writes (λ d. IsSound frames d × MarkedOrNot volume on (shown (content s)) (shown d)) s t
+    → Writes (λ d. IsSound frames d × MarkedOrNot volume on (volumes_shown (content s)) (volumes_shown d)) s t
 marking_moments frames volume on r s t sound there w =
     weaker (ChangesRow volume (OldOrNew volume (with_mark on r) (content s)) (content s))
-    (λ d. IsSound frames d × MarkedOrNot volume on (shown (content s)) (shown d))
+    (λ d. IsSound frames d × MarkedOrNot volume on (volumes_shown (content s)) (volumes_shown d))
     (λ d within. marking_shows frames (content s) volume on r sound there d within) s t w

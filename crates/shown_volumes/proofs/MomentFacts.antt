@@ -9,7 +9,7 @@ use Rattle.volume_table.specs.Row.{RowValue, blank_row}
 use Rattle.table_pair.specs.Copies.{copy_at}
 use Rattle.table_pair.specs.Pair.{known, row_of, row_of_copies, ChangesRow, OldOrNew, NoneOrNew}
 use Rattle.table_pair.specs.Repairs.{KeepsRow}
-use Rattle.shown_volumes.specs.Shown.{RowsOf, told_row, rows_of, shown_by, shown}
+use Rattle.shown_volumes.specs.Shown.{RowsOf, told_row, rows_of, shown_by, volumes_shown}
 use Rattle.shown_volumes.specs.Sound.{IsSpelled, AreSound, IsSound, SoundAs}
 use Rattle.shown_volumes.specs.Changing.{with_row, MayChange, IsFresh, with_blank, WithOrWithout}
 use Rattle.shown_volumes.proofs.PlaceFacts.{no_table}
@@ -31,7 +31,7 @@ module _ (volume : ℕ) (P : Content → Type 0) (c d : Content) (within : Chang
       | inr other ↦ elsewhere w other
     ]
 
-    pub row_kept : (frames : ℕ) → IsSound frames c → SoundAs frames (shown c) d
+    pub row_kept : (frames : ℕ) → IsSound frames c → SoundAs frames (volumes_shown c) d
     row_kept frames sound = shows_same c d all_rows frames (same_under (rows_of c)) sound
 
   -- each row that was spelled still is, where this one is
@@ -49,7 +49,7 @@ module _ (volume : ℕ) (P : Content → Type 0) (c d : Content) (within : Chang
 
   module _ (low : volume < 32) where
     -- there is still no row
-    none_still : row_of d volume ≡ known None false → rows_of c volume ≡ None → (frames : ℕ) → IsSound frames c → SoundAs frames (shown c) d
+    none_still : row_of d volume ≡ known None false → rows_of c volume ≡ None → (frames : ℕ) → IsSound frames c → SoundAs frames (volumes_shown c) d
     none_still here was frames sound =
         shows_rows c d (λ i w. at w i) frames (still_spelled sound.spelled (subst IsSpelled (sym here) tt)) (same_under (rows_of c)) sound
       where
@@ -80,22 +80,22 @@ module _ (volume : ℕ) (P : Content → Type 0) (c d : Content) (within : Chang
       }
 
 -- a change whose condition holds
-pub change_shows : (frames volume : ℕ) (row : RowValue) (c d : Content) → MayChange frames volume row c → ChangesRow volume (OldOrNew volume row c) c d → SoundAs frames (shown c) d
+pub change_shows : (frames volume : ℕ) (row : RowValue) (c d : Content) → MayChange frames volume row c → ChangesRow volume (OldOrNew volume row c) c d → SoundAs frames (volumes_shown c) d
 change_shows frames volume row c d may within = elim within.here [
   | inl old ↦ row_kept volume (OldOrNew volume row c) c d within old frames may.sound
   | inr new ↦ subst (λ (V : Volumes). SoundAs frames V d) may.same (row_new volume (OldOrNew volume row c) c d within may.low row new frames may.sound may.still)
 ]
 
 pub change_moments : (frames volume : ℕ) (row : RowValue) (s t : SiteLog) → MayChange frames volume row (content s)
-    → Writes (ChangesRow volume (OldOrNew volume row (content s)) (content s)) s t → Writes (SoundAs frames (shown (content s))) s t
+    → Writes (ChangesRow volume (OldOrNew volume row (content s)) (content s)) s t → Writes (SoundAs frames (volumes_shown (content s))) s t
 change_moments frames volume row s t may w =
-    weaker (ChangesRow volume (OldOrNew volume row (content s)) (content s)) (SoundAs frames (shown (content s))) (λ d within. change_shows frames volume row (content s) d may within) s t w
+    weaker (ChangesRow volume (OldOrNew volume row (content s)) (content s)) (SoundAs frames (volumes_shown (content s))) (λ d within. change_shows frames volume row (content s) d may within) s t w
 
 -- a repair
 pub repair_moments : (frames volume : ℕ) (s t : SiteLog) → IsSound frames (content s)
-    → Writes (ChangesRow volume (KeepsRow volume (content s)) (content s)) s t → Writes (SoundAs frames (shown (content s))) s t
+    → Writes (ChangesRow volume (KeepsRow volume (content s)) (content s)) s t → Writes (SoundAs frames (volumes_shown (content s))) s t
 repair_moments frames volume s t sound w =
-    weaker (ChangesRow volume (KeepsRow volume (content s)) (content s)) (SoundAs frames (shown (content s)))
+    weaker (ChangesRow volume (KeepsRow volume (content s)) (content s)) (SoundAs frames (volumes_shown (content s)))
     (λ d within. row_kept volume (KeepsRow volume (content s)) (content s) d within within.here frames sound) s t w
 
 -- a creation
@@ -104,20 +104,20 @@ module _ (frames volume first second : ℕ) (serial : List ℕ) where
   new = blank_row serial first second
 
   pub blank_new : (c d : Content) → IsSound frames c → IsFresh volume first second c → (P : Content → Type 0) → ChangesRow volume P c d → row_of d volume ≡ known (Some new) false
-      → SoundAs frames (with_blank volume serial (shown c)) d
+      → SoundAs frames (with_blank volume serial (volumes_shown c)) d
   blank_new c d sound fresh P within here =
       subst (λ (V : Volumes). SoundAs frames V d) (blank_shown frames c volume first second serial sound fresh)
       (row_new volume P c d within fresh.low new here frames sound (blank_sound frames c volume first second serial sound fresh))
 
   -- sound, with the new volume or without it
-  pub creation_shows : (c d : Content) → IsSound frames c → IsFresh volume first second c → ChangesRow volume (NoneOrNew volume new) c d → IsSound frames d × WithOrWithout volume serial (shown c) (shown d)
+  pub creation_shows : (c d : Content) → IsSound frames c → IsFresh volume first second c → ChangesRow volume (NoneOrNew volume new) c d → IsSound frames d × WithOrWithout volume serial (volumes_shown c) (volumes_shown d)
   creation_shows c d sound fresh within = elim within.here [
     | inl none ↦ let old = none_still volume (NoneOrNew volume new) c d within fresh.low none fresh.none frames sound in (old.sound, inl old.same)
     | inr made ↦ let one = blank_new c d sound fresh (NoneOrNew volume new) within made.0 in (one.sound, inr one.same)
   ]
 
   pub creation_moments : (s t : SiteLog) → IsSound frames (content s) → IsFresh volume first second (content s) → Writes (ChangesRow volume (NoneOrNew volume new) (content s)) s t
-      → Writes (λ d. IsSound frames d × WithOrWithout volume serial (shown (content s)) (shown d)) s t
+      → Writes (λ d. IsSound frames d × WithOrWithout volume serial (volumes_shown (content s)) (volumes_shown d)) s t
   creation_moments s t sound fresh w =
-      weaker (ChangesRow volume (NoneOrNew volume new) (content s)) (λ d. IsSound frames d × WithOrWithout volume serial (shown (content s)) (shown d))
+      weaker (ChangesRow volume (NoneOrNew volume new) (content s)) (λ d. IsSound frames d × WithOrWithout volume serial (volumes_shown (content s)) (volumes_shown d))
       (λ d within. creation_shows (content s) d sound fresh within) s t w

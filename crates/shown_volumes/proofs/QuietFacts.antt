@@ -5,7 +5,7 @@ use Rattle.std.specs.Prelude.{not}
 use Rattle.mss_base.specs.declared.place.UnitNo.{UnitNo}
 use Rattle.mss_base.specs.declared.place.UnitNo.TheVariants.{TableA, TableB}
 use Rattle.mss_base.specs.declared.place.BlockPlace.{BlockPlace}
-use Rattle.mss_base.specs.Content.{Content, SiteLog, Write, Item, wrote, synced, synced_all, unsynced, Places, nowhere, in_range, same_unit, content, written, Tear, image, loose_after, loose, IsLoose, NoLooser, IsTorn, Got, Adds, Settles, Writes, ChangesBlock}
+use Rattle.mss_base.specs.Content.{Content, SiteLog, Write, Item, wrote, synced, synced_all, unsynced, Places, nowhere, in_range, same_unit, content, with_write, Tear, image, loose_after, loose_places, IsLoose, NoLooser, IsTorn, Got, Adds, Settles, Writes, ChangesBlock}
 use Rattle.mss_base.proofs.ContentLemmas.{same_unit-refl, same_unit-true, written_elsewhere}
 use Rattle.mss_base.proofs.Moments.{torn_at, last_torn, weaker, started, ended_with, one_write, synced_moments, content_then, content_grown}
 use Rattle.mss_base.proofs.Settling.{loose-append, adds_firm, settles_sync, settles_no_looser}
@@ -13,7 +13,7 @@ use Rattle.ckd_track.specs.Data.{Volumes}
 use Rattle.volume_table.specs.Row.{RowValue}
 use Rattle.table_pair.specs.Copies.{copy_at}
 use Rattle.table_pair.specs.Pair.{row_of_copies, is_table, OldOrNew, ChangesRow}
-use Rattle.shown_volumes.specs.Shown.{RowsOf, rows_of, shown}
+use Rattle.shown_volumes.specs.Shown.{RowsOf, rows_of, volumes_shown}
 use Rattle.shown_volumes.specs.Sound.{IsSound, SoundAs}
 use Rattle.shown_volumes.specs.Changing.{StandsOn, IsOutside, with_row, IsQuietIn, IsQuiet, StillShows, MayWriteRow}
 use Rattle.shown_volumes.proofs.ShownFacts.{shows_same, shows_outside, rows_same, rows_stay}
@@ -31,8 +31,8 @@ torn_shows frames volumes s c d still torn = subst (λ (V : Volumes). SoundAs fr
     at u table b = torn_at s c d u b torn (λ is. let out = still.1 (record { unit = u; block = b }) is in false≢true (sym out.no_table ∙ table))
 
 -- whatever a stop leaves of a quiet site now
-pub quiet_rests : (frames : ℕ) (s : SiteLog) → IsQuiet s → IsSound frames (content s) → (k : ℕ) (tear : Tear) → k ≡ length s.log → SoundAs frames (shown (content s)) (image s k tear)
-quiet_rests frames s quiet sound k tear e = torn_shows frames (shown (content s)) s (content s) (image s k tear) (record { sound = sound; same = refl }, quiet) (last_torn s k tear e)
+pub quiet_rests : (frames : ℕ) (s : SiteLog) → IsQuiet s → IsSound frames (content s) → (k : ℕ) (tear : Tear) → k ≡ length s.log → SoundAs frames (volumes_shown (content s)) (image s k tear)
+quiet_rests frames s quiet sound k tear e = torn_shows frames (volumes_shown (content s)) s (content s) (image s k tear) (record { sound = sound; same = refl }, quiet) (last_torn s k tear e)
 
 -- ---- what is quiet
 
@@ -49,8 +49,8 @@ pub firm_quiet : (s : SiteLog) → ((unit : UnitNo) (block : ℕ) → IsLoose s 
 firm_quiet s firm place is = absurd (firm place.unit place.block is)
 
 -- no write
-pub quiet_started : (frames : ℕ) (s : SiteLog) → IsQuiet s → IsSound frames (content s) → Writes (StillShows frames (shown (content s)) s) s s
-quiet_started frames s quiet sound = started (StillShows frames (shown (content s)) s) s (record { sound = sound; same = refl }, quiet)
+pub quiet_started : (frames : ℕ) (s : SiteLog) → IsQuiet s → IsSound frames (content s) → Writes (StillShows frames (volumes_shown (content s)) s) s s
+quiet_started frames s quiet sound = started (StillShows frames (volumes_shown (content s)) s) s (record { sound = sound; same = refl }, quiet)
 
 -- writes into one block that is no table's
 pub block_quiet : (s : SiteLog) (unit : UnitNo) (block : ℕ) (P : List ℕ → Type 0) (d : Content) → IsQuiet s → is_table unit ≡ false → ChangesBlock unit block P (content s) d → IsQuietIn s d
@@ -58,20 +58,20 @@ block_quiet s unit block P d quiet none within = quiet_rows s (content s) d quie
 
 -- ---- a write into a block outside, firm or not
 
-written_rows : (c : Content) (w : Write) → IsOutside c (record { unit = w.unit; block = w.block }) → rows_of (written c w) ≡ rows_of c
-written_rows c w out = rows_same c (written c w) (rows_stay c (written c w) w.unit w.block out.no_table (λ u b other. written_elsewhere c w u b other))
+written_rows : (c : Content) (w : Write) → IsOutside c (record { unit = w.unit; block = w.block }) → rows_of (with_write c w) ≡ rows_of c
+written_rows c w out = rows_same c (with_write c w) (rows_stay c (with_write c w) w.unit w.block out.no_table (λ u b other. written_elsewhere c w u b other))
 
 pub copied_moments : (frames : ℕ) (s t : SiteLog) (w : Write) → IsQuiet s → IsSound frames (content s) → IsOutside (content s) (record { unit = w.unit; block = w.block }) → Adds w s t
-    → Writes (StillShows frames (shown (content s)) s) s t
-copied_moments frames s t w quiet sound out adds = one_write (StillShows frames (shown (content s)) s) s t w adds (record { sound = sound; same = refl }, quiet)
+    → Writes (StillShows frames (volumes_shown (content s)) s) s t
+copied_moments frames s t w quiet sound out adds = one_write (StillShows frames (volumes_shown (content s)) s) s t w adds (record { sound = sound; same = refl }, quiet)
     (λ left long. (
       shows_outside frames (content s) (record w { bytes = left }) out sound,
       quiet_rows s (content s) _ quiet (written_rows (content s) (record w { bytes = left }) out),
     ))
 
 -- what is loose behind items of a log
-loose_then : (s t : SiteLog) (items : List Item) → Got items s t → (unit : UnitNo) (block place : ℕ) → loose t unit block place ≡ loose_after (loose s) items unit block place
-loose_then s t items got unit block place = ap (λ (x : SiteLog). loose x unit block place) got ∙ ap (λ (p : Places). p unit block place) (loose-append nowhere s.log items)
+loose_then : (s t : SiteLog) (items : List Item) → Got items s t → (unit : UnitNo) (block place : ℕ) → loose_places t unit block place ≡ loose_after (loose_places s) items unit block place
+loose_then s t items got unit block place = ap (λ (x : SiteLog). loose_places x unit block place) got ∙ ap (λ (p : Places). p unit block place) (loose-append nowhere s.log items)
 
 pub copied_quiet : (s t : SiteLog) (w : Write) → IsQuiet s → IsOutside (content s) (record { unit = w.unit; block = w.block }) → Adds w s t → IsQuiet t
 copied_quiet s t w quiet out adds place is =
@@ -81,8 +81,8 @@ copied_quiet s t w quiet out adds place is =
     ])
   where
     -- it was loose, or is in the write
-    either : (i : ℕ) → (loose s place.unit place.block i || in_range w place.unit place.block i) ≡ true → IsLoose s place.unit place.block ⊎ ((same_unit w.unit place.unit && (w.block == place.block)) ≡ true)
-    either i found = elim (or_cases (loose s place.unit place.block i) (in_range w place.unit place.block i) found) [
+    either : (i : ℕ) → (loose_places s place.unit place.block i || in_range w place.unit place.block i) ≡ true → IsLoose s place.unit place.block ⊎ ((same_unit w.unit place.unit && (w.block == place.block)) ≡ true)
+    either i found = elim (or_cases (loose_places s place.unit place.block i) (in_range w place.unit place.block i) found) [
       | inl was ↦ inl (i, was)
       | inr now ↦ inr (and_parts (same_unit w.unit place.unit && (w.block == place.block)) _ now).0
     ]
@@ -114,9 +114,9 @@ sync_same s t unit (inl done) = content_grown s t (synced unit ∷ []) done
 sync_same s t unit (inr failed) = content_grown s t (unsynced ∷ []) failed
 
 pub sync_moments : (frames : ℕ) (s t : SiteLog) (unit : UnitNo) → IsQuiet s → IsSound frames (content s) → Got (synced unit ∷ []) s t ⊎ Got (unsynced ∷ []) s t
-    → Writes (StillShows frames (shown (content s)) s) s t
-sync_moments frames s t unit quiet sound (inl done) = synced_moments (StillShows frames (shown (content s)) s) s t unit (inl done) (record { sound = sound; same = refl }, quiet)
-sync_moments frames s t unit quiet sound (inr failed) = synced_moments (StillShows frames (shown (content s)) s) s t unit (inr (inr failed)) (record { sound = sound; same = refl }, quiet)
+    → Writes (StillShows frames (volumes_shown (content s)) s) s t
+sync_moments frames s t unit quiet sound (inl done) = synced_moments (StillShows frames (volumes_shown (content s)) s) s t unit (inl done) (record { sound = sound; same = refl }, quiet)
+sync_moments frames s t unit quiet sound (inr failed) = synced_moments (StillShows frames (volumes_shown (content s)) s) s t unit (inr (inr failed)) (record { sound = sound; same = refl }, quiet)
 
 sync_no_looser : (s t : SiteLog) (unit : UnitNo) → Got (synced unit ∷ []) s t ⊎ Got (unsynced ∷ []) s t → NoLooser s t
 sync_no_looser s t unit (inl done) = settles_no_looser s t (settles_sync unit s t done)
@@ -129,7 +129,7 @@ sync_quiet s t unit quiet got place is = still_outside (content s) (content t) p
 pub synced_firm : (s t : SiteLog) (unit : UnitNo) → Got (synced unit ∷ []) s t → (block : ℕ) → IsLoose t unit block → ⊥
 synced_firm s t unit got block is =
     let now = sym (loose_then s t (synced unit ∷ []) got unit block is.0) ∙ is.1 in
-    false≢true (sym (ap not (same_unit-refl unit)) ∙ (and_parts (loose s unit block is.0) (not (same_unit unit unit)) now).1)
+    false≢true (sym (ap not (same_unit-refl unit)) ∙ (and_parts (loose_places s unit block is.0) (not (same_unit unit unit)) now).1)
 
 -- and behind one of all units nothing
 pub all_firm : (s t : SiteLog) → Got (synced_all ∷ []) s t → (unit : UnitNo) (block : ℕ) → IsLoose t unit block → ⊥
@@ -159,11 +159,11 @@ module _ (frames volume : ℕ) (row : RowValue) (s t : SiteLog) (may : MayWriteR
   ]
 
   -- at each moment of a row's change
-  pub row_moments : Writes (ChangesRow volume (OldOrNew volume row (content s)) (content s)) s t → Writes (StillShows frames (shown (content s)) s) s t
+  pub row_moments : Writes (ChangesRow volume (OldOrNew volume row (content s)) (content s)) s t → Writes (StillShows frames (volumes_shown (content s)) s) s t
   row_moments w =
-      weaker (ChangesRow volume (OldOrNew volume row (content s)) (content s)) (StillShows frames (shown (content s)) s)
+      weaker (ChangesRow volume (OldOrNew volume row (content s)) (content s)) (StillShows frames (volumes_shown (content s)) s)
       (λ d within. (change_shows frames volume row (content s) d may.may within, row_quiet d within)) s t w
 
   -- and behind it, where it is firm
   pub row_settled : Writes (ChangesRow volume (OldOrNew volume row (content s)) (content s)) s t → Settles s t → IsQuiet t
-  row_settled w settled = quiet_settled s t settled (ended_with (StillShows frames (shown (content s)) s) s t (row_moments w)).1
+  row_settled w settled = quiet_settled s t settled (ended_with (StillShows frames (volumes_shown (content s)) s) s t (row_moments w)).1

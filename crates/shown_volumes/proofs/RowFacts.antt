@@ -5,7 +5,7 @@ use Rattle.std.proofs.lemmas.Bool.{cases_Bool, cond-true, cond-false, eqb-true, 
 use Rattle.mss_base.specs.Content.{Content}
 use Rattle.volume_table.specs.Row.{RowValue, frame_of}
 use Rattle.table_pair.specs.Pair.{row_of}
-use Rattle.shown_volumes.specs.Shown.{RowsOf, rows_of, source, track_at, is_marked, shown_by, shown}
+use Rattle.shown_volumes.specs.Shown.{RowsOf, rows_of, source, track_at, is_marked, shown_by, volumes_shown}
 use Rattle.shown_volumes.specs.Sound.{cartridge_of, frame_in, HasCartridgesOnce, HasFramesBelow, HasFramesOnce, IsSoundTrack, IsSound}
 use Rattle.shown_volumes.specs.Changing.{with_row, MayChange}
 use Rattle.shown_volumes.proofs.FaultFacts.{few_rows}
@@ -82,12 +82,12 @@ module _ (frames : ℕ) (c : Content) (v : ℕ) (r : RowValue) (sound : IsSound 
     ]
 
     module _ (stays : (y h : ℕ) → y < 404 → h < 19 → StaysTrack c r new y h) (past : (y h : ℕ) → track_at c (source new y h) ≡ track_at c (source r y h)) where
-      track_same : (y h w : ℕ) → track_at c (option_and_then (λ q. source q y h) (rows w)) ≡ (shown c).track w y h
+      track_same : (y h w : ℕ) → track_at c (option_and_then (λ q. source q y h) (rows w)) ≡ (volumes_shown c).track w y h
       track_same y h =
-          at_row (rows_of c) v new (λ w o. track_at c (option_and_then (λ q. source q y h) o) ≡ (shown c).track w y h)
+          at_row (rows_of c) v new (λ w o. track_at c (option_and_then (λ q. source q y h) o) ≡ (volumes_shown c).track w y h)
           (past y h ∙ sym (ap (λ (o : Option RowValue). track_at c (option_and_then (λ q. source q y h) o)) there)) (λ w other. refl)
 
-      shown_same : shown_by rows c ≡ shown c
+      shown_same : shown_by rows c ≡ volumes_shown c
       shown_same = λ i. record { serial = λ w. serial_same w i; read_only = λ w. mark_same w i; track = λ w y h. track_same y h w i }
 
       tracks : (w y h : ℕ) → y < 404 → h < 19 → ForSome (rows w) (λ q. IsSoundTrack c q y h)

@@ -2,7 +2,7 @@
 use Rattle.std.proofs.Common.{◌≡◌, inl, inr, ℕ, ◌≤◌, ◌<◌, Bool, false, cond, ◌&&◌, ◌==◌, nat_lt, List, Option, Some, None, refl, sym, ◌∙◌, ap, subst, arith}
 use Rattle.std.specs.Option.{option_map, option_and_then}
 use Rattle.std.proofs.lemmas.Bool.{cases_Bool, and_parts, eqb-true}
-use Rattle.mss_base.specs.Content.{Content, Write, written, same_unit}
+use Rattle.mss_base.specs.Content.{Content, Write, with_write, same_unit}
 use Rattle.mss_base.specs.declared.place.UnitNo.{UnitNo}
 use Rattle.mss_base.specs.declared.place.UnitNo.TheVariants.{TableA, TableB, Staging, Cartridge}
 use Rattle.mss_base.specs.declared.place.BlockPlace.{BlockPlace}
@@ -11,7 +11,7 @@ use Rattle.ckd_track.specs.Track.{reading}
 use Rattle.volume_table.specs.Row.{RowValue, state_of}
 use Rattle.table_pair.specs.Pair.{row_of, row_of_copies, is_table}
 use Rattle.table_pair.specs.Copies.{copy_at}
-use Rattle.shown_volumes.specs.Shown.{RowsOf, told_row, rows_of, block_at, on_cartridge, in_page, source, track_at, is_marked, shown_by, shown}
+use Rattle.shown_volumes.specs.Shown.{RowsOf, told_row, rows_of, block_at, on_cartridge, in_page, source, track_at, is_marked, shown_by, volumes_shown}
 use Rattle.shown_volumes.specs.Sound.{IsSpelled, IsSoundTrack, AreSound, IsSound, SoundAs}
 use Rattle.shown_volumes.specs.Changing.{StandsOn, IsOutside}
 use Rattle.shown_volumes.proofs.PlaceFacts.{source_on_volume, source_cartridge}
@@ -69,7 +69,7 @@ module _ (c d : Content) where
     }
 
   -- the same rows over the same blocks
-  pub shows_rows : rows_of d ≡ rows_of c → (frames : ℕ) → ((v : ℕ) → v < 32 → IsSpelled (row_of d v)) → SameUnder (rows_of c) c d → IsSound frames c → SoundAs frames (shown c) d
+  pub shows_rows : rows_of d ≡ rows_of c → (frames : ℕ) → ((v : ℕ) → v < 32 → IsSpelled (row_of d v)) → SameUnder (rows_of c) c d → IsSound frames c → SoundAs frames (volumes_shown c) d
   shows_rows rows_are frames spelled same sound = record {
     sound = record { spelled = spelled; agree = subst (λ (rows : RowsOf). AreSound frames rows d) (sym rows_are) (sound_over (rows_of c) same frames sound.agree) };
     same = ap (λ (rows : RowsOf). shown_by rows d) rows_are ∙ shown_over (rows_of c) same;
@@ -79,7 +79,7 @@ module _ (c d : Content) where
     pub rows_same : rows_of d ≡ rows_of c
     rows_same = λ i v. cond (nat_lt v 32) (told_row (told v i)) None
 
-    pub shows_same : (frames : ℕ) → SameUnder (rows_of c) c d → IsSound frames c → SoundAs frames (shown c) d
+    pub shows_same : (frames : ℕ) → SameUnder (rows_of c) c d → IsSound frames c → SoundAs frames (volumes_shown c) d
     shows_same frames same sound = shows_rows rows_same frames (λ v low. subst IsSpelled (sym (told v)) (sound.spelled v low)) same sound
 
 -- what is written into a block that is no table's leaves the rows
@@ -101,7 +101,7 @@ rows_stay c d unit block is others v =
     no_b (Cartridge n) is = refl
 
 -- a write into a block outside
-pub shows_outside : (frames : ℕ) (c : Content) (w : Write) → IsOutside c (record { unit = w.unit; block = w.block }) → IsSound frames c → SoundAs frames (shown c) (written c w)
+pub shows_outside : (frames : ℕ) (c : Content) (w : Write) → IsOutside c (record { unit = w.unit; block = w.block }) → IsSound frames c → SoundAs frames (volumes_shown c) (with_write c w)
 shows_outside frames c w outside sound =
-    shows_same c (written c w) (rows_stay c (written c w) w.unit w.block outside.no_table (λ u b other. written_elsewhere c w u b other)) frames
+    shows_same c (with_write c w) (rows_stay c (with_write c w) w.unit w.block outside.no_table (λ u b other. written_elsewhere c w u b other)) frames
     (λ v y h r place is stands. written_elsewhere c w place.unit place.block (apart w.unit w.block place (λ same. outside.unused v y h r is (subst (StandsOn r y h) (λ i. record { unit = sym same.0 i; block = sym same.1 i }) stands)))) sound

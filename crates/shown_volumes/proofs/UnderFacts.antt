@@ -7,7 +7,7 @@ use Rattle.mss_base.specs.declared.place.BlockPlace.{BlockPlace}
 use Rattle.mss_base.specs.Content.{SiteLog, content}
 use Rattle.mss_base.specs.Places.{frame_block}
 use Rattle.volume_table.specs.Row.{RowValue, frame_of, state_of, IsRow}
-use Rattle.volume_table.specs.Changes.{IsAllowed, effect, with_frame, with_state, without_frame, unstaged}
+use Rattle.volume_table.specs.Changes.{IsAllowed, effect, with_frame, with_state, without_frame, unstaged_state}
 use Rattle.volume_table.specs.declared.changes.Change.{Change}
 use Rattle.volume_table.specs.declared.changes.Change.TheVariants.{Create, Assign, Free, Staged, Changed, Destaged, Protect}
 use Rattle.volume_table.proofs.RowFacts.{frame-without_frame, state-without_frame}
@@ -18,15 +18,15 @@ use Rattle.shown_volumes.proofs.PlaceFacts.{InFrame, OnCartridge, source_cartrid
 use Rattle.shown_volumes.proofs.AllowedFacts.{there_is, not_equal, allowed_may}
 
 -- what a cylinder that lost its frame shows from its cartridge it showed from there before
-shown_before : (state : ℕ) → (unstaged state ≡ 1) ⊎ (unstaged state ≡ 3) → (state ≡ 1) ⊎ (state ≡ 3)
+shown_before : (state : ℕ) → (unstaged_state state ≡ 1) ⊎ (unstaged_state state ≡ 3) → (state ≡ 1) ⊎ (state ≡ 3)
 shown_before state now = elim (cases_Bool (state == 2)) [
   | inl two ↦
-      let e : unstaged state ≡ 0 = cond-true _ _ _ two in
+      let e : unstaged_state state ≡ 0 = cond-true _ _ _ two in
       elim now [ inl one ↦ absurd (omega (arith, sym e ∙ one)) | inr three ↦ absurd (omega (arith, sym e ∙ three)) ]
   | inr other ↦ elim (cases_Bool (state == 3)) [
     | inl three ↦ inr (eqb-true state 3 three)
     | inr neither ↦
-        let e : unstaged state ≡ state = cond-false _ _ _ other ∙ cond-false _ _ _ neither in
+        let e : unstaged_state state ≡ state = cond-false _ _ _ other ∙ cond-false _ _ _ neither in
         subst (λ (n : ℕ). (n ≡ 1) ⊎ (n ≡ 3)) e now
   ]
 ]
@@ -85,7 +85,7 @@ module _ (v : ℕ) (r : RowValue) (s : SiteLog) (quiet : IsQuiet s) (there : row
       freed_on : (y h : ℕ) (place : BlockPlace) → y < 404 → h < 19 → OnCartridge (without_frame page r) y h place → OnCartridge r y h place ⊎ IsFirmAt s place
       freed_on y h place y_low h_low now = elim (cases_Bool (y / 8 == page)) [
         | inl same ↦
-            let state_is : state_of (without_frame page r) y ≡ unstaged (state_of r y) = state-without_frame page r y ∙ cond-true _ _ _ same in
+            let state_is : state_of (without_frame page r) y ≡ unstaged_state (state_of r y) = state-without_frame page r y ∙ cond-true _ _ _ same in
             inl (shown_before (state_of r y) (subst (λ (n : ℕ). (n ≡ 1) ⊎ (n ≡ 3)) state_is now.0), now.1)
         | inr other ↦
             let state_is : state_of (without_frame page r) y ≡ state_of r y = state-without_frame page r y ∙ cond-false _ _ _ other in

@@ -9,7 +9,7 @@ use Rattle.volume_table.specs.Row.{RowValue, state_of}
 use Rattle.volume_table.specs.declared.changes.Change.{Change}
 use Rattle.volume_table.specs.declared.changes.Change.TheVariants.{Create, Assign, Free, Staged, Changed, Destaged, Protect}
 use Rattle.table_pair.specs.Pair.{is_table}
-use Rattle.shown_volumes.specs.Shown.{RowsOf, rows_of, on_cartridge, in_page, source, shown_by, shown}
+use Rattle.shown_volumes.specs.Shown.{RowsOf, rows_of, on_cartridge, in_page, source, shown_by, volumes_shown}
 use Rattle.shown_volumes.specs.Sound.{frame_in, IsStagedAs, IsSameAt, AreSound, IsSound, SoundAs}
 
 -- a block that a track of a row's volume stands on: the shown one, or the one in the frame where the cylinder is staged
@@ -31,7 +31,7 @@ with_row volume r rows v = if v == volume then Some r else rows v
 pub record MayChange (frames volume : ℕ) (row : RowValue) (c : Content) : Type 0 where
   pub low : volume < 32
   pub sound : IsSound frames c
-  pub same : shown_by (with_row volume row (rows_of c)) c ≡ shown c
+  pub same : shown_by (with_row volume row (rows_of c)) c ≡ volumes_shown c
   pub still : AreSound frames (with_row volume row (rows_of c)) c
 
 -- the blocks are as an allowed change says, and the frame that it assigns is free. A volume that is there can't be created.

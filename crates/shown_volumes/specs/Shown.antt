@@ -75,5 +75,5 @@ shown_by rows c = record {
 }
 
 -- the shown volumes of a content
-abbrev pub shown : Content → Volumes
-shown c = shown_by (rows_of c) c
+abbrev pub volumes_shown : Content → Volumes
+volumes_shown c = shown_by (rows_of c) c

@@ -8,7 +8,7 @@ use Rattle.ckd_track.specs.Data.{Volumes}
 use Rattle.ckd_track.specs.Track.{reading, reading_of}
 use Rattle.volume_table.specs.Row.{RowValue, frame_of, state_of}
 use Rattle.table_pair.specs.Pair.{RowReading, damaged, row_of}
-use Rattle.shown_volumes.specs.Shown.{RowsOf, rows_of, block_at, on_cartridge, in_page, source, shown}
+use Rattle.shown_volumes.specs.Shown.{RowsOf, rows_of, block_at, on_cartridge, in_page, source, volumes_shown}
 
 -- the copy that counts, if one does, spells a row
 abbrev pub IsSpelled : RowReading → Type 0
@@ -70,7 +70,7 @@ pub record IsSound (frames : ℕ) (c : Content) : Type 0 where
 -- a content that is sound and shows these volumes
 pub record SoundAs (frames : ℕ) (volumes : Volumes) (c : Content) : Type 0 where
   pub sound : IsSound frames c
-  pub same : shown c ≡ volumes
+  pub same : volumes_shown c ≡ volumes
 
 -- a volume that has a row has the serial that is asked of it, if one is
 abbrev pub HasSerialsAsked : (ℕ → Option (List ℕ)) → RowsOf → Type 0

@@ -9,7 +9,7 @@ ghost use Rattle.mss_base.specs.Content.{
   Tear,
   content,
   image,
-  written,
+  with_write,
   ChangesBlock,
 };
 ghost use Rattle.mss_base.specs.Places.{frame_block};
@@ -20,7 +20,7 @@ ghost use Rattle.volume_table.specs.Changes.{IsAllowed, effect, with_mark};
 ghost use Rattle.volume_table.specs.declared.changes.Change.{Change};
 ghost use Rattle.table_pair.specs.Pair.{known, row_of, HoldsRow, ChangesRow, OldOrNew, NoneOrNew};
 ghost use Rattle.table_pair.specs.Repairs.{KeepsRow};
-ghost use Rattle.shown_volumes.specs.Shown.{rows_of, SameTables, shown, block_at, on_cartridge};
+ghost use Rattle.shown_volumes.specs.Shown.{rows_of, SameTables, volumes_shown, block_at, on_cartridge};
 ghost use Rattle.shown_volumes.specs.Sound.{IsSound, SoundAs, HasSerialsAsked};
 ghost use Rattle.shown_volumes.specs.Faults.{first_fault};
 ghost use Rattle.shown_volumes.specs.Changing.{
@@ -58,7 +58,7 @@ pub fn same_tables_hold_the_same_rows()
 pub fn writes_outside_change_nothing()
     ensures { (frames : ℕ) (c : Content) (w : Write)
         → IsOutside c (record { unit = w.unit; block = w.block }) → IsSound frames c
-        → SoundAs frames (shown c) (written c w) }
+        → SoundAs frames (volumes_shown c) (with_write c w) }
 {}
 
 /// The cartridge's blocks of a changed cylinder are outside what is shown.
@@ -85,7 +85,7 @@ pub fn staged_cylinders_stand_in_their_frame()
         → frame_of r (cylinder / 8) ≡ Some frame → 2 ≤ state_of r cylinder
         → state_of r cylinder ≤ 4 → cylinder < CYLINDERS → head < HEADS
         → reading (block_at c (frame_block frame cylinder head))
-        ≡ reading_of ((shown c).track volume cylinder head) }
+        ≡ reading_of ((volumes_shown c).track volume cylinder head) }
 {}
 
 /// Where the frame's block of a changed cylinder becomes another track, this track is shown there, and else the same.
@@ -96,7 +96,7 @@ pub fn tracks_written_into_a_frame_are_shown()
         → head < HEADS
         → let place = frame_block frame cylinder head in
         ChangesBlock place.unit place.block (λ block. (reading block).bad ≡ None) c d
-        → SoundAs frames (with_track (shown c) volume cylinder head
+        → SoundAs frames (with_track (volumes_shown c) volume cylinder head
         (reading (block_at d place)).records) d }
 {}
 
@@ -114,14 +114,14 @@ pub fn changes_of_rows_show_the_same()
     ensures { (frames volume : ℕ) (row : RowValue) (s t : SiteLog)
         → MayChange frames volume row (content s)
         → Writes (ChangesRow volume (OldOrNew volume row (content s)) (content s)) s t
-        → Writes (SoundAs frames (shown (content s))) s t }
+        → Writes (SoundAs frames (volumes_shown (content s))) s t }
 {}
 
 /// At each moment of a repair the content is sound and shows the same.
 pub fn repairs_show_the_same()
     ensures { (frames volume : ℕ) (s t : SiteLog) → IsSound frames (content s)
         → Writes (ChangesRow volume (KeepsRow volume (content s)) (content s)) s t
-        → Writes (SoundAs frames (shown (content s))) s t }
+        → Writes (SoundAs frames (volumes_shown (content s))) s t }
 {}
 
 /// At each moment of a creation the content is sound and shows the same volumes, or those and the new one, which is
@@ -132,12 +132,12 @@ pub fn creations_show_a_blank_volume()
         → Writes (ChangesRow volume (NoneOrNew volume (blank_row serial first second))
         (content s)) s t
         → Writes (λ d. IsSound frames d
-        × WithOrWithout volume serial (shown (content s)) (shown d)) s t }
+        × WithOrWithout volume serial (volumes_shown (content s)) (volumes_shown d)) s t }
     ensures created { (frames volume first second : ℕ) (serial : List ℕ) (c d : Content)
         → IsSound frames c → IsFresh volume first second c
         → ChangesRow volume (NoneOrNew volume (blank_row serial first second)) c d
         → row_of d volume ≡ known (Some (blank_row serial first second)) false
-        → SoundAs frames (with_blank volume serial (shown c)) d }
+        → SoundAs frames (with_blank volume serial (volumes_shown c)) d }
 {}
 
 /// At each moment of a change of a volume's mark the content is sound, and shows the same volumes, or those with the
@@ -147,18 +147,18 @@ pub fn marks_are_shown()
         → IsSound frames (content s) → rows_of (content s) volume ≡ Some r
         → Writes (ChangesRow volume (OldOrNew volume (with_mark on r) (content s)) (content s)) s t
         → Writes (λ d. IsSound frames d
-        × MarkedOrNot volume on (shown (content s)) (shown d)) s t }
+        × MarkedOrNot volume on (volumes_shown (content s)) (volumes_shown d)) s t }
     ensures marked { (frames volume : ℕ) (on : Bool) (r : RowValue) (c d : Content)
         → IsSound frames c → rows_of c volume ≡ Some r
         → ChangesRow volume (OldOrNew volume (with_mark on r) c) c d
         → row_of d volume ≡ known (Some (with_mark on r)) false
-        → SoundAs frames (with_marked volume on (shown c)) d }
+        → SoundAs frames (with_marked volume on (volumes_shown c)) d }
 {}
 
 /// Whatever a stop makes of the loose writes of a quiet site, it shows the same.
 pub fn quiet_sites_rest()
     ensures { (frames : ℕ) (s : SiteLog) (tear : Tear) → IsSound frames (content s) → IsQuiet s
-        → SoundAs frames (shown (content s)) (image s (length s.log) tear) }
+        → SoundAs frames (volumes_shown (content s)) (image s (length s.log) tear) }
 {}
 
 /// With the row that an allowed change makes, a quiet site stands on nothing loose, where what it names anew is firm.
@@ -175,7 +175,7 @@ pub fn written_rows_leave_a_site_quiet()
     ensures moments { (frames volume : ℕ) (row : RowValue) (s t : SiteLog)
         → MayWriteRow frames volume row s
         → Writes (ChangesRow volume (OldOrNew volume row (content s)) (content s)) s t
-        → Writes (StillShows frames (shown (content s)) s) s t }
+        → Writes (StillShows frames (volumes_shown (content s)) s) s t }
     ensures quiet { (frames volume : ℕ) (row : RowValue) (s t : SiteLog)
         → MayWriteRow frames volume row s
         → Writes (ChangesRow volume (OldOrNew volume row (content s)) (content s)) s t

@@ -9,6 +9,11 @@
 //! Proofs above may cite these files of proofs/: `TableFacts` (which rows a content has), `PlaceFacts` (where blocks
 //! lie), `ShownFacts` (which blocks are shown), `OutsideFacts` and `FrameFacts` (what writes outside and into frames
 //! leave), `AllowedFacts` (what an allowed change needs), `MomentFacts` (what holds at each moment).
+//!
+//! Layers above also cite lemmas of `proofs/`: the first fault of rows (`FaultFacts`), the walks that look for it
+//! (`HalfLemmas`, `PageLemmas`, `WalkFacts`), a row with another mark (`MarkFacts`), another row of one volume
+//! (`RowFacts`), what an allowed change makes a row stand on (`UnderFacts`), and what loose writes leave
+//! (`QuietFacts`).
 #![tactic(auto)]
 
 pub mod law;

@@ -1,6 +1,6 @@
 // Where the rows say that pages and tracks lie.
 ghost use Rattle.std.specs.Prelude.{◌≡◌};
-ghost use Rattle.volume_table.specs.Listed.{listed};
+ghost use Rattle.volume_table.specs.Listed.{row_in_list};
 ghost use Rattle.shown_volumes.specs.Shown.{in_page, on_cartridge, source};
 ghost use Rattle.shown_volumes.specs.Sound.{frame_in};
 
@@ -11,7 +11,7 @@ use volume_table::{CylinderState, Rows, VolumeRow};
 
 /// The frame of a page, if the volume has a row and the page a frame.
 pub fn frame_in(rows: &Rows, volume: VolumeNo, page: Page) -> Option<FrameNo>
-    ensures { result ≡ frame_in (listed rows.now) volume page }
+    ensures { result ≡ frame_in (row_in_list rows.now) volume page }
 {
     let Some(row) = rows.row(volume) else {
         return None;

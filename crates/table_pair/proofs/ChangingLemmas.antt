@@ -13,7 +13,7 @@ use Rattle.volume_table.specs.declared.changes.Change.{Change}
 use Rattle.volume_table.proofs.SlotFacts.{told_one_more, told_by-none}
 use Rattle.table_journal.specs.Slots.{slots, IsAppending, slots_on, AppendsSlot}
 use Rattle.table_journal.proofs.SlotFacts.{byte_before}
-use Rattle.table_pair.specs.Copies.{CopyView, copy_at, copy_on, filled, HasGates, IsRewriting, WritesCopy}
+use Rattle.table_pair.specs.Copies.{CopyView, copy_at, copy_on, filled_copy, HasGates, IsRewriting, WritesCopy}
 use Rattle.table_pair.specs.Pair.{IsOpenWith}
 use Rattle.table_pair.specs.Slots.{slots_after}
 use Rattle.table_pair.specs.Changing.{IsCopyDue, IsChanging, IsCopyWith, ChangesCopy}
@@ -21,7 +21,7 @@ use Rattle.table_pair.proofs.CopyLemmas.{slots_of, body_front}
 use Rattle.table_pair.proofs.WriteLemmas.{copy_weaker}
 
 -- a body without slots tells the row that it spells
-pub open_filled : (row : RowValue) (bytes : List ℕ) (c : CopyView) → decode bytes ≡ Ok row → IsOpenWith row (filled bytes c)
+pub open_filled : (row : RowValue) (bytes : List ℕ) (c : CopyView) → decode bytes ≡ Ok row → IsOpenWith row (filled_copy bytes c)
 open_filled row bytes c spelled = record { open_gate = refl; row_is = told_by-none bytes ∙ spelled }
 
 pub open_as : (row : RowValue) (c d : CopyView) → c ≡ d → IsOpenWith row d → IsOpenWith row c
@@ -99,7 +99,7 @@ module _ (row : RowValue) (bytes : List ℕ) (spelled : decode bytes ≡ Ok row)
       made = filling.made;
       stage = elim filling.gate [
         | inl closed ↦ inr (inl closed)
-        | inr full ↦ inr (inr (open_as row now (filled bytes old) full (open_filled row bytes old spelled)))
+        | inr full ↦ inr (inr (open_as row now (filled_copy bytes old) full (open_filled row bytes old spelled)))
       ];
     }
   ]
@@ -107,10 +107,10 @@ module _ (row : RowValue) (bytes : List ℕ) (spelled : decode bytes ≡ Ok row)
   pub rewrite_moments : (at : BlockPlace) (s t : SiteLog) → WritesCopy at (IsRewriting bytes (copy_on s at)) s t → WritesCopy at (IsChanging row (copy_on s at)) s t
   rewrite_moments at s t w = copy_weaker at (IsRewriting bytes (copy_on s at)) (IsChanging row (copy_on s at)) (within_rewriting (copy_on s at)) s t w
 
-  pub rewrite_done : (used : ℕ) (old now : CopyView) → 1984 ≤ used → now ≡ filled bytes old → IsCopyWith row (slots_after used) now
+  pub rewrite_done : (used : ℕ) (old now : CopyView) → 1984 ≤ used → now ≡ filled_copy bytes old → IsCopyWith row (slots_after used) now
   rewrite_done used old now full is =
       subst (λ (n : ℕ). IsCopyWith row n now) (sym (cond-false (nat_lt used 1984) (used + 1) 0 (le-ltb used 1984 full)))
-      (record { holds = open_as row now (filled bytes old) is (open_filled row bytes old spelled); slots_ = ap (λ (c : CopyView). length c.slots) is })
+      (record { holds = open_as row now (filled_copy bytes old) is (open_filled row bytes old spelled); slots_ = ap (λ (c : CopyView). length c.slots) is })
 
 -- at a place that was told
 pub due_at : {change : Change} {row : RowValue} {used : ℕ} (at p : BlockPlace) (s : SiteLog) → IsCopyDue change row used (copy_on s p) → at ≡ p → IsCopyDue change row used (copy_on s at)

@@ -7,7 +7,7 @@ use Rattle.volume_table.specs.Row.{RowValue}
 use Rattle.volume_table.specs.Grammar.{decode}
 use Rattle.table_pair.specs.declared.copy.TableCopy.TheVariants as copy
 use Rattle.table_pair.specs.Places.{place_of}
-use Rattle.table_pair.specs.Copies.{CopyView, byte_on, copy_on, marked, filled, IsFilling, IsRewriting, WritesCopy}
+use Rattle.table_pair.specs.Copies.{CopyView, byte_on, copy_on, marked_copy, filled_copy, IsFilling, IsRewriting, WritesCopy}
 use Rattle.table_pair.specs.Pair.{known, row_of_copies, HoldsRow, AreClosed, AreMade, AreMarked, StaysCopy, ChangesRow, NoneOrNew}
 use Rattle.table_pair.specs.Creating.{MarksCopy, FillsCopy}
 use Rattle.table_pair.specs.Slots.{HasSlots, IsChanged, no_slots}
@@ -18,18 +18,18 @@ use Rattle.table_pair.proofs.WriteLemmas.{copy_weaker}
 use Rattle.table_pair.proofs.ChangingLemmas.{open_filled, open_as}
 
 abbrev pub Marking : CopyView → CopyView → Type 0
-Marking old now = (now ≡ old) ⊎ (now ≡ marked old)
+Marking old now = (now ≡ old) ⊎ (now ≡ marked_copy old)
 
 -- a copy was marked to its end
 pub record Marked (at : BlockPlace) (s t : SiteLog) : Type 0 where
   pub moments : WritesCopy at (Marking (copy_on s at)) s t
-  pub done : copy_on t at ≡ marked (copy_on s at)
+  pub done : copy_on t at ≡ marked_copy (copy_on s at)
   pub firm : Settles s t
 
 -- a copy was rewritten, or filled, to its end
 pub record Rewritten (at : BlockPlace) (bytes : List ℕ) (s t : SiteLog) : Type 0 where
   pub moments : WritesCopy at (IsRewriting bytes (copy_on s at)) s t
-  pub done : copy_on t at ≡ filled bytes (copy_on s at)
+  pub done : copy_on t at ≡ filled_copy bytes (copy_on s at)
   pub firm : Settles s t
 
 stays_marking : (old now : CopyView) → Marking old now → StaysCopy old now
@@ -83,10 +83,10 @@ module _ (volume : ℕ) (row : RowValue) (bytes : List ℕ) (spelled : decode by
     second_pair s2 w = pair_then volume (InPair a b Row) s s1 s2 first.firm (first_pair s1 first.moments) (from_b volume (Marking (copy_b volume s1)) (InPair a b Row) s1 s2 within_two w)
 
     module _ (s2 : SiteLog) (second : Marked (place_of copy.B volume) s1 s2) where
-      b2 : copy_b volume s2 ≡ marked b
-      b2 = second.done ∙ ap marked b1
+      b2 : copy_b volume s2 ≡ marked_copy b
+      b2 = second.done ∙ ap marked_copy b1
 
-      a2 : copy_a volume s2 ≡ marked a
+      a2 : copy_a volume s2 ≡ marked_copy a
       a2 = kept_a volume (Marking (copy_b volume s1)) s1 s2 second.moments ∙ first.done
 
       pub a_closed : (copy_a volume s2).is_open ≡ false
@@ -105,35 +105,35 @@ module _ (volume : ℕ) (row : RowValue) (bytes : List ℕ) (spelled : decode by
       firm_two = settles_then s s1 s2 first.firm second.firm
 
       -- copy A is filled
-      row_three : (x : CopyView) → IsRewriting bytes (marked a) x → Row x (copy_b volume s2)
+      row_three : (x : CopyView) → IsRewriting bytes (marked_copy a) x → Row x (copy_b volume s2)
       row_three x is = elim is [
         | inl same ↦ no_row x (copy_b volume s2) (ap (λ (c : CopyView). c.is_open) same ∙ none.a) b_shut
         | inr filling ↦ elim filling.gate [
           | inl closed ↦ no_row x (copy_b volume s2) closed b_shut
-          | inr full ↦ inr (row_by_a row x (copy_b volume s2) (open_as row x (filled bytes (marked a)) full (open_filled row bytes (marked a) spelled)), filling.made, b_made)
+          | inr full ↦ inr (row_by_a row x (copy_b volume s2) (open_as row x (filled_copy bytes (marked_copy a)) full (open_filled row bytes (marked_copy a) spelled)), filling.made, b_made)
         ]
       ]
 
       within_three : (x : CopyView) → IsRewriting bytes (copy_a volume s2) x → InPair a b Row x (copy_b volume s2)
       within_three x was =
-          let is : IsRewriting bytes (marked a) x = subst (λ (c : CopyView). IsRewriting bytes c x) a2 was in
-          record { stays_a = stays_since a x (stays_rewriting bytes (marked a) x is); stays_b = stays_marked b (copy_b volume s2) b2; here = row_three x is }
+          let is : IsRewriting bytes (marked_copy a) x = subst (λ (c : CopyView). IsRewriting bytes c x) a2 was in
+          record { stays_a = stays_since a x (stays_rewriting bytes (marked_copy a) x is); stays_b = stays_marked b (copy_b volume s2) b2; here = row_three x is }
 
       pub third_pair : (s3 : SiteLog) → WritesCopy (place_of copy.A volume) (IsRewriting bytes (copy_a volume s2)) s2 s3 → Pair s s s3
       third_pair s3 w = pair_then volume (InPair a b Row) s s2 s3 firm_two (second_pair s2 second.moments) (from_a volume (IsRewriting bytes (copy_a volume s2)) (InPair a b Row) s2 s3 within_three w)
 
       module _ (s3 : SiteLog) (third : Rewritten (place_of copy.A volume) bytes s2 s3) where
-        a3 : copy_a volume s3 ≡ filled bytes (marked a)
-        a3 = third.done ∙ ap (filled bytes) a2
+        a3 : copy_a volume s3 ≡ filled_copy bytes (marked_copy a)
+        a3 = third.done ∙ ap (filled_copy bytes) a2
 
-        b3 : copy_b volume s3 ≡ marked b
+        b3 : copy_b volume s3 ≡ marked_copy b
         b3 = kept_b volume (IsRewriting bytes (copy_a volume s2)) s2 s3 third.moments ∙ b2
 
         pub b_closed : (copy_b volume s3).is_open ≡ false
         b_closed = ap (λ (c : CopyView). c.is_open) b3 ∙ none.b
 
         pub b_slots : (copy_b volume s3).slots ≡ (copy_b volume s1).slots
-        b_slots = ap (λ (c : CopyView). c.slots) (b3 ∙ ap marked (sym b1))
+        b_slots = ap (λ (c : CopyView). c.slots) (b3 ∙ ap marked_copy (sym b1))
 
         firm_three : Settles s s3
         firm_three = settles_then s s2 s3 firm_two third.firm
@@ -141,12 +141,12 @@ module _ (volume : ℕ) (row : RowValue) (bytes : List ℕ) (spelled : decode by
         -- copy B is filled
         within_four : (y : CopyView) → IsRewriting bytes (copy_b volume s3) y → InPair a b Row (copy_a volume s3) y
         within_four y was =
-            let is : IsRewriting bytes (marked b) y = subst (λ (c : CopyView). IsRewriting bytes c y) b3 was in
+            let is : IsRewriting bytes (marked_copy b) y = subst (λ (c : CopyView). IsRewriting bytes c y) b3 was in
             record {
-              stays_a = stays_since a (copy_a volume s3) (subst (StaysCopy (marked a)) (sym a3) (stays_filled bytes (marked a)));
-              stays_b = stays_since b y (stays_rewriting bytes (marked b) y is);
+              stays_a = stays_since a (copy_a volume s3) (subst (StaysCopy (marked_copy a)) (sym a3) (stays_filled bytes (marked_copy a)));
+              stays_b = stays_since b y (stays_rewriting bytes (marked_copy b) y is);
               here = inr (
-                row_by_a row (copy_a volume s3) y (open_as row (copy_a volume s3) (filled bytes (marked a)) a3 (open_filled row bytes (marked a) spelled)),
+                row_by_a row (copy_a volume s3) y (open_as row (copy_a volume s3) (filled_copy bytes (marked_copy a)) a3 (open_filled row bytes (marked_copy a) spelled)),
                 ap (λ (c : CopyView). c.is_made) a3,
                 rewriting_made bytes b y is,
               );
@@ -156,16 +156,16 @@ module _ (volume : ℕ) (row : RowValue) (bytes : List ℕ) (spelled : decode by
         fourth_pair s4 w = pair_then volume (InPair a b Row) s s3 s4 firm_three (third_pair s3 third.moments) (from_b volume (IsRewriting bytes (copy_b volume s3)) (InPair a b Row) s3 s4 within_four w)
 
         module _ (s4 : SiteLog) (fourth : Rewritten (place_of copy.B volume) bytes s3 s4) where
-          a4 : copy_a volume s4 ≡ filled bytes (marked a)
+          a4 : copy_a volume s4 ≡ filled_copy bytes (marked_copy a)
           a4 = kept_a volume (IsRewriting bytes (copy_b volume s3)) s3 s4 fourth.moments ∙ a3
 
-          b4 : copy_b volume s4 ≡ filled bytes (marked b)
-          b4 = fourth.done ∙ ap (filled bytes) b3
+          b4 : copy_b volume s4 ≡ filled_copy bytes (marked_copy b)
+          b4 = fourth.done ∙ ap (filled_copy bytes) b3
 
           both_hold : HoldsRow row volume (content s4)
           both_hold = record {
-            a = open_as row (copy_a volume s4) (filled bytes (marked a)) a4 (open_filled row bytes (marked a) spelled);
-            b = open_as row (copy_b volume s4) (filled bytes (marked b)) b4 (open_filled row bytes (marked b) spelled);
+            a = open_as row (copy_a volume s4) (filled_copy bytes (marked_copy a)) a4 (open_filled row bytes (marked_copy a) spelled);
+            b = open_as row (copy_b volume s4) (filled_copy bytes (marked_copy b)) b4 (open_filled row bytes (marked_copy b) spelled);
           }
 
           pub both_made : AreMade volume (content s4)

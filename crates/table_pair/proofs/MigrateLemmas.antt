@@ -11,7 +11,7 @@ use Rattle.volume_table.proofs.SpellingLemmas.{spelling_is_new}
 use Rattle.table_pair.specs.declared.copy.SlotsUsed.{SlotsUsed}
 use Rattle.table_pair.specs.declared.copy.TableCopy.TheVariants as copy
 use Rattle.table_pair.specs.Places.{place_of}
-use Rattle.table_pair.specs.Copies.{CopyView, copy_at, copy_on, filled, IsRewriting, WritesCopy}
+use Rattle.table_pair.specs.Copies.{CopyView, copy_at, copy_on, filled_copy, IsRewriting, WritesCopy}
 use Rattle.table_pair.specs.Changing.{IsChanging, IsCopyWith}
 use Rattle.table_pair.specs.Migrating.{AreNew, IsCopyNew, MigratesCopy, IsMigrated}
 use Rattle.table_pair.specs.Pair.{row_of_copies, HoldsRow, ChangesRow}
@@ -47,10 +47,10 @@ module _ (row : RowValue) (bytes : List ℕ) (spelled : bytes ≡ spelling row) 
   pub rewriting : WritesCopy at (IsRewriting bytes (copy_on r at)) r t → WritesCopy at (IsChanging row (copy_on s at)) s t
   rewriting w = subst (λ (q : SiteLog). WritesCopy at (IsChanging row (copy_on q at)) q t) read (rewrite_moments row bytes again at r t w)
 
-  pub rewritten : copy_on t at ≡ filled bytes (copy_on r at) → IsCopyNew row 0 (copy_on t at)
+  pub rewritten : copy_on t at ≡ filled_copy bytes (copy_on r at) → IsCopyNew row 0 (copy_on t at)
   rewritten done = record {
     holds = record {
-      holds = open_as row (copy_on t at) (filled bytes (copy_on r at)) done (open_filled row bytes (copy_on r at) again);
+      holds = open_as row (copy_on t at) (filled_copy bytes (copy_on r at)) done (open_filled row bytes (copy_on r at) again);
       slots_ = ap (λ (c : CopyView). length c.slots) done;
     };
     is_new = ap (λ (c : CopyView). is_old c.spelled) done ∙ ap is_old spelled ∙ spelling_is_new row;

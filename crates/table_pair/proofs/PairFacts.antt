@@ -12,7 +12,7 @@ use Rattle.table_pair.specs.declared.copy.TableCopy.{TableCopy}
 use Rattle.table_pair.specs.declared.copy.TableCopy.TheVariants as copy
 use Rattle.table_pair.specs.Copies.{CopyView, copy_at}
 use Rattle.table_pair.proofs.CopyLemmas.{gate_of, mark_of}
-use Rattle.table_pair.specs.Pair.{CopyRead, opened, closed, read_of, row_told, known, taken, reading, row_of_copies, row_of, IsOpenWith, HoldsRow, AreClosed}
+use Rattle.table_pair.specs.Pair.{CopyRead, opened, closed, read_of, row_told, known, copy_reading, reading, row_of_copies, row_of, IsOpenWith, HoldsRow, AreClosed}
 
 zero_at : (place : ℕ) → place < 16384 → get_or zeros place 0 ≡ 0
 unfolding zeros
@@ -48,7 +48,7 @@ closed_row volume c none = row_by_none (copy_at (c TableA volume)) (copy_at (c T
 pub one_row : (row other : RowValue) (missing more : Bool) → known (Some row) missing ≡ known (Some other) more → row ≡ other
 one_row row other missing more is = cc
 
-pub taken_row : (which : TableCopy) (missing : Bool) (read : Result RowValue RowFault) (row : RowValue) → taken which missing read ≡ known (Some row) false → read ≡ Ok row
+pub taken_row : (which : TableCopy) (missing : Bool) (read : Result RowValue RowFault) (row : RowValue) → copy_reading which missing read ≡ known (Some row) false → read ≡ Ok row
 taken_row which missing (Ok found) row is = ap Ok (one_row found row missing false is)
 taken_row which missing (Err fault) row is = absurd cc
 

@@ -15,7 +15,7 @@ use Rattle.table_pair.specs.declared.copy.RowTrouble.{RowTrouble}
 use Rattle.table_pair.specs.declared.copy.RowTrouble.TheVariants as trouble
 use Rattle.table_pair.specs.Copies.{CopyView, copy_at}
 use Rattle.table_pair.specs.Pair.{CopyRead, unread, closed, opened, read_of, reading}
-use Rattle.table_pair.specs.Reads.{seen, is_opened, IsReadOf, KeepsFault, MissingKeeps, KeepsCount, StaysOrRises, Tells, MissesNone, ReadsRow}
+use Rattle.table_pair.specs.Reads.{read_of_copy, is_opened, IsReadOf, KeepsFault, MissingKeeps, KeepsCount, StaysOrRises, Tells, MissesNone, ReadsRow}
 use Rattle.table_pair.proofs.PairFacts.{open_read, closed_read}
 
 rises_earlier : (before mid now : ℕ) → before ≤ mid → Rises mid now → Rises before now
@@ -42,7 +42,7 @@ damaged_keeps before now copy.B None fault none kept = inl kept
 damaged_keeps before now copy.B (Some count) fault none kept = inr kept.rises
 
 -- a copy that was read leaves the count
-pub there_keeps : (before now : ℕ) (c : CopyState) → seen c ≢ unread → KeepsFault before now c → now ≡ before
+pub there_keeps : (before now : ℕ) (c : CopyState) → read_of_copy c ≢ unread → KeepsFault before now c → now ≡ before
 there_keeps before now (state.Unread fault) there kept = absurd (there refl)
 there_keeps before now (state.Closed made) there kept = kept
 there_keeps before now (state.Open row) there kept = kept

@@ -13,7 +13,7 @@ use Rattle.table_pair.specs.declared.repairs.Found.{Found}
 use Rattle.table_pair.specs.declared.write.Gates.{Gates}
 use Rattle.table_pair.specs.Places.{place_of}
 use Rattle.table_pair.specs.Slots.{HasSlots}
-use Rattle.table_pair.specs.Copies.{CopyView, copy_at, copy_on, filled, HasGates, IsRewriting, WritesCopy}
+use Rattle.table_pair.specs.Copies.{CopyView, copy_at, copy_on, filled_copy, HasGates, IsRewriting, WritesCopy}
 use Rattle.table_pair.specs.Pair.{known, row_of_copies, HoldsRow, ChangesRow}
 use Rattle.table_pair.specs.Repairs.{NeedNoRepair, NeedsNoRepair, IsBehind, one_of, IsFound, IsFoundOn, KeepsRow, KeepsMarks, HoldsToldRow, LosesSlots, KeepsRepairFault}
 use Rattle.table_pair.specs.declared.copy.RepairFault.{RepairFault}
@@ -66,7 +66,7 @@ module _ (volume : ℕ) (s t : SiteLog) where
       | inl same ↦ ap (λ (c : CopyView). row_of_copies c b) same
       | inr filling ↦ elim filling.gate [
         | inl closed ↦ row_by_b row x b closed behind.1 ∙ sym (told_row copy.A behind)
-        | inr full ↦ row_by_a row x b (open_as row x (filled bytes a) full (open_filled row bytes a spelled)) ∙ sym (told_row copy.A behind)
+        | inr full ↦ row_by_a row x b (open_as row x (filled_copy bytes a) full (open_filled row bytes a spelled)) ∙ sym (told_row copy.A behind)
       ]
     ]
 
@@ -90,19 +90,19 @@ module _ (volume : ℕ) (s t : SiteLog) where
 
     -- then both hold the row
     pub follow_holds : (which : TableCopy) → IsBehind which row a b → WritesCopy (place_of which volume) (IsRewriting bytes (copy_on s (place_of which volume))) s t
-        → copy_on t (place_of which volume) ≡ filled bytes (copy_on s (place_of which volume)) → HoldsRow row volume (content t)
+        → copy_on t (place_of which volume) ≡ filled_copy bytes (copy_on s (place_of which volume)) → HoldsRow row volume (content t)
     follow_holds copy.A behind w done = record {
-      a = open_as row (copy_a volume t) (filled bytes a) done (open_filled row bytes a spelled);
+      a = open_as row (copy_a volume t) (filled_copy bytes a) done (open_filled row bytes a spelled);
       b = open_as row (copy_b volume t) b (kept_b volume (IsRewriting bytes a) s t w) behind.1;
     }
     follow_holds copy.B behind w done = record {
       a = open_as row (copy_a volume t) a (kept_a volume (IsRewriting bytes b) s t w) behind.1;
-      b = open_as row (copy_b volume t) (filled bytes b) done (open_filled row bytes b spelled);
+      b = open_as row (copy_b volume t) (filled_copy bytes b) done (open_filled row bytes b spelled);
     }
 
     -- the rewritten one has no slots
     pub follow_slots : (which : TableCopy) → WritesCopy (place_of which volume) (IsRewriting bytes (copy_on s (place_of which volume))) s t
-        → copy_on t (place_of which volume) ≡ filled bytes (copy_on s (place_of which volume)) → LosesSlots which volume (content s) (content t)
+        → copy_on t (place_of which volume) ≡ filled_copy bytes (copy_on s (place_of which volume)) → LosesSlots which volume (content s) (content t)
     follow_slots copy.A w done used has = record {
       a = ap (λ (c : CopyView). length c.slots) done;
       b = ap (λ (c : CopyView). length c.slots) (kept_b volume (IsRewriting bytes a) s t w) ∙ has.b;

@@ -1,6 +1,6 @@
 -- What stays of a copy while it is written.
 use Rattle.std.proofs.Common.{◌≡◌, inl, inr, true, List, ℕ, refl, sym, ◌∙◌, ap, subst}
-use Rattle.table_pair.specs.Copies.{CopyView, marked, filled, IsRewriting}
+use Rattle.table_pair.specs.Copies.{CopyView, marked_copy, filled_copy, IsRewriting}
 use Rattle.volume_table.specs.Row.{RowValue}
 use Rattle.table_pair.specs.Pair.{StaysCopy}
 use Rattle.table_pair.specs.Changing.{IsChanging}
@@ -11,10 +11,10 @@ stays c = record { made = λ is. is }
 pub stays_as : (old now : CopyView) → now ≡ old → StaysCopy old now
 stays_as old now same = subst (StaysCopy old) (sym same) (stays old)
 
-pub stays_marked : (old now : CopyView) → now ≡ marked old → StaysCopy old now
+pub stays_marked : (old now : CopyView) → now ≡ marked_copy old → StaysCopy old now
 stays_marked old now is = subst (StaysCopy old) (sym is) (record { made = λ _. refl })
 
-pub stays_filled : (bytes : List ℕ) (old : CopyView) → StaysCopy old (filled bytes old)
+pub stays_filled : (bytes : List ℕ) (old : CopyView) → StaysCopy old (filled_copy bytes old)
 stays_filled bytes old = record { made = λ is. is }
 
 pub stays_rewriting : (bytes : List ℕ) (old now : CopyView) → IsRewriting bytes old now → StaysCopy old now
@@ -27,11 +27,11 @@ pub stays_changing : (row : RowValue) (old now : CopyView) → IsChanging row ol
 stays_changing row old now is = record { made = λ made. is.made ∙ made }
 
 -- of what was marked, what stays stays of the copy before
-pub stays_since : (old now : CopyView) → StaysCopy (marked old) now → StaysCopy old now
+pub stays_since : (old now : CopyView) → StaysCopy (marked_copy old) now → StaysCopy old now
 stays_since old now is = record { made = λ _. is.made refl }
 
-pub rewriting_made : (bytes : List ℕ) (old now : CopyView) → IsRewriting bytes (marked old) now → now.is_made ≡ true
-rewriting_made bytes old now is = (stays_rewriting bytes (marked old) now is).made refl
+pub rewriting_made : (bytes : List ℕ) (old now : CopyView) → IsRewriting bytes (marked_copy old) now → now.is_made ≡ true
+rewriting_made bytes old now is = (stays_rewriting bytes (marked_copy old) now is).made refl
 
 -- a rewritten copy has the mark that it had
 pub rewriting_keeps_mark : (bytes : List ℕ) (old now : CopyView) → IsRewriting bytes old now → now.is_made ≡ old.is_made

@@ -9,7 +9,7 @@ use Rattle.mss_base.proofs.ContentLemmas.{get_or-splice_in, get_or-splice_above,
 use Rattle.mss_base.proofs.Moments.{block_write, block_written, block_weaker, block_started, content_grown, ended_with, weaker, then_firm}
 use Rattle.mss_base.proofs.Settling.{got_then, adds_firm}
 use Rattle.mss_base.proofs.BlindMoments.{block_blind}
-use Rattle.table_pair.specs.Copies.{CopyView, copy_at, byte_on, copy_on, shut, marked, emptied, filled, IsFilling, IsRewriting, WritesCopy}
+use Rattle.table_pair.specs.Copies.{CopyView, copy_at, byte_on, copy_on, shut_copy, marked_copy, emptied_copy, filled_copy, IsFilling, IsRewriting, WritesCopy}
 use Rattle.table_pair.proofs.CopyLemmas.{gate_written, body_written, mark_written, slot_shut, same_gate, same_mark, gate_of, mark_of}
 
 -- the block of a copy is whole
@@ -40,7 +40,7 @@ copy_then at P Q R from_P from_Q s t u settled first second =
 
 -- the gate is closed
 module _ (at : BlockPlace) (s t : SiteLog) (whole : IsWhole s at) where
-  pub closing : (left : List ℕ) → length left ≡ 1 → (copy_on s at).is_open ≡ true → Adds (write_at at 0 left) s t → WritesCopy at (λ c. (c ≡ copy_on s at) ⊎ (c ≡ shut (copy_on s at))) s t
+  pub closing : (left : List ℕ) → length left ≡ 1 → (copy_on s at).is_open ≡ true → Adds (write_at at 0 left) s t → WritesCopy at (λ c. (c ≡ copy_on s at) ⊎ (c ≡ shut_copy (copy_on s at))) s t
   closing left one opened adds = block_write at.unit at.block 0 left _ s t adds (inl refl) (λ other long.
       let is = gate_written other (content s at.unit at.block) whole (long ∙ one) in
       elim (cases_Bool (get_or other 0 0 == 193)) [
@@ -48,12 +48,12 @@ module _ (at : BlockPlace) (s t : SiteLog) (whole : IsWhole s at) where
         | inr gone ↦ inr (is ∙ (λ i. record (copy_on s at) { is_open = gone i }))
       ])
 
-  pub closed : (byte : ℕ) → (byte == 193) ≡ false → Adds (write_at at 0 (byte ∷ [])) s t → copy_on t at ≡ shut (copy_on s at)
+  pub closed : (byte : ℕ) → (byte == 193) ≡ false → Adds (write_at at 0 (byte ∷ [])) s t → copy_on t at ≡ shut_copy (copy_on s at)
   closed byte other adds =
       ap copy_at (block_written at.unit at.block 0 (byte ∷ []) s t adds) ∙ gate_written (byte ∷ []) (content s at.unit at.block) whole refl ∙ (λ i. record (copy_on s at) { is_open = other i })
 
   -- the made mark is set
-  pub marking : (left : List ℕ) → length left ≡ 1 → (copy_on s at).is_made ≡ false → Adds (write_at at 511 left) s t → WritesCopy at (λ c. (c ≡ copy_on s at) ⊎ (c ≡ marked (copy_on s at))) s t
+  pub marking : (left : List ℕ) → length left ≡ 1 → (copy_on s at).is_made ≡ false → Adds (write_at at 511 left) s t → WritesCopy at (λ c. (c ≡ copy_on s at) ⊎ (c ≡ marked_copy (copy_on s at))) s t
   marking left one unmade adds = block_write at.unit at.block 511 left _ s t adds (inl refl) (λ other long.
       let is = mark_written other (content s at.unit at.block) whole (long ∙ one) in
       elim (cases_Bool (not (get_or other 0 0 == 0))) [
@@ -61,7 +61,7 @@ module _ (at : BlockPlace) (s t : SiteLog) (whole : IsWhole s at) where
         | inr still ↦ inl (is ∙ (λ i. record (copy_on s at) { is_made = still i }) ∙ same_mark (copy_on s at) false unmade)
       ])
 
-  pub mark_set : Adds (write_at at 511 (77 ∷ [])) s t → copy_on t at ≡ marked (copy_on s at)
+  pub mark_set : Adds (write_at at 511 (77 ∷ [])) s t → copy_on t at ≡ marked_copy (copy_on s at)
   mark_set adds = ap copy_at (block_written at.unit at.block 511 (77 ∷ []) s t adds) ∙ mark_written (77 ∷ []) (content s at.unit at.block) whole refl
 
 -- ---- a body, and the gate of slot 0
@@ -144,7 +144,7 @@ module _ (at : BlockPlace) (bytes : List ℕ) (long : length bytes ≡ 510) (s t
       ap (λ (b : List ℕ). get_or b 511 0) (block_written at.unit at.block 1 bytes s t (inl first)) ∙ get_or-splice_above 1 bytes (content s at.unit at.block) 511 (omega arith)
 
   -- where it had no slots
-  pub put_alone : (u : SiteLog) → (copy_on s at).slots ≡ [] → Got (synced at.unit ∷ []) t u → copy_on u at ≡ emptied bytes (copy_on s at)
+  pub put_alone : (u : SiteLog) → (copy_on s at).slots ≡ [] → Got (synced at.unit ∷ []) t u → copy_on u at ≡ emptied_copy bytes (copy_on s at)
   put_alone u none sync = ap (λ (c : Content). copy_at (c at.unit at.block)) (on_synced at t u sync) ∙ body_is ∙ (λ i. record (copy_on s at) { spelled = bytes; slots = none i })
 
   pub mark_alone : (u : SiteLog) → Got (synced at.unit ∷ []) t u → byte_on u at 511 ≡ byte_on s at 511
@@ -152,7 +152,7 @@ module _ (at : BlockPlace) (bytes : List ℕ) (long : length bytes ≡ 510) (s t
 
   -- where the gate of slot 0 was closed behind it
   module _ (r u : SiteLog) (whole_t : IsWhole t at) (byte : ℕ) (other : (byte == 193) ≡ false) (second : Got (wrote (write_at at 512 (byte ∷ [])) ∷ []) t r) (sync : Got (synced at.unit ∷ []) r u) where
-    pub put_both : copy_on u at ≡ emptied bytes (copy_on s at)
+    pub put_both : copy_on u at ≡ emptied_copy bytes (copy_on s at)
     put_both =
         ap (λ (c : Content). copy_at (c at.unit at.block)) (on_synced at r u sync) ∙ ap copy_at (block_written at.unit at.block 512 (byte ∷ []) t r (inl second))
         ∙ slot_shut (byte ∷ []) (content t at.unit at.block) whole_t byte other ∙ ap (λ (c : CopyView). record c { slots = [] }) body_is
@@ -164,7 +164,7 @@ module _ (at : BlockPlace) (bytes : List ℕ) (long : length bytes ≡ 510) (s t
 
 -- ---- the gate is opened behind a firm body
 module _ (at : BlockPlace) (bytes : List ℕ) (s t : SiteLog) (shut_gate : (copy_on s at).is_open ≡ false)
-    (body_put : WritesCopy at (IsFilling bytes (copy_on s at)) s t) (there : copy_on t at ≡ emptied bytes (copy_on s at)) where
+    (body_put : WritesCopy at (IsFilling bytes (copy_on s at)) s t) (there : copy_on t at ≡ emptied_copy bytes (copy_on s at)) where
   -- with a gate
   with_gate : (flag : Bool) → IsFilling bytes (copy_on s at) (record (copy_on s at) { is_open = flag; spelled = bytes; slots = [] })
   with_gate true = record { made = refl; gate = inr refl }
@@ -180,7 +180,7 @@ module _ (at : BlockPlace) (bytes : List ℕ) (s t : SiteLog) (shut_gate : (copy
         gate_written other (content t at.unit at.block) whole_t (long_other ∙ one) ∙ ap (λ (c : CopyView). record c { is_open = get_or other 0 0 == 193 }) there in
         subst (IsFilling bytes (copy_on s at)) (sym is) (with_gate (get_or other 0 0 == 193))))
 
-    pub gate_opened : Adds (write_at at 0 (193 ∷ [])) t u → copy_on u at ≡ filled bytes (copy_on s at)
+    pub gate_opened : Adds (write_at at 0 (193 ∷ [])) t u → copy_on u at ≡ filled_copy bytes (copy_on s at)
     gate_opened adds =
         ap copy_at (block_written at.unit at.block 0 (193 ∷ []) t u adds) ∙ gate_written (193 ∷ []) (content t at.unit at.block) whole_t refl ∙ ap (λ (c : CopyView). record c { is_open = true }) there
 
@@ -190,8 +190,8 @@ mark_stays at t u adds =
     ap (λ (b : List ℕ). get_or b 511 0) (block_written at.unit at.block 0 (193 ∷ []) t u adds) ∙ get_or-splice_above 0 (193 ∷ []) (content t at.unit at.block) 511 (omega arith)
 
 -- closed first, then filled
-module _ (at : BlockPlace) (bytes : List ℕ) (s t : SiteLog) (old : WritesCopy at (λ c. (c ≡ copy_on s at) ⊎ (c ≡ shut (copy_on s at))) s t) where
-  from_closing : (c : CopyView) → (c ≡ copy_on s at) ⊎ (c ≡ shut (copy_on s at)) → IsRewriting bytes (copy_on s at) c
+module _ (at : BlockPlace) (bytes : List ℕ) (s t : SiteLog) (old : WritesCopy at (λ c. (c ≡ copy_on s at) ⊎ (c ≡ shut_copy (copy_on s at))) s t) where
+  from_closing : (c : CopyView) → (c ≡ copy_on s at) ⊎ (c ≡ shut_copy (copy_on s at)) → IsRewriting bytes (copy_on s at) c
   from_closing c is = elim is [
     | inl same ↦ inl same
     | inr closed ↦ inr (subst (IsFilling bytes (copy_on s at)) (sym closed) (record { made = refl; gate = inl refl }))
@@ -200,7 +200,7 @@ module _ (at : BlockPlace) (bytes : List ℕ) (s t : SiteLog) (old : WritesCopy 
   pub rewriting_closed : WritesCopy at (IsRewriting bytes (copy_on s at)) s t
   rewriting_closed = copy_weaker at _ _ from_closing s t old
 
-  module _ (u : SiteLog) (is_shut : copy_on t at ≡ shut (copy_on s at)) where
+  module _ (u : SiteLog) (is_shut : copy_on t at ≡ shut_copy (copy_on s at)) where
     from_filling : (c : CopyView) → IsFilling bytes (copy_on t at) c → IsRewriting bytes (copy_on s at) c
     from_filling c is = let f = subst (λ (o : CopyView). IsFilling bytes o c) is_shut is in inr (record { made = f.made; gate = f.gate })
 
@@ -208,7 +208,7 @@ module _ (at : BlockPlace) (bytes : List ℕ) (s t : SiteLog) (old : WritesCopy 
     rewriting_filled settled second = copy_then at _ _ _ from_closing from_filling s t u settled old second
 
 -- a copy that was shut has the slots that it had
-pub shut_slots : (old new : CopyView) → new ≡ shut old → old.slots ≡ [] → new.slots ≡ []
+pub shut_slots : (old new : CopyView) → new ≡ shut_copy old → old.slots ≡ [] → new.slots ≡ []
 shut_slots old new is none = ap (λ (c : CopyView). c.slots) is ∙ none
 
 -- a log with one more write, and with some

@@ -26,17 +26,17 @@ copy_at block = record {
 }
 
 -- a copy after its gate was closed, after it was marked, with a body and no slot, and open so
-abbrev pub shut : CopyView → CopyView
-shut c = record c { is_open = false }
+abbrev pub shut_copy : CopyView → CopyView
+shut_copy c = record c { is_open = false }
 
-abbrev pub marked : CopyView → CopyView
-marked c = record c { is_made = true }
+abbrev pub marked_copy : CopyView → CopyView
+marked_copy c = record c { is_made = true }
 
-abbrev pub emptied : List ℕ → CopyView → CopyView
-emptied bytes c = record c { spelled = bytes; slots = [] }
+abbrev pub emptied_copy : List ℕ → CopyView → CopyView
+emptied_copy bytes c = record c { spelled = bytes; slots = [] }
 
-abbrev pub filled : List ℕ → CopyView → CopyView
-filled bytes c = record c { is_open = true; spelled = bytes; slots = [] }
+abbrev pub filled_copy : List ℕ → CopyView → CopyView
+filled_copy bytes c = record c { is_open = true; spelled = bytes; slots = [] }
 
 -- whether a copy is open is known, and whether it may have slots
 pub record HasGates (gates : Gates) (c : CopyView) : Type 0 where
@@ -46,7 +46,7 @@ pub record HasGates (gates : Gates) (c : CopyView) : Type 0 where
 -- a copy while a body is written behind its closed gate, and the gate then opened: closed, or open with that body alone
 pub record IsFilling (bytes : List ℕ) (old now : CopyView) : Type 0 where
   pub made : now.is_made ≡ old.is_made
-  pub gate : (now.is_open ≡ false) ⊎ (now ≡ filled bytes old)
+  pub gate : (now.is_open ≡ false) ⊎ (now ≡ filled_copy bytes old)
 
 -- a copy while it is rewritten: as it was, or being filled
 abbrev pub IsRewriting : List ℕ → CopyView → CopyView → Type 0

@@ -30,19 +30,19 @@ pub data RowReading : Type 0 where
   damaged : TableCopy → RowFault → RowReading
   unknown : RowReading
 
-abbrev pub taken : TableCopy → Bool → Result RowValue RowFault → RowReading
-taken c missing (Ok row) = known (Some row) missing
-taken c missing (Err fault) = damaged c fault
+abbrev pub copy_reading : TableCopy → Bool → Result RowValue RowFault → RowReading
+copy_reading c missing (Ok row) = known (Some row) missing
+copy_reading c missing (Err fault) = damaged c fault
 
 -- the reading table: copy A counts where it is open, else an open copy B; a closed copy that was never made tells that
 -- there is no row
 abbrev pub reading : CopyRead → CopyRead → RowReading
-reading (opened row) b = taken copy.A false row
-reading (closed made) (opened row) = taken copy.B false row
+reading (opened row) b = copy_reading copy.A false row
+reading (closed made) (opened row) = copy_reading copy.B false row
 reading (closed made) (closed other) = known None false
 reading (closed false) unread = known None true
 reading (closed true) unread = unknown
-reading unread (opened row) = taken copy.B true row
+reading unread (opened row) = copy_reading copy.B true row
 reading unread (closed false) = known None true
 reading unread (closed true) = unknown
 reading unread unread = unknown

@@ -15,10 +15,10 @@ use Rattle.table_pair.specs.Copies.{copy_at}
 use Rattle.table_pair.specs.Pair.{CopyRead, unread, closed, opened, read_of, is_table}
 use Rattle.table_pair.specs.Pair.{RowReading, known, damaged, unknown, reading}
 
-abbrev pub seen : CopyState → CopyRead
-seen (state.Unread fault) = unread
-seen (state.Closed made) = closed made
-seen (state.Open row) = opened row
+abbrev pub read_of_copy : CopyState → CopyRead
+read_of_copy (state.Unread fault) = unread
+read_of_copy (state.Closed made) = closed made
+read_of_copy (state.Open row) = opened row
 
 abbrev pub is_opened : CopyRead → Bool
 is_opened (opened row) = true
@@ -77,7 +77,7 @@ pub record KeepBoth (before now : ℕ) (a b : CopyState) : Type 0 where
   pub later : before ≤ between
   pub a_kept : KeepsFault before between a
   pub b_kept : KeepsFault between now b
-  pub alone : is_opened (seen a) ≡ true → now ≡ between
+  pub alone : is_opened (read_of_copy a) ≡ true → now ≡ between
 
 -- no copy is missing
 abbrev pub MissesNone : Result RowRead RowTrouble → Type 0

@@ -8,6 +8,8 @@
 //! leaves, and how many slots are in use then. The layers above rely on `read_row`, `change_row`, `create_row`,
 //! `repair` and `migrate`, over every site, on `law`, and on the lemmas of `proofs/PairFacts.antt` and
 //! `proofs/SiteLemmas.antt`.
+//!
+//! Layers above cite lemmas of `proofs/`: the moments of a repair (`RepairLemmas`).
 #![tactic(auto)]
 
 mod change;

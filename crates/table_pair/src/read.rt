@@ -4,10 +4,10 @@ ghost use Rattle.mss_base.specs.Blocks.{block_of};
 ghost use Rattle.mss_base.specs.Content.{content};
 ghost use Rattle.mss_base.specs.Sites.{OnlyReads};
 ghost use Rattle.mss_base.specs.declared.place.UnitNo.TheVariants.{TableA, TableB};
-ghost use Rattle.table_pair.specs.Pair.{reading, taken, read_of, unread};
+ghost use Rattle.table_pair.specs.Pair.{reading, copy_reading, read_of, unread};
 ghost use Rattle.table_pair.specs.declared.copy.TableCopy.TheVariants.{A};
 ghost use Rattle.table_pair.specs.Copies.{copy_at};
-ghost use Rattle.table_pair.specs.Reads.{seen, is_opened, IsReadable, IsReadOf, MissingKeeps, CopyKeeps, KeepBoth, KeepsCount, Tells, MissesNone, ReadsBoth, ReadsRow};
+ghost use Rattle.table_pair.specs.Reads.{read_of_copy, is_opened, IsReadable, IsReadOf, MissingKeeps, CopyKeeps, KeepBoth, KeepsCount, Tells, MissesNone, ReadsBoth, ReadsRow};
 
 use crate::copy::{CopyState, RowRead, RowTrouble, TableCopy, place_of};
 use crate::write::{GATE, MADE};
@@ -18,7 +18,7 @@ use volume_table::{DecodeFault, ROW_BYTES, RowFault, VolumeRow, decode_told};
 
 /// What a block that was read says of its copy.
 pub fn copy_state(alloc: Global, block: &Block) -> Result<CopyState, NoMemory>
-    ensures { IfOk result (λ c. seen c ≡ read_of (copy_at block.now)) }
+    ensures { IfOk result (λ c. read_of_copy c ≡ read_of (copy_at block.now)) }
 {
     let block = block.as_slice();
     if block[GATE as usize] != OPEN {
@@ -42,9 +42,9 @@ fn read_copy<S: Site>(
     block: &mut Block,
 ) -> Result<CopyState, NoMemory>
     ensures copy { S.tells → IfOk result (λ c. IsReadOf (S.faults site.old) (S.faults site.new)
-        (block_of (S.told site.old) at.now) (seen c)) }
+        (block_of (S.told site.old) at.now) (read_of_copy c)) }
     ensures kept { CopyKeeps (S.faults site.old) (S.faults site.new) result }
-    ensures works { IsReadable S.Site site.old at.now.unit → IfOk result (λ c. seen c ≢ unread) }
+    ensures works { IsReadable S.Site site.old at.now.unit → IfOk result (λ c. read_of_copy c ≢ unread) }
     ensures devices { OnlyReads S.Site site.old site.new }
 {
     match block.read(site, at) {
@@ -56,7 +56,7 @@ fn read_copy<S: Site>(
 }
 
 fn is_open(copy: &CopyState) -> bool
-    ensures { result ≡ is_opened (seen copy.now) }
+    ensures { result ≡ is_opened (read_of_copy copy.now) }
 {
     matches!(copy, CopyState::Open(_))
 }
@@ -68,7 +68,7 @@ fn taken(
     unread: Option<u64>,
 ) -> Result<RowRead, RowTrouble>
     requires { copy ≡ A → unread ≡ None }
-    ensures told { Tells result (taken copy (is_some unread) row) }
+    ensures told { Tells result (copy_reading copy (is_some unread) row) }
     ensures kept { (before now : ℕ) → MissingKeeps before now unread → KeepsCount before now result }
     ensures there { unread ≡ None → MissesNone result }
 {
@@ -83,9 +83,9 @@ fn taken(
 
 /// The reading table: the row that two copies tell, if they tell one.
 pub fn by_table(a: CopyState, b: CopyState) -> Result<RowRead, RowTrouble>
-    ensures told { Tells result (reading (seen a) (seen b)) }
+    ensures told { Tells result (reading (read_of_copy a) (read_of_copy b)) }
     ensures kept { (before now : ℕ) → KeepBoth before now a b → KeepsCount before now result }
-    ensures there { seen a ≢ unread → seen b ≢ unread → MissesNone result }
+    ensures there { read_of_copy a ≢ unread → read_of_copy b ≢ unread → MissesNone result }
 {
     match (a, b) {
         (CopyState::Open(row), _) => taken(TableCopy::A, row, None),

@@ -4,7 +4,7 @@ ghost use Rattle.mss_base.specs.Content.{Settles};
 ghost use Rattle.mss_base.specs.Counts.{HasCause};
 ghost use Rattle.mss_base.specs.Sites.{MayWrite, WritesAtMost};
 ghost use Rattle.mss_base.specs.declared.place.UnitNo.{UnitNo};
-ghost use Rattle.table_pair.specs.Copies.{byte_on, copy_at, copy_on, shut, marked, emptied, filled, HasGates, IsFilling, IsRewriting, WritesCopy};
+ghost use Rattle.table_pair.specs.Copies.{byte_on, copy_at, copy_on, shut_copy, marked_copy, emptied_copy, filled_copy, HasGates, IsFilling, IsRewriting, WritesCopy};
 
 use mss_base::{BLOCK_BYTES, BlockPlace, FIRM_ITEMS, Failed, OPEN, Site, write_firm};
 use table_journal::read_slots;
@@ -60,10 +60,10 @@ fn close_copy<S: Site>(site: &mut S, at: &BlockPlace, is_open: bool) -> Result<(
     requires told { S.tells → (copy_on (S.told site.old) at.now).is_open ≡ is_open }
     requires room { FIRM_ITEMS ≤ S.spare site.old }
     ensures moments { S.tells → WritesCopy at.now
-        (λ c. (c ≡ copy_on (S.told site.old) at.now) ⊎ (c ≡ shut (copy_on (S.told site.old) at.now)))
+        (λ c. (c ≡ copy_on (S.told site.old) at.now) ⊎ (c ≡ shut_copy (copy_on (S.told site.old) at.now)))
         (S.told site.old) (S.told site.new) }
     ensures done { S.tells →
-        OnOk result (copy_on (S.told site.new) at.now ≡ shut (copy_on (S.told site.old) at.now)) }
+        OnOk result (copy_on (S.told site.new) at.now ≡ shut_copy (copy_on (S.told site.old) at.now)) }
     ensures gate { S.tells → IsTrue is_open
         → OnOk result (byte_on (S.told site.new) at.now GATE ≡ CLOSED) }
     ensures firm { S.tells → OnOk result (Settles (S.told site.old) (S.told site.new)) }
@@ -89,7 +89,7 @@ fn put_body<S: Site>(
     ensures moments { S.tells → WritesCopy at.now
         (IsFilling body.now (copy_on (S.told site.old) at.now)) (S.told site.old) (S.told site.new) }
     ensures done { S.tells → OnOk result
-        (copy_on (S.told site.new) at.now ≡ emptied body.now (copy_on (S.told site.old) at.now)) }
+        (copy_on (S.told site.new) at.now ≡ emptied_copy body.now (copy_on (S.told site.old) at.now)) }
     ensures mark { S.tells → OnOk result
         (byte_on (S.told site.new) at.now MADE ≡ byte_on (S.told site.old) at.now MADE) }
     ensures firm { S.tells → OnOk result (Settles (S.told site.old) (S.told site.new)) }
@@ -117,7 +117,7 @@ pub fn fill_copy<S: Site>(
     ensures moments { S.tells → WritesCopy at.now
         (IsFilling body.now (copy_on (S.told site.old) at.now)) (S.told site.old) (S.told site.new) }
     ensures done { S.tells → OnOk result
-        (copy_on (S.told site.new) at.now ≡ filled body.now (copy_on (S.told site.old) at.now)) }
+        (copy_on (S.told site.new) at.now ≡ filled_copy body.now (copy_on (S.told site.old) at.now)) }
     ensures mark { S.tells → OnOk result
         (byte_on (S.told site.new) at.now MADE ≡ byte_on (S.told site.old) at.now MADE) }
     ensures grown { S.tells →
@@ -144,7 +144,7 @@ pub fn rewrite_copy<S: Site>(
     ensures moments { S.tells → WritesCopy at.now
         (IsRewriting body.now (copy_on (S.told site.old) at.now)) (S.told site.old) (S.told site.new) }
     ensures done { S.tells → OnOk result
-        (copy_on (S.told site.new) at.now ≡ filled body.now (copy_on (S.told site.old) at.now)) }
+        (copy_on (S.told site.new) at.now ≡ filled_copy body.now (copy_on (S.told site.old) at.now)) }
     ensures grown { S.tells →
         OnOk result (length (S.told site.old).log < length (S.told site.new).log) }
     ensures firm { S.tells → OnOk result (Settles (S.told site.old) (S.told site.new)) }
@@ -159,10 +159,10 @@ pub fn rewrite_copy<S: Site>(
 pub fn mark_copy<S: Site>(site: &mut S, at: &BlockPlace) -> Result<bool, Failed>
     requires room { FIRM_ITEMS ≤ S.spare site.old }
     ensures moments { S.tells → WritesCopy at.now
-        (λ c. (c ≡ copy_on (S.told site.old) at.now) ⊎ (c ≡ marked (copy_on (S.told site.old) at.now)))
+        (λ c. (c ≡ copy_on (S.told site.old) at.now) ⊎ (c ≡ marked_copy (copy_on (S.told site.old) at.now)))
         (S.told site.old) (S.told site.new) }
     ensures done { S.tells →
-        OnOk result (copy_on (S.told site.new) at.now ≡ marked (copy_on (S.told site.old) at.now)) }
+        OnOk result (copy_on (S.told site.new) at.now ≡ marked_copy (copy_on (S.told site.old) at.now)) }
     ensures none { S.tells → IfOk result (λ has_slots. has_slots ≡ false
         → (copy_on (S.told site.old) at.now).slots ≡ []) }
     ensures mark { S.tells → byte_on (S.told site.old) at.now MADE ≡ 0

@@ -12,9 +12,9 @@ use Rattle.seen_book.specs.Books.{AreOfThese, IsOfOne}
 use Rattle.seen_book.specs.Entries.{entries_of}
 use Rattle.core_state.specs.Beginning.{IsLater}
 use Rattle.core_state.specs.Counted.{AreMarks, IsCounted}
-use Rattle.core_state.specs.CoreValue.{CoreValue, DevicesSeen, seen, seen_site}
+use Rattle.core_state.specs.CoreValue.{CoreValue, DevicesSeen, seen_core, seen_site}
 use Rattle.core_state.specs.SessionData.{SessionData, data_of}
-use Rattle.mss_run.specs.Runs.{EndData, AskByScript, Leaves, are_finished, hosts_of, run_answer}
+use Rattle.mss_run.specs.Runs.{EndData, AskByScript, LeavesEnds, are_finished, hosts_of, run_answer}
 use Rattle.mss_run.specs.declared.ends.RunAnswer.TheVariants as answer
 use Rattle.mss_run.specs.Owns.{asked_of, exchange}
 use Rattle.script_places.specs.Scripts.{exchanges_of, script_of}
@@ -25,11 +25,11 @@ use Rattle.job_runs.specs.Runs.{FollowScripts, IsBegun, IsHalted, IsPromised, Te
 use Rattle.job_runs.specs.declared.run.Outcome.{Outcome}
 use Rattle.job_runs.specs.declared.run.Outcome.TheVariants.{Untaken, Ran}
 use Rattle.std.specs.Prelude.{is_some}
-use Rattle.volume_copy.specs.Beside.{asked}
+use Rattle.volume_copy.specs.Beside.{asked_copy}
 use Rattle.volume_copy.specs.Copies.{AskedCopy, CopyData}
 use Rattle.job_runs.specs.Copies.{EndsForCopy, JobAsked}
 use Rattle.job_runs.proofs.FinishFacts.{told_going}
-use Rattle.thread_runs.specs.Runs.{Ends, EndsAs, IsPlayedAtOnce, IsSessionAtOnce, ended_as}
+use Rattle.thread_runs.specs.Runs.{EndsAtOnce, EndsAs, IsPlayedAtOnce, IsSessionAtOnce, ended_as}
 
 -- ---- how it ended
 
@@ -49,7 +49,7 @@ halts_as None run end stop same halts = subst (λ (e : DriveAnswer). IsHalted e 
 halts_as (Some copy) run end stop (inl same) halts = subst (λ (e : DriveAnswer). IsHalted e stop) (sym same) halts
 halts_as (Some copy) run end stop (inr it) halts = subst (λ (e : DriveAnswer). IsHalted e stop) (sym it.1) (told_going run stop it.0 halts)
 
-pub ends_as : (copier : Option CopyData) (run end : DriveAnswer) → (end ≡ run) ⊎ EndsForCopy copier run end → (copy : Option AskedCopy) → asked copier ≡ copy → EndsAs copy run end
+pub ends_as : (copier : Option CopyData) (run end : DriveAnswer) → (end ≡ run) ⊎ EndsForCopy copier run end → (copy : Option AskedCopy) → asked_copy copier ≡ copy → EndsAs copy run end
 ends_as copier run end (inl same) None is = same
 ends_as copier run end (inl same) (Some copy) is = inl same
 ends_as copier run end (inr it) None is = absurd (let e : true ≡ false = sym it.copies_ ∙ ap is_some is in cc)
@@ -107,7 +107,7 @@ marks_rise since (mark ∷ marks) writes are = let rest = marks_rise mark marks 
 -- no count fell since it began
 module _ {S C : Type 0} (g : Ghosts S) (core left : CoreValue S C)
     (began_writes : core.first_write ≡ g.writes core.site) (began_faults : core.first_faults ≡ g.faults core.site)
-    (later : IsLater g.tells (seen g core) (seen g left))
+    (later : IsLater g.tells (seen_core g core) (seen_core g left))
     (counted : IsCounted (g.writes left.site) (g.faults left.site) left.requests (data_of left))
     (sound : StaysSound g.never_fails_but core.site left.site) where
   pub written_at_once : WritesOn g core.site left.site
@@ -124,14 +124,14 @@ module _ {S C : Type 0} (g : Ghosts S) (core left : CoreValue S C)
 -- ---- the session
 
 module _ {S C : Type 0} (g : Ghosts S) (job : JobData) (copy : Option AskedCopy) (core left : CoreValue S C) (end : DriveAnswer) (hosts : List EndData)
-    (later : IsLater g.tells (seen g core) (seen g left))
-    (of_hosts : AreOfThese (hosts_of job.hosts) left.history) (ends : Leaves left.history job.hosts hosts) (ask : AskByScript left.history job.hosts)
+    (later : IsLater g.tells (seen_core g core) (seen_core g left))
+    (of_hosts : AreOfThese (hosts_of job.hosts) left.history) (ends : LeavesEnds left.history job.hosts hosts) (ask : AskByScript left.history job.hosts)
     (ended_ : EndsAs copy (ended_as (run_answer left.stopped (length left.history) (length job.hosts) hosts)) end)
-    (was : DevicesSeen) (begun : IsBegun g.tells job.config was (seen g core))
+    (was : DevicesSeen) (begun : IsBegun g.tells job.config was (seen_core g core))
     (promised : IsPromised job.config (record { tells = g.tells; was = was; now = seen_site g left.site }) (data_of left)) where
   pub played_at_once : IsPlayedAtOnce (record { job = job; copy = copy }) (record { tells = g.tells; was = was; now = seen_site g left.site }) end hosts (data_of left)
   played_at_once = record {
-    led = record { began = seen g core; begun = begun; left = seen g left; later = later; devices_ = refl; session = refl };
+    led = record { began = seen_core g core; begun = begun; left = seen_core g left; later = later; devices_ = refl; session = refl };
     promised = promised;
     of_hosts = of_hosts;
     follow = follow_scripts job.hosts left.history ask of_hosts;
@@ -144,7 +144,7 @@ module _ {S C : Type 0} (g : Ghosts S) (job : JobData) (copy : Option AskedCopy)
 module _ {S : Type 0} (g : Ghosts S) (asked_ : JobAsked)
     (was : DevicesSeen) (mid site : S) (end : DriveAnswer) (hosts : List EndData) (s : SessionData)
     (played : IsPlayedAtOnce asked_ (record { tells = g.tells; was = was; now = seen_site g mid }) end hosts s) (sink : Stream) where
-  pub ends_at_once : (o : Outcome) → TellsSession asked_ was.told (devices g mid site) sink end s o → Ends asked_ (record { tells = g.tells; was = was; now = seen_site g site }) sink o hosts
+  pub ends_at_once : (o : Outcome) → TellsSession asked_ was.told (devices g mid site) sink end s o → EndsAtOnce asked_ (record { tells = g.tells; was = was; now = seen_site g site }) sink o hosts
   ends_at_once (Untaken why) is = absurd is
   ends_at_once (Ran session last told_) is =
       subst (λ (x : SessionData × DriveAnswer). IsSessionAtOnce asked_ (record { tells = g.tells; was = was; now = seen_site g site }) sink x.1 told_ hosts x.0) (λ i. (sym is.0 i, sym is.1 i))

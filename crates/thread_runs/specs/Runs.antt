@@ -6,7 +6,7 @@ use Rattle.core_state.specs.Beginning.{IsLater}
 use Rattle.core_state.specs.CoreValue.{CoreData, DevicesSeen}
 use Rattle.core_state.specs.SessionData.{SessionData, data_of}
 use Rattle.core_state.specs.Sessions.{session_data}
-use Rattle.mss_run.specs.Runs.{EndData, Leaves, hosts_of, run_answer}
+use Rattle.mss_run.specs.Runs.{EndData, LeavesEnds, hosts_of, run_answer}
 use Rattle.mss_run.specs.declared.ends.RunAnswer.{RunAnswer}
 use Rattle.mss_run.specs.declared.ends.RunAnswer.TheVariants as answer
 use Rattle.serial_driver.specs.declared.answer.DriveAnswer.{DriveAnswer}
@@ -54,7 +54,7 @@ pub record IsPlayedAtOnce (asked : JobAsked) (site : Devices) (end : DriveAnswer
   pub follow : FollowScripts asked.job.hosts s.history
   -- the places of what each was told, which follows its script; for want of memory there are none,
   -- and no entry
-  pub ends : Leaves s.history asked.job.hosts hosts
+  pub ends : LeavesEnds s.history asked.job.hosts hosts
   pub ended_ : EndsAs asked.copy
       (ended_as (run_answer s.stopped (length s.history) (length asked.job.hosts) hosts)) end
 
@@ -67,7 +67,7 @@ pub record IsSessionAtOnce (asked : JobAsked) (site : Devices) (sink : Stream) (
   pub report : IsReportOf asked site.was.told (since site mid) sink end told s
 
 -- the site isn't taken up, or a session was run, and its report was put
-abbrev pub Ends : JobAsked → Devices → Stream → Outcome → List EndData → Type 0
-Ends asked site sink (Untaken why) hosts = IsUntaken asked.job site sink why × (hosts ≡ [])
-Ends asked site sink (Ran session end told) hosts =
+abbrev pub EndsAtOnce : JobAsked → Devices → Stream → Outcome → List EndData → Type 0
+EndsAtOnce asked site sink (Untaken why) hosts = IsUntaken asked.job site sink why × (hosts ≡ [])
+EndsAtOnce asked site sink (Ran session end told) hosts =
     IsSessionAtOnce asked site sink end told hosts (session_data session)

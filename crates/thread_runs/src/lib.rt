@@ -4,6 +4,8 @@
 //! (`mss_run`), and puts the report behind that. Its clause `ends` (`specs/Runs.antt`) says that the session promises
 //! what every session does, whatever the order in which the threads came, how each host ended, and what a reader is
 //! promised. That the threads get on, and how fast, no clause says.
+//!
+//! Layers above cite lemmas of `proofs/`: a session, from its parts (`AtOnce`).
 #![tactic(auto)]
 
 mod run;

@@ -1,15 +1,15 @@
 // A job, run in threads on a site.
 ghost use Rattle.std.specs.Prelude.{◌≡◌, [], Bool, Err, IfErr, IfOk, IfSome, None};
 ghost use Rattle.mss_base.specs.declared.place.UnitNo.{UnitNo};
-ghost use Rattle.core_state.specs.CoreValue.{DevicesSeen, seen, seen_site};
+ghost use Rattle.core_state.specs.CoreValue.{DevicesSeen, seen_core, seen_site};
 ghost use Rattle.core_state.specs.Sessions.{session_data};
 ghost use Rattle.mss_restart.specs.Creations.{WritesOn};
 ghost use Rattle.session_report.specs.Parties.{sink_between};
 ghost use Rattle.job_runs.specs.Parties.{devices};
 ghost use Rattle.job_runs.specs.Runs.{AreRowsOf, GoesUnstopped, IsBegun, OnUnread, Opens, ReportBrokeOff};
 ghost use Rattle.job_runs.specs.Copies.{HoldsCopy, job_with};
-ghost use Rattle.volume_copy.specs.Beside.{IsReadyFor, asked};
-ghost use Rattle.thread_runs.specs.Runs.{Ends, IsPlayedAtOnce, ended_as};
+ghost use Rattle.volume_copy.specs.Beside.{IsReadyFor, asked_copy};
+ghost use Rattle.thread_runs.specs.Runs.{EndsAtOnce, IsPlayedAtOnce, ended_as};
 
 use core_restart::{Refused, restart};
 use core_state::Core;
@@ -62,7 +62,7 @@ fn begin<S: Site, C: Choose + Drop>(
 ) -> Result<Core<S, C>, (S, Refused)>
     requires able { C.can_choose chooser }
     ensures begun { IfOk result (λ core. IsBegun S.tells job.now.config
-        (seen_site S.Site site) (seen S.Site core)) }
+        (seen_site S.Site site) (seen_core S.Site core)) }
     ensures devices { IfOk result (λ core. WritesOn S.Site site core.site) }
     ensures untaken { IfErr result (λ back. Opens job.now.config
         (devices S.Site site back.0) (Err back.1)) }
@@ -91,15 +91,15 @@ fn play_on<S: Site + Send, C: Choose + Drop + Send, G: Gate + Sync, R: Threads +
     requires config { core.config ≡ job.now.config }
     requires writes { core.first_write ≡ S.writes core.site }
     requires faults { core.first_faults ≡ S.faults core.site }
-    ensures session { (was : DevicesSeen) → IsBegun S.tells job.now.config was (seen S.Site core)
+    ensures session { (was : DevicesSeen) → IsBegun S.tells job.now.config was (seen_core S.Site core)
         → IsPlayedAtOnce (job_with job.now copier) (record {
           tells = S.tells;
           was = was;
           now = seen_site S.Site result.played.site;
         })
         result.played.end result.hosts.items (session_data result.played.session) }
-    ensures asked { asked result.played.copier ≡ asked copier }
-    ensures copy { (was : DevicesSeen) → IsBegun S.tells job.now.config was (seen S.Site core)
+    ensures asked { asked_copy result.played.copier ≡ asked_copy copier }
+    ensures copy { (was : DevicesSeen) → IsBegun S.tells job.now.config was (seen_core S.Site core)
         → HoldsCopy S.Site job.now.config was.told result.played }
     ensures rows { AreRowsOf S.tells (S.told result.played.site) result.played.session.stopped
         result.played.rows }
@@ -154,7 +154,7 @@ pub fn run_at_once<
 ) -> EndAtOnce<S>
     requires able { C.can_choose chooser }
     requires armed { IfSome copier (IsReadyFor []) }
-    ensures ends { Ends (job_with job.now copier) (devices S.Site site result.job.site)
+    ensures ends { EndsAtOnce (job_with job.now copier) (devices S.Site site result.job.site)
         (sink_between O.Sink output.old output.new) result.job.outcome result.hosts.items }
     ensures unread { OnUnread result.job.outcome (ReportBrokeOff S.Site site job.now
         (devices S.Site site result.job.site) (sink_between O.Sink output.old output.new)) }

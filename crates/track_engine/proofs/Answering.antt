@@ -19,7 +19,7 @@ use Rattle.ckd_plain.specs.declared.host.HostState.{HostState}
 use Rattle.ckd_plain.specs.declared.unit_check.Refusal.{Refusal}
 use Rattle.ckd_plain.specs.Index.{Tracks}
 use Rattle.ckd_plain.specs.Effects.{Outcome, effect, is_ending, prior_number}
-use Rattle.ckd_plain.specs.Plain.{Answer, UNIT_CHECK, opened, cleared, refused, finished, answered, performed}
+use Rattle.ckd_plain.specs.Plain.{Answer, UNIT_CHECK, with_open_chain, host_for_command, refusal_answer, effect_answer, outcome_answer, command_answer}
 use Rattle.ckd_plain.specs.Views.{Responds}
 use Rattle.ckd_plain.specs.Views.{effect_of}
 use Rattle.track_engine.specs.declared.place.NotDone.{NotDone}
@@ -27,21 +27,21 @@ use Rattle.track_engine.specs.declared.place.NotDone.TheVariants.{Refused, Fault
 use Rattle.track_engine.specs.declared.place.EngineFault.{EngineFault}
 use Rattle.channel_commands.specs.Data.{ReplyData, done}
 use Rattle.track_engine.specs.Faults.{HasUnitCheck, UsesDevices}
-use Rattle.track_engine.specs.Answers.{Asked, AsksNothing, ran_for, Runs, LeavesDevices}
+use Rattle.track_engine.specs.Answers.{Asked, AsksNothing, ran_for, RunsCommand, LeavesDevices}
 use Rattle.track_engine.specs.Tracks.{tracks_on, AreTracksOn}
 use Rattle.track_engine.proofs.Steps.{nothing_loose, tracks_stay}
 use Rattle.track_engine.specs.Writing.{HoldsWritten, IsOfNothing, WritesTrack, CarriesOut, target_of, most_writes, written_of}
 use Rattle.track_engine.proofs.Unwritten.{performed_written}
 
-head-opened : (host : HostState) → (opened host).head ≡ host.head
+head-opened : (host : HostState) → (with_open_chain host).head ≡ host.head
 head-opened host = cond_both host.chain_open _ _ (λ (h : HostState). h.head ≡ host.head) (λ _. refl) (λ _. refl)
 
-module _ (a : Asked) (old new : SiteLog) (from ready : HostState) (from_is : from ≡ opened a.host) (ready_is : ready ≡ cleared a.command from) where
+module _ (a : Asked) (old new : SiteLog) (from ready : HostState) (from_is : from ≡ with_open_chain a.host) (ready_is : ready ≡ host_for_command a.command from) where
   abbrev tracks : Tracks
   tracks = tracks_on old a.place
 
   abbrev given : Outcome
-  given = effect tracks (cleared a.command (opened a.host)) (opened a.host).prior a.command a.argument
+  given = effect tracks (host_for_command a.command (with_open_chain a.host)) (with_open_chain a.host).prior a.command a.argument
 
   abbrev answer : Answer
   answer = ran_for a old
@@ -55,36 +55,36 @@ module _ (a : Asked) (old new : SiteLog) (from ready : HostState) (from_is : fro
   Carried result = CarriesOut (effect tracks ready from.prior a.command a.argument) a.command (target_of old a.place ready from.prior) old new result
 
   carried_for : (result : Result DoneCommand NotDone) → Carried result
-      → CarriesOut given a.command (target_of old a.place (opened a.host) (opened a.host).prior) old new result
+      → CarriesOut given a.command (target_of old a.place (with_open_chain a.host) (with_open_chain a.host).prior) old new result
   carried_for result carried =
-      subst (λ (h : HostState). CarriesOut (effect tracks (cleared a.command h) h.prior a.command a.argument) a.command (target_of old a.place h h.prior) old new result) from_is
+      subst (λ (h : HostState). CarriesOut (effect tracks (host_for_command a.command h) h.prior a.command a.argument) a.command (target_of old a.place h h.prior) old new result) from_is
       (subst (λ (h : HostState). CarriesOut (effect tracks h from.prior a.command a.argument) a.command (target_of old a.place h from.prior) old new result) ready_is carried)
 
   -- the same of the host that was made ready
   pub nothing_for : AsksNothing a old → IsOfNothing a.command (prior_number from.prior) (tracks ready.head)
   nothing_for none =
-      let head_is : ready.head ≡ a.host.head = ap (λ (h : HostState). h.head) (ready_is ∙ ap (cleared a.command) from_is) ∙ head-opened a.host in
+      let head_is : ready.head ≡ a.host.head = ap (λ (h : HostState). h.head) (ready_is ∙ ap (host_for_command a.command) from_is) ∙ head-opened a.host in
       subst (λ (p : HostState × ℕ). IsOfNothing a.command (prior_number p.0.prior) (tracks p.1)) (λ i. (sym from_is i, sym head_is i)) none
 
-  answer_is : answer ≡ answered a.command a.chained given
-  unfolding performed
+  answer_is : answer ≡ outcome_answer a.command a.chained given
+  unfolding command_answer
   answer_is = refl
 
   written_is : answer.written ≡ written_of given
-  written_is = performed_written tracks (opened a.host) a.command a.argument a.chained
+  written_is = performed_written tracks (with_open_chain a.host) a.command a.argument a.chained
 
-  writes : (result : Result DoneCommand NotDone) → Carried result → WritesTrack a.command (opened a.host) a.place.unit a.place.first_block old new answer.written
+  writes : (result : Result DoneCommand NotDone) → Carried result → WritesTrack a.command (with_open_chain a.host) a.place.unit a.place.first_block old new answer.written
   writes result carried =
-      subst (λ (w : Option (List RecordData)). WritesTrack a.command (opened a.host) a.place.unit a.place.first_block old new w) (sym written_is) (carried_for result carried).moments
+      subst (λ (w : Option (List RecordData)). WritesTrack a.command (with_open_chain a.host) a.place.unit a.place.first_block old new w) (sym written_is) (carried_for result carried).moments
 
   still_tracks : (result : Result DoneCommand NotDone) → Carried result → AreTracksOn old a.place → AreTracksOn new a.place
   still_tracks result carried are = tracks_stay a.command _ _ a.place.unit a.place.first_block ready.head old new _ carried.moments are
 
   -- a reply and a host are those of an outcome's answer
-  responds : (outcome : Outcome) (reply : Reply) (left : HostState) → given ≡ outcome → reply_of reply ≡ (answered a.command a.chained outcome).reply → left ≡ (answered a.command a.chained outcome).host
+  responds : (outcome : Outcome) (reply : Reply) (left : HostState) → given ≡ outcome → reply_of reply ≡ (outcome_answer a.command a.chained outcome).reply → left ≡ (outcome_answer a.command a.chained outcome).host
       → Responds answer left reply
   responds outcome reply left gives replies leaves =
-      let is = answer_is ∙ ap (answered a.command a.chained) gives in
+      let is = answer_is ∙ ap (outcome_answer a.command a.chained) gives in
       record { reply_ = replies ∙ sym (ap (λ (a : Answer). a.reply) is); host_ = leaves ∙ sym (ap (λ (a : Answer). a.host) is) }
 
   refuses : (e : NotDone) (refusal : Refusal) → e ≡ Refused refusal → Carried (Err e) → given ≡ Err refusal
@@ -93,20 +93,20 @@ module _ (a : Asked) (old new : SiteLog) (from ready : HostState) (from_is : fro
   unwritten_by : (e : NotDone) (refusal : Refusal) → e ≡ Refused refusal → Carried (Err e) → new ≡ old
   unwritten_by e refusal is carried = (carried_for (Err (Refused refusal)) (subst (λ (e : NotDone). Carried (Err e)) is carried)).log
 
-  pub runs_done : (d : DoneCommand) (reply : Reply) (left : HostState) → Carried (Ok d) → reply_of reply ≡ (finished a.command a.chained (effect_of d)).reply → left ≡ (finished a.command a.chained (effect_of d)).host
-      → AreTracksOn old a.place → Runs a old new (Ok reply) left
+  pub runs_done : (d : DoneCommand) (reply : Reply) (left : HostState) → Carried (Ok d) → reply_of reply ≡ (effect_answer a.command a.chained (effect_of d)).reply → left ≡ (effect_answer a.command a.chained (effect_of d)).host
+      → AreTracksOn old a.place → RunsCommand a old new (Ok reply) left
   runs_done d reply left carried replies leaves are = record {
     answer = responds _ reply left (carried_for (Ok d) carried).outcome replies leaves;
     writes = writes (Ok d) carried;
     exact = λ track is.
         ap (λ (head : ℕ). reading (block head)) (sym (head-opened a.host))
-        ∙ subst (λ (w : Option (List RecordData)). HoldsWritten w (reading (block (opened a.host).head))) (sym written_is ∙ is) (carried_for (Ok d) carried).exact;
+        ∙ subst (λ (w : Option (List RecordData)). HoldsWritten w (reading (block (with_open_chain a.host).head))) (sym written_is ∙ is) (carried_for (Ok d) carried).exact;
     firm = (carried_for (Ok d) carried).firm;
     still_tracks = still_tracks (Ok d) carried are;
   }
 
-  pub runs_refused : (e : NotDone) (refusal : Refusal) (reply : Reply) (left : HostState) → e ≡ Refused refusal → Carried (Err e) → reply_of reply ≡ (refused refusal).reply → left ≡ (refused refusal).host
-      → AreTracksOn old a.place → Runs a old new (Ok reply) left
+  pub runs_refused : (e : NotDone) (refusal : Refusal) (reply : Reply) (left : HostState) → e ≡ Refused refusal → Carried (Err e) → reply_of reply ≡ (refusal_answer refusal).reply → left ≡ (refusal_answer refusal).host
+      → AreTracksOn old a.place → RunsCommand a old new (Ok reply) left
   runs_refused e refusal reply left ends carried replies leaves are = record {
     answer = responds (Err refusal) reply left (refuses e refusal ends carried) replies leaves;
     writes = writes (Err e) carried;
@@ -117,7 +117,7 @@ module _ (a : Asked) (old new : SiteLog) (from ready : HostState) (from_is : fro
     still_tracks = still_tracks (Err e) carried are;
   }
 
-  pub runs_failed : (e : NotDone) (fault : EngineFault) (left : HostState) → Carried (Err e) → AreTracksOn old a.place → Runs a old new (Err fault) left
+  pub runs_failed : (e : NotDone) (fault : EngineFault) (left : HostState) → Carried (Err e) → AreTracksOn old a.place → RunsCommand a old new (Err fault) left
   runs_failed e fault left carried are = record { answer = tt; writes = writes (Err e) carried; exact = tt; firm = tt; still_tracks = still_tracks (Err e) carried are }
 
 -- a command that ended otherwise is not told a unit check

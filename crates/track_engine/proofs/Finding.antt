@@ -7,7 +7,7 @@ use Rattle.ckd_track.specs.Track.{reading}
 use Rattle.ckd_track.specs.Track.{record_at as stored_at}
 use Rattle.ckd_plain.specs.declared.host.HostState.{HostState}
 use Rattle.ckd_plain.specs.Data.{records_of}
-use Rattle.ckd_plain.specs.Index.{Tracks, Found, candidate, pass_index, record_at, itself, looked, next_within}
+use Rattle.ckd_plain.specs.Index.{Tracks, Found, candidate, pass_index, record_at, itself, look_or_past, next_within}
 use Rattle.ckd_plain.proofs.IndexFacts.{next_within-suc, look_passes, look_fails}
 use Rattle.track_engine.specs.declared.find.RecordPlace.{RecordPlace}
 use Rattle.track_engine.specs.declared.place.NotDone.{NotDone}
@@ -46,9 +46,9 @@ module _ (left looks number : ℕ) (tracks : Tracks) (host : HostState) (m : ℕ
       let e : left ≡ suc looks = omega arith in
       let past = λ (passed : HostState). next_within looks tracks passed m multi in
       ap (λ (n : ℕ). next_within n tracks host m multi) e ∙ next_within-suc looks tracks host m multi
-      ∙ ap (λ (k : ℕ). looked k host multi (record_at (tracks host.head) host k) past) (sym place)
-      ∙ ap (λ (t : List RecordData). looked number host multi (record_at t host number) past) (sym here)
-      ∙ ap (λ (o : Option RecordData). looked number host multi o past) (item_there block host number at is)
+      ∙ ap (λ (k : ℕ). look_or_past k host multi (record_at (tracks host.head) host k) past) (sym place)
+      ∙ ap (λ (t : List RecordData). look_or_past number host multi (record_at t host number) past) (sym here)
+      ∙ ap (λ (o : Option RecordData). look_or_past number host multi o past) (item_there block host number at is)
       ∙ (λ i. Ok (record { number = sym is.number_ i; item = (found_at block at).item; host = sym is.host_ i }))
 
   none_there : record_at (track_in block) host number ≡ None → record_at (tracks host.head) host number ≡ None

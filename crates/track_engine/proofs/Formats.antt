@@ -16,7 +16,7 @@ use Rattle.ckd_plain.specs.declared.unit_check.Refusal.{Refusal}
 use Rattle.ckd_plain.specs.declared.unit_check.UnitCheck.TheVariants as check
 use Rattle.ckd_plain.specs.Checks.{◌>>=◌}
 use Rattle.ckd_plain.specs.Index.{Found, same_record}
-use Rattle.ckd_plain.specs.Effects.{Outcome, new_record, prior_number, fits, formatted, write_}
+use Rattle.ckd_plain.specs.Effects.{Outcome, new_record, prior_number, fits, format_outcome, write_}
 use Rattle.track_engine.specs.declared.find.RecordPlace.{RecordPlace}
 use Rattle.track_engine.specs.declared.place.CylinderPlace.{CylinderPlace}
 use Rattle.track_engine.specs.declared.place.NotDone.{NotDone}
@@ -39,24 +39,24 @@ module _ (track : List RecordData) (host : HostState) (left : Prior) (argument :
   -- the record isn't there
   pub format_refused : (refusal : Refusal) → same_record track host (prior_number left) ≡ Err refusal → given ≡ Err refusal
   unfolding write_
-  format_refused refusal is = ap (λ (r : Result Found Refusal). r >>= λ found. formatted (fits (with_new found.number)) (with_new found.number) found) is
+  format_refused refusal is = ap (λ (r : Result Found Refusal). r >>= λ found. format_outcome (fits (with_new found.number)) (with_new found.number) found) is
 
   module _ (block : List ℕ) (at : RecordPlace) (is : same_record track host (prior_number left) ≡ Ok (found_at block at)) where
-    given_is : given ≡ formatted (fits (with_new at.number)) (with_new at.number) (found_at block at)
+    given_is : given ≡ format_outcome (fits (with_new at.number)) (with_new at.number) (found_at block at)
     unfolding write_
-    given_is = ap (λ (r : Result Found Refusal). r >>= λ found. formatted (fits (with_new found.number)) (with_new found.number) found) is
+    given_is = ap (λ (r : Result Found Refusal). r >>= λ found. format_outcome (fits (with_new found.number)) (with_new found.number) found) is
 
     -- it is there, and the new one fits behind it
     pub format_fits : cost (take at.number track) + cost_of (new_record argument) ≤ 13165 → given ≡ Ok (formatted_behind track (new_record argument) at)
     format_fits cheap =
         let room : fits (with_new at.number) ≡ true = ap not (le-ltb 13165 (cost (with_new at.number)) (omega (arith, cheap, cost-push (take at.number track) (new_record argument)))) in
-        given_is ∙ ap (λ (b : Bool). formatted b (with_new at.number) (found_at block at)) room
+        given_is ∙ ap (λ (b : Bool). format_outcome b (with_new at.number) (found_at block at)) room
 
     -- or doesn't
     pub format_overfull : (there : HostState) → at.host ≡ there → 13165 < cost (take at.number track) + cost_of (new_record argument) → given ≡ Err (record { check = check.InvalidTrackFormat; host = there })
     format_overfull there there_is dear =
         let room : fits (with_new at.number) ≡ false = ap not (lt-ltb 13165 (cost (with_new at.number)) (omega (arith, dear, cost-push (take at.number track) (new_record argument)))) in
-        given_is ∙ ap (λ (b : Bool). formatted b (with_new at.number) (found_at block at)) room ∙ ap overfull there_is
+        given_is ∙ ap (λ (b : Bool). format_outcome b (with_new at.number) (found_at block at)) room ∙ ap overfull there_is
 
 -- a format of the bytes that an argument spells is one of its record
 pub format_spelled : (argument bytes : List ℕ) (track : List RecordData) (at : RecordPlace) (to : Target) (s t : SiteLog) (result : Result DoneCommand NotDone)

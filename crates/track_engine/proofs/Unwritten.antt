@@ -11,8 +11,8 @@ use Rattle.ckd_plain.specs.declared.host.Prior.{Prior}
 use Rattle.ckd_plain.specs.declared.unit_check.Refusal.{Refusal}
 use Rattle.ckd_plain.specs.Checks.{◌>>=◌}
 use Rattle.ckd_plain.specs.Index.{Tracks, Found, next_record, to_home}
-use Rattle.ckd_plain.specs.Effects.{Effect, Outcome, at_hand, key_at_hand, this_or_next, home_searched, id_searched, key_searched, search, record_given, record_zero_read, home_read, read, effect}
-use Rattle.ckd_plain.specs.Plain.{answered, cleared, performed}
+use Rattle.ckd_plain.specs.Effects.{Effect, Outcome, at_hand, key_at_hand, this_or_next, home_searched, id_searched, key_searched, search, record_given, record_zero_read, home_read, read_outcome, effect}
+use Rattle.ckd_plain.specs.Plain.{outcome_answer, host_for_command, command_answer}
 use Rattle.track_engine.specs.Writing.{written_of}
 
 bind_unwritten : {X : Type 0} (r : Result X Refusal) (does : X → Effect) → ((x : X) → (does x).written ≡ None) → written_of (r >>= λ x. Ok (does x)) ≡ None
@@ -25,8 +25,8 @@ given_unwritten what.KeyData found = refl
 given_unwritten what.CountKeyData found = refl
 given_unwritten _ found = refl
 
-read_unwritten : (tracks : Tracks) (host : HostState) (w : ReadWhat) (multi : Bool) → written_of (read tracks host w multi) ≡ None
-unfolding read
+read_unwritten : (tracks : Tracks) (host : HostState) (w : ReadWhat) (multi : Bool) → written_of (read_outcome tracks host w multi) ≡ None
+unfolding read_outcome
 read_unwritten tracks host what.Home multi = bind_unwritten (to_home host multi) home_read (λ _. refl)
 read_unwritten tracks host what.RecordZero multi = bind_unwritten (to_home host multi) record_zero_read (λ _. refl)
 read_unwritten tracks host what.Data multi = bind_unwritten (this_or_next (at_hand what.Data host.position) tracks host multi) (record_given what.Data) (given_unwritten what.Data)
@@ -50,14 +50,14 @@ effect_unwritten tracks host left (command.Read what multi) argument reads = rea
 effect_unwritten tracks host left (command.Write kind) argument reads = absurd cc
 
 -- an answer writes what its outcome does
-answered_written : (c : Command) (chained : Bool) (o : Outcome) → (answered c chained o).written ≡ written_of o
+answered_written : (c : Command) (chained : Bool) (o : Outcome) → (outcome_answer c chained o).written ≡ written_of o
 answered_written c chained (Ok e) = refl
 answered_written c chained (Err refusal) = refl
 
 pub performed_written : (tracks : Tracks) (host : HostState) (c : Command) (argument : List ℕ) (chained : Bool)
-    → (performed tracks host c argument chained).written ≡ written_of (effect tracks (cleared c host) host.prior c argument)
-unfolding performed
-performed_written tracks host c argument chained = answered_written c chained (effect tracks (cleared c host) host.prior c argument)
+    → (command_answer tracks host c argument chained).written ≡ written_of (effect tracks (host_for_command c host) host.prior c argument)
+unfolding command_answer
+performed_written tracks host c argument chained = answered_written c chained (effect tracks (host_for_command c host) host.prior c argument)
 
-pub performed_unwritten : (tracks : Tracks) (host : HostState) (c : Command) (argument : List ℕ) (chained : Bool) → is_write c ≡ false → (performed tracks host c argument chained).written ≡ None
-performed_unwritten tracks host c argument chained reads = performed_written tracks host c argument chained ∙ effect_unwritten tracks (cleared c host) host.prior c argument reads
+pub performed_unwritten : (tracks : Tracks) (host : HostState) (c : Command) (argument : List ℕ) (chained : Bool) → is_write c ≡ false → (command_answer tracks host c argument chained).written ≡ None
+performed_unwritten tracks host c argument chained reads = performed_written tracks host c argument chained ∙ effect_unwritten tracks (host_for_command c host) host.prior c argument reads

@@ -9,16 +9,16 @@ use Rattle.mss_base.proofs.Moments.{block_weaker}
 use Rattle.channel_commands.specs.declared.command.Command.TheVariants as command
 use Rattle.ckd_track.specs.Data.{RecordData, blank_record}
 use Rattle.ckd_track.specs.Track.{Reading, reading}
-use Rattle.ckd_track.specs.Updating.{IsUpdating, updated_length, with_bytes, record_behind, updated}
+use Rattle.ckd_track.specs.Updating.{IsUpdating, updated_length, with_bytes, record_behind, updated_records}
 use Rattle.ckd_plain.specs.declared.done.DoneCommand.{DoneCommand}
 use Rattle.ckd_plain.specs.declared.host.HostState.{HostState}
 use Rattle.ckd_plain.specs.declared.host.Position.TheVariants as position
 use Rattle.ckd_plain.specs.declared.host.Prior.{Prior}
 use Rattle.ckd_plain.specs.declared.unit_check.Refusal.{Refusal}
-use Rattle.ckd_plain.specs.Data.{records_of, padded}
+use Rattle.ckd_plain.specs.Data.{records_of, padded_bytes}
 use Rattle.ckd_plain.specs.Checks.{◌>>=◌}
 use Rattle.ckd_plain.specs.Index.{Found, same_record}
-use Rattle.ckd_plain.specs.Effects.{Effect, Outcome, effect_with, status_of, prior_number, with_body, with_key_body, write_, updated as plain_updated}
+use Rattle.ckd_plain.specs.Effects.{Effect, Outcome, effect_with, status_of, prior_number, with_body, with_key_body, write_, update_outcome as plain_updated}
 use Rattle.ckd_plain.specs.Near.{IsOverwritten}
 use Rattle.ckd_plain.specs.declared.found.FoundRecord.{FoundRecord}
 use Rattle.ckd_plain.specs.Views.{effect_of, found_of, item_of}
@@ -30,7 +30,7 @@ use Rattle.track_engine.specs.Writing.{IsBetween, IsStep, CarriesOut, target_in,
 
 -- ---- what the plain machine gives
 
-long_padded : (n : ℕ) (bytes : List ℕ) → length (padded n bytes) ≡ n
+long_padded : (n : ℕ) (bytes : List ℕ) → length (padded_bytes n bytes) ≡ n
 long_padded n bytes = omega (arith, length-append (take n bytes) (replicate (n - length bytes) 0), length-take n bytes, length-replicate {A = ℕ} (n - length bytes) 0)
 
 -- the record at a place behind R0 is one of the track
@@ -43,7 +43,7 @@ abbrev with_argument : Bool → RecordData → List ℕ → RecordData
 with_argument false r argument = with_body r argument
 with_argument true r argument = with_key_body r argument
 
-with_argument-is : (key_too : Bool) (r : RecordData) (argument : List ℕ) → with_argument key_too r argument ≡ with_bytes key_too (padded (updated_length key_too r) argument) r
+with_argument-is : (key_too : Bool) (r : RecordData) (argument : List ℕ) → with_argument key_too r argument ≡ with_bytes key_too (padded_bytes (updated_length key_too r) argument) r
 with_argument-is false r argument = refl
 with_argument-is true r argument = refl
 
@@ -81,31 +81,31 @@ module _ (key_too : Bool) (block : List ℕ) (host : HostState) (left : Prior) (
     found_is = (λ i. record { number = at.number; item = item_behind track at.host at.number (omega (arith, number_at_hand)) i; host = at.host })
 
     -- of the length of its data, or of its key and data
-    pub update_given : (found : FoundRecord) (bytes : List ℕ) (length_there : ℕ) → found_of found ≡ found_at block at → length_there ≡ updated_length key_too (item_of found) → bytes ≡ padded length_there argument
+    pub update_given : (found : FoundRecord) (bytes : List ℕ) (length_there : ℕ) → found_of found ≡ found_at block at → length_there ≡ updated_length key_too (item_of found) → bytes ≡ padded_bytes length_there argument
         → given key_too there host left argument ≡ Ok (updated_at key_too track bytes at)
     update_given found bytes length_there found_there length_is bytes_are =
         let item_is : item_of found ≡ old = ap (λ (f : Found). f.item) (found_there ∙ found_is) in
-        let bytes_is : padded (updated_length key_too old) argument ≡ bytes = sym (bytes_are ∙ ap (λ (n : ℕ). padded n argument) (length_is ∙ ap (updated_length key_too) item_is)) in
+        let bytes_is : padded_bytes (updated_length key_too old) argument ≡ bytes = sym (bytes_are ∙ ap (λ (n : ℕ). padded_bytes n argument) (length_is ∙ ap (updated_length key_too) item_is)) in
         given_there ∙ ap (λ (r : Result Found Refusal). r >>= λ found. plain_updated track found (with_argument key_too found.item argument)) is
         ∙ ap (λ (found : Found). plain_updated track found (with_argument key_too found.item argument)) found_is
         ∙ ap (λ (r : RecordData). plain_updated track (record { number = at.number; item = old; host = at.host }) r) (with_argument-is key_too old argument ∙ ap (λ (b : List ℕ). with_bytes key_too b old) bytes_is)
 
     -- as many bytes as the record has
-    pub update_long : (found : FoundRecord) (bytes : List ℕ) (length_there : ℕ) → found_of found ≡ found_at block at → length_there ≡ updated_length key_too (item_of found) → bytes ≡ padded length_there argument
+    pub update_long : (found : FoundRecord) (bytes : List ℕ) (length_there : ℕ) → found_of found ≡ found_at block at → length_there ≡ updated_length key_too (item_of found) → bytes ≡ padded_bytes length_there argument
         → length bytes ≡ updated_length key_too old
     update_long found bytes length_there found_there length_is bytes_are =
         let item_is : item_of found ≡ old = ap (λ (f : Found). f.item) (found_there ∙ found_is) in
         ap length bytes_are ∙ long_padded length_there argument ∙ length_is ∙ ap (updated_length key_too) item_is
 
     -- a record without bytes to update
-    pub update_of_nothing : (found : FoundRecord) (bytes : List ℕ) (length_there : ℕ) → found_of found ≡ found_at block at → length_there ≡ updated_length key_too (item_of found) → bytes ≡ padded length_there argument
+    pub update_of_nothing : (found : FoundRecord) (bytes : List ℕ) (length_there : ℕ) → found_of found ≡ found_at block at → length_there ≡ updated_length key_too (item_of found) → bytes ≡ padded_bytes length_there argument
         → updated_length key_too (record_behind (prior_number left - 1) there) ≡ 0 → bytes ≡ []
     update_of_nothing found bytes length_there found_there length_is bytes_are none =
         let item_is : item_of found ≡ old = ap (λ (f : Found). f.item) (found_there ∙ found_is) in
         let zero_there : length_there ≡ 0 =
         length_is ∙ ap (updated_length key_too) item_is ∙ (λ i. updated_length key_too (record_behind (number_at_hand i - 1) (here i))) ∙ none in
         let no_fill : 0 - length argument ≡ 0 = omega arith in
-        bytes_are ∙ ap (λ (n : ℕ). padded n argument) zero_there ∙ ap (λ (n : ℕ). take 0 argument ++ replicate n 0) no_fill
+        bytes_are ∙ ap (λ (n : ℕ). padded_bytes n argument) zero_there ∙ ap (λ (n : ℕ). take 0 argument ++ replicate n 0) no_fill
 
 -- ---- what the write leaves
 
@@ -115,7 +115,7 @@ module _ (to : BlockPlace) (s t : SiteLog) (at : RecordPlace) (key_too : Bool) (
   records = (reading a).records
 
   abbrev new_track : List RecordData
-  new_track = updated key_too (at.number - 1) bytes records
+  new_track = updated_records key_too (at.number - 1) bytes records
 
   -- other bytes of the same lengths
   overwritten : (k : Bool) (r : RecordData) (left : List ℕ) → length left ≡ updated_length k r → IsOverwritten k r (with_bytes k left r)
@@ -127,7 +127,7 @@ module _ (to : BlockPlace) (s t : SiteLog) (at : RecordPlace) (key_too : Bool) (
     key = λ same. absurd cc;
   }
 
-  between : (k : Bool) (left : List ℕ) (now : List RecordData) → length left ≡ updated_length k (record_behind (at.number - 1) records) → now ≡ updated k (at.number - 1) left records
+  between : (k : Bool) (left : List ℕ) (now : List RecordData) → length left ≡ updated_length k (record_behind (at.number - 1) records) → now ≡ updated_records k (at.number - 1) left records
       → IsBetween (command.Write (update_kind k)) at.number records now
   between false left now long is =
       (record_behind (at.number - 1) records, with_bytes false left (record_behind (at.number - 1) records), slice_get-get_or records (at.number - 1) blank_record (omega arith), overwritten false _ left long, is)

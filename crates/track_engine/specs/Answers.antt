@@ -13,7 +13,7 @@ use Rattle.ckd_track.specs.Track.{reading, reading_of}
 use Rattle.ckd_track.specs.declared.format.TheConstants.{FORMAT_ITEMS}
 use Rattle.ckd_plain.specs.declared.host.HostState.{HostState}
 use Rattle.ckd_plain.specs.Effects.{prior_number}
-use Rattle.ckd_plain.specs.Plain.{Answer, opened, performed, IsDone, KeepsChain}
+use Rattle.ckd_plain.specs.Plain.{Answer, with_open_chain, command_answer, IsDone, KeepsChain}
 use Rattle.ckd_plain.specs.Views.{Responds}
 use Rattle.track_engine.specs.declared.place.CylinderPlace.{CylinderPlace}
 use Rattle.track_engine.specs.declared.place.EngineFault.{EngineFault}
@@ -24,7 +24,7 @@ use Rattle.track_engine.specs.Writing.{WritesTrack, IsOfNothing, most_writes}
 -- the plain machine's answer to a command that passed its checks, on the tracks of a cylinder's blocks
 abbrev pub ran : Content → UnitNo → ℕ → HostState → Command → List ℕ → Bool → Answer
 ran c unit first host command argument chained =
-    performed (tracks_at c unit first) (opened host) command argument chained
+    command_answer (tracks_at c unit first) (with_open_chain host) command argument chained
 
 -- what is asked: a command with its bytes, and whether a further one is chained behind it, by a host on the blocks of
 -- its cylinder
@@ -35,8 +35,8 @@ pub record Asked : Type 0 where
   pub host : HostState
   pub place : CylinderPlace
 
-abbrev pub asked : Command → List ℕ → Bool → HostState → CylinderPlace → Asked
-asked command argument chained host place =
+abbrev pub asked_command : Command → List ℕ → Bool → HostState → CylinderPlace → Asked
+asked_command command argument chained host place =
     record { command = command; argument = argument; chained = chained; host = host; place = place }
 
 abbrev pub ran_for : Asked → SiteLog → Answer
@@ -44,14 +44,16 @@ ran_for a s = ran (content s) a.place.unit a.place.first_block a.host a.command 
 
 -- an update of a record that has no bytes to update
 abbrev pub AsksNothing : Asked → SiteLog → Type 0
-AsksNothing a s = IsOfNothing a.command (prior_number (opened a.host).prior) (tracks_on s a.place a.host.head)
+AsksNothing a s = IsOfNothing a.command (prior_number (with_open_chain a.host).prior) (tracks_on s a.place a.host.head)
 
 -- What a command on a cylinder's blocks does, by the log of its site: the reply and the host that is left are the
 -- plain machine's; whatever the outcome, only the block of the host's head was written, in steps that a stop may
 -- leave, and in the end it is the new track. When the reply comes, all that was written is firm.
-pub record Runs (a : Asked) (old new : SiteLog) (result : Result Reply EngineFault) (left : HostState) : Type 0 where
+pub record RunsCommand (a : Asked) (old new : SiteLog) (result : Result Reply EngineFault)
+    (left : HostState) : Type 0 where
   pub answer : IfOk result (Responds (ran_for a old) left)
-  pub writes : WritesTrack a.command (opened a.host) a.place.unit a.place.first_block old new (ran_for a old).written
+  pub writes : WritesTrack a.command (with_open_chain a.host) a.place.unit a.place.first_block old new
+      (ran_for a old).written
   pub exact : OnOk result ((track : List RecordData) → (ran_for a old).written ≡ Some track
       → reading (content new a.place.unit (a.place.first_block + a.host.head)) ≡ reading_of track)
   pub firm : OnOk result (Settles old new)

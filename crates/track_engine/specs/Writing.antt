@@ -13,7 +13,7 @@ use Rattle.ckd_track.specs.Track.{Reading, reading, reading_of, record_at}
 use Rattle.ckd_track.specs.Formatting.{IsRecord}
 use Rattle.ckd_track.specs.declared.format.TheConstants.{FORMAT_ITEMS}
 use Rattle.ckd_track.specs.declared.update.TheConstants.{UPDATE_ITEMS}
-use Rattle.ckd_track.specs.Updating.{record_behind, updated, updated_length}
+use Rattle.ckd_track.specs.Updating.{record_behind, updated_records, updated_length}
 use Rattle.ckd_plain.specs.declared.done.DoneCommand.{DoneCommand}
 use Rattle.ckd_plain.specs.declared.host.HostState.{HostState}
 use Rattle.ckd_plain.specs.declared.host.Position.TheVariants as position
@@ -138,5 +138,5 @@ updated_at key_too track bytes at = record {
   status = status_of (record_behind (at.number - 1) track);
   bytes = [];
   host = record at.host { position = position.Done at.number };
-  written = Some (updated key_too (at.number - 1) bytes track);
+  written = Some (updated_records key_too (at.number - 1) bytes track);
 }

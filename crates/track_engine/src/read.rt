@@ -1,6 +1,6 @@
 // Reads.
 ghost use Rattle.std.specs.Prelude.{◌≢◌};
-ghost use Rattle.ckd_plain.specs.Effects.{read};
+ghost use Rattle.ckd_plain.specs.Effects.{read_outcome};
 ghost use Rattle.ckd_plain.specs.Views.{effect_of};
 ghost use Rattle.track_engine.specs.Tracks.{tracks_on};
 ghost use Rattle.track_engine.specs.Faults.{ReadsDevices};
@@ -15,7 +15,7 @@ use mss_base::Site;
 use std::alloc::Global;
 
 /// A read of a record.
-#[tactic(auto, unfolding(ckd_plain::specs::Effects::read))]
+#[tactic(auto, unfolding(ckd_plain::specs::Effects::read_outcome))]
 fn read_record<S: Site>(
     alloc: Global,
     site: &mut S,
@@ -27,7 +27,7 @@ fn read_record<S: Site>(
     requires no_home { what ≢ ReadWhat.Home }
     requires no_zero { what ≢ ReadWhat.RecordZero }
     ensures done { S.tells → GivesBut effect_of result
-        (read (tracks_on (S.told site.old) place.now) host.now what multi) }
+        (read_outcome (tracks_on (S.told site.old) place.now) host.now what multi) }
     ensures volume { KeepsVolume (λ done. done.host) host.now.mounted result }
     ensures site_ { ReadsDevices S.Site place.now.unit site.old site.new result }
 {
@@ -37,7 +37,7 @@ fn read_record<S: Site>(
 }
 
 /// A read of any kind.
-#[tactic(auto, unfolding(ckd_plain::specs::Effects::read))]
+#[tactic(auto, unfolding(ckd_plain::specs::Effects::read_outcome))]
 pub fn read<S: Site>(
     alloc: Global,
     site: &mut S,
@@ -47,7 +47,7 @@ pub fn read<S: Site>(
     multi: bool,
 ) -> Result<DoneCommand, NotDone>
     ensures done { S.tells → GivesBut effect_of result
-        (read (tracks_on (S.told site.old) place.now) host.now what multi) }
+        (read_outcome (tracks_on (S.told site.old) place.now) host.now what multi) }
     ensures volume { KeepsVolume (λ done. done.host) host.now.mounted result }
     ensures site_ { ReadsDevices S.Site place.now.unit site.old site.new result }
 {

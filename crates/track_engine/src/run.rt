@@ -5,9 +5,9 @@ ghost use Rattle.channel_commands.specs.Codes.{least, is_write};
 ghost use Rattle.ckd_plain.specs.declared.host.Prior.{Prior};
 ghost use Rattle.ckd_plain.specs.Checks.{Passes, is_prior_permitted};
 ghost use Rattle.ckd_plain.specs.Effects.{effect, is_data, prior_number};
-ghost use Rattle.ckd_plain.specs.Plain.{opened};
+ghost use Rattle.ckd_plain.specs.Plain.{with_open_chain};
 ghost use Rattle.ckd_plain.specs.Views.{effect_of};
-ghost use Rattle.track_engine.specs.Answers.{asked, AsksNothing, Runs, LeavesHost, LeavesDevices};
+ghost use Rattle.track_engine.specs.Answers.{asked_command, AsksNothing, RunsCommand, LeavesHost, LeavesDevices};
 ghost use Rattle.track_engine.specs.Faults.{ReadsDevices, UsesDevices};
 ghost use Rattle.track_engine.specs.Found.{GivesBut, KeepsVolume};
 ghost use Rattle.track_engine.specs.Tracks.{tracks_on, AreTracksOn};
@@ -26,7 +26,7 @@ use std::alloc::Global;
 
 /// A search or a read.
 #[tactic(auto, unfolding(ckd_plain::specs::Effects::effect))]
-fn look<S: Site>(
+fn search_or_read<S: Site>(
     alloc: Global,
     site: &mut S,
     place: &CylinderPlace,
@@ -91,7 +91,7 @@ fn carry_out<S: Site>(
         Command::Write(WriteKind::CountKeyData) => {
             write_count_key_data(alloc, site, place, host, left, argument)
         }
-        _ => look(alloc, site, place, host, command, argument),
+        _ => search_or_read(alloc, site, place, host, command, argument),
     }
 }
 
@@ -108,17 +108,17 @@ pub fn run_command<S: Site>(
     chained: bool,
     host: &mut HostState,
 ) -> Result<Reply, EngineFault>
-    requires passes { Passes (opened host.old) command.now argument.now }
+    requires passes { Passes (with_open_chain host.old) command.now argument.now }
     requires data { is_data command.now ≡ true }
     requires tracks { S.tells → AreTracksOn (S.told site.old) place.now }
     requires room { FORMAT_ITEMS ≤ S.spare site.old }
-    ensures runs { S.tells → Runs
-        (asked command.now argument.now chained host.old place.now)
+    ensures runs { S.tells → RunsCommand
+        (asked_command command.now argument.now chained host.old place.now)
         (S.told site.old) (S.told site.new) result host.new }
     ensures host_ { LeavesHost chained host.old host.new result }
     ensures site_ { LeavesDevices S.Site command.now place.now.unit site.old site.new result }
     ensures untouched { S.tells → AsksNothing
-        (asked command.now argument.now chained host.old place.now) (S.told site.old)
+        (asked_command command.now argument.now chained host.old place.now) (S.told site.old)
         → OnlyReads S.Site site.old site.new }
 {
     let now = opened(host);

@@ -8,7 +8,7 @@ ghost use Rattle.ckd_track.specs.Data.{cost, cost_of, HasCount};
 ghost use Rattle.ckd_track.specs.Track.{reading, record_at};
 ghost use Rattle.ckd_track.specs.Formatting.{IsRecord};
 ghost use Rattle.ckd_track.specs.Updating.{updated_length, record_behind, MayUpdate};
-ghost use Rattle.ckd_plain.specs.Data.{padded};
+ghost use Rattle.ckd_plain.specs.Data.{padded_bytes};
 ghost use Rattle.ckd_plain.specs.Effects.{new_record, prior_number, write_};
 ghost use Rattle.ckd_plain.specs.Views.{item_of};
 ghost use Rattle.track_engine.specs.Tracks.{tracks_on, AreTracksOn, IsBlockOn, IsTrackAt};
@@ -31,7 +31,7 @@ use std::alloc::Global;
 
 /// The first bytes of an argument, where it has so many.
 fn first_bytes(argument: &[u8], length: usize) -> Option<&[u8]>
-    ensures { IfSome result (λ bytes. bytes.now ≡ padded length argument.now) }
+    ensures { IfSome result (λ bytes. bytes.now ≡ padded_bytes length argument.now) }
 {
     if length > argument.len() {
         return None;

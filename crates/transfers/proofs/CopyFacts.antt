@@ -9,7 +9,7 @@ use Rattle.mss_base.specs.Zeros.{length-zeros}
 use Rattle.mss_base.proofs.ContentLemmas.{written_elsewhere}
 use Rattle.mss_base.proofs.Moments.{content_then, block_write, block_written, block_started}
 use Rattle.table_pair.specs.Pair.{is_table}
-use Rattle.shown_volumes.specs.Shown.{block_at, shown, SameTables}
+use Rattle.shown_volumes.specs.Shown.{block_at, volumes_shown, SameTables}
 use Rattle.shown_volumes.specs.Sound.{IsSound}
 use Rattle.shown_volumes.specs.Changing.{IsOutside, IsQuiet, StillShows}
 use Rattle.shown_volumes.proofs.QuietFacts.{quiet_started, copied_moments, copied_quiet, synced_firm}
@@ -79,8 +79,8 @@ synced_copies t s u got head is = synced_firm s u (target_unit t) got (target t 
 
 -- a copy into a block outside shows the same, and leaves the site quiet
 pub most_moments : (frames : ℕ) (t : Transfer) (s u : SiteLog) → IsQuiet s → IsSound frames (content s) → IsOutside (content s) (target t t.next) → AddsAtMost (target t t.next) s u
-    → Writes (StillShows frames (shown (content s)) s) s u
-most_moments frames t s u quiet sound out (inl same) = subst (λ (x : SiteLog). Writes (StillShows frames (shown (content s)) s) s x) (sym same) (quiet_started frames s quiet sound)
+    → Writes (StillShows frames (volumes_shown (content s)) s) s u
+most_moments frames t s u quiet sound out (inl same) = subst (λ (x : SiteLog). Writes (StillShows frames (volumes_shown (content s)) s) s x) (sym same) (quiet_started frames s quiet sound)
 most_moments frames t s u quiet sound out (inr (left, long, adds)) = copied_moments frames s u (copy_of (target t t.next) left) quiet sound out adds
 
 pub most_quiet : (t : Transfer) (s u : SiteLog) → IsQuiet s → IsOutside (content s) (target t t.next) → AddsAtMost (target t t.next) s u → IsQuiet u

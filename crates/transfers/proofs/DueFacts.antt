@@ -4,14 +4,14 @@ use Rattle.std.specs.Prelude.{IsSome}
 use Rattle.std.specs.Option.{option_map}
 use Rattle.mss_base.specs.declared.place.UnitNo.TheVariants.{Cartridge}
 use Rattle.mss_base.specs.declared.place.BlockPlace.{BlockPlace}
-use Rattle.mss_base.specs.Content.{Content, SiteLog, Write, content, written, Writes}
+use Rattle.mss_base.specs.Content.{Content, SiteLog, Write, content, with_write, Writes}
 use Rattle.mss_base.specs.Places.{frame_block, cartridge_block}
 use Rattle.mss_base.proofs.Moments.{started, one_write}
 use Rattle.ckd_track.specs.Track.{reading}
 use Rattle.ckd_track.proofs.TrackFacts.{reading-zeros}
 use Rattle.volume_table.specs.Row.{RowValue, frame_of, state_of}
 use Rattle.volume_table.specs.Changes.{IsAllowed}
-use Rattle.shown_volumes.specs.Shown.{block_at, on_cartridge, in_page, shown}
+use Rattle.shown_volumes.specs.Shown.{block_at, on_cartridge, in_page, volumes_shown}
 use Rattle.shown_volumes.specs.Sound.{IsSound, SoundAs}
 use Rattle.shown_volumes.specs.Changing.{IsOutside, IsReady, IsFirmAt, IsFirmFor}
 use Rattle.transfers.specs.declared.transfer.Transfer.{Transfer}
@@ -37,12 +37,12 @@ goes_outside t r c head due frame_out cartridge_out = by_kind t.kind due.state
 
 -- a copy of a whole block outside
 pub shows_same_while : (frames : ℕ) (to : BlockPlace) (old new : SiteLog) → IsSound frames (content old)
-    → ((w : Write) → IsOutside (content old) (record { unit = w.unit; block = w.block }) → IsSound frames (content old) → SoundAs frames (shown (content old)) (written (content old) w))
-    → IsOutside (content old) to → AddsAtMost to old new → Writes (SoundAs frames (shown (content old))) old new
+    → ((w : Write) → IsOutside (content old) (record { unit = w.unit; block = w.block }) → IsSound frames (content old) → SoundAs frames (volumes_shown (content old)) (with_write (content old) w))
+    → IsOutside (content old) to → AddsAtMost to old new → Writes (SoundAs frames (volumes_shown (content old))) old new
 shows_same_while frames to old new sound law outside (inl same) =
-    subst (λ (s : SiteLog). Writes (SoundAs frames (shown (content old))) old s) (sym same) (started (SoundAs frames (shown (content old))) old (record { sound = sound; same = refl }))
+    subst (λ (s : SiteLog). Writes (SoundAs frames (volumes_shown (content old))) old s) (sym same) (started (SoundAs frames (volumes_shown (content old))) old (record { sound = sound; same = refl }))
 shows_same_while frames to old new sound law outside (inr (left, long, adds)) =
-    one_write (SoundAs frames (shown (content old))) old new (copy_of to left) adds (record { sound = sound; same = refl })
+    one_write (SoundAs frames (volumes_shown (content old))) old new (copy_of to left) adds (record { sound = sound; same = refl })
     (λ other _. law (copy_of to other) outside sound)
 
 -- ---- the row's change

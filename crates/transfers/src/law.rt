@@ -3,7 +3,7 @@ ghost use Rattle.std.specs.Prelude.{◌≡◌, ◌<◌, ℕ, Some};
 ghost use Rattle.mss_base.specs.Content.{Content, SiteLog, Writes, content};
 ghost use Rattle.volume_table.specs.Row.{RowValue, IsRow};
 ghost use Rattle.volume_table.specs.Changes.{IsAllowed, effect};
-ghost use Rattle.shown_volumes.specs.Shown.{block_at, rows_of, shown, SameTables};
+ghost use Rattle.shown_volumes.specs.Shown.{block_at, rows_of, volumes_shown, SameTables};
 ghost use Rattle.shown_volumes.specs.Sound.{IsSound, SoundAs};
 ghost use Rattle.shown_volumes.specs.Changing.{IsOutside, IsReady, MayChange, IsQuiet, StillShows, IsFirmFor};
 ghost use Rattle.transfers.specs.declared.transfer.Transfer.{Transfer};
@@ -37,7 +37,7 @@ pub fn copies_show_the_same()
     ensures { (frames : ℕ) (t : Transfer) (r : RowValue) (old new : SiteLog)
         → IsSound frames (content old) → rows_of (content old) t.volume ≡ Some r → IsDue t r
         → t.next < HEADS → AddsAtMost (target t t.next) old new
-        → Writes (SoundAs frames (shown (content old))) old new }
+        → Writes (SoundAs frames (volumes_shown (content old))) old new }
 {
     copies_go_outside();
     writes_outside_change_nothing();
@@ -49,7 +49,7 @@ pub fn copies_leave_a_site_quiet()
     ensures moments { (frames : ℕ) (t : Transfer) (r : RowValue) (old new : SiteLog)
         → IsSound frames (content old) → IsQuiet old → rows_of (content old) t.volume ≡ Some r
         → IsDue t r → t.next < HEADS → AddsAtMost (target t t.next) old new
-        → Writes (StillShows frames (shown (content old)) old) old new }
+        → Writes (StillShows frames (volumes_shown (content old)) old) old new }
     ensures quiet { (frames : ℕ) (t : Transfer) (r : RowValue) (old new : SiteLog)
         → IsSound frames (content old) → IsQuiet old → rows_of (content old) t.volume ≡ Some r
         → IsDue t r → t.next < HEADS → AddsAtMost (target t t.next) old new

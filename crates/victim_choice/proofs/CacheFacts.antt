@@ -14,7 +14,7 @@ use Rattle.std.proofs.lemmas.List.Sorted.{IsPermutation-reverse, IsPermutation-s
 use Rattle.std.proofs.lemmas.Map.Keys.{IsDistinct-IsPermutation, IsDistinct-head, IsDistinct-tail}
 use Rattle.std.proofs.lemmas.Map.Entries.{length-keys_of}
 use Rattle.lru.specs.LruCache.{lru_cache, promoted, put_entries}
-use Rattle.victim_choice.specs.Order.{untouched, without_frame, touched, IsOrderOf, IsOrder, order_of}
+use Rattle.victim_choice.specs.Order.{first_order, without_frame, order_after, IsOrderOf, IsOrder, order_of}
 use Rattle.victim_choice.proofs.OrderFacts.{behind, order_once, order_there, order_below, order_long, untouched_is_order, untouched_more}
 
 abbrev Entries : Type 0
@@ -62,7 +62,7 @@ removed frame (e ∷ es) once = by (removed frame es (IsDistinct-tail nat_eq e.0
 first_promoted : (frame : ℕ) (es : Entries) (e : ℕ × Unit {0}) → lookup_entry (nat_eq frame) es ≡ Some e → promoted (nat_eq frame) es ≡ e ∷ remove_entry (nat_eq frame) es
 first_promoted frame es e is = ap (λ (o : Option (ℕ × Unit {0})). option_map_or (λ f. f ∷ remove_entry (nat_eq frame) es) o es) is
 
-pub order_of_promoted : (frame : ℕ) (es : Entries) → IsOrder (order_of es) → frame < length (order_of es) → order_of (promoted (nat_eq frame) es) ≡ touched frame (order_of es)
+pub order_of_promoted : (frame : ℕ) (es : Entries) → IsOrder (order_of es) → frame < length (order_of es) → order_of (promoted (nat_eq frame) es) ≡ order_after frame (order_of es)
 order_of_promoted frame es is below =
     let keys : List ℕ = keys_of es in
     let turned : IsPermutation (reverse keys) keys = IsPermutation-sym keys (reverse keys) (IsPermutation-reverse keys) in
@@ -89,7 +89,7 @@ none_found : (frame : ℕ) (es : Entries) → AllByRecursion (λ other. nat_eq f
 none_found frame [] all = refl
 none_found frame (e ∷ es) all = rw all.0 (none_found frame es all.1)
 
-pub order_of_put : (count cap : ℕ) (es : Entries) → order_of es ≡ untouched count → count < cap → order_of (put_entries nat_eq (lru_cache es cap) count tt) ≡ untouched (count + 1)
+pub order_of_put : (count cap : ℕ) (es : Entries) → order_of es ≡ first_order count → count < cap → order_of (put_entries nat_eq (lru_cache es cap) count tt) ≡ first_order (count + 1)
 order_of_put count cap es is below =
     let keys : List ℕ = keys_of es in
     let ordered : IsOrderOf count (reverse keys) = subst (IsOrderOf count) (sym is) (untouched_is_order count) in

@@ -9,28 +9,28 @@ use Rattle.std.proofs.lemmas.List.{map-id}
 use Rattle.std.proofs.lemmas.List.FromFn.{length-range_with_len, get_or-range_with_len, map-range_with_len_more}
 use Rattle.std.proofs.lemmas.List.Sorted.{IsPermutation-refl, IsPermutation-trans, IsPermutation-filter_both, All-permutation, Contains-permutation, length_permutation}
 use Rattle.std.proofs.lemmas.Map.Keys.{IsDistinct-from_apart, IsDistinct-IsPermutation, IsDistinct-head, IsDistinct-tail}
-use Rattle.victim_choice.specs.Order.{untouched, without_frame, touched, IsOrderOf, IsOrder}
+use Rattle.victim_choice.specs.Order.{first_order, without_frame, order_after, IsOrderOf, IsOrder}
 
 -- ---- the order at a session's start
 
-pub untouched_is_order : (count : ℕ) → IsOrderOf count (untouched count)
-untouched_is_order count = IsPermutation-refl (untouched count)
+pub untouched_is_order : (count : ℕ) → IsOrderOf count (first_order count)
+untouched_is_order count = IsPermutation-refl (first_order count)
 
 -- one frame more
-pub untouched_more : (count : ℕ) → untouched (count + 1) ≡ untouched count ++ count ∷ []
+pub untouched_more : (count : ℕ) → first_order (count + 1) ≡ first_order count ++ count ∷ []
 untouched_more count =
     let start : 0 + count ≡ count = omega arith in
-    sym (map-id (untouched (count + 1))) ∙ map-range_with_len_more (λ (x : ℕ). x) 0 count count start ∙ ap (λ (l : List ℕ). l ++ count ∷ []) (map-id (untouched count))
+    sym (map-id (first_order (count + 1))) ∙ map-range_with_len_more (λ (x : ℕ). x) 0 count count start ∙ ap (λ (l : List ℕ). l ++ count ∷ []) (map-id (first_order count))
 
-untouched_at : (count place d : ℕ) → place < length (untouched count) → get_or (untouched count) place d ≡ place
+untouched_at : (count place d : ℕ) → place < length (first_order count) → get_or (first_order count) place d ≡ place
 untouched_at count place d within =
     let start : 0 + place ≡ place = omega arith in
     get_or-range_with_len 0 count place d (subst (λ n. place < n) (length-range_with_len 0 count) within) ∙ start
 
-untouched_once : (count : ℕ) → IsDistinct nat_eq (untouched count)
-untouched_once count = IsDistinct-from_apart nat_eq (untouched count) apart
+untouched_once : (count : ℕ) → IsDistinct nat_eq (first_order count)
+untouched_once count = IsDistinct-from_apart nat_eq (first_order count) apart
   where
-    apart : (i j d : ℕ) → i < j → j < length (untouched count) → nat_eq (get_or (untouched count) i d) (get_or (untouched count) j d) ≡ false
+    apart : (i j d : ℕ) → i < j → j < length (first_order count) → nat_eq (get_or (first_order count) i d) (get_or (first_order count) j d) ≡ false
     apart i j d lower within =
         rw (untouched_at count i d (omega (arith, lower, within)), untouched_at count j d within) (ne_eqb i j (λ same. omega (arith, lower, same)))
 
@@ -39,21 +39,21 @@ untouched_once count = IsDistinct-from_apart nat_eq (untouched count) apart
 module _ (count : ℕ) (order : List ℕ) (is : IsOrderOf count order) where
   -- as many
   pub order_long : length order ≡ count
-  order_long = length_permutation (untouched count) order is ∙ length-range_with_len 0 count
+  order_long = length_permutation (first_order count) order is ∙ length-range_with_len 0 count
 
   -- none stands in it twice
   pub order_once : IsDistinct nat_eq order
-  order_once = IsDistinct-IsPermutation nat_eq nat_eq_equiv.symm (untouched count) order is (untouched_once count)
+  order_once = IsDistinct-IsPermutation nat_eq nat_eq_equiv.symm (first_order count) order is (untouched_once count)
 
   -- each stands in it
   pub order_there : (frame : ℕ) → frame < count → Contains order frame
   order_there frame below =
-      let within : frame < length (untouched count) = subst (λ n. frame < n) (sym (length-range_with_len 0 count)) below in
-      Contains-permutation (untouched count) order frame is (frame, within, untouched_at count frame frame within)
+      let within : frame < length (first_order count) = subst (λ n. frame < n) (sym (length-range_with_len 0 count)) below in
+      Contains-permutation (first_order count) order frame is (frame, within, untouched_at count frame frame within)
 
   -- and no other
   pub order_below : All (λ frame. frame < count) order
-  order_below = All-permutation (λ frame. frame < count) (untouched count) order is
+  order_below = All-permutation (λ frame. frame < count) (first_order count) order is
       (λ place d within. subst (λ n. n < count) (sym (untouched_at count place d within)) (subst (λ n. place < n) (length-range_with_len 0 count) within))
 
   -- so it is an order of as many as it has
@@ -92,8 +92,8 @@ not_not true = refl
 not_not false = refl
 
 -- keeps each frame once
-pub touched_is_order : (count : ℕ) (order : List ℕ) (frame : ℕ) → IsOrderOf count order → frame < count → IsOrderOf count (touched frame order)
+pub touched_is_order : (count : ℕ) (order : List ℕ) (frame : ℕ) → IsOrderOf count order → frame < count → IsOrderOf count (order_after frame order)
 touched_is_order count order frame is below =
     let parted : IsPermutation order (without_frame frame order ++ filter (nat_eq frame) order) = IsPermutation-filter_both (λ other. not (nat_eq frame other)) (nat_eq frame) (λ other. not_not (nat_eq frame other)) order in
     let alone : filter (nat_eq frame) order ≡ frame ∷ [] = alike_once frame order (order_once count order is) (order_there count order is frame below) in
-    IsPermutation-trans (untouched count) order (touched frame order) is (subst (λ l. IsPermutation order (without_frame frame order ++ l)) alone parted)
+    IsPermutation-trans (first_order count) order (order_after frame order) is (subst (λ l. IsPermutation order (without_frame frame order ++ l)) alone parted)

@@ -5,20 +5,20 @@ use Rattle.std.specs.List.Sorted.{IsPermutation}
 use Rattle.std.specs.Map.{keys_of}
 
 -- at a session's start frame 0 is the least recent
-abbrev pub untouched : ℕ → List ℕ
-untouched count = range_with_len 0 count
+abbrev pub first_order : ℕ → List ℕ
+first_order count = range_with_len 0 count
 
 -- the others, in their order
 abbrev pub without_frame : ℕ → List ℕ → List ℕ
 without_frame frame order = filter (λ other. not (nat_eq frame other)) order
 
 -- the frame is the most recent now
-abbrev pub touched : ℕ → List ℕ → List ℕ
-touched frame order = without_frame frame order ++ frame ∷ []
+abbrev pub order_after : ℕ → List ℕ → List ℕ
+order_after frame order = without_frame frame order ++ frame ∷ []
 
 -- each of so many frames stands in it once, and nothing else
 abbrev pub IsOrderOf : ℕ → List ℕ → Type 0
-IsOrderOf count order = IsPermutation (untouched count) order
+IsOrderOf count order = IsPermutation (first_order count) order
 
 -- so of as many frames as it has
 abbrev pub IsOrder : List ℕ → Type 0

@@ -1,7 +1,7 @@
 // When frames were last touched.
 ghost use Rattle.std.specs.Prelude.{◌≡◌, ◌≤◌, ◌<◌, nat_eq, true, length, OnOk, OnErr, IfOk};
 ghost use Rattle.lru.specs.LruCache.{lru_cache, promoted};
-ghost use Rattle.victim_choice.specs.Order.{untouched, touched, IsOrder};
+ghost use Rattle.victim_choice.specs.Order.{first_order, order_after, IsOrder};
 
 use lru::LruCache;
 use mss_base::{FrameNo, Listed, NoMemory};
@@ -54,7 +54,7 @@ impl Recency {
     pub fn new(alloc: Global, count: u16) -> Result<Recency, NoMemory>
         requires some { 1 ≤ count }
         requires few { count ≤ 200 }
-        ensures { IfOk result (λ recency. recency ≡ untouched count) }
+        ensures { IfOk result (λ recency. recency ≡ first_order count) }
     {
         let room = NonZeroUsize::new(count as usize).unwrap();
         let mut touches = LruCache::new(alloc, room)?;
@@ -68,7 +68,7 @@ impl Recency {
     /// Makes one of the frames the most recently touched. The others keep their order. It takes no memory.
     pub fn touch(&mut self, frame: FrameNo)
         requires { frame < length self.old }
-        ensures { self.new ≡ touched frame self.old }
+        ensures { self.new ≡ order_after frame self.old }
     {
         promote(&mut self.touches, frame);
     }

@@ -3,13 +3,13 @@ use Rattle.std.proofs.Common.{◌≡◌, ◌<◌, ◌+◌, ◌-◌, ℕ, suc, Li
 use Rattle.std.proofs.lemmas.List.{append_assoc, length_push, set_at, take_at}
 use Rattle.victim_rules.specs.declared.rule.Rule.{Rule}
 use Rattle.victim_rules.specs.declared.rule.Rule.TheVariants.{Clean}
-use Rattle.victim_rules.specs.Padding.{IsPadded, padded}
+use Rattle.victim_rules.specs.Padding.{IsPadded, padded_rules}
 
 -- what is left of the room: one place, and the rest
-room_at : (front : List Rule) (k : ℕ) → 8 - length front ≡ suc k → padded front ≡ front ++ Clean ∷ replicate k Clean
+room_at : (front : List Rule) (k : ℕ) → 8 - length front ≡ suc k → padded_rules front ≡ front ++ Clean ∷ replicate k Clean
 room_at front k is = ap (λ (n : ℕ). front ++ replicate n Clean) is
 
-filled_in : (front : List Rule) (rule : Rule) (k : ℕ) → 8 - length front ≡ suc k → set (padded front) (length front) rule ≡ padded (front ++ rule ∷ [])
+filled_in : (front : List Rule) (rule : Rule) (k : ℕ) → 8 - length front ≡ suc k → set (padded_rules front) (length front) rule ≡ padded_rules (front ++ rule ∷ [])
 filled_in front rule k is =
     let long : length (front ++ rule ∷ []) ≡ length front + 1 = length_push front rule in
     let less : 8 - length (front ++ rule ∷ []) ≡ k = omega (arith, is, long) in
@@ -22,11 +22,11 @@ module _ (count : ℕ) (rules : List Rule) (rule : Rule) (is : IsPadded count ru
   abbrev after : List Rule
   after = set rules count rule
 
-  after_is : after ≡ padded (take count rules ++ rule ∷ [])
+  after_is : after ≡ padded_rules (take count rules ++ rule ∷ [])
   after_is =
       let left : 8 - length (take count rules) ≡ suc (7 - count) = omega (arith, is.long, room) in
       ap (λ (l : List Rule). set l count rule) (sym is.filled)
-      ∙ ap (λ (n : ℕ). set (padded (take count rules)) n rule) (sym is.long)
+      ∙ ap (λ (n : ℕ). set (padded_rules (take count rules)) n rule) (sym is.long)
       ∙ filled_in (take count rules) rule (7 - count) left
 
   pub pushed : take (count + 1) after ≡ take count rules ++ rule ∷ []
@@ -38,5 +38,5 @@ module _ (count : ℕ) (rules : List Rule) (rule : Rule) (is : IsPadded count ru
   still_padded = record {
     few = omega (arith, room);
     long = ap length pushed ∙ omega (arith, length_push (take count rules) rule, is.long);
-    filled = ap padded pushed ∙ sym after_is;
+    filled = ap padded_rules pushed ∙ sym after_is;
   }

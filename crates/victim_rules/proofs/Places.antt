@@ -6,7 +6,7 @@ use Rattle.std.proofs.lemmas.Bool.{true≢false, cond-true, cond-false, lt-ltb}
 use Rattle.std.proofs.lemmas.List.Quantifiers.{position-Some}
 use Rattle.std.proofs.lemmas.Option.{get_or_from_slice_get, slice_get-get_or}
 use Rattle.victim_choice.specs.declared.choose.Candidate.{Candidate}
-use Rattle.victim_rules.specs.Rules.{IsFirstLeft, narrowed}
+use Rattle.victim_rules.specs.Rules.{IsFirstLeft, narrowed_candidates}
 
 module _ (test : Candidate → Bool) where
   -- none below the place meets it
@@ -80,12 +80,12 @@ module _ (test : Candidate → Bool) where
   none_of (c ∷ given) fails = rw (fails zero c (omega arith) refl) (none_of given (λ before d below is. fails (suc before) d (omega (arith, below)) is))
 
   -- what a test narrows to begins with the first that meets it
-  pub narrowed_at : (given : List Candidate) (place : ℕ) (chosen : Candidate) → slice_get given place ≡ Some chosen → test chosen ≡ true → Fails given place → IsFirstLeft given (narrowed test given) place
+  pub narrowed_at : (given : List Candidate) (place : ℕ) (chosen : Candidate) → slice_get given place ≡ Some chosen → test chosen ≡ true → Fails given place → IsFirstLeft given (narrowed_candidates test given) place
   narrowed_at given place chosen there passes fails =
       subst (λ (left : List Candidate). IsFirstLeft given left place) (sym (cond-true (list_any test given) _ _ (any_at given place chosen there passes))) (first_left given place chosen there passes fails)
 
   -- or with the first of all, where none does
-  pub narrowed_nowhere : (given : List Candidate) → 1 ≤ length given → Fails given (length given) → IsFirstLeft given (narrowed test given) 0
+  pub narrowed_nowhere : (given : List Candidate) → 1 ≤ length given → Fails given (length given) → IsFirstLeft given (narrowed_candidates test given) 0
   narrowed_nowhere [] some fails = absurd (omega (arith, some))
   narrowed_nowhere (c ∷ given) some fails =
       subst (λ (left : List Candidate). IsFirstLeft (c ∷ given) left 0) (sym (cond-false (list_any test (c ∷ given)) _ _ (none_of (c ∷ given) fails)))

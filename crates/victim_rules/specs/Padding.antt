@@ -4,11 +4,11 @@ use Rattle.victim_rules.specs.declared.rule.Rule.{Rule}
 use Rattle.victim_rules.specs.declared.rule.Rule.TheVariants.{Clean}
 
 -- with `Clean` in the places behind the last
-abbrev pub padded : List Rule → List Rule
-padded rules = rules ++ replicate (8 - length rules) Clean
+abbrev pub padded_rules : List Rule → List Rule
+padded_rules rules = rules ++ replicate (8 - length rules) Clean
 
 -- an array that holds so many rules, and nothing else
 pub record IsPadded (count : ℕ) (rules : List Rule) : Type 0 where
   pub few : count ≤ 8
   pub long : length (take count rules) ≡ count
-  pub filled : padded (take count rules) ≡ rules
+  pub filled : padded_rules (take count rules) ≡ rules

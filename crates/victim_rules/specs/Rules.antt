@@ -17,14 +17,14 @@ holds given (Quota most) c = nat_lt most (count_on c.volume given)
 holds given (Avoid volume) c = not (c.volume == volume)
 
 -- those of which a test holds, in their order, or all where it holds of none
-abbrev pub narrowed : (Candidate → Bool) → List Candidate → List Candidate
-narrowed test left = if list_any test left then filter test left else left
+abbrev pub narrowed_candidates : (Candidate → Bool) → List Candidate → List Candidate
+narrowed_candidates test left = if list_any test left then filter test left else left
 
 -- what each rule in turn leaves of those that are left
 unfoldable pub narrowed_by : List Candidate → List Rule → List Candidate → List Candidate
 narrowed_by given [] left = left
 narrowed_by given (rule ∷ rules) left =
-    narrowed_by given rules (narrowed (holds given rule) left)
+    narrowed_by given rules (narrowed_candidates (holds given rule) left)
 
 -- all of these rules hold of a candidate
 abbrev pub meets : List Candidate → List Rule → Candidate → Bool

@@ -20,7 +20,7 @@ pub struct Ruled {
 impl Model for Ruled {
     ghost use Rattle.std.specs.Prelude.{List, length, take};
     ghost use Rattle.victim_rules.specs.declared.rule.Rule.{Rule};
-    ghost use Rattle.victim_rules.specs.Padding.{IsPadded, padded};
+    ghost use Rattle.victim_rules.specs.Padding.{IsPadded, padded_rules};
 
     ghost Value = { List Rule };
 
@@ -28,7 +28,7 @@ impl Model for Ruled {
 
     ghost invariant = { λ r. IsPadded r.count r.rules };
 
-    ghost inverse = { λ rules. record { rules = padded rules; count = length rules } };
+    ghost inverse = { λ rules. record { rules = padded_rules rules; count = length rules } };
 
     ghost inverse_ok = { λ a is. λ i. record { rules = is.filled i; count = is.long i } };
 }

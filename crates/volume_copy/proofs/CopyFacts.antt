@@ -13,7 +13,7 @@ use Rattle.ckd_plain.specs.Data.{State}
 use Rattle.ckd_plain.specs.History.{EntryData, after}
 use Rattle.shown_volumes.specs.Shown.{shown_by}
 use Rattle.volume_table.specs.Row.{RowValue}
-use Rattle.volume_table.specs.Listed.{listed}
+use Rattle.volume_table.specs.Listed.{row_in_list}
 use Rattle.core_state.specs.Counted.{AreFaults}
 use Rattle.core_state.specs.CoreValue.{CoreValue}
 use Rattle.core_state.specs.IsCore.{IsGoing, opening_of}
@@ -27,11 +27,11 @@ use Rattle.volume_copy.proofs.EntryFacts.{serials_after}
 use Rattle.volume_copy.proofs.FaultFacts.{own_new}
 use Rattle.volume_copy.specs.Beside.{IsCopied, IsFinished, StandsBeside}
 use Rattle.volume_copy.specs.Copies.{AreNoneTaken, FailedApart, FailedIn, IsCopier, CopyData, IsCopying, IsOnTime, IsTrackOf, Stands, StandsFor, taken_at, track_of}
-use Rattle.volume_copy.specs.Steps.{begun, begun_if_armed, is_armed, Finishes, IsLeftOrTaken, IsOfSame, KeepsStanding, TakesOnce, TakesOrFails, TakesTracks, had, lacked, taken, failed, rests, whole}
+use Rattle.volume_copy.specs.Steps.{begun_copy, begun_if_armed, is_armed, Finishes, IsLeftOrTaken, IsOfSame, KeepsStanding, TakesOnce, TakesOrFails, TakesTracks, had, lacked, taken, failed, rests, whole}
 
 -- ---- what is shown of a core that goes on
 
-shown_volumes : {S C : Type 0} (site : SiteLog) (v : CoreValue S C) → IsGoing site v → shown_by (listed v.rows) (content site) ≡ (after (opening_of site v) v.history).volumes
+shown_volumes : {S C : Type 0} (site : SiteLog) (v : CoreValue S C) → IsGoing site v → shown_by (row_in_list v.rows) (content site) ≡ (after (opening_of site v) v.history).volumes
 shown_volumes site v going = ap (λ rows. shown_by rows (content site)) (sym going.rows_) ∙ going.shows
 
 -- ---- tracks
@@ -66,7 +66,7 @@ module _ (tells : Type 0) (tl : tells) (volumes : Volumes) (s : State) (history 
 
 -- ---- its start
 
-none_kept : {S C : Type 0} (site : SiteLog) (v : CoreValue S C) → IsGoing site v → (volume : ℕ) → (after (opening_of site v) v.history).volumes.serial volume ≡ option_map (λ r. r.serial) (listed v.rows volume)
+none_kept : {S C : Type 0} (site : SiteLog) (v : CoreValue S C) → IsGoing site v → (volume : ℕ) → (after (opening_of site v) v.history).volumes.serial volume ≡ option_map (λ r. r.serial) (row_in_list v.rows volume)
 none_kept site v going volume = ap (λ (x : Volumes). x.serial volume) (sym (shown_volumes site v going))
 
 armed_is : (state : CopyState) → is_armed state ≡ true → state ≡ Armed
@@ -77,12 +77,12 @@ armed_is Whole is = absurd cc
 armed_is (Failed fault) is = absurd cc
 
 module _ {S C : Type 0} (site : SiteLog) (v : CoreValue S C) (going : IsGoing site v) (c : CopyData) (kept : IsCopier c) where
-  serial_is : (opening_of site v).volumes.serial c.volume ≡ option_map (λ r. r.serial) (listed v.rows c.volume)
+  serial_is : (opening_of site v).volumes.serial c.volume ≡ option_map (λ r. r.serial) (row_in_list v.rows c.volume)
   serial_is = ap (λ (f : ℕ → Option (List ℕ)). f c.volume) (sym (serials_after (opening_of site v) v.history)) ∙ none_kept site v going c.volume
 
   -- a copy that begins now stands for the session
-  begun_stands : AreNoneTaken c.tracks → (row : Option RowValue) → listed v.rows c.volume ≡ row
-      → let new = begun row (length v.history) c in Stands new.state new (opening_of site v) v.history
+  begun_stands : AreNoneTaken c.tracks → (row : Option RowValue) → row_in_list v.rows c.volume ≡ row
+      → let new = begun_copy row (length v.history) c in Stands new.state new (opening_of site v) v.history
   begun_stands bare None is = serial_is ∙ ap (option_map (λ (r : RowValue). r.serial)) is
   begun_stands bare (Some r) is = record {
     reached = omega arith;
@@ -92,9 +92,9 @@ module _ {S C : Type 0} (site : SiteLog) (v : CoreValue S C) (going : IsGoing si
   }
 
   pub armed_stands : Stands c.state c (opening_of site v) v.history
-      → let new = begun_if_armed (listed v.rows c.volume) (length v.history) c in Stands new.state new (opening_of site v) v.history
-  armed_stands stands = cond_both (is_armed c.state) (begun (listed v.rows c.volume) (length v.history) c) c (λ (new : CopyData). Stands new.state new (opening_of site v) v.history)
-      (λ armed. begun_stands (kept.armed (armed_is c.state armed)) (listed v.rows c.volume) refl) (λ _. stands)
+      → let new = begun_if_armed (row_in_list v.rows c.volume) (length v.history) c in Stands new.state new (opening_of site v) v.history
+  armed_stands stands = cond_both (is_armed c.state) (begun_copy (row_in_list v.rows c.volume) (length v.history) c) c (λ (new : CopyData). Stands new.state new (opening_of site v) v.history)
+      (λ armed. begun_stands (kept.armed (armed_is c.state armed)) (row_in_list v.rows c.volume) refl) (λ _. stands)
 
 -- ---- a core that was read
 
@@ -145,18 +145,18 @@ failed_none : {S C : Type 0} (v : CoreValue S C) (now : ℕ) (state : CopyState)
 failed_none v now state (inl is) = subst (FailedIn v now) (sym is) tt
 failed_none v now state (inr is) = subst (FailedIn v now) (sym is) tt
 
-begun_failed : {S C : Type 0} (v : CoreValue S C) (now : ℕ) (row : Option RowValue) (n : ℕ) (c : CopyData) → FailedIn v now (begun row n c).state
+begun_failed : {S C : Type 0} (v : CoreValue S C) (now : ℕ) (row : Option RowValue) (n : ℕ) (c : CopyData) → FailedIn v now (begun_copy row n c).state
 begun_failed v now None n c = tt
 begun_failed v now (Some r) n c = tt
 
 pub armed_failed : {S C : Type 0} (v : CoreValue S C) (now : ℕ) (row : Option RowValue) (n : ℕ) (c : CopyData) → FailedIn v now c.state → FailedIn v now (begun_if_armed row n c).state
-armed_failed v now row n c is = cond_both (is_armed c.state) (begun row n c) c (λ (x : CopyData). FailedIn v now x.state) (λ _. begun_failed v now row n c) (λ _. is)
+armed_failed v now row n c is = cond_both (is_armed c.state) (begun_copy row n c) c (λ (x : CopyData). FailedIn v now x.state) (λ _. begun_failed v now row n c) (λ _. is)
 
 -- ---- what a call leaves of a copy
 
 module _ {S C : Type 0} (g : Ghosts S) (v : CoreValue S C) (x : S) (reads : OnlyReads g v.site x) (going : g.tells → v.stopped ≡ None → IsGoing (g.told v.site) v) (began : v.first_faults ≤ g.faults v.site) (are : AreFaults v.first_faults (g.faults v.site) v.history v.requests) where
   abbrev shown_there : Volumes
-  shown_there = shown_by (listed v.rows) (content (g.told v.site))
+  shown_there = shown_by (row_in_list v.rows) (content (g.told v.site))
 
   abbrev start : State
   start = opening_of (g.told v.site) v
@@ -228,9 +228,9 @@ module _ {S C : Type 0} (g : Ghosts S) (v : CoreValue S C) (x : S) (reads : Only
   finished_state c new begun_ (failed fault taking since is same) = subst IsFinished (sym is) tt
 
   -- a copy that is finished stands for the session
-  module _ (old new : CopyData) (kept : IsCopier old) (ends : Ends (begun_if_armed (listed v.rows old.volume) (length v.history) old) new) where
+  module _ (old new : CopyData) (kept : IsCopier old) (ends : Ends (begun_if_armed (row_in_list v.rows old.volume) (length v.history) old) new) where
     abbrev begun_now : CopyData
-    begun_now = begun_if_armed (listed v.rows old.volume) (length v.history) old
+    begun_now = begun_if_armed (row_in_list v.rows old.volume) (length v.history) old
 
     pub finish_stands : g.tells → StandsFor (g.told v.site) old v → StandsFor (g.told x) new (record v { site = x })
     finish_stands tl stands none =
@@ -238,11 +238,11 @@ module _ {S C : Type 0} (g : Ghosts S) (v : CoreValue S C) (x : S) (reads : Only
         (finished_stands begun_now new tl none ends (armed_stands (g.told v.site) v (going tl none) old kept (stands none)))
 
     begun_point : IsOnTime old v.history → (begun_now.point ≡ min begun_now.after_ (length v.history)) × (begun_now.state ≡ Armed → ⊥)
-    begun_point on = cond_both (is_armed old.state) (begun (listed v.rows old.volume) (length v.history) old) old (λ (c : CopyData). (c.point ≡ min c.after_ (length v.history)) × (c.state ≡ Armed → ⊥))
-        (λ armed. (let lt = on.waits (armed_is old.state armed) in omega (arith, lt), not_armed_now (listed v.rows old.volume)))
+    begun_point on = cond_both (is_armed old.state) (begun_copy (row_in_list v.rows old.volume) (length v.history) old) old (λ (c : CopyData). (c.point ≡ min c.after_ (length v.history)) × (c.state ≡ Armed → ⊥))
+        (λ armed. (let lt = on.waits (armed_is old.state armed) in omega (arith, lt), not_armed_now (row_in_list v.rows old.volume)))
         (λ isn't. let was = on.began (λ is. armed_not old.state is isn't) in ((let e = was.0 in let le = was.1 in omega (arith, e, le)), λ is. armed_not old.state is isn't))
       where
-        not_armed_now : (row : Option RowValue) → (begun row (length v.history) old).state ≡ Armed → ⊥
+        not_armed_now : (row : Option RowValue) → (begun_copy row (length v.history) old).state ≡ Armed → ⊥
         not_armed_now None is = let e : NoVolume ≡ Armed = is in absurd cc
         not_armed_now (Some r) is = let e : Taking ≡ Armed = is in absurd cc
 
@@ -256,7 +256,7 @@ module _ {S C : Type 0} (g : Ghosts S) (v : CoreValue S C) (x : S) (reads : Only
         record {
           stands = λ tl. finish_stands tl (beside.stands tl);
           point_ = same.0 ∙ at.0 ∙ (λ i. min (sym same.1 i) (length v.history));
-          failed = finished_failed begun_now new ends (armed_failed v (g.faults v.site) (listed v.rows old.volume) (length v.history) old beside.failed);
+          failed = finished_failed begun_now new ends (armed_failed v (g.faults v.site) (row_in_list v.rows old.volume) (length v.history) old beside.failed);
           finished = finished_state begun_now new at.1 ends;
         }
 
@@ -274,19 +274,19 @@ module _ {S C : Type 0} (g : Ghosts S) (v w : CoreValue S C) (seen : v ≡ w) (k
   going_on tl none = (kept.whole.told tl).going none
 
   pub attended_seen : {E : Type 0} (r : Result (Unit {0}) E) (n : ℕ) (old new : CopyData) → old.state ≡ Taking
-      → OnOk r (TakesOnce g.tells (shown_by (listed v.rows) (content (g.told v.site))) n (g.faults v.site) (g.faults x) old new) → OnErr r ((new ≡ old) × (x ≡ v.site)) → KeepsStanding g w (record v { site = x }) old new
+      → OnOk r (TakesOnce g.tells (shown_by (row_in_list v.rows) (content (g.told v.site))) n (g.faults v.site) (g.faults x) old new) → OnErr r ((new ≡ old) × (x ≡ v.site)) → KeepsStanding g w (record v { site = x }) old new
   attended_seen r n old new taking once short =
       subst (λ (y : CoreValue S C). KeepsStanding g y (record v { site = x }) old new) seen (attended_keeps g v x reads going_on kept.counted.began kept.counted.faults_ r n old new taking once short)
 
-  pub track_seen : (n : ℕ) (old new : CopyData) → old.state ≡ Taking → TakesOrFails g.tells (shown_by (listed v.rows) (content (g.told v.site))) n (g.faults v.site) (g.faults x) old new
+  pub track_seen : (n : ℕ) (old new : CopyData) → old.state ≡ Taking → TakesOrFails g.tells (shown_by (row_in_list v.rows) (content (g.told v.site))) n (g.faults v.site) (g.faults x) old new
       → KeepsStanding g w (record v { site = x }) old new
   track_seen n old new taking told =
       subst (λ (y : CoreValue S C). KeepsStanding g y (record v { site = x }) old new) seen (track_keeps g v x reads going_on kept.counted.began kept.counted.faults_ n old new taking told)
 
-  module _ (old begun_ new : CopyData) (is : IsCopier old) (begins : begun_ ≡ begun_if_armed (listed v.rows old.volume) (length v.history) old)
-      (ends : Finishes g.tells (shown_by (listed v.rows) (content (g.told v.site))) (g.faults v.site) (g.faults x) begun_ new) where
-    ends_so : Finishes g.tells (shown_by (listed v.rows) (content (g.told v.site))) (g.faults v.site) (g.faults x) (begun_if_armed (listed v.rows old.volume) (length v.history) old) new
-    ends_so = subst (λ (c : CopyData). Finishes g.tells (shown_by (listed v.rows) (content (g.told v.site))) (g.faults v.site) (g.faults x) c new) begins ends
+  module _ (old begun_ new : CopyData) (is : IsCopier old) (begins : begun_ ≡ begun_if_armed (row_in_list v.rows old.volume) (length v.history) old)
+      (ends : Finishes g.tells (shown_by (row_in_list v.rows) (content (g.told v.site))) (g.faults v.site) (g.faults x) begun_ new) where
+    ends_so : Finishes g.tells (shown_by (row_in_list v.rows) (content (g.told v.site))) (g.faults v.site) (g.faults x) (begun_if_armed (row_in_list v.rows old.volume) (length v.history) old) new
+    ends_so = subst (λ (c : CopyData). Finishes g.tells (shown_by (row_in_list v.rows) (content (g.told v.site))) (g.faults v.site) (g.faults x) c new) begins ends
 
     pub finish_seen : g.tells → StandsFor (g.told w.site) old w → StandsFor (g.told x) new (record v { site = x })
     finish_seen tl stands =

@@ -7,8 +7,8 @@ use Rattle.channel_commands.specs.Data.{CallData, mount, demount, command, break
 use Rattle.ckd_track.specs.Data.{RecordData, Volumes}
 use Rattle.ckd_plain.specs.declared.host.HostState.{HostState}
 use Rattle.ckd_plain.specs.Data.{State}
-use Rattle.ckd_plain.specs.Plain.{opened, plain}
-use Rattle.ckd_plain.specs.History.{EntryData, IsWriteCommand, after, left_by, next}
+use Rattle.ckd_plain.specs.Plain.{with_open_chain, plain}
+use Rattle.ckd_plain.specs.History.{EntryData, IsWriteCommand, after, left_by, state_after}
 use Rattle.ckd_plain.specs.Laws.{IsUnderHead}
 use Rattle.ckd_plain.proofs.CheckFacts.{admitted_is}
 use Rattle.ckd_plain.proofs.Histories.{after-append}
@@ -26,7 +26,7 @@ use Rattle.volume_copy.specs.Steps.{Guards, is_write_call, number_under, writes}
 -- only a write call is a write command
 write_by_code : (s : State) (h : ℕ) (call : CallData) → is_write_call call ≡ false → IsWriteCommand s h call → ⊥
 write_by_code s h (command code argument chained) isn't is =
-    let known : command_of code ≡ Some is.0 = (admitted_is (opened (s.host h)) code argument is.0 is.1).known_ in
+    let known : command_of code ≡ Some is.0 = (admitted_is (with_open_chain (s.host h)) code argument is.0 is.1).known_ in
     let same : is_write is.0 ≡ false = sym (ap writes known) ∙ isn't in
     absurd cc
 write_by_code s h (mount volume bind) isn't is = is
@@ -68,8 +68,8 @@ module _ (c : CopyData) (s : State) (h : ℕ) (call : CallData) (guards : Guards
   left_stays stopped = refl
 
   -- a track that isn't taken stays
-  next_stays : (e : EntryData) → e.host ≡ h → e.call ≡ call → track_of (next s e).volumes c.volume n ≡ track_of s.volumes c.volume n
-  unfolding next
+  next_stays : (e : EntryData) → e.host ≡ h → e.call ≡ call → track_of (state_after s e).volumes c.volume n ≡ track_of s.volumes c.volume n
+  unfolding state_after
   next_stays e host_ call_ = rw (host_, call_) (left_stays e.reply)
 
 -- ---- which volumes there are
@@ -88,18 +88,18 @@ left_serials s h call equipment_check = refl
 left_serials s h call no_space = refl
 left_serials s h call stopped = refl
 
-next_serials : (s : State) (e : EntryData) → (next s e).volumes.serial ≡ s.volumes.serial
-unfolding next
+next_serials : (s : State) (e : EntryData) → (state_after s e).volumes.serial ≡ s.volumes.serial
+unfolding state_after
 next_serials s e = left_serials s e.host e.call e.reply
 
 pub serials_after : (s : State) (es : List EntryData) → (after s es).volumes.serial ≡ s.volumes.serial
 serials_after s [] = refl
-serials_after s (e ∷ es) = serials_after (next s e) es ∙ next_serials s e
+serials_after s (e ∷ es) = serials_after (state_after s e) es ∙ next_serials s e
 
 -- ---- an entry more
 
 abbrev Leaves : CopyData → State → EntryData → Type 0
-Leaves c s e = (n : ℕ) → n < TRACKS → taken_at c.tracks n ≡ None → track_of (next s e).volumes c.volume n ≡ track_of s.volumes c.volume n
+Leaves c s e = (n : ℕ) → n < TRACKS → taken_at c.tracks n ≡ None → track_of (state_after s e).volumes c.volume n ≡ track_of s.volumes c.volume n
 
 track_stays : (o : Option (List RecordData)) (point now later : List RecordData) → (o ≡ None → later ≡ now) → IsTrackOf o point now → IsTrackOf o point later
 track_stays None point now later stays is = stays refl ∙ is
@@ -107,7 +107,7 @@ track_stays (Some track) point now later stays is = is
 
 copying_on : (c : CopyData) (s : State) (history : List EntryData) (e : EntryData) → Leaves c (after s history) e → IsCopying c s history → IsCopying c s (history ++ e ∷ [])
 copying_on c s history e leaves is =
-    let later : after s (history ++ e ∷ []) ≡ next (after s history) e = after-append s history (e ∷ []) in
+    let later : after s (history ++ e ∷ []) ≡ state_after (after s history) e = after-append s history (e ∷ []) in
     let point : take c.point (history ++ e ∷ []) ≡ take c.point history = take-append-le c.point history (e ∷ []) is.reached in
     let long : length (history ++ e ∷ []) ≡ length history + 1 = length-append history (e ∷ []) in
     record {

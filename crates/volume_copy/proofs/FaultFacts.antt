@@ -18,7 +18,7 @@ use Rattle.core_state.specs.HostEvents.{HostTold, HostEvent, IsSame}
 use Rattle.core_state.specs.HostRules.{fault_of, host_rule, request_for}
 use Rattle.core_state.specs.IsCore.{IsCore}
 use Rattle.core_state.specs.Pins.{page_of}
-use Rattle.core_state.specs.Steps.{noted, with_change, touching, going_on, with_request, entry_of, ends_request}
+use Rattle.core_state.specs.Steps.{with_event, with_change, touching, going_on, with_request, entry_of, ends_request}
 use Rattle.core_state.specs.declared.rule.HostRule.{HostRule}
 use Rattle.core_state.specs.declared.rule.HostRule.TheVariants as rule
 use Rattle.core_state.specs.declared.session.Event.TheVariants.{Host}
@@ -191,8 +191,8 @@ module _ (tells : Type 0) (core : CoreData) (kept : core.stopped ≡ None → Is
       moves = λ cylinder it is. same it;
       holds = λ frame it is.
           quietly (subst (Quiet core) (sym it.1)
-          (cond_both (ends_request core h call) (noted (Host h) (going_on core h call)) core (Quiet core)
-          (λ _. goes_on (rule.IsHeld frame) tt is (λ (c : CoreData). Quiet core (noted (Host h) c)) (refl, λ k fault at. at) (refl, without (rule.IsHeld frame) tt is))
+          (cond_both (ends_request core h call) (with_event (Host h) (going_on core h call)) core (Quiet core)
+          (λ _. goes_on (rule.IsHeld frame) tt is (λ (c : CoreData). Quiet core (with_event (Host h) c)) (refl, λ k fault at. at) (refl, without (rule.IsHeld frame) tt is))
           (λ _. (refl, λ k fault at. at))));
       responds = λ it is. replied_ rule.Responds tt is _ None (ap (λ c. c.history) it.1) (ap (λ c. c.requests) it.1) no_fault;
       fails = λ fault it is. replied_ (rule.HasFailed fault) tt is equipment_check (Some fault) (ap (λ c. c.history) it.1) (ap (λ c. c.requests) it.1)
@@ -201,14 +201,14 @@ module _ (tells : Type 0) (core : CoreData) (kept : core.stopped ≡ None → Is
       asks = λ volume cylinder it is.
           let r : HostRule = rule.Faults volume cylinder in
           quietly (subst (Quiet core) (sym it.1)
-          (cond_both (is_some (request_for core h call)) core (noted (Host h) (with_request h volume cylinder request.Queued (going_on core h call))) (Quiet core) (λ _. (refl, λ k fault at. at))
-          (λ _. goes_on r tt is (λ (c : CoreData). Quiet core (noted (Host h) (with_request h volume cylinder request.Queued c)))
+          (cond_both (is_some (request_for core h call)) core (with_event (Host h) (with_request h volume cylinder request.Queued (going_on core h call))) (Quiet core) (λ _. (refl, λ k fault at. at))
+          (λ _. goes_on r tt is (λ (c : CoreData). Quiet core (with_event (Host h) (with_request h volume cylinder request.Queued c)))
           (refl, asking r tt is volume cylinder request.Queued refl core (once r tt is) (λ k fault at. at))
           (refl, asking r tt is volume cylinder request.Queued refl (record core { requests = without_request h core.requests }) (once_without h core.requests (once r tt is)) (without r tt is)))));
       marks = λ volume cylinder it is.
           let r : HostRule = rule.Marks volume cylinder in
           quietly (subst (Quiet core) (sym it.1)
-          (goes_on r tt is (λ (c : CoreData). Quiet core (noted (Host h) (touching (volume, page_of cylinder) (with_request h volume cylinder request.Ready (with_change volume (change.Changed cylinder) (record c { site = core'.site }))))))
+          (goes_on r tt is (λ (c : CoreData). Quiet core (with_event (Host h) (touching (volume, page_of cylinder) (with_request h volume cylinder request.Ready (with_change volume (change.Changed cylinder) (record c { site = core'.site }))))))
           (refl, asking r tt is volume cylinder request.Ready refl core (once r tt is) (λ k fault at. at))
           (refl, asking r tt is volume cylinder request.Ready refl (record core { requests = without_request h core.requests }) (once_without h core.requests (once r tt is)) (without r tt is))));
       unmarked = λ volume cylinder fault un is.

@@ -5,7 +5,7 @@ use Rattle.mss_base.specs.declared.site.Site.{Ghosts}
 use Rattle.channel_commands.specs.Data.{CallData}
 use Rattle.ckd_plain.specs.History.{EntryData}
 use Rattle.core_state.specs.Chains.{Reading}
-use Rattle.core_state.specs.CoreValue.{CoreValue, seen}
+use Rattle.core_state.specs.CoreValue.{CoreValue, seen_core}
 use Rattle.core_state.specs.HostEvents.{HostEvent, HostTold}
 use Rattle.volume_copy.specs.declared.copier.CopyState.{CopyState}
 use Rattle.volume_copy.specs.declared.copier.CopyState.TheVariants.{Armed, Taking}
@@ -43,15 +43,15 @@ pub record IsCopied {S C : Type 0} (g : Ghosts S) (v : CoreValue S C) (c : CopyD
   pub finished : IsFinished c.state
 
 -- which copy is asked for beside a core, if one is
-abbrev pub asked : Option CopyData → Option AskedCopy
-asked copier = option_map asked_by copier
+abbrev pub asked_copy : Option CopyData → Option AskedCopy
+asked_copy copier = option_map asked_by copier
 
 -- an event of a host, behind a read of the copier, if there is one
 abbrev pub HostEventBeside : {S C : Type 0} → Ghosts S → Bool → CoreValue S C → ℕ → CallData
     → HostTold → CoreValue S C → Type 0
 HostEventBeside g copies old host call told new =
-    Reading copies g.tells (seen g old)
-    (λ read. HostEvent g.tells read host call told (seen g new))
+    Reading copies g.tells (seen_core g old)
+    (λ read. HostEvent g.tells read host call told (seen_core g new))
 
 -- without a copier nothing happens; with one the core is read at most
 abbrev pub ReadsBeside : {S C : Type 0} → Ghosts S → Bool → CoreValue S C → CoreValue S C → Type 0

@@ -8,7 +8,7 @@ use Rattle.channel_commands.specs.declared.command.Command.{Command}
 use Rattle.ckd_plain.specs.declared.host.HostState.{HostState}
 use Rattle.ckd_track.specs.Data.{RecordData, Volumes}
 use Rattle.core_state.specs.Pins.{is_on}
-use Rattle.volume_table.specs.Listed.{listed}
+use Rattle.volume_table.specs.Listed.{row_in_list}
 use Rattle.volume_table.specs.Row.{RowValue}
 use Rattle.shown_volumes.specs.Shown.{shown_by}
 use Rattle.volume_copy.specs.declared.copier.CopyState.{CopyState}
@@ -29,15 +29,15 @@ is_armed Armed = true
 is_armed _ = false
 
 -- it begins behind so many entries, if there is such a volume
-abbrev pub begun : Option RowValue → ℕ → CopyData → CopyData
-begun row n c = record c { state = (if is_some row then Taking else NoVolume); point = n }
+abbrev pub begun_copy : Option RowValue → ℕ → CopyData → CopyData
+begun_copy row n c = record c { state = (if is_some row then Taking else NoVolume); point = n }
 
 abbrev pub begun_if_armed : Option RowValue → ℕ → CopyData → CopyData
-begun_if_armed row n c = if is_armed c.state then begun row n c else c
+begun_if_armed row n c = if is_armed c.state then begun_copy row n c else c
 
 -- it begins where it is armed and its time has come
-abbrev pub noted : Option RowValue → ℕ → CopyData → CopyData
-noted row n c = if n == c.after_ then begun_if_armed row n c else c
+abbrev pub noted_copy : Option RowValue → ℕ → CopyData → CopyData
+noted_copy row n c = if n == c.after_ then begun_if_armed row n c else c
 
 -- ---- tracks that are taken
 
@@ -146,7 +146,7 @@ pub record ReadsCore {S C : Type 0} (g : Ghosts S) (old new : CoreValue S C) : T
 abbrev pub TakesNextFrom : {S C : Type 0} → Ghosts S → CoreValue S C → CoreValue S C → CopyData
     → CopyData → Type 0
 TakesNextFrom g v w old new =
-    TakesNext g.tells (shown_by (listed v.rows) (content (g.told v.site)))
+    TakesNext g.tells (shown_by (row_in_list v.rows) (content (g.told v.site)))
     (g.faults v.site) (g.faults w.site) old new
 
 -- the copy stands for its session as before, and is as much on time

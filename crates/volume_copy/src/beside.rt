@@ -4,7 +4,7 @@ ghost use Rattle.std.specs.Option.{option_map};
 ghost use Rattle.mss_base.specs.Sites.{MayWrite};
 ghost use Rattle.mss_base.specs.declared.place.UnitNo.{UnitNo};
 ghost use Rattle.channel_commands.specs.Views.{call_of};
-ghost use Rattle.core_state.specs.CoreValue.{seen};
+ghost use Rattle.core_state.specs.CoreValue.{seen_core};
 ghost use Rattle.core_state.specs.IsCore.{IsCore};
 ghost use Rattle.core_state.specs.WorkEvents.{WorkEvent};
 ghost use Rattle.host_events.specs.Answers.{told_of};
@@ -16,7 +16,7 @@ ghost use Rattle.volume_copy.specs.Beside.{
   ReadsBeside,
   StandsBeside,
   TakesBeside,
-  asked,
+  asked_copy,
 };
 ghost use Rattle.volume_copy.specs.Copies.{asked_by};
 ghost use Rattle.core_state.specs.Pins.{host_at};
@@ -123,7 +123,7 @@ impl<S: Site, C: Choose> CopiedCore<S, C> {
     pub fn new(core: Core<S, C>, copier: Option<Copier>) -> Self
         requires ready { IfSome copier (IsReadyFor core.history) }
         ensures core { result.core ≡ core }
-        ensures copier { asked result.copier ≡ asked copier }
+        ensures copier { asked_copy result.copier ≡ asked_copy copier }
     {
         let mut copier = copier;
         if let Some(copier) = &mut copier {
@@ -160,9 +160,9 @@ impl<S: Site, C: Choose> CopiedCore<S, C> {
     ///
     /// Memory for the copy comes first: where it is wanting, the answer is that of an event without memory.
     pub fn host_event(&mut self, host: HostNo, call: &Call) -> HostAnswer
-        ensures event { HostEventBeside S.Site (is_some (asked self.old.copier)) self.old.core host
+        ensures event { HostEventBeside S.Site (is_some (asked_copy self.old.copier)) self.old.core host
             (call_of call.now) (told_of result) self.new.core }
-        ensures copier { asked self.new.copier ≡ asked self.old.copier }
+        ensures copier { asked_copy self.new.copier ≡ asked_copy self.old.copier }
         ensures chooser { self.new.core.chooser ≡ self.old.core.chooser }
         ensures devices { MayWrite S.Site EVENT_ITEMS self.old.core.site self.new.core.site }
         ensures only_reads_fail { (but : UnitNo → Bool)
@@ -179,7 +179,7 @@ impl<S: Site, C: Choose> CopiedCore<S, C> {
     pub fn work_event(&mut self, recorder: RecorderNo) -> WorkAnswer
         requires recorder { recorder < self.old.core.config.recorders }
         ensures event { WorkEvent S.tells (C.may self.old.core.chooser)
-            (seen S.Site self.old.core) recorder result (seen S.Site self.new.core) }
+            (seen_core S.Site self.old.core) recorder result (seen_core S.Site self.new.core) }
         ensures copier { self.new.copier ≡ self.old.copier }
         ensures chooser { self.new.core.chooser ≡ self.old.core.chooser }
         ensures devices { MayWrite S.Site END_ITEMS self.old.core.site self.new.core.site }
@@ -201,9 +201,9 @@ impl<S: Site, C: Choose> CopiedCore<S, C> {
     pub fn take(&mut self) -> Result<Option<CopyState>, NoMemory>
         ensures takes { OnOk result (TakesBeside S.Site self.old self.new) }
         ensures memory { OnErr result (self.new ≡ self.old) }
-        ensures core { ReadsBeside S.Site (is_some (asked self.old.copier))
+        ensures core { ReadsBeside S.Site (is_some (asked_copy self.old.copier))
             self.old.core self.new.core }
-        ensures copier { asked self.new.copier ≡ asked self.old.copier }
+        ensures copier { asked_copy self.new.copier ≡ asked_copy self.old.copier }
         ensures state { IfOk result (λ state.
             state ≡ option_map (λ c. c.state) self.new.copier) }
     {

@@ -5,7 +5,7 @@ ghost use Rattle.std.specs.Option.{option_map};
 ghost use Rattle.mss_base.specs.Content.{content};
 ghost use Rattle.mss_base.specs.Sites.{OnlyReads};
 ghost use Rattle.channel_commands.specs.Views.{call_of};
-ghost use Rattle.volume_table.specs.Listed.{listed};
+ghost use Rattle.volume_table.specs.Listed.{row_in_list};
 ghost use Rattle.shown_volumes.specs.Shown.{shown_by};
 ghost use Rattle.core_state.specs.Pins.{host_at};
 ghost use Rattle.volume_copy.specs.Beside.{IsCopied, StandsBeside};
@@ -35,7 +35,7 @@ ghost use Rattle.volume_copy.specs.Steps.{
   TakesTracks,
   begun_if_armed,
   is_write_call,
-  noted,
+  noted_copy,
   number_under,
 };
 ghost use Rattle.volume_copy.specs.declared.copier.CopyState.TheVariants.{Armed, Taking};
@@ -206,7 +206,7 @@ impl Copier {
 
     /// Begins where its time has come. To be called before the first event, and behind each that added an entry.
     pub fn note<S: Site, C: Choose>(&mut self, core: &Core<S, C>)
-        ensures begun { self.new ≡ noted (listed core.now.rows self.old.volume)
+        ensures begun { self.new ≡ noted_copy (row_in_list core.now.rows self.old.volume)
             (length core.now.history) self.old }
         ensures time { IsInTime self.old core.now.history → IsOnTime self.new core.now.history }
         ensures stands { S.tells → StandsFor (S.told core.now.site) self.old core.now
@@ -231,7 +231,7 @@ impl Copier {
         requires there { number < TRACKS }
         requires taking { self.old.state ≡ Taking }
         requires left { taken_at self.old.tracks number ≡ None }
-        ensures takes { let shown = shown_by (listed rows.now) (content (S.told site.old)) in
+        ensures takes { let shown = shown_by (row_in_list rows.now) (content (S.told site.old)) in
             OnOk result (TakesOrFails S.tells shown number
             (S.faults site.old) (S.faults site.new) self.old self.new) }
         ensures memory { OnErr result ((self.new ≡ self.old) × (site.new ≡ site.old)) }
@@ -254,7 +254,7 @@ impl Copier {
     fn take_once<S: Site>(&mut self, site: &mut S, rows: &Rows, number: u16) -> Result<(), NoMemory>
         requires there { number < TRACKS }
         requires taking { self.old.state ≡ Taking }
-        ensures takes { let shown = shown_by (listed rows.now) (content (S.told site.old)) in
+        ensures takes { let shown = shown_by (row_in_list rows.now) (content (S.told site.old)) in
             OnOk result (TakesOnce S.tells shown number
             (S.faults site.old) (S.faults site.new) self.old self.new) }
         ensures memory { OnErr result ((self.new ≡ self.old) × (site.new ≡ site.old)) }
@@ -278,10 +278,10 @@ impl Copier {
 
     /// Takes the tracks that are left, until a read fails.
     fn take_rest<S: Site>(&mut self, site: &mut S, rows: &Rows) -> Result<(), NoMemory>
-        ensures rest { let shown = shown_by (listed rows.now) (content (S.told site.old)) in
+        ensures rest { let shown = shown_by (row_in_list rows.now) (content (S.told site.old)) in
             OnOk result (Finishes S.tells shown
             (S.faults site.old) (S.faults site.new) self.old self.new) }
-        ensures memory { let shown = shown_by (listed rows.now) (content (S.told site.old)) in
+        ensures memory { let shown = shown_by (row_in_list rows.now) (content (S.told site.old)) in
             OnErr result ((self.new ≡ self.old ⊎ TakesTracks S.tells shown self.old self.new)
             × (S.faults site.new ≡ S.faults site.old)) }
         ensures asked { asked_by self.new ≡ asked_by self.old }
@@ -326,7 +326,7 @@ impl Copier {
         host: HostNo,
         call: &Call,
     ) -> Result<(), NoMemory>
-        ensures takes { let shown = shown_by (listed core.old.rows)
+        ensures takes { let shown = shown_by (row_in_list core.old.rows)
             (content (S.told core.old.site)) in let host = host_at core.old.hosts host in
             MayWriteOn self.old host (call_of call.now)
             → OnOk result (TakesOnce S.tells shown (number_under host)
@@ -374,9 +374,9 @@ impl Copier {
         &mut self,
         core: &mut Core<S, C>,
     ) -> Result<CopyState, NoMemory>
-        ensures finishes { let shown = shown_by (listed core.old.rows)
+        ensures finishes { let shown = shown_by (row_in_list core.old.rows)
             (content (S.told core.old.site)) in
-            let begun = begun_if_armed (listed core.old.rows self.old.volume)
+            let begun = begun_if_armed (row_in_list core.old.rows self.old.volume)
             (length core.old.history) self.old in
             OnOk result (Finishes S.tells shown
             (S.faults core.old.site) (S.faults core.new.site) begun self.new) }

@@ -3,7 +3,7 @@ ghost use Rattle.std.specs.Prelude.{◌≡◌, ℕ, List, take, None};
 ghost use Rattle.mss_base.specs.Content.{content};
 ghost use Rattle.ckd_plain.specs.Data.{State};
 ghost use Rattle.ckd_plain.specs.History.{EntryData, after};
-ghost use Rattle.shown_volumes.specs.Shown.{shown};
+ghost use Rattle.shown_volumes.specs.Shown.{volumes_shown};
 ghost use Rattle.core_state.specs.IsCore.{IsTold, opening_of};
 ghost use Rattle.volume_copy.specs.declared.copier.CopyState.TheVariants.{Taking, Whole};
 ghost use Rattle.channel_commands.specs.Data.{CallData};
@@ -58,5 +58,5 @@ pub fn tracks_left_are_shown_as_they_were()
         → core.stopped ≡ None → c.state ≡ Taking → StandsFor core.site.told c core
         → let start = opening_of core.site.told core in
         LeavesSame c (after start (take c.point core.history)).volumes
-        (shown (content core.site.told)) }
+        (volumes_shown (content core.site.told)) }
 {}

@@ -5,7 +5,7 @@ use Rattle.std.proofs.lemmas.List.{length-take, length-drop, drop-drop, take-app
 use Rattle.std.proofs.lemmas.Bool.{cases_Bool, eqb-true, cond-true, cond-false}
 use Rattle.volume_table.specs.Row.{RowValue, IsRow}
 use Rattle.volume_table.specs.declared.fault.RowFault.{RowFault}
-use Rattle.volume_table.specs.Grammar.{first_fault, row_at, page_of, page_byte, is_page_byte, mark_byte, is_old, two, two_at, decode, decoded, spelling, serial_part, pages_part, states_part, spares_part}
+use Rattle.volume_table.specs.Grammar.{first_fault, row_at, page_of, page_byte, is_page_byte, mark_byte, is_old, two, two_at, decode, row_or_fault, spelling, serial_part, pages_part, states_part, spares_part}
 use Rattle.volume_table.proofs.GrammarLemmas.{row_good, version_is, mark_good, page_each, spare_each}
 
 second_byte : (b : ℕ) → nat_lt b 200 ≡ false → is_page_byte b ≡ true → b ≡ 255
@@ -82,7 +82,7 @@ module _ (body : List ℕ) (long : length body ≡ 510) (small : (i : ℕ) → g
       (pages ∙ ap (λ (l : List ℕ). map page_byte (map page_of (pages_part body)) ++ l) (mark ∙ ap (λ (l : List ℕ). mark_byte (get_or body 62 0 == 1) ∷ l) (states ∙ ap (λ (l : List ℕ). states_part body ++ l) spares))))))
 
 -- what was decoded had no fault
-decoded_good : (fault : Option RowFault) (found row : RowValue) → decoded fault found ≡ Ok row → (fault ≡ None) × (found ≡ row)
+decoded_good : (fault : Option RowFault) (found row : RowValue) → row_or_fault fault found ≡ Ok row → (fault ≡ None) × (found ≡ row)
 decoded_good None found row is = (refl, cc)
 decoded_good (Some f) found row is = absurd cc
 

@@ -4,7 +4,7 @@ use Rattle.std.specs.Prelude.{IfSome}
 use Rattle.std.proofs.lemmas.Bool.{cases_lt}
 use Rattle.std.proofs.lemmas.List.{length-set, get_or-set_same, get_or-set_other}
 use Rattle.volume_table.specs.Row.{RowValue, IsRow}
-use Rattle.volume_table.specs.Listed.{AreAllRows, listed}
+use Rattle.volume_table.specs.Listed.{AreAllRows, row_in_list}
 
 some_row : (o : Option RowValue) (r : RowValue) → IfSome o IsRow → o ≡ Some r → IsRow r
 some_row None r is e = absurd cc
@@ -20,14 +20,14 @@ placed rows volume o are low is = record {
       | inl lt ↦ are.are_rows v r (sym (get_or-set_other rows volume v o None (λ e. omega (arith, e, lt))) ∙ at)
       | inr ge ↦
           let e : volume ≡ v = omega (arith, le, ge) in
-          let here : listed (set rows volume o) volume ≡ o = get_or-set_same rows volume o None (omega (arith, low, are.places)) in
-          some_row o r is (sym here ∙ ap (listed (set rows volume o)) e ∙ at)
+          let here : row_in_list (set rows volume o) volume ≡ o = get_or-set_same rows volume o None (omega (arith, low, are.places)) in
+          some_row o r is (sym here ∙ ap (row_in_list (set rows volume o)) e ∙ at)
     ]
   ];
 }
 
 -- a further place, in which nothing stands
-pub none_behind : (rows : List (Option RowValue)) → ((volume : ℕ) → listed rows volume ≡ None) → (volume : ℕ) → listed (rows ++ None ∷ []) volume ≡ None
+pub none_behind : (rows : List (Option RowValue)) → ((volume : ℕ) → row_in_list rows volume ≡ None) → (volume : ℕ) → row_in_list (rows ++ None ∷ []) volume ≡ None
 none_behind [] none zero = refl
 none_behind [] none (suc volume) = refl
 none_behind (r ∷ rows) none zero = none zero

@@ -3,7 +3,7 @@ use Rattle.std.proofs.Common.{◌≡◌, ℕ, zero, suc, ◌+◌, ◌/◌, ◌<�
 use Rattle.std.proofs.lemmas.List.{length-set, get_or-set_same, get_or-set_other, get_or_past}
 use Rattle.std.proofs.lemmas.Bool.{cases_Bool, cases_lt, eqb-true, eq-eqb, cond_both, cond-true, cond-false, false≢true}
 use Rattle.volume_table.specs.Row.{RowValue, frame_of, state_of}
-use Rattle.volume_table.specs.Changes.{unstaged, map_numbered, unstaged_page, with_frame, with_state, without_frame}
+use Rattle.volume_table.specs.Changes.{unstaged_state, map_numbered, unstaged_page, with_frame, with_state, without_frame}
 
 pub get_or-map_numbered : (f : ℕ → ℕ → ℕ) (i : ℕ) (xs : List ℕ) (k : ℕ) → k < length xs → get_or (map_numbered f i xs) k 0 ≡ f (i + k) (get_or xs k 0)
 get_or-map_numbered f i [] k lt = absurd (omega arith)
@@ -44,13 +44,13 @@ frame-without_frame page r q = elim (cases_Bool (q == page)) [
 ]
 
 abbrev pub taken : ℕ → ℕ → ℕ → ℕ
-taken page cylinder state = cond (cylinder / 8 == page) (unstaged state) state
+taken page cylinder state = cond (cylinder / 8 == page) (unstaged_state state) state
 
-pub state-without_frame : (page : ℕ) (r : RowValue) (c : ℕ) → state_of (without_frame page r) c ≡ cond (c / 8 == page) (unstaged (state_of r c)) (state_of r c)
+pub state-without_frame : (page : ℕ) (r : RowValue) (c : ℕ) → state_of (without_frame page r) c ≡ cond (c / 8 == page) (unstaged_state (state_of r c)) (state_of r c)
 state-without_frame page r c = elim (cases_lt c (length r.states)) [
   | inl lt ↦ get_or-map_numbered (taken page) 0 r.states c lt ∙ ap (λ (k : ℕ). taken page k (state_of r c)) (zero-add c)
   | inr past ↦
       let none : state_of r c ≡ 0 = get_or_past r.states c 0 past in
       let nothing : state_of (without_frame page r) c ≡ 0 = get_or_past (unstaged_page page r.states) c 0 (omega (arith, length-map_numbered (taken page) 0 r.states)) in
-      nothing ∙ sym (cond_both (c / 8 == page) (unstaged (state_of r c)) (state_of r c) (λ (s : ℕ). s ≡ 0) (λ _. ap unstaged none) (λ _. none))
+      nothing ∙ sym (cond_both (c / 8 == page) (unstaged_state (state_of r c)) (state_of r c) (λ (s : ℕ). s ≡ 0) (λ _. ap unstaged_state none) (λ _. none))
 ]

@@ -5,7 +5,7 @@ use Rattle.std.proofs.lemmas.List.{ext_get_or, length-set, get_or-set_same, get_
 use Rattle.std.proofs.lemmas.Bool.{cases_Bool, cases_lt, eqb-true, eq-eqb, cond_both, cond-true, cond-false, false≢true}
 use Rattle.mss_base.specs.Serial.{IsSerial}
 use Rattle.volume_table.specs.Row.{RowValue, frame_of, state_of, blank_row, IsRow}
-use Rattle.volume_table.specs.Changes.{IsAllowed, IsInRange, effect, unstaged, unstaged_page, with_frame, with_mark, with_state, without_frame}
+use Rattle.volume_table.specs.Changes.{IsAllowed, IsInRange, effect, unstaged_state, unstaged_page, with_frame, with_mark, with_state, without_frame}
 use Rattle.volume_table.specs.declared.changes.Change.{Change}
 use Rattle.volume_table.specs.declared.changes.Change.TheVariants.{Create, Assign, Free, Staged, Changed, Destaged, Protect}
 use Rattle.volume_table.proofs.StateLemmas.{unstaged_small}
@@ -36,7 +36,7 @@ row-blank serial first second good small_first small_second = record {
 module _ (page : ℕ) (r : RowValue) (row : IsRow r) (unchanged : (c : ℕ) → c / 8 ≡ page → state_of r c ≢ 4) where
   low : (c : ℕ) → (c / 8 == page) ≡ true → state_of (without_frame page r) c < 2
   low c same =
-      let is : state_of (without_frame page r) c ≡ unstaged (state_of r c) = state-without_frame page r c ∙ cond-true _ _ _ same in
+      let is : state_of (without_frame page r) c ≡ unstaged_state (state_of r c) = state-without_frame page r c ∙ cond-true _ _ _ same in
       omega (arith, unstaged_small (state_of r c) (row.numbers c) (unchanged c (eqb-true _ _ same)), is)
 
   kept : (c : ℕ) → (c / 8 == page) ≡ false → state_of (without_frame page r) c ≡ state_of r c
@@ -138,25 +138,25 @@ row-changed (Destaged cylinder) r row allowed range =
 row-changed (Protect on) r row allowed range = row-with_mark on r row
 
 -- a loop over the page's cylinders, whose lists are `old` at first and `now` before this step
-module _ (page n : ℕ) (old now : List ℕ) (state : ℕ) (inside : n < length now) (from : 8 * page ≤ n) (is : state ≡ unstaged (get_or now n 0)) where
+module _ (page n : ℕ) (old now : List ℕ) (state : ℕ) (inside : n < length now) (from : 8 * page ≤ n) (is : state ≡ unstaged_state (get_or now n 0)) where
   pub step_before : ((k : ℕ) → k < 8 * page → get_or now k 0 ≡ get_or old k 0) → (k : ℕ) → k < 8 * page → get_or (set now n state) k 0 ≡ get_or old k 0
   step_before before k lt = get_or-set_other now n k state 0 (λ e. absurd (omega arith)) ∙ before k lt
 
   pub step_left : ((k : ℕ) → n ≤ k → get_or now k 0 ≡ get_or old k 0) → (k : ℕ) → n + 1 ≤ k → get_or (set now n state) k 0 ≡ get_or old k 0
   step_left left k le = get_or-set_other now n k state 0 (λ e. absurd (omega arith)) ∙ left k (omega arith)
 
-  pub step_done : ((k : ℕ) → n ≤ k → get_or now k 0 ≡ get_or old k 0) → ((k : ℕ) → 8 * page ≤ k → k < n → get_or now k 0 ≡ unstaged (get_or old k 0))
-      → (k : ℕ) → 8 * page ≤ k → k < n + 1 → get_or (set now n state) k 0 ≡ unstaged (get_or old k 0)
+  pub step_done : ((k : ℕ) → n ≤ k → get_or now k 0 ≡ get_or old k 0) → ((k : ℕ) → 8 * page ≤ k → k < n → get_or now k 0 ≡ unstaged_state (get_or old k 0))
+      → (k : ℕ) → 8 * page ≤ k → k < n + 1 → get_or (set now n state) k 0 ≡ unstaged_state (get_or old k 0)
   step_done left done k le lt = elim (cases_lt k n) [
     | inl below ↦ get_or-set_other now n k state 0 (λ e. absurd (omega arith)) ∙ done k le below
     | inr at ↦
         let e : k ≡ n = omega arith in
-        ap (λ (j : ℕ). get_or (set now n state) j 0) e ∙ get_or-set_same now n state 0 inside ∙ is ∙ ap unstaged (left n (omega arith)) ∙ ap (λ (j : ℕ). unstaged (get_or old j 0)) (sym e)
+        ap (λ (j : ℕ). get_or (set now n state) j 0) e ∙ get_or-set_same now n state 0 inside ∙ is ∙ ap unstaged_state (left n (omega arith)) ∙ ap (λ (j : ℕ). unstaged_state (get_or old j 0)) (sym e)
   ]
 
 -- such a loop is done
 pub unstage_done : (page n : ℕ) (old new : List ℕ) → length old ≡ 404 → length new ≡ 404 → min 404 (8 * page + 8) ≤ n
-    → ((k : ℕ) → k < 8 * page → get_or new k 0 ≡ get_or old k 0) → ((k : ℕ) → 8 * page ≤ k → k < n → get_or new k 0 ≡ unstaged (get_or old k 0))
+    → ((k : ℕ) → k < 8 * page → get_or new k 0 ≡ get_or old k 0) → ((k : ℕ) → 8 * page ≤ k → k < n → get_or new k 0 ≡ unstaged_state (get_or old k 0))
     → ((k : ℕ) → n ≤ k → get_or new k 0 ≡ get_or old k 0) → n ≤ min 404 (8 * page + 8) → new ≡ unstaged_page page old
 unstage_done page n old new long_old long_new all before done left le =
     ext_get_or 0 new (unstaged_page page old) (long_new ∙ sym long_old ∙ sym (length-map_numbered (taken page) 0 old)) (λ k lt. at k (omega arith) ∙ sym (get_or-map_numbered (taken page) 0 old k (omega arith) ∙ ap (λ (j : ℕ). taken page j (get_or old k 0)) (zero-add k)))

@@ -10,7 +10,7 @@ use Rattle.volume_table.specs.Row.{RowValue, IsRow, frame_of}
 use Rattle.volume_table.specs.declared.fault.RowField.{RowField}
 use Rattle.volume_table.specs.declared.fault.RowField.TheVariants as field
 use Rattle.volume_table.specs.declared.fault.RowFault.{RowFault}
-use Rattle.volume_table.specs.Grammar.{◌then◌, first_in, first_fault, unless, row_at, page_of, page_byte, is_page_byte, two, body, decode, decoded, spelling, serial_fault, cartridge_fault, page_fault, is_state, state_fault, spare_fault, mark_fault, mark_byte, is_old}
+use Rattle.volume_table.specs.Grammar.{◌then◌, first_in, first_fault, unless, row_at, page_of, page_byte, is_page_byte, two, body, decode, row_or_fault, spelling, serial_fault, cartridge_fault, page_fault, is_state, state_fault, spare_fault, mark_fault, mark_byte, is_old}
 use Rattle.volume_table.proofs.StateLemmas.{state_passes}
 use Rattle.volume_table.proofs.GrammarLemmas.{first_all}
 
@@ -192,7 +192,7 @@ module _ (a b c d e f first second : ℕ) (mark : Bool) (pages : List (Option �
         ∙ (λ i. serial_none i then cartridge_none field.First first row.first i then cartridge_none field.Second second row.second i then page_none i then mark_none mark i then state_none i then spare_none i)
 
     spelled : decode (spelling r) ≡ Ok r
-    spelled = λ i. decoded (no_fault i) (row_again i)
+    spelled = λ i. row_or_fault (no_fault i) (row_again i)
 
 -- by the six bytes of the serial
 by_serial : (r : RowValue) (serial : List ℕ) → r.serial ≡ serial → length serial ≡ 6 → IsRow r → decode (spelling r) ≡ Ok r

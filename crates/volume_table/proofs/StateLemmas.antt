@@ -7,7 +7,7 @@ use Rattle.volume_table.specs.declared.state.CylinderState.{CylinderState}
 use Rattle.volume_table.specs.declared.state.CylinderState.TheVariants.{Blank, OnCartridge, StagedBlank, Staged, Changed}
 use Rattle.volume_table.specs.States.{state_number}
 use Rattle.volume_table.specs.Grammar.{is_state}
-use Rattle.volume_table.specs.Changes.{unstaged}
+use Rattle.volume_table.specs.Changes.{unstaged_state}
 
 small_state : (b : Bool) (s : ℕ) → is_state b s ≡ true → s ≤ 4
 small_state b s is = grind (arith, nat_tests)
@@ -33,7 +33,7 @@ state_passes None s small there = elim (cases_lt s 2) [
 ]
 
 -- a cylinder that isn't changed stays on its cartridge, or blank
-pub unstaged_small : (s : ℕ) → s ≤ 4 → s ≢ 4 → unstaged s < 2
+pub unstaged_small : (s : ℕ) → s ≤ 4 → s ≢ 4 → unstaged_state s < 2
 unstaged_small zero small ne = omega arith
 unstaged_small (suc zero) small ne = omega arith
 unstaged_small (suc (suc zero)) small ne = omega arith

@@ -36,8 +36,8 @@ abbrev pub with_state : ℕ → ℕ → RowValue → RowValue
 with_state cylinder state r = record r { states = slice_set r.states cylinder state }
 
 -- a state whose frame is taken away
-abbrev pub unstaged : ℕ → ℕ
-unstaged state = if state == 2 then 0 else (if state == 3 then 1 else state)
+abbrev pub unstaged_state : ℕ → ℕ
+unstaged_state state = if state == 2 then 0 else (if state == 3 then 1 else state)
 
 -- a function of number and item, at each item
 abbrev pub map_numbered : (ℕ → ℕ → ℕ) → ℕ → List ℕ → List ℕ
@@ -46,7 +46,7 @@ map_numbered f number (x ∷ xs) = f number x ∷ map_numbered f (suc number) xs
 
 -- the states where a page has lost its frame
 abbrev pub unstaged_page : ℕ → List ℕ → List ℕ
-unstaged_page page states = map_numbered (λ cylinder state. if cylinder / 8 == page then unstaged state else state) 0 states
+unstaged_page page states = map_numbered (λ cylinder state. if cylinder / 8 == page then unstaged_state state else state) 0 states
 
 abbrev pub without_frame : ℕ → RowValue → RowValue
 without_frame page r = record r { pages = slice_set r.pages page None; states = unstaged_page page r.states }

@@ -131,13 +131,13 @@ first_fault body =
     then first_in (state_fault (pages_part body)) 0 (states_part body)
     then first_in spare_fault 1 (spares_part body)
 
-abbrev pub decoded : Option RowFault → RowValue → Result RowValue RowFault
-decoded None row = Ok row
-decoded (Some fault) row = Err fault
+abbrev pub row_or_fault : Option RowFault → RowValue → Result RowValue RowFault
+row_or_fault None row = Ok row
+row_or_fault (Some fault) row = Err fault
 
 -- the row that a body spells, or its first fault
 abbrev pub decode : List ℕ → Result RowValue RowFault
-decode body = decoded (first_fault body) (row_at body)
+decode body = row_or_fault (first_fault body) (row_at body)
 
 -- what a check answered
 abbrev pub Finds : {T : Type 0} → Result T RowFault → Option RowFault → Type 0

@@ -6,12 +6,12 @@ use Rattle.volume_table.specs.Changes.{effect}
 use Rattle.volume_table.specs.declared.changes.Change.{Change}
 
 -- the row of a volume, if the list has one
-abbrev pub listed : List (Option RowValue) → ℕ → Option RowValue
-listed rows volume = slice_index_or rows volume None
+abbrev pub row_in_list : List (Option RowValue) → ℕ → Option RowValue
+row_in_list rows volume = slice_index_or rows volume None
 
 -- what stands in the list for a volume is a row
 abbrev pub AreRows : List (Option RowValue) → Type 0
-AreRows rows = (volume : ℕ) (r : RowValue) → listed rows volume ≡ Some r → IsRow r
+AreRows rows = (volume : ℕ) (r : RowValue) → row_in_list rows volume ≡ Some r → IsRow r
 
 -- the list has a place for each of the 32 volumes, and rows stand in it
 pub record AreAllRows (rows : List (Option RowValue)) : Type 0 where
@@ -20,9 +20,9 @@ pub record AreAllRows (rows : List (Option RowValue)) : Type 0 where
 
 -- a volume has a row, and it has P
 abbrev pub HasRow : List (Option RowValue) → ℕ → (RowValue → Type 0) → Type 0
-HasRow rows volume P = (r : RowValue) × (listed rows volume ≡ Some r) × P r
+HasRow rows volume P = (r : RowValue) × (row_in_list rows volume ≡ Some r) × P r
 
 -- with the change of one volume's row
 abbrev pub with_changed : ℕ → Change → List (Option RowValue) → List (Option RowValue)
 with_changed volume change rows =
-    slice_set rows volume (option_map (effect change) (listed rows volume))
+    slice_set rows volume (option_map (effect change) (row_in_list rows volume))

@@ -2,7 +2,7 @@
 ghost use Rattle.std.specs.Prelude.{◌≡◌, ◌≢◌, ◌↔◌, ◌≤◌, ℕ, ◌+◌, ◌*◌, ◌/◌, ◌<◌, length, map, slice_set, Some, IsSome, IsTrue};
 ghost use Rattle.volume_table.specs.States.{state_number};
 ghost use Rattle.volume_table.specs.Row.{frame_of, state_of};
-ghost use Rattle.volume_table.specs.Changes.{IsAllowed, effect, unstaged, unstaged_page, with_frame, with_state, without_frame};
+ghost use Rattle.volume_table.specs.Changes.{IsAllowed, effect, unstaged_state, unstaged_page, with_frame, with_state, without_frame};
 ghost use Rattle.volume_table.specs.Slots.{allows};
 
 use crate::layout::STATES;
@@ -130,7 +130,7 @@ fn staged(state: CylinderState) -> CylinderState
 }
 
 fn unstaged(state: CylinderState) -> CylinderState
-    ensures { state_number result ≡ unstaged (state_number state) }
+    ensures { state_number result ≡ unstaged_state (state_number state) }
 {
     match state {
         CylinderState::StagedBlank => CylinderState::Blank,

@@ -9,6 +9,8 @@
 //! what stands in them are rows, is its invariant (`specs/Listed.antt`), which `look` tells. Proofs above may cite
 //! these files of proofs/: `RowFacts` (what a change does to each page and each cylinder), `RowLemmas` (what keeps a
 //! row one) and `SlotFacts` (that a change is read back from its slot, and that one slot more is one change more).
+//!
+//! Layers above also cite lemmas of `proofs/`: the pieces of a spelling (`SpellingLemmas`).
 #![tactic(auto)]
 
 mod changes;

@@ -3,7 +3,7 @@ ghost use Rattle.std.specs.Prelude.{◌≡◌, ℕ, None, IfOk, IfSome, length, 
 ghost use Rattle.std.specs.Option.{option_map};
 ghost use Rattle.volume_table.specs.Row.{IsRow};
 ghost use Rattle.volume_table.specs.Changes.{IsAllowed, effect};
-ghost use Rattle.volume_table.specs.Listed.{AreRows, HasRow, listed, with_changed};
+ghost use Rattle.volume_table.specs.Listed.{AreRows, HasRow, row_in_list, with_changed};
 
 use crate::changes::{Change, apply};
 use crate::row::VolumeRow;
@@ -32,7 +32,7 @@ impl Model for Rows {
 /// A list of 32 places without a row.
 fn empty_places(alloc: Global) -> Result<Vec<Option<VolumeRow>>, NoMemory>
     ensures places { IfOk result (λ places. length places.items ≡ 32) }
-    ensures none { IfOk result (λ places. (volume : ℕ) → listed places.items volume ≡ None) }
+    ensures none { IfOk result (λ places. (volume : ℕ) → row_in_list places.items volume ≡ None) }
 {
     let mut places = Vec::new(alloc);
     for _ in 0..32u8 {
@@ -53,7 +53,7 @@ fn look(place: &Option<VolumeRow>)
 impl Rows {
     /// The places of 32 volumes of which none has a row.
     pub fn none(alloc: Global) -> Result<Self, NoMemory>
-        ensures { IfOk result (λ rows. (volume : ℕ) → listed rows volume ≡ None) }
+        ensures { IfOk result (λ rows. (volume : ℕ) → row_in_list rows volume ≡ None) }
     {
         let places = empty_places(alloc)?;
         Ok(Rows { places })
@@ -78,7 +78,7 @@ impl Rows {
 
     /// The row of a volume, if it has one.
     pub fn row(&self, volume: VolumeNo) -> &Option<VolumeRow>
-        ensures { result.now ≡ listed self.now volume }
+        ensures { result.now ≡ row_in_list self.now volume }
     {
         &self.places[usize::from(volume.get())]
     }
@@ -96,8 +96,8 @@ impl Rows {
     pub fn change(&mut self, volume: VolumeNo, change: &Change)
         requires { HasRow self.old volume (λ r. IsAllowed change.now r) }
         ensures rows { self.new ≡ with_changed volume change.now self.old }
-        ensures row { listed self.new volume
-            ≡ option_map (effect change.now) (listed self.old volume) }
+        ensures row { row_in_list self.new volume
+            ≡ option_map (effect change.now) (row_in_list self.old volume) }
     {
         let Some(row) = &mut self.places[usize::from(volume.get())] else {
             unreachable!()

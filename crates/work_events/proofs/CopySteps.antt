@@ -14,7 +14,7 @@ use Rattle.core_state.specs.declared.rule.WorkAnswer.TheVariants.{Did}
 use Rattle.core_state.specs.declared.rule.WorkKind.TheVariants as kind
 use Rattle.core_state.specs.declared.rule.WorkRule.TheVariants.{Copies}
 use Rattle.core_state.specs.declared.session.Event.TheVariants.{Work}
-use Rattle.core_state.specs.CoreValue.{CoreValue, seen, seen_site}
+use Rattle.core_state.specs.CoreValue.{CoreValue, seen_core, seen_site}
 use Rattle.core_state.specs.Devices.{CopyBlock, LeaveBlock}
 use Rattle.core_state.specs.SessionData.{SessionData, of_parts, with_last_event}
 use Rattle.core_state.specs.WorkEvents.{WorkDoes}
@@ -62,7 +62,7 @@ module _ {S C : Type 0} (g : Ghosts S) {inside v : CoreValue S C} {site : S} {se
     }
 
     pub copy_does : (may : List Candidate → ℕ → Type 0) (q : Request) → Serves v n old q → (answer : WorkAnswer) → answer ≡ Did kind.Copy
-        → (w : CoreValue S C) → w ≡ copied v n old t x → WorkDoes g.tells may (seen g v) n (Copies t) answer (seen g w)
+        → (w : CoreValue S C) → w ≡ copied v n old t x → WorkDoes g.tells may (seen_core g v) n (Copies t) answer (seen_core g w)
     copy_does may q serves answer told_ w path = copied_does g may v w n old t x answer told_ serves.at copy_leaves path
 
   -- ---- it fails
@@ -79,7 +79,7 @@ module _ {S C : Type 0} (g : Ghosts S) {inside v : CoreValue S C} {site : S} {se
         path
 
     pub copy_undone : (may : List Candidate → ℕ → Type 0) (q : Request) → Serves v n old q → (answer : WorkAnswer) → answer ≡ Did kind.Copy
-        → (w : CoreValue S C) → w.site ≡ x → w ≡ failed v n old w.site (g.faults w.site) → WorkDoes g.tells may (seen g v) n (Copies t) answer (seen g w)
+        → (w : CoreValue S C) → w.site ≡ x → w ≡ failed v n old w.site (g.faults w.site) → WorkDoes g.tells may (seen_core g v) n (Copies t) answer (seen_core g w)
     copy_undone may q serves answer told_ w there path =
         uncopied_does g may v w n old t answer told_ serves.at
         (subst (λ (y : S). LeaveBlock g.tells t (seen_site g v.site) (seen_site g y)) (sym there) (record { left = logged (Err why) copies; later = more (Err why) copies; failed = rises })) path

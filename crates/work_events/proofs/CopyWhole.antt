@@ -4,8 +4,8 @@ use Rattle.std.specs.Prelude.{slice_set}
 use Rattle.mss_base.specs.Content.{Content, SiteLog, content, Writes}
 use Rattle.mss_base.specs.Counts.{IsFaultSince}
 use Rattle.volume_table.specs.Row.{RowValue, cartridge_with}
-use Rattle.volume_table.specs.Listed.{listed}
-use Rattle.shown_volumes.specs.Shown.{shown, block_at}
+use Rattle.volume_table.specs.Listed.{row_in_list}
+use Rattle.shown_volumes.specs.Shown.{volumes_shown, block_at}
 use Rattle.shown_volumes.specs.Changing.{IsQuiet, StillShows}
 use Rattle.fault_queue.specs.declared.queue.Request.{Request}
 use Rattle.transfers.specs.declared.transfer.Transfer.{Transfer}
@@ -16,7 +16,7 @@ use Rattle.transfers.proofs.CopyFacts.{leaves_table}
 use Rattle.core_state.specs.declared.task.Task.{Task}
 use Rattle.core_state.specs.declared.session.Event.TheVariants.{Work}
 use Rattle.core_state.specs.CoreValue.{CoreValue}
-use Rattle.core_state.specs.Entered.{worked}
+use Rattle.core_state.specs.Entered.{core_after_work}
 use Rattle.core_state.specs.Pins.{task_at}
 use Rattle.core_state.specs.Served.{IsServed, AreCopied}
 use Rattle.core_state.specs.Tasks.{IsTask, IsTransfer}
@@ -51,7 +51,7 @@ module _ (S : Type 0) {C : Type 0} (tells : Type 0) (s t : SiteLog) (v : CoreVal
   abbrev new : Task
   new = record old { transfer = Some (moved_on transfer) }
 
-  new_transfer : IsTransfer (listed v.rows) old.frame old.victim q (moved_on transfer)
+  new_transfer : IsTransfer (row_in_list v.rows) old.frame old.victim q (moved_on transfer)
   new_transfer = record {
     row = may.is.row;
     there = may.is.there;
@@ -61,7 +61,7 @@ module _ (S : Type 0) {C : Type 0} (tells : Type 0) (s t : SiteLog) (v : CoreVal
     cylinder_ = may.is.cylinder_;
   }
 
-  new_task : IsTask v.config.frames (listed v.rows) v.moving v.requests v.hosts new
+  new_task : IsTask v.config.frames (row_in_list v.rows) v.moving v.requests v.hosts new
   new_task =
       let found = core.tasks_.each n old serves.at in
       record {
@@ -73,7 +73,7 @@ module _ (S : Type 0) {C : Type 0} (tells : Type 0) (s t : SiteLog) (v : CoreVal
         waits = own_waits S v core n old serves.at q serves.asked;
         frame_ = own_frame S v core n old serves.at q serves.asked;
         unbound = found.unbound;
-        transfer_ = λ u e. subst (IsTransfer (listed v.rows) old.frame old.victim q) (some_is (moved_on transfer) u e) new_transfer;
+        transfer_ = λ u e. subst (IsTransfer (row_in_list v.rows) old.frame old.victim q) (some_is (moved_on transfer) u e) new_transfer;
       }
 
   target_is : target transfer transfer.next ≡ copied_to transfer.kind old.frame (cartridge_with may.is.row transfer.cylinder) transfer.cylinder transfer.next
@@ -82,26 +82,26 @@ module _ (S : Type 0) {C : Type 0} (tells : Type 0) (s t : SiteLog) (v : CoreVal
   others_same : tells → SameBut (copied_to transfer.kind old.frame (cartridge_with may.is.row transfer.cylinder) transfer.cylinder transfer.next) (content s) (content t)
   others_same tl = subst (λ p. SameBut p (content s) (content t)) target_is (same_but (target transfer transfer.next) s t (logged tl))
 
-  others_are_served : tells → (m : ℕ) (task : Task) → m ≢ n → task_at v.tasks m ≡ Some task → IsServed (content t) (listed v.rows) task
+  others_are_served : tells → (m : ℕ) (task : Task) → m ≢ n → task_at v.tasks m ≡ Some task → IsServed (content t) (row_in_list v.rows) task
   others_are_served tl m task other there =
       let its = core.tasks_.each m task there in
-      others_served (listed v.rows) (once_now S tells s v whole open_ tl) (content s) (content t) transfer.kind transfer.volume may.is.row old.frame transfer.cylinder transfer.next may.is.there
-      (framed_by (listed v.rows) old.frame old.victim q transfer may.is) may.is.due.cylinder_in may.more task its.request its.transfer_
+      others_served (row_in_list v.rows) (once_now S tells s v whole open_ tl) (content s) (content t) transfer.kind transfer.volume may.is.row old.frame transfer.cylinder transfer.next may.is.there
+      (framed_by (row_in_list v.rows) old.frame old.victim q transfer may.is) may.is.due.cylinder_in may.more task its.request its.transfer_
       (frames_apart S v core n old serves.at m task other there) (others_same tl) (served_now S tells s v whole open_ tl m task there)
 
-  moments : tells → Writes (StillShows v.config.frames (shown (content s)) s) s t
-  moments tl = copy_shows v.config.frames s t (listed v.rows) (rows_now S tells s v whole open_ tl) (sound_now S tells s v whole open_ tl) (quiet_now S tells s v whole open_ tl) old.frame old.victim q transfer may.is may.more (logged tl)
+  moments : tells → Writes (StillShows v.config.frames (volumes_shown (content s)) s) s t
+  moments tl = copy_shows v.config.frames s t (row_in_list v.rows) (rows_now S tells s v whole open_ tl) (sound_now S tells s v whole open_ tl) (quiet_now S tells s v whole open_ tl) old.frame old.victim q transfer may.is may.more (logged tl)
 
   quiet_then : tells → IsQuiet t
-  quiet_then tl = copy_quiet v.config.frames s t (listed v.rows) (rows_now S tells s v whole open_ tl) (sound_now S tells s v whole open_ tl) (quiet_now S tells s v whole open_ tl) old.frame old.victim q transfer may.is may.more (logged tl)
+  quiet_then tl = copy_quiet v.config.frames s t (row_in_list v.rows) (rows_now S tells s v whole open_ tl) (sound_now S tells s v whole open_ tl) (quiet_now S tells s v whole open_ tl) old.frame old.victim q transfer may.is may.more (logged tl)
 
   pub whole_copied : (tells → block_at (content t) (target transfer transfer.next) ≡ source transfer transfer.next (content s))
-      → IsWhole tells t (worked v x v.rows v.console v.owners v.moving v.requests (slice_set v.tasks n (Some (record old { transfer = Some (moved_on transfer) }))))
+      → IsWhole tells t (core_after_work v x v.rows v.console v.owners v.moving v.requests (slice_set v.tasks n (Some (record old { transfer = Some (moved_on transfer) }))))
   whole_copied done_ = make_whole (core_work S v core x v.rows v.console v.owners v.moving v.requests _ (owned_of S v core) core.moving_ (asked_of S v core) core.waiting
-      (tasks_go_on v.config.frames (listed v.rows) (listed v.rows) v.moving v.requests v.hosts v.tasks core.tasks_ n old new serves.at refl refl new_task (λ m task other there. core.tasks_.each m task there))
+      (tasks_go_on v.config.frames (row_in_list v.rows) (row_in_list v.rows) v.moving v.requests v.hosts v.tasks core.tasks_ n old new serves.at refl refl new_task (λ m task other there. core.tasks_.each m task there))
       (fit_on S v core n old serves.at q serves.asked new (inl refl) refl v.rows (λ w some. some) (λ k p asked ready tasks kept. kept)))
       (λ tl. told_outside S s t v x (whole.told tl) open_ core.marked (moments tl) (leaves_table transfer transfer.next s t (logged tl)) (quiet_then tl) v.owners v.moving v.requests _
-      (served_put S v core n old serves.at q serves.asked (content t) (listed v.rows) (Some new) (λ task e. subst (IsServed (content t) (listed v.rows)) (some_is new task e) (own tl)) (others_are_served tl)))
+      (served_put S v core n old serves.at q serves.asked (content t) (row_in_list v.rows) (Some new) (λ task e. subst (IsServed (content t) (row_in_list v.rows)) (some_is new task e) (own tl)) (others_are_served tl)))
     where
       before_ : tells → AreCopied transfer.kind old.touched (content s) may.is.row transfer.cylinder transfer.next
       before_ tl = elim may.begun [
@@ -109,14 +109,14 @@ module _ (S : Type 0) {C : Type 0} (tells : Type 0) (s t : SiteLog) (v : CoreVal
         | inr zero_ ↦ nothing_yet transfer.kind old.touched (content s) may.is.row transfer.cylinder transfer.next zero_
       ]
 
-      own : tells → IsServed (content t) (listed v.rows) new
+      own : tells → IsServed (content t) (row_in_list v.rows) new
       own tl u k e there =
           let u_is : moved_on transfer ≡ u = some_is (moved_on transfer) u e in
-          let k_is : may.is.row ≡ k = some_is may.is.row k (sym may.is.there ∙ ap (λ (z : Transfer). listed v.rows z.volume) u_is ∙ there) in
+          let k_is : may.is.row ≡ k = some_is may.is.row k (sym may.is.there ∙ ap (λ (z : Transfer). row_in_list v.rows z.volume) u_is ∙ there) in
           subst (λ (z : Transfer). AreCopied z.kind old.touched (content t) k z.cylinder z.next) u_is
           (subst (λ (z : RowValue). AreCopied transfer.kind old.touched (content t) z transfer.cylinder (transfer.next + 1)) k_is
-          (copied_more (listed v.rows) (once_now S tells s v whole open_ tl) (content s) (content t) transfer.kind old.touched transfer.volume may.is.row old.frame transfer.cylinder transfer.next may.is.there
-          (framed_by (listed v.rows) old.frame old.victim q transfer may.is) may.is.due.state may.is.due.cylinder_in may.more (others_same tl)
+          (copied_more (row_in_list v.rows) (once_now S tells s v whole open_ tl) (content s) (content t) transfer.kind old.touched transfer.volume may.is.row old.frame transfer.cylinder transfer.next may.is.there
+          (framed_by (row_in_list v.rows) old.frame old.victim q transfer may.is) may.is.due.state may.is.due.cylinder_in may.more (others_same tl)
           (ap (block_at (content t)) (sym target_is) ∙ done_ tl ∙ (λ i. copied_from transfer.kind (content s) (may.is.frame_ i) (may.is.due.cartridge_ i) transfer.cylinder transfer.next)) (before_ tl)))
 
   -- what a copy that failed leaves
@@ -136,7 +136,7 @@ module _ (S : Type 0) {C : Type 0} (tells : Type 0) (s t : SiteLog) (writes faul
   pub kept_copied : (tells → block_at (content t) (target transfer transfer.next) ≡ source transfer transfer.next (content s))
       → IsKept tells t later_writes later (record v { site = x; tasks = slice_set v.tasks n (Some (record old { transfer = Some (moved_on transfer) })); events = v.events ++ Work n ∷ [] })
   kept_copied done_ =
-      kept_noted tells t later_writes later (worked v x v.rows v.console v.owners v.moving v.requests (slice_set v.tasks n (Some (record old { transfer = Some (moved_on transfer) })))) (v.events ++ Work n ∷ [])
+      kept_noted tells t later_writes later (core_after_work v x v.rows v.console v.owners v.moving v.requests (slice_set v.tasks n (Some (record old { transfer = Some (moved_on transfer) })))) (v.events ++ Work n ∷ [])
       (whole_copied S tells s t v kept.whole open_ n old q serves x transfer may logged done_)
       (counted_later writes faults later_writes later v.requests (data_of v) kept.counted more le)
 

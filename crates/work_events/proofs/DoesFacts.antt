@@ -18,7 +18,7 @@ use Rattle.core_state.specs.declared.rule.WorkAnswer.{WorkAnswer}
 use Rattle.core_state.specs.declared.rule.WorkAnswer.TheVariants.{Did}
 use Rattle.core_state.specs.declared.rule.WorkKind.TheVariants as kind
 use Rattle.core_state.specs.declared.rule.WorkRule.TheVariants.{Abandons, Copies, Fetches, GivesBack, Picks, PicksVictim}
-use Rattle.core_state.specs.CoreValue.{CoreValue, seen, seen_site}
+use Rattle.core_state.specs.CoreValue.{CoreValue, seen_core, seen_site}
 use Rattle.core_state.specs.Devices.{CopyBlock, LeaveBlock, StillHold}
 use Rattle.core_state.specs.Pins.{candidates, task_at}
 use Rattle.core_state.specs.WorkEvents.{WithTask, TaskDoes, WorkDoes}
@@ -26,7 +26,7 @@ use Rattle.work_events.proofs.RuleFacts.{task_for}
 
 -- a copy that failed
 pub uncopied_does : {S C : Type 0} (g : Ghosts S) (may : List Candidate → ℕ → Type 0) (v w : CoreValue S C) (n : ℕ) (old : Task) (t : Transfer) (answer : WorkAnswer)
-    → answer ≡ Did kind.Copy → task_at v.tasks n ≡ Some old → LeaveBlock g.tells t (seen g v).site (seen g w).site
+    → answer ≡ Did kind.Copy → task_at v.tasks n ≡ Some old → LeaveBlock g.tells t (seen_core g v).site (seen_core g w).site
     → w ≡ record v {
       site = w.site;
       moving = slice_set v.moving old.frame false;
@@ -34,11 +34,11 @@ pub uncopied_does : {S C : Type 0} (g : Ghosts S) (may : List Candidate → ℕ 
       tasks = slice_set v.tasks n None;
       events = v.events ++ Work n ∷ [];
     }
-    → WorkDoes g.tells may (seen g v) n (Copies t) answer (seen g w)
+    → WorkDoes g.tells may (seen_core g v) n (Copies t) answer (seen_core g w)
 uncopied_does {S} {C} g may v w n old t answer is at leaves path =
-    subst (λ (a : WorkAnswer). WorkDoes g.tells may (seen g v) n (Copies t) a (seen g w)) (sym is)
-    (subst (λ (o : Option Task). WithTask o (λ task. TaskDoes g.tells (seen g v) n (Copies t) task (Did kind.Copy) (seen g w))) (sym at)
-    (refl, inr (leaves, ap (λ (z : CoreValue S C). seen g z) path)))
+    subst (λ (a : WorkAnswer). WorkDoes g.tells may (seen_core g v) n (Copies t) a (seen_core g w)) (sym is)
+    (subst (λ (o : Option Task). WithTask o (λ task. TaskDoes g.tells (seen_core g v) n (Copies t) task (Did kind.Copy) (seen_core g w))) (sym at)
+    (refl, inr (leaves, ap (λ (z : CoreValue S C). seen_core g z) path)))
 
 -- ---- a copy that is done
 
@@ -51,11 +51,11 @@ copied v n old t x = record v {
 
 pub copied_does : {S C : Type 0} (g : Ghosts S) (may : List Candidate → ℕ → Type 0) (v w : CoreValue S C) (n : ℕ) (old : Task) (t : Transfer) (x : S) (answer : WorkAnswer)
     → answer ≡ Did kind.Copy → task_at v.tasks n ≡ Some old → CopyBlock g.tells t (seen_site g v.site) (seen_site g x) → w ≡ copied v n old t x
-    → WorkDoes g.tells may (seen g v) n (Copies t) answer (seen g w)
+    → WorkDoes g.tells may (seen_core g v) n (Copies t) answer (seen_core g w)
 copied_does {S} {C} g may v w n old t x answer is at leaves path =
-    subst (λ (a : WorkAnswer). WorkDoes g.tells may (seen g v) n (Copies t) a (seen g w)) (sym is)
-    (subst (λ (z : CoreValue S C). WorkDoes g.tells may (seen g v) n (Copies t) (Did kind.Copy) (seen g z)) (sym path)
-    (subst (λ (o : Option Task). WithTask o (λ task. TaskDoes g.tells (seen g v) n (Copies t) task (Did kind.Copy) (seen g (copied v n old t x)))) (sym at)
+    subst (λ (a : WorkAnswer). WorkDoes g.tells may (seen_core g v) n (Copies t) a (seen_core g w)) (sym is)
+    (subst (λ (z : CoreValue S C). WorkDoes g.tells may (seen_core g v) n (Copies t) (Did kind.Copy) (seen_core g z)) (sym path)
+    (subst (λ (o : Option Task). WithTask o (λ task. TaskDoes g.tells (seen_core g v) n (Copies t) task (Did kind.Copy) (seen_core g (copied v n old t x)))) (sym at)
     (refl, inl (leaves, refl))))
 
 -- ---- an event that writes nothing
@@ -72,9 +72,9 @@ pub gives_back_does : {S C : Type 0} (g : Ghosts S) (may : List Candidate → �
       rail = moved_from_to (recorder_place n) (cell_place cartridge) v.rail;
       events = v.events ++ Work n ∷ [];
     }
-    → WorkDoes g.tells may (seen g v) n (GivesBack cartridge) answer (seen g w)
+    → WorkDoes g.tells may (seen_core g v) n (GivesBack cartridge) answer (seen_core g w)
 gives_back_does {S} {C} g may v w n cartridge answer is same path =
-    subst (λ (a : WorkAnswer). WorkDoes g.tells may (seen g v) n (GivesBack cartridge) a (seen g w)) (sym is) (still g v w same, refl, ap (λ (z : CoreValue S C). seen g z) path)
+    subst (λ (a : WorkAnswer). WorkDoes g.tells may (seen_core g v) n (GivesBack cartridge) a (seen_core g w)) (sym is) (still g v w same, refl, ap (λ (z : CoreValue S C). seen_core g z) path)
 
 -- a recorder gets one
 pub fetches_does : {S C : Type 0} (g : Ghosts S) (may : List Candidate → ℕ → Type 0) (v w : CoreValue S C) (n cartridge : ℕ) (answer : WorkAnswer) → answer ≡ Did kind.Fetch → w.site ≡ v.site
@@ -85,9 +85,9 @@ pub fetches_does : {S C : Type 0} (g : Ghosts S) (may : List Candidate → ℕ �
       rail = moved_from_to (cell_place cartridge) (recorder_place n) v.rail;
       events = v.events ++ Work n ∷ [];
     }
-    → WorkDoes g.tells may (seen g v) n (Fetches cartridge) answer (seen g w)
+    → WorkDoes g.tells may (seen_core g v) n (Fetches cartridge) answer (seen_core g w)
 fetches_does {S} {C} g may v w n cartridge answer is same path =
-    subst (λ (a : WorkAnswer). WorkDoes g.tells may (seen g v) n (Fetches cartridge) a (seen g w)) (sym is) (still g v w same, refl, ap (λ (z : CoreValue S C). seen g z) path)
+    subst (λ (a : WorkAnswer). WorkDoes g.tells may (seen_core g v) n (Fetches cartridge) a (seen_core g w)) (sym is) (still g v w same, refl, ap (λ (z : CoreValue S C). seen_core g z) path)
 
 -- the core of which a recorder took a host's request
 abbrev pub taken : {S C : Type 0} → CoreValue S C → S → ℕ → ℕ → ℕ → Option (ℕ × ℕ) → CoreValue S C
@@ -100,15 +100,15 @@ taken v x n h frame victim = record v {
 }
 
 pub picks_does : {S C : Type 0} (g : Ghosts S) (may : List Candidate → ℕ → Type 0) (v w : CoreValue S C) (n h frame : ℕ) (answer : WorkAnswer) → answer ≡ Did kind.Pick → w.site ≡ v.site
-    → w ≡ taken v w.site n h frame None → WorkDoes g.tells may (seen g v) n (Picks h frame) answer (seen g w)
+    → w ≡ taken v w.site n h frame None → WorkDoes g.tells may (seen_core g v) n (Picks h frame) answer (seen_core g w)
 picks_does {S} {C} g may v w n h frame answer is same path =
-    subst (λ (a : WorkAnswer). WorkDoes g.tells may (seen g v) n (Picks h frame) a (seen g w)) (sym is) (still g v w same, refl, ap (λ (z : CoreValue S C). seen g z) path)
+    subst (λ (a : WorkAnswer). WorkDoes g.tells may (seen_core g v) n (Picks h frame) a (seen_core g w)) (sym is) (still g v w same, refl, ap (λ (z : CoreValue S C). seen_core g z) path)
 
 pub picks_victim_does : {S C : Type 0} (g : Ghosts S) (may : List Candidate → ℕ → Type 0) (v w : CoreValue S C) (n h place : ℕ) (c : Candidate) (answer : WorkAnswer)
     → may (candidates v) place → slice_get (candidates v) place ≡ Some c → answer ≡ Did kind.Pick → w.site ≡ v.site
-    → w ≡ taken v w.site n h c.frame (Some (c.volume, c.page)) → WorkDoes g.tells may (seen g v) n (PicksVictim h) answer (seen g w)
+    → w ≡ taken v w.site n h c.frame (Some (c.volume, c.page)) → WorkDoes g.tells may (seen_core g v) n (PicksVictim h) answer (seen_core g w)
 picks_victim_does {S} {C} g may v w n h place c answer may_ at is same path =
-    subst (λ (a : WorkAnswer). WorkDoes g.tells may (seen g v) n (PicksVictim h) a (seen g w)) (sym is) (place, c, may_, at, (still g v w same, refl, ap (λ (z : CoreValue S C). seen g z) path))
+    subst (λ (a : WorkAnswer). WorkDoes g.tells may (seen_core g v) n (PicksVictim h) a (seen_core g w)) (sym is) (place, c, may_, at, (still g v w same, refl, ap (λ (z : CoreValue S C). seen_core g z) path))
 
 -- a task is given up, and its request waits again
 pub abandons_does : {S C : Type 0} (g : Ghosts S) (may : List Candidate → ℕ → Type 0) (v w : CoreValue S C) (n : ℕ) (old : Task) (answer : WorkAnswer) → answer ≡ Did kind.Abandon → task_at v.tasks n ≡ Some old
@@ -120,8 +120,8 @@ pub abandons_does : {S C : Type 0} (g : Ghosts S) (may : List Candidate → ℕ 
       tasks = slice_set v.tasks n None;
       events = v.events ++ Work n ∷ [];
     }
-    → WorkDoes g.tells may (seen g v) n Abandons answer (seen g w)
+    → WorkDoes g.tells may (seen_core g v) n Abandons answer (seen_core g w)
 abandons_does {S} {C} g may v w n old answer is at same path =
-    subst (λ (a : WorkAnswer). WorkDoes g.tells may (seen g v) n Abandons a (seen g w)) (sym is)
-    (subst (λ (o : Option Task). WithTask o (λ task. TaskDoes g.tells (seen g v) n Abandons task (Did kind.Abandon) (seen g w))) (sym at)
-    (still g v w same, refl, ap (λ (z : CoreValue S C). seen g z) path))
+    subst (λ (a : WorkAnswer). WorkDoes g.tells may (seen_core g v) n Abandons a (seen_core g w)) (sym is)
+    (subst (λ (o : Option Task). WithTask o (λ task. TaskDoes g.tells (seen_core g v) n Abandons task (Did kind.Abandon) (seen_core g w))) (sym at)
+    (still g v w same, refl, ap (λ (z : CoreValue S C). seen_core g z) path))

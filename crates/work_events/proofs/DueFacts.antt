@@ -5,7 +5,7 @@ use Rattle.std.specs.Option.{ForSome, option_map, option_and_then, unwrap_or}
 use Rattle.std.specs.List.{range_with_len}
 use Rattle.std.proofs.lemmas.Bool.{and_parts, eqb-true, ltb-true}
 use Rattle.std.proofs.lemmas.List.FromFn.{length-range_with_len, get_or-range_with_len}
-use Rattle.volume_table.specs.Listed.{listed}
+use Rattle.volume_table.specs.Listed.{row_in_list}
 use Rattle.volume_table.specs.Row.{RowValue, frame_of, state_of, cartridge_with}
 use Rattle.shown_volumes.specs.Sound.{frame_in}
 use Rattle.fault_queue.specs.declared.queue.Request.{Request}
@@ -87,30 +87,30 @@ next_by v task (Some page) = destaging v.rows task.frame page
 next_by v task None = option_and_then (staging v.rows task.frame) (request_of v.requests task.host)
 
 module _ {S C : Type 0} (v : CoreValue S C) (core : IsCore v) (n : ℕ) (task : Task) (at : task_at v.tasks n ≡ Some task) where
-  abbrev pub own : IsTask v.config.frames (listed v.rows) v.moving v.requests v.hosts task
+  abbrev pub own : IsTask v.config.frames (row_in_list v.rows) v.moving v.requests v.hosts task
   own = core.tasks_.each n task at
 
   abbrev IsDueOwn : Transfer → Type 0
-  IsDueOwn u = IsTransfer (listed v.rows) task.frame task.victim own.request u
+  IsDueOwn u = IsTransfer (row_in_list v.rows) task.frame task.victim own.request u
 
-  has_frame : (victim : Option (ℕ × ℕ)) → task.victim ≡ victim → HasFrame (listed v.rows) task.frame victim own.request.volume (own.request.cylinder / 8)
-  has_frame victim is = subst (λ (o : Option (ℕ × ℕ)). HasFrame (listed v.rows) task.frame o own.request.volume (own.request.cylinder / 8)) is own.frame_
+  has_frame : (victim : Option (ℕ × ℕ)) → task.victim ≡ victim → HasFrame (row_in_list v.rows) task.frame victim own.request.volume (own.request.cylinder / 8)
+  has_frame victim is = subst (λ (o : Option (ℕ × ℕ)). HasFrame (row_in_list v.rows) task.frame o own.request.volume (own.request.cylinder / 8)) is own.frame_
 
-  cartridge_is : (volume y : ℕ) (r : RowValue) → listed v.rows volume ≡ Some r → cartridge_of v.rows volume y ≡ cartridge_with r y
+  cartridge_is : (volume y : ℕ) (r : RowValue) → row_in_list v.rows volume ≡ Some r → cartridge_of v.rows volume y ≡ cartridge_with r y
   cartridge_is volume y r there = ap (λ (o : Option RowValue). unwrap_or (option_map (λ k. cartridge_with k y) o) 0) there
 
   -- the destaging of a victim's changed cylinder
   begins_destage : (page : ℕ × ℕ) → task.victim ≡ Some page → (y : ℕ) → slice_get (changed_in v.rows page) 0 ≡ Some y → IsDueOwn (transfer v.rows Destage page.0 y task.frame)
   begins_destage page is y found =
       let facts = first_changed v.rows page y found in
-      let row = row_of_four (listed v.rows page.0) y facts.2 in
+      let row = row_of_four (row_in_list v.rows page.0) y facts.2 in
       let has = has_frame (Some page) is in
       record {
         row = row.0;
         there = row.1;
         due = record {
           cylinder_in = facts.1;
-          frame_ = sym (ap (λ (o : Option RowValue). option_and_then (λ k. frame_of k (y / 8)) o) row.1) ∙ ap (frame_in (listed v.rows) page.0) facts.0 ∙ has.0;
+          frame_ = sym (ap (λ (o : Option RowValue). option_and_then (λ k. frame_of k (y / 8)) o) row.1) ∙ ap (frame_in (row_in_list v.rows) page.0) facts.0 ∙ has.0;
           cartridge_ = cartridge_is page.0 y row.0 row.1;
           state = row.2;
         };
@@ -120,14 +120,14 @@ module _ {S C : Type 0} (v : CoreValue S C) (core : IsCore v) (n : ℕ) (task : 
       }
 
   -- the staging of the cylinder that is asked for, once its page has a frame
-  begins_stage : task.victim ≡ None → own.request.cylinder < 404 → (f : ℕ) → frame_in (listed v.rows) own.request.volume (page_of own.request.cylinder) ≡ Some f
+  begins_stage : task.victim ≡ None → own.request.cylinder < 404 → (f : ℕ) → frame_in (row_in_list v.rows) own.request.volume (page_of own.request.cylinder) ≡ Some f
       → IsDueOwn (transfer v.rows (staging_kind (state_in v.rows own.request.volume own.request.cylinder)) own.request.volume own.request.cylinder task.frame)
   begins_stage none low f found =
       let q = own.request in
-      let row = row_of_frame (listed v.rows own.request.volume) (own.request.cylinder / 8) f found in
+      let row = row_of_frame (row_in_list v.rows own.request.volume) (own.request.cylinder / 8) f found in
       let state : state_in v.rows own.request.volume own.request.cylinder ≡ state_of row.0 own.request.cylinder = ap (λ (o : Option RowValue). state_of_row o own.request.cylinder) row.1 in
       let waits : state_of row.0 own.request.cylinder < 2 = own.waits row.0 row.1 in
-      let has : frame_in (listed v.rows) own.request.volume (own.request.cylinder / 8) ≡ Some task.frame = elim (has_frame None none) [
+      let has : frame_in (row_in_list v.rows) own.request.volume (own.request.cylinder / 8) ≡ Some task.frame = elim (has_frame None none) [
         | inl there ↦ there
         | inr loose ↦ absurd (none_some f (sym loose.0 ∙ found))
       ] in
@@ -152,24 +152,24 @@ module _ {S C : Type 0} (v : CoreValue S C) (core : IsCore v) (n : ℕ) (task : 
       by (Some page) is = mapped_at IsDueOwn (λ y. transfer v.rows Destage page.0 y task.frame) (slice_get (changed_in v.rows page) 0) (λ y found. begins_destage page is y found)
       by None is =
           subst (λ (o : Option Request). ForSome (option_and_then (staging v.rows task.frame) o) IsDueOwn) (sym own.asked)
-          (mapped_at IsDueOwn (λ (_ : ℕ). transfer v.rows (staging_kind (state_in v.rows own.request.volume own.request.cylinder)) own.request.volume own.request.cylinder task.frame) (frame_in (listed v.rows) own.request.volume (page_of own.request.cylinder)) (λ f found. begins_stage is low f found))
+          (mapped_at IsDueOwn (λ (_ : ℕ). transfer v.rows (staging_kind (state_in v.rows own.request.volume own.request.cylinder)) own.request.volume own.request.cylinder task.frame) (frame_in (row_in_list v.rows) own.request.volume (page_of own.request.cylinder)) (λ f found. begins_stage is low f found))
 
   -- the transfer is due, be it the task's or one that begins
-  pub is_due : own.request.cylinder < 404 → (u : Transfer) → transfer_of v task ≡ Some u → IsTransfer (listed v.rows) task.frame task.victim own.request u
+  pub is_due : own.request.cylinder < 404 → (u : Transfer) → transfer_of v task ≡ Some u → IsTransfer (row_in_list v.rows) task.frame task.victim own.request u
   is_due low u of = either IsDueOwn task.transfer (next_transfer v.rows v.requests task) own.transfer_ (begins low) u of
 
   abbrev IsDueOf : Transfer → Type 0
-  IsDueOf t = t.kind ≡ Destage → IsTransfer (listed v.rows) task.frame task.victim own.request t
+  IsDueOf t = t.kind ≡ Destage → IsTransfer (row_in_list v.rows) task.frame task.victim own.request t
 
   -- so is one that destages, whatever is asked for
-  pub is_due_destage : (u : Transfer) → u.kind ≡ Destage → transfer_of v task ≡ Some u → IsTransfer (listed v.rows) task.frame task.victim own.request u
+  pub is_due_destage : (u : Transfer) → u.kind ≡ Destage → transfer_of v task ≡ Some u → IsTransfer (row_in_list v.rows) task.frame task.victim own.request u
   is_due_destage u kind of = either IsDueOf task.transfer (next_transfer v.rows v.requests task) (λ t is _. own.transfer_ t is) (by task.victim refl) u of kind
     where
       by : (victim : Option (ℕ × ℕ)) → task.victim ≡ victim → ForSome (next_by v task victim) IsDueOf
       by (Some page) is = mapped_at IsDueOf (λ y. transfer v.rows Destage page.0 y task.frame) (slice_get (changed_in v.rows page) 0) (λ y found _. begins_destage page is y found)
       by None is =
           chained IsDueOf (staging v.rows task.frame) (request_of v.requests task.host)
-          (λ q. mapped IsDueOf (λ (_ : ℕ). transfer v.rows (staging_kind (state_in v.rows q.volume q.cylinder)) q.volume q.cylinder task.frame) (frame_in (listed v.rows) q.volume (page_of q.cylinder))
+          (λ q. mapped IsDueOf (λ (_ : ℕ). transfer v.rows (staging_kind (state_in v.rows q.volume q.cylinder)) q.volume q.cylinder task.frame) (frame_in (row_in_list v.rows) q.volume (page_of q.cylinder))
           (λ f staged. absurd (no_destage (staging_kind (state_in v.rows q.volume q.cylinder)) (kinds (state_in v.rows q.volume q.cylinder)) staged)))
 
   -- ---- what is known of one that begins without a look at the request
@@ -184,7 +184,7 @@ module _ {S C : Type 0} (v : CoreValue S C) (core : IsCore v) (n : ℕ) (task : 
       by (Some page) = mapped IsNew (λ y. transfer v.rows Destage page.0 y task.frame) (slice_get (changed_in v.rows page) 0) (λ y. (refl, refl))
       by None =
           chained IsNew (staging v.rows task.frame) (request_of v.requests task.host)
-          (λ q. mapped IsNew (λ (_ : ℕ). transfer v.rows (staging_kind (state_in v.rows q.volume q.cylinder)) q.volume q.cylinder task.frame) (frame_in (listed v.rows) q.volume (page_of q.cylinder)) (λ f. (refl, refl)))
+          (λ q. mapped IsNew (λ (_ : ℕ). transfer v.rows (staging_kind (state_in v.rows q.volume q.cylinder)) q.volume q.cylinder task.frame) (frame_in (row_in_list v.rows) q.volume (page_of q.cylinder)) (λ f. (refl, refl)))
 
   -- it is the task's, or no track is copied
   pub is_begun : (u : Transfer) → transfer_of v task ≡ Some u → (task.transfer ≡ Some u) ⊎ (u.next ≡ 0)
@@ -199,7 +199,7 @@ module _ {S C : Type 0} (v : CoreValue S C) (core : IsCore v) (n : ℕ) (task : 
       by false = (each r refl).1
 
   cartridge_below : (volume y : ℕ) → cartridge_of v.rows volume y < 2048
-  cartridge_below volume y = half (listed v.rows volume) y (λ r there. let row = core.are_rows volume r there in (row.first, row.second))
+  cartridge_below volume y = half (row_in_list v.rows volume) y (λ r there. let row = core.are_rows volume r there in (row.first, row.second))
 
   -- its cartridge is there
   pub is_known : (u : Transfer) → transfer_of v task ≡ Some u → u.cartridge < CARTRIDGES

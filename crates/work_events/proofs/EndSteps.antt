@@ -5,7 +5,7 @@ use Rattle.mss_base.specs.Content.{Content, SiteLog, Got, content, synced, unsyn
 use Rattle.mss_base.specs.Counts.{Rises}
 use Rattle.mss_base.specs.Sites.{MayWrite}
 use Rattle.mss_base.specs.declared.site.Site.{Ghosts}
-use Rattle.volume_table.specs.Listed.{listed}
+use Rattle.volume_table.specs.Listed.{row_in_list}
 use Rattle.shown_volumes.proofs.QuietFacts.{sync_moments, sync_quiet, sync_same}
 use Rattle.fault_queue.specs.declared.queue.Request.{Request}
 use Rattle.transfers.specs.Copies.{AreFirm, target_unit}
@@ -17,7 +17,7 @@ use Rattle.core_state.specs.declared.rule.WorkAnswer.{WorkAnswer}
 use Rattle.core_state.specs.declared.rule.WorkAnswer.TheVariants.{Did}
 use Rattle.core_state.specs.declared.rule.WorkKind.TheVariants as kind
 use Rattle.core_state.specs.declared.rule.WorkRule.TheVariants.{Ends}
-use Rattle.core_state.specs.CoreValue.{CoreValue, seen, seen_site}
+use Rattle.core_state.specs.CoreValue.{CoreValue, seen_core, seen_site}
 use Rattle.core_state.specs.Devices.{FailSync, SyncUnit}
 use Rattle.core_state.specs.Pins.{task_at}
 use Rattle.core_state.specs.Served.{IsServed}
@@ -78,7 +78,7 @@ module _ {S C : Type 0} (g : Ghosts S) {inside v : CoreValue S C} {site : S} {se
           moments = sync_moments v.config.frames (g.told v.site) (g.told x) (target_unit t) quiet (sound_now S g.tells (g.told v.site) v has.kept.whole open_ tl) (inr (loose_since.told tl));
           tables = λ unit block table. ap (λ (c : Content). c unit block) same;
           quiet = sync_quiet (g.told v.site) (g.told x) (target_unit t) quiet (inr (loose_since.told tl));
-          others = λ m task other at. subst (λ (c : Content). IsServed c (listed v.rows) task) (sym same) (served_now S g.tells (g.told v.site) v has.kept.whole open_ tl m task at);
+          others = λ m task other at. subst (λ (c : Content). IsServed c (row_in_list v.rows) task) (sym same) (served_now S g.tells (g.told v.site) v has.kept.whole open_ tl m task at);
         }
 
     -- the task ends
@@ -117,8 +117,8 @@ is_synced g {v = v} has open_ n task q serves t x result ok firm =
 
 pub unsynced_does : {S C : Type 0} (g : Ghosts S) (may : List Candidate → ℕ → Type 0) (v w : CoreValue S C) (n : ℕ) (old : Task) (t : Transfer) (answer : WorkAnswer)
     → answer ≡ Did kind.End → task_at v.tasks n ≡ Some old → FailSync g.tells (seen_site g v.site) (seen_site g w.site) → w ≡ failed v n old w.site (g.faults w.site)
-    → WorkDoes g.tells may (seen g v) n (Ends t) answer (seen g w)
+    → WorkDoes g.tells may (seen_core g v) n (Ends t) answer (seen_core g w)
 unsynced_does {S} {C} g may v w n old t answer is at loose path =
-    subst (λ (a : WorkAnswer). WorkDoes g.tells may (seen g v) n (Ends t) a (seen g w)) (sym is)
-    (subst (λ (o : Option Task). WithTask o (λ task. TaskDoes g.tells (seen g v) n (Ends t) task (Did kind.End) (seen g w))) (sym at)
-    (inr (loose, refl, ap (λ (z : CoreValue S C). seen g z) path)))
+    subst (λ (a : WorkAnswer). WorkDoes g.tells may (seen_core g v) n (Ends t) a (seen_core g w)) (sym is)
+    (subst (λ (o : Option Task). WithTask o (λ task. TaskDoes g.tells (seen_core g v) n (Ends t) task (Did kind.End) (seen_core g w))) (sym at)
+    (inr (loose, refl, ap (λ (z : CoreValue S C). seen_core g z) path)))

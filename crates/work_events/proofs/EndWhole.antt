@@ -2,7 +2,7 @@
 use Rattle.std.proofs.Common.{◌≡◌, ◌≢◌, ℕ, List, [], ◌∷◌, ◌++◌, Option, None, refl, sym, ◌∙◌, ap, subst}
 use Rattle.mss_base.specs.declared.site.Site.{Ghosts}
 use Rattle.volume_table.specs.Row.{RowValue}
-use Rattle.volume_table.specs.Listed.{listed, with_changed}
+use Rattle.volume_table.specs.Listed.{row_in_list, with_changed}
 use Rattle.volume_table.specs.declared.changes.Change.{Change}
 use Rattle.table_pair.specs.declared.copy.SlotsUsed.{SlotsUsed}
 use Rattle.table_pair.specs.Slots.{with_used_after}
@@ -20,7 +20,7 @@ use Rattle.core_state.specs.declared.rule.WorkKind.TheVariants as work
 use Rattle.core_state.specs.declared.rule.WorkRule.TheVariants.{Ends}
 use Rattle.core_state.specs.declared.session.Event.TheVariants.{Work}
 use Rattle.core_state.specs.Agrees.{message_of}
-use Rattle.core_state.specs.CoreValue.{CoreValue, seen}
+use Rattle.core_state.specs.CoreValue.{CoreValue, seen_core}
 use Rattle.core_state.specs.SessionData.{SessionData, data_of, of_parts, with_last_event, with_last_message}
 use Rattle.core_state.specs.WorkEvents.{WorkDoes}
 use Rattle.work_events.specs.Leaving.{TaskParts, left_by}
@@ -42,7 +42,7 @@ ended v n old t kind x mark = record v {
   site = x;
   rows = with_changed t.volume (change_by kind t.cylinder) v.rows;
   used = with_used_after t.volume v.used;
-  console = v.console ++ message_of mark t.volume (change_by kind t.cylinder) (listed v.rows) ∷ [];
+  console = v.console ++ message_of mark t.volume (change_by kind t.cylinder) (row_in_list v.rows) ∷ [];
   owners = (left_by kind n old (parts_of v)).frames.owners;
   moving = (left_by kind n old (parts_of v)).frames.moving;
   requests = (left_by kind n old (parts_of v)).requests;
@@ -92,7 +92,7 @@ module _ {S C : Type 0} (g : Ghosts S) {inside v : CoreValue S C} {session : Ses
 
     left_is : left ≡ ended v n old t t.kind x (g.writes x)
     left_is =
-        let now_told : after ≡ with_last_event (Work n) (with_last_message (message_of (g.writes x) t.volume (change_of t) (listed v.rows)) (data_of v)) = noted ∙ ap (with_last_event (Work n)) changed.told in
+        let now_told : after ≡ with_last_event (Work n) (with_last_message (message_of (g.writes x) t.volume (change_of t) (row_in_list v.rows)) (data_of v)) = noted ∙ ap (with_last_event (Work n)) changed.told in
         λ i. record (of_parts (behind.has.is i) x (changed.rows_ i) (parts_ i).frames.owners (parts_ i).frames.moving (parts_ i).requests (parts_ i).tasks (behind.has.is i).hosts (now_told i)) { used = changed.used_ i }
 
     kept_by : (k : TransferKind) → MayEnd v k old t → IsDone g.tells (g.told y) (record v { site = y }) t.volume (change_by k t.cylinder) (g.told x) (g.writes x)
@@ -108,25 +108,25 @@ module _ {S C : Type 0} (g : Ghosts S) {inside v : CoreValue S C} {session : Ses
     kept_end = kept_as g x (ended v n old t t.kind x (g.writes x)) left (kept_by t.kind may changed.done_) left_is
 
     does_by : (choices : List Candidate → ℕ → Type 0) (answer : WorkAnswer) → answer ≡ Did work.End → (k : TransferKind) → t.kind ≡ k → HaveChanged g (record v { site = y }) t.volume (change_by k t.cylinder) x
-        → left ≡ ended v n old t k x (g.writes x) → WorkDoes g.tells choices (seen g v) n (Ends t) answer (seen g left)
+        → left ≡ ended v n old t k x (g.writes x) → WorkDoes g.tells choices (seen_core g v) n (Ends t) answer (seen_core g left)
     does_by choices answer told_ StageBlank kind have path = staged_does g choices v left n old t answer (blank_stages t kind) told_ behind.serves.at y behind.since have path
     does_by choices answer told_ StageCartridge kind have path = staged_does g choices v left n old t answer (cartridge_stages t kind) told_ behind.serves.at y behind.since have path
     does_by choices answer told_ Destage kind have path = destaged_does g choices v left n old t answer kind told_ behind.serves.at y behind.since have path
 
-    pub end_does : (choices : List Candidate → ℕ → Type 0) (answer : WorkAnswer) → answer ≡ Did work.End → WorkDoes g.tells choices (seen g v) n (Ends t) answer (seen g left)
+    pub end_does : (choices : List Candidate → ℕ → Type 0) (answer : WorkAnswer) → answer ≡ Did work.End → WorkDoes g.tells choices (seen_core g v) n (Ends t) answer (seen_core g left)
     end_does choices answer told_ = does_by choices answer told_ t.kind refl changed.have left_is
 
   -- ---- the row isn't written
 
   stops_by : (choices : List Candidate → ℕ → Type 0) (w : CoreValue S C) (answer : WorkAnswer) → answer ≡ Stopped (g.faults w.site) → (k : TransferKind) → t.kind ≡ k
       → FailsChange g (record v { site = y }) t.volume (change_by k t.cylinder) w.site → w ≡ with_row_stopped v n t.volume (change_by k t.cylinder) w.site (g.faults w.site)
-      → WorkDoes g.tells choices (seen g v) n (Ends t) answer (seen g w)
+      → WorkDoes g.tells choices (seen_core g v) n (Ends t) answer (seen_core g w)
   stops_by choices w answer told_ StageBlank kind fails path = unstaged_does g choices v w n old t answer (blank_stages t kind) told_ behind.serves.at y behind.since fails path
   stops_by choices w answer told_ StageCartridge kind fails path = unstaged_does g choices v w n old t answer (cartridge_stages t kind) told_ behind.serves.at y behind.since fails path
   stops_by choices w answer told_ Destage kind fails path = undestaged_does g choices v w n old t answer kind told_ behind.serves.at y behind.since fails path
 
   pub end_stops : (choices : List Candidate → ℕ → Type 0) (w : CoreValue S C) (answer : WorkAnswer) → answer ≡ Stopped (g.faults w.site)
-      → FailsChange g (record v { site = y }) t.volume change w.site → w ≡ with_row_stopped v n t.volume change w.site (g.faults w.site) → WorkDoes g.tells choices (seen g v) n (Ends t) answer (seen g w)
+      → FailsChange g (record v { site = y }) t.volume change w.site → w ≡ with_row_stopped v n t.volume change w.site (g.faults w.site) → WorkDoes g.tells choices (seen_core g v) n (Ends t) answer (seen_core g w)
   end_stops choices w answer told_ fails path =
       stops_by choices w answer told_ t.kind refl (subst (λ (ch : Change). FailsChange g (record v { site = y }) t.volume ch w.site) is fails)
       (path ∙ ap (λ (ch : Change). with_row_stopped v n t.volume ch w.site (g.faults w.site)) is)

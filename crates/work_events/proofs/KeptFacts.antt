@@ -7,7 +7,7 @@ use Rattle.std.proofs.lemmas.List.Sorted.{length_permutation}
 use Rattle.std.proofs.lemmas.List.FromFn.{length-range_with_len}
 use Rattle.cartridge_store.specs.declared.store.Place.{Place}
 use Rattle.accessors.specs.Rails.{RailData}
-use Rattle.victim_choice.specs.Order.{touched, IsOrderOf}
+use Rattle.victim_choice.specs.Order.{order_after, IsOrderOf}
 use Rattle.core_state.specs.declared.session.Event.{Event}
 use Rattle.core_state.specs.Beside.{IsBeside}
 use Rattle.core_state.specs.CoreValue.{CoreValue}
@@ -41,9 +41,9 @@ kept_beside tells site writes faults v recency recorders store rail events kept 
 
 -- a frame is touched
 pub kept_touched : {S C : Type 0} (tells : Type 0) (site : SiteLog) (writes faults : ℕ) (v : CoreValue S C) (frame : ℕ) → frame < v.config.frames
-    → IsKept tells site writes faults v → IsKept tells site writes faults (record v { recency = touched frame v.recency })
+    → IsKept tells site writes faults v → IsKept tells site writes faults (record v { recency = order_after frame v.recency })
 kept_touched tells site writes faults v frame below kept =
-    kept_beside tells site writes faults v (touched frame v.recency) v.recorders v.store v.rail v.events kept kept.whole.shaped.recorders_
+    kept_beside tells site writes faults v (order_after frame v.recency) v.recorders v.store v.rail v.events kept kept.whole.shaped.recorders_
     (λ none. beside_touched v.config.frames v.config.recorders v.recency v.recorders v.store frame below (kept.whole.kept none).beside)
 
 -- a frame stands in the order of touch

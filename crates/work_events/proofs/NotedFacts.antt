@@ -2,7 +2,7 @@
 use Rattle.std.proofs.Common.{◌≡◌, ◌≢◌, ◌⊎◌, inl, inr, false, ℕ, ◌+◌, ◌<◌, List, [], ◌∷◌, ◌++◌, length, Option, Some, None, refl, sym, ◌∙◌, ap, arith, length-append, get_or-set_same}
 use Rattle.std.specs.Prelude.{slice_set}
 use Rattle.mss_base.specs.Firsts.{◌or◌}
-use Rattle.volume_table.specs.Listed.{listed}
+use Rattle.volume_table.specs.Listed.{row_in_list}
 use Rattle.volume_table.specs.declared.changes.Change.{Change}
 use Rattle.volume_table.specs.declared.changes.Change.TheVariants as change
 use Rattle.fault_queue.specs.declared.queue.Request.{Request}
@@ -27,7 +27,7 @@ use Rattle.core_state.specs.Beside.{held_at}
 use Rattle.core_state.specs.CoreValue.{CoreData, DevicesSeen}
 use Rattle.core_state.specs.HostEvents.{IsSame}
 use Rattle.core_state.specs.Pins.{task_at}
-use Rattle.core_state.specs.Steps.{noted, with_row, with_change, most_recent, with_owner, with_task, picked, task_ended, given_back, fetched}
+use Rattle.core_state.specs.Steps.{with_event, with_row, with_change, most_recent, with_owner, with_task, with_picked_request, task_ended, given_back, with_fetched_cartridge}
 use Rattle.core_state.specs.WorkEvents.{ChangesThen, CopiesIt, EndsIt, TellsEnd, WithTask, WorkDoes, WorkEvent}
 use Rattle.core_state.specs.WorkRules.{task_of, next_transfer, work_rule}
 use Rattle.core_state.proofs.RuleWalks.{some_is, none_some}
@@ -50,9 +50,9 @@ module _ (core left : CoreData) (n : ℕ) where
   abbrev before : CoreData
   before = record core { site = left.site }
 
-  module _ (after : CoreData) (path : left ≡ noted (Work n) after) (quiet : after.events ≡ core.events) where
+  module _ (after : CoreData) (path : left ≡ with_event (Work n) after) (quiet : after.events ≡ core.events) where
     -- a part of the core has another value than before
-    changed_in : {A : Type 0} (part : CoreData → A) (was now : A) → ((site : DevicesSeen) (events : List Event) → part (record core { site = site; events = events }) ≡ was) → part (noted (Work n) after) ≡ now → now ≢ was → NotesChange core n left
+    changed_in : {A : Type 0} (part : CoreData → A) (was now : A) → ((site : DevicesSeen) (events : List Event) → part (record core { site = site; events = events }) ≡ was) → part (with_event (Work n) after) ≡ now → now ≢ was → NotesChange core n left
     changed_in part was now stood stands apart = record {
       noted = ap (λ (c : CoreData). c.events) path ∙ ap (λ (es : List Event). es ++ Work n ∷ []) quiet;
       changed = λ same. apart (sym stands ∙ sym (ap part path) ∙ ap part same ∙ stood left.site left.events);
@@ -80,7 +80,7 @@ module _ (core left : CoreData) (n : ℕ) where
     -- a row was changed, behind a sync or at once, or the core stopped
     of_changes : (told : WorkAnswer) → ChangesThen tells (record core { site = from }) what n volume change step told left → NotesChange core n left
     of_changes (Did did) does =
-        told_more (step (with_change volume change before)) does.2 (quiet (with_change volume change before)) (message_of left.site.writes volume change (listed core.rows)) (same_console (with_change volume change before))
+        told_more (step (with_change volume change before)) does.2 (quiet (with_change volume change before)) (message_of left.site.writes volume change (row_in_list core.rows)) (same_console (with_change volume change before))
     of_changes (Stopped fault) does =
         changed_in (record (with_row volume change core) { site = left.site; stopped = Some fault }) does.1 refl (λ c. c.stopped) None (Some fault) (λ _ _. going) refl (λ same. none_some fault (sym same))
     of_changes Idle does = absurd does
@@ -131,16 +131,16 @@ module _ (tells : Type 0) (may : List Candidate → ℕ → Type 0) (core : Core
       inr (held_changed core left n (given_back n cartridge (record core { site = left.site })) does.2 refl (Some cartridge) None holds.held (get_or-set_same core.recorders n None None (there holds.going)) (none_some cartridge))
   notes (Fetches cartridge) told rule does =
       let takes = rule_fetches core n is.there is.kept cartridge rule in
-      inr (held_changed core left n (fetched n cartridge (record core { site = left.site })) does.2 refl None (Some cartridge) takes.empty (get_or-set_same core.recorders n (Some cartridge) None (there takes.going)) (λ same. none_some cartridge (sym same)))
+      inr (held_changed core left n (with_fetched_cartridge n cartridge (record core { site = left.site })) does.2 refl None (Some cartridge) takes.empty (get_or-set_same core.recorders n (Some cartridge) None (there takes.going)) (λ same. none_some cartridge (sym same)))
   notes (Picks h frame) told rule does =
       let takes = rule_picks core n is.there is.kept h frame rule in
       let task : Task = record { host = h; frame = frame; victim = None; touched = false; transfer = None } in
-      inr (task_changed core left n (picked n h frame None (record core { site = left.site })) does.2 refl None (Some task) takes.may.idle (task_put core.tasks n (Some task) takes.may.fits) (λ same. none_some task (sym same)))
+      inr (task_changed core left n (with_picked_request n h frame None (record core { site = left.site })) does.2 refl None (Some task) takes.may.idle (task_put core.tasks n (Some task) takes.may.fits) (λ same. none_some task (sym same)))
   notes (PicksVictim h) told rule does =
       let takes = rule_picks_victim core n is.there is.kept h rule in
       let pick = takes.may does.0 does.1 does.3 in
       let task : Task = record { host = h; frame = does.1.frame; victim = Some (does.1.volume, does.1.page); touched = false; transfer = None } in
-      inr (task_changed core left n (picked n h does.1.frame (Some (does.1.volume, does.1.page)) (record core { site = left.site })) does.4.2 refl None (Some task) pick.idle (task_put core.tasks n (Some task) pick.fits) (λ same. none_some task (sym same)))
+      inr (task_changed core left n (with_picked_request n h does.1.frame (Some (does.1.volume, does.1.page)) (record core { site = left.site })) does.4.2 refl None (Some task) pick.idle (task_put core.tasks n (Some task) pick.fits) (λ same. none_some task (sym same)))
   notes Abandons told rule does =
       let says = rule_abandons core n is.there is.kept rule in
       let it = the_task (task_of core n) _ does in

@@ -8,7 +8,7 @@ use Rattle.mss_base.specs.declared.place.UnitNo.TheVariants.{Staging, Cartridge}
 use Rattle.mss_base.proofs.Moments.{started, ended_with, one_write, synced_moments, then_firm, weaker}
 use Rattle.mss_base.proofs.Settling.{settles_none, settles_sync}
 use Rattle.shown_volumes.specs.Shown.{block_at}
-use Rattle.volume_table.specs.Listed.{listed}
+use Rattle.volume_table.specs.Listed.{row_in_list}
 use Rattle.volume_table.specs.Row.{RowValue}
 use Rattle.volume_table.specs.declared.changes.Change.{Change}
 use Rattle.volume_table.specs.declared.changes.Change.TheVariants as change
@@ -33,7 +33,7 @@ use Rattle.core_state.specs.CoreValue.{CoreData, DevicesSeen}
 use Rattle.core_state.specs.Devices.{StillHold}
 use Rattle.core_state.specs.HostEvents.{IsSame}
 use Rattle.core_state.specs.Rows.{Rewrites}
-use Rattle.core_state.specs.Steps.{with_change, most_recent, with_owner, with_task, picked, task_ended, given_back, fetched}
+use Rattle.core_state.specs.Steps.{with_change, most_recent, with_owner, with_task, with_picked_request, task_ended, given_back, with_fetched_cartridge}
 use Rattle.core_state.specs.WorkEvents.{Does, ChangesThen, CopiesIt, EndsIt, TellsEnd, WithTask, WorkDoes}
 use Rattle.core_state.specs.WorkRules.{task_of}
 use Rattle.core_state.proofs.ChangeLemmas.{handed-push}
@@ -118,7 +118,7 @@ row_by (Assigns volume page) = Some volume
 row_by _ = None
 
 abbrev pub HasRowBy : CoreData → WorkRule → Type 0
-HasRowBy core rule = (volume : ℕ) → row_by rule ≡ Some volume → IsSome (listed core.rows volume)
+HasRowBy core rule = (volume : ℕ) → row_by rule ≡ Some volume → IsSome (row_in_list core.rows volume)
 
 -- a track is destaged, or fails to be
 abbrev pub Destages : CoreData → ℕ → WorkRule → CoreData → Type 0
@@ -201,8 +201,8 @@ module _ (tells : Type 0) (may : List Candidate → ℕ → Type 0) (core : Core
 
     -- a row is changed behind a sync, or at once
     module _ (from : DevicesSeen) (since : from.faults ≡ core.site.faults) (leads : tells → Settles core.site.told from.told × Leaves core.site.told from.told) (volume : ℕ) (change : Change) (named : row_by rule ≡ Some volume) (late_change : is_early change ≡ false) where
-      row_there : HasRowBy core rule → (r : RowValue) × (listed core.rows volume ≡ Some r)
-      row_there has = by (listed core.rows volume) (has volume named)
+      row_there : HasRowBy core rule → (r : RowValue) × (row_in_list core.rows volume ≡ Some r)
+      row_there has = by (row_in_list core.rows volume) (has volume named)
         where
           by : (o : Option RowValue) → IsSome o → (r : RowValue) × (o ≡ Some r)
           by None is = absurd (let e : false ≡ true = is in cc)
@@ -314,11 +314,11 @@ module _ (tells : Type 0) (may : List Candidate → ℕ → Type 0) (core : Core
   outcome rule Memory does = of_same rule Memory does does
   outcome IsIdle told does = of_same IsIdle told does.1 (subst (λ (a : WorkAnswer). Answered tells core IsIdle a left) (sym does.0) (refl, does.1))
   outcome (GivesBack cartridge) told does = of_does (GivesBack cartridge) kind.GiveBack (given_back n cartridge) (λ c. kept_all c (given_back n cartridge c) (record { config = refl; first_write = refl; first_faults = refl; handed = λ _. refl }) refl refl refl refl refl (inl refl)) told does
-  outcome (Fetches cartridge) told does = of_does (Fetches cartridge) kind.Fetch (fetched n cartridge) (λ c. kept_all c (fetched n cartridge c) (record { config = refl; first_write = refl; first_faults = refl; handed = λ _. refl }) refl refl refl refl refl (inl refl)) told does
-  outcome (Picks h frame) told does = of_does (Picks h frame) kind.Pick (picked n h frame None) (λ c. kept_all c (picked n h frame None c) (record { config = refl; first_write = refl; first_faults = refl; handed = λ _. refl }) refl refl refl refl refl (inr (h, request.Moving, refl, not_moving))) told does
+  outcome (Fetches cartridge) told does = of_does (Fetches cartridge) kind.Fetch (with_fetched_cartridge n cartridge) (λ c. kept_all c (with_fetched_cartridge n cartridge c) (record { config = refl; first_write = refl; first_faults = refl; handed = λ _. refl }) refl refl refl refl refl (inl refl)) told does
+  outcome (Picks h frame) told does = of_does (Picks h frame) kind.Pick (with_picked_request n h frame None) (λ c. kept_all c (with_picked_request n h frame None c) (record { config = refl; first_write = refl; first_faults = refl; handed = λ _. refl }) refl refl refl refl refl (inr (h, request.Moving, refl, not_moving))) told does
   outcome (PicksVictim h) told does =
-      of_does (PicksVictim h) kind.Pick (picked n h does.1.frame (Some (does.1.volume, does.1.page)))
-      (λ c. kept_all c (picked n h does.1.frame (Some (does.1.volume, does.1.page)) c) (record { config = refl; first_write = refl; first_faults = refl; handed = λ _. refl }) refl refl refl refl refl (inr (h, request.Moving, refl, not_moving))) told does.4
+      of_does (PicksVictim h) kind.Pick (with_picked_request n h does.1.frame (Some (does.1.volume, does.1.page)))
+      (λ c. kept_all c (with_picked_request n h does.1.frame (Some (does.1.volume, does.1.page)) c) (record { config = refl; first_write = refl; first_faults = refl; handed = λ _. refl }) refl refl refl refl refl (inr (h, request.Moving, refl, not_moving))) told does.4
   outcome Abandons told does =
       let it = the_task (task_of core n) _ does in
       of_does Abandons kind.Abandon (task_ended n it.0 request.Queued) (λ c. kept_all c (task_ended n it.0 request.Queued c) (record { config = refl; first_write = refl; first_faults = refl; handed = λ _. refl }) refl refl refl refl refl (inr (it.0.host, request.Queued, refl, not_queued))) told it.1

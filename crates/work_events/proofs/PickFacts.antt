@@ -12,7 +12,7 @@ use Rattle.std.proofs.lemmas.Map.Views.{lookup-from_Contains, Contains-from_look
 use Rattle.std.proofs.lemmas.Option.{slice_get_within, get_or_from_slice_get}
 use Rattle.mss_base.specs.Firsts.{first_below, where_so, ◌or◌}
 use Rattle.mss_base.proofs.FirstFacts.{none_is}
-use Rattle.volume_table.specs.Listed.{listed}
+use Rattle.volume_table.specs.Listed.{row_in_list}
 use Rattle.shown_volumes.specs.Sound.{frame_in}
 use Rattle.ckd_plain.specs.declared.host.HostState.{HostState}
 use Rattle.ckd_plain.specs.Plain.{fresh_host}
@@ -136,7 +136,7 @@ never_held requests page none h r asked ready same =
 module _ {S C : Type 0} (v : CoreValue S C) (core : IsCore v) where
   -- the frame of a candidate is there, its page has it, no host has its volume bound, no Ready request is on the page
   module _ (frame : ℕ) (c : Candidate) (is : IsCandidate v frame c) (below : frame < v.config.frames) where
-    pub candidate_has : frame_in (listed v.rows) c.volume c.page ≡ Some frame
+    pub candidate_has : frame_in (row_in_list v.rows) c.volume c.page ≡ Some frame
     candidate_has = (core.owned frame c.volume c.page below).0 is.owned
 
     pub candidate_unbound : IsUnbound v.hosts c.volume
@@ -168,7 +168,7 @@ module _ {S C : Type 0} (v : CoreValue S C) (core : IsCore v) where
 
   -- ---- a free frame
 
-  pub of_free : (frame : ℕ) → free_frame v ≡ Some frame → (frame < v.config.frames) × (is_moving v frame ≡ false) × IsNowhere (listed v.rows) frame
+  pub of_free : (frame : ℕ) → free_frame v ≡ Some frame → (frame < v.config.frames) × (is_moving v frame ≡ false) × IsNowhere (row_in_list v.rows) frame
   of_free frame is =
       let it = found_below v.config.frames (λ f. where_so (is_free v f) f) frame is in
       let test = tested (is_free v it.0) it.0 frame it.2 in

@@ -6,7 +6,7 @@ use Rattle.mss_base.specs.Sites.{MayWrite}
 use Rattle.mss_base.specs.declared.site.Site.{Ghosts}
 use Rattle.fault_queue.specs.Requests.{request_of}
 use Rattle.fault_queue.specs.declared.queue.Request.{Request}
-use Rattle.core_state.specs.CoreValue.{CoreValue, seen}
+use Rattle.core_state.specs.CoreValue.{CoreValue, seen_core}
 use Rattle.core_state.specs.HostEvents.{IsSame}
 use Rattle.core_state.specs.SessionData.{SessionData, data_of, of_parts}
 use Rattle.work_events.specs.Steps.{FailsNone}
@@ -76,15 +76,15 @@ module _ {S C : Type 0} (g : Ghosts S) {inside v : CoreValue S C} {site : S} {se
   room_going = ap (λ (d : SessionData). d.stopped) has.same
 
   -- nothing of it changed
-  pub room_same : IsSame g.tells (seen g v) (seen g (of_parts inside site inside.rows inside.owners inside.moving inside.requests inside.tasks inside.hosts session))
+  pub room_same : IsSame g.tells (seen_core g v) (seen_core g (of_parts inside site inside.rows inside.owners inside.moving inside.requests inside.tasks inside.hosts session))
   room_same = (
     record { told = has.reserves.log; unwritten = has.reserves.unwritten; sound = has.reserves.same },
-    (λ i. seen g (of_parts (has.is i) site (has.is i).rows (has.is i).owners (has.is i).moving (has.is i).requests (has.is i).tasks (has.is i).hosts (has.same i))),
+    (λ i. seen_core g (of_parts (has.is i) site (has.is i).rows (has.is i).owners (has.is i).moving (has.is i).requests (has.is i).tasks (has.is i).hosts (has.same i))),
   )
 
 -- an event that got no room for what it tells: nothing of it changed
 module _ {S C : Type 0} (g : Ghosts S) {inside v : CoreValue S C} (is : inside ≡ v) (session : SessionData) (same : session ≡ data_of inside) where
-  pub told_same : IsSame g.tells (seen g v) (seen g (of_parts inside inside.site inside.rows inside.owners inside.moving inside.requests inside.tasks inside.hosts session))
+  pub told_same : IsSame g.tells (seen_core g v) (seen_core g (of_parts inside inside.site inside.rows inside.owners inside.moving inside.requests inside.tasks inside.hosts session))
   told_same =
       let told = same ∙ ap (λ (z : CoreValue S C). data_of z) is in (
         record {
@@ -92,7 +92,7 @@ module _ {S C : Type 0} (g : Ghosts S) {inside v : CoreValue S C} (is : inside �
           unwritten = ap (λ (z : CoreValue S C). g.writes z.site) is;
           sound = ap (λ (z : CoreValue S C). g.faults z.site) is;
         },
-        (λ i. seen g (of_parts (is i) inside.site (is i).rows (is i).owners (is i).moving (is i).requests (is i).tasks (is i).hosts (told i))),
+        (λ i. seen_core g (of_parts (is i) inside.site (is i).rows (is i).owners (is i).moving (is i).requests (is i).tasks (is i).hosts (told i))),
       )
 
   pub told_kept : IsKeptOn g inside.site inside → IsKeptOn g inside.site (of_parts inside inside.site inside.rows inside.owners inside.moving inside.requests inside.tasks inside.hosts session)

@@ -6,7 +6,7 @@ use Rattle.mss_base.specs.Sites.{MayWrite}
 use Rattle.mss_base.specs.declared.site.Site.{Ghosts}
 use Rattle.std.specs.Option.{ForSome}
 use Rattle.volume_table.specs.Row.{RowValue}
-use Rattle.volume_table.specs.Listed.{HasRow, listed, with_changed}
+use Rattle.volume_table.specs.Listed.{HasRow, row_in_list, with_changed}
 use Rattle.volume_table.specs.Changes.{IsAllowed, effect}
 use Rattle.volume_table.specs.declared.changes.Change.{Change}
 use Rattle.table_pair.specs.declared.copy.SlotsUsed.{SlotsUsed}
@@ -53,7 +53,7 @@ pub record Changes {S C : Type 0} (g : Ghosts S) (v : CoreValue S C) (volume : �
   pub le : g.faults v.site ≤ g.faults x
   pub rows_ : rows ≡ with_changed volume change v.rows
   pub used_ : used ≡ with_used_after volume v.used
-  pub told : session ≡ with_last_message (message_of (g.writes x) volume change (listed v.rows)) (data_of v)
+  pub told : session ≡ with_last_message (message_of (g.writes x) volume change (row_in_list v.rows)) (data_of v)
   pub done_ : IsDone g.tells (g.told v.site) v volume change (g.told x) (g.writes x)
   pub have : HaveChanged g v volume change x
 
@@ -86,7 +86,7 @@ module _ {S C : Type 0} (g : Ghosts S) {inside v : CoreValue S C} {site : S} {se
 
   module _ (volume : ℕ) (change : Change) (x : S) {rows : List (Option RowValue)} (rows_is : rows ≡ with_changed volume change inside.rows) {most : ℕ} (devices : MayWrite g most site x)
       {T E : Type 0} (result : Result T E)
-      (copies : g.tells → ForSome (listed inside.rows volume) (λ r. WritesRow volume (effect change r) (used_after (used_at inside.used volume)) (g.told site) (g.told x) result)) where
+      (copies : g.tells → ForSome (row_in_list inside.rows volume) (λ r. WritesRow volume (effect change r) (used_after (used_at inside.used volume)) (g.told site) (g.told x) result)) where
     more_ : g.writes v.site ≤ g.writes x
     more_ = let w = devices.written in let u = has.reserves.unwritten in omega (arith, w, u)
 
@@ -96,21 +96,21 @@ module _ {S C : Type 0} (g : Ghosts S) {inside v : CoreValue S C} {site : S} {se
     now_rows : rows ≡ with_changed volume change v.rows
     now_rows = rows_is ∙ ap (λ (z : CoreValue S C). with_changed volume change z.rows) has.is
 
-    written : g.tells → ForSome (listed v.rows volume) (λ r. WritesRow volume (effect change r) (used_after (used_at v.used volume)) (g.told v.site) (g.told x) result)
+    written : g.tells → ForSome (row_in_list v.rows volume) (λ r. WritesRow volume (effect change r) (used_after (used_at v.used volume)) (g.told v.site) (g.told x) result)
     written tl =
-        subst (λ (z : CoreValue S C). ForSome (listed z.rows volume) (λ r. WritesRow volume (effect change r) (used_after (used_at z.used volume)) (g.told v.site) (g.told x) result)) has.is
-        (subst (λ (z : SiteLog). ForSome (listed inside.rows volume) (λ r. WritesRow volume (effect change r) (used_after (used_at inside.used volume)) z (g.told x) result)) (has.reserves.log tl) (copies tl))
+        subst (λ (z : CoreValue S C). ForSome (row_in_list z.rows volume) (λ r. WritesRow volume (effect change r) (used_after (used_at z.used volume)) (g.told v.site) (g.told x) result)) has.is
+        (subst (λ (z : SiteLog). ForSome (row_in_list inside.rows volume) (λ r. WritesRow volume (effect change r) (used_after (used_at inside.used volume)) z (g.told x) result)) (has.reserves.log tl) (copies tl))
 
     -- it is done
     pub row_changed : (t : T) → result ≡ Ok t → {used : List SlotsUsed} → used ≡ with_used_after volume inside.used
-        → {told : SessionData} → told ≡ with_last_message (message_of (g.writes x) volume change (listed inside.rows)) session
+        → {told : SessionData} → told ≡ with_last_message (message_of (g.writes x) volume change (row_in_list inside.rows)) session
         → (g.tells → g.writes x ≡ length (g.told x).log) → g.faults x ≡ g.faults site → Changes g v volume change x rows used told
     row_changed t is used_is told_is counted sound = record {
       more = more_;
       le = le_;
       rows_ = now_rows;
       used_ = used_is ∙ ap (λ (z : CoreValue S C). with_used_after volume z.used) has.is;
-      told = told_is ∙ (λ i. with_last_message (message_of (g.writes x) volume change (listed (has.is i).rows)) (has.same i));
+      told = told_is ∙ (λ i. with_last_message (message_of (g.writes x) volume change (row_in_list (has.is i).rows)) (has.same i));
       done_ = λ tl r at.
           let w = well tl r at in
           record { writes = w.moments; changed = w.changed; at_end = counted tl; grows = w.grown };
@@ -122,8 +122,8 @@ module _ {S C : Type 0} (g : Ghosts S) {inside v : CoreValue S C} {site : S} {se
       };
     }
       where
-        well : g.tells → ForSome (listed v.rows volume) (λ r. WritesRow {T = T} {E = E} volume (effect change r) (used_after (used_at v.used volume)) (g.told v.site) (g.told x) (Ok t))
-        well tl = subst (λ (z : Result T E). ForSome (listed v.rows volume) (λ r. WritesRow volume (effect change r) (used_after (used_at v.used volume)) (g.told v.site) (g.told x) z)) is (written tl)
+        well : g.tells → ForSome (row_in_list v.rows volume) (λ r. WritesRow {T = T} {E = E} volume (effect change r) (used_after (used_at v.used volume)) (g.told v.site) (g.told x) (Ok t))
+        well tl = subst (λ (z : Result T E). ForSome (row_in_list v.rows volume) (λ r. WritesRow volume (effect change r) (used_after (used_at v.used volume)) (g.told v.site) (g.told x) z)) is (written tl)
 
     -- a write of it failed, as the event tells it
     pub row_failed : Rises (g.writes site) (g.writes x) → Rises (g.faults site) (g.faults x)

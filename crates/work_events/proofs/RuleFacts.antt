@@ -7,7 +7,7 @@ use Rattle.std.proofs.lemmas.Bool.{and_parts, and_from, eq-eqb, cases_lt, false�
 use Rattle.std.proofs.lemmas.List.{get_or_past}
 use Rattle.mss_base.specs.Firsts.{◌or◌, where_so}
 use Rattle.mss_base.proofs.FirstFacts.{or_none, none_where, none_is, map_none}
-use Rattle.volume_table.specs.Listed.{listed}
+use Rattle.volume_table.specs.Listed.{row_in_list}
 use Rattle.shown_volumes.specs.Sound.{frame_in}
 use Rattle.volume_table.specs.Row.{RowValue, IsRow, frame_of, state_of}
 use Rattle.volume_table.proofs.RowLemmas.{row-with_frame}
@@ -30,7 +30,7 @@ use Rattle.core_state.specs.declared.rule.WorkRule.{WorkRule}
 use Rattle.core_state.specs.declared.rule.WorkRule.TheVariants.{IsStopped, IsIdle, GivesBack, Picks, PicksVictim, Abandons, Fetches, Copies, Ends, Frees, Assigns}
 use Rattle.core_state.specs.declared.rule.WorkAnswer.{WorkAnswer}
 use Rattle.core_state.specs.Beside.{held_at}
-use Rattle.core_state.specs.CoreValue.{CoreValue, CoreData, seen}
+use Rattle.core_state.specs.CoreValue.{CoreValue, CoreData, seen_core}
 use Rattle.core_state.specs.IsCore.{IsCore}
 use Rattle.core_state.specs.Pins.{task_at, state_in, state_of_row, changed_in, is_changed, is_moving, free_frame, candidates, page_of}
 use Rattle.core_state.specs.Tasks.{IsTask, IsChosen, HasFrame, IsUnbound}
@@ -113,7 +113,7 @@ RuleSays v recorder (Copies t) =
 RuleSays v recorder (Ends t) = OfTask v recorder (λ task q. MayEnd v t.kind task t)
 RuleSays v recorder (Frees volume page) = OfTask v recorder (λ task q. MayFree v task volume page)
 RuleSays v recorder (Assigns volume page) =
-    IsSome (listed v.rows volume) × OfTask v recorder
+    IsSome (row_in_list v.rows volume) × OfTask v recorder
     (λ task q. q.cylinder < 404 → task.frame < 200 → MayAssignPage v volume page task q)
 
 -- ---- what else is known on the way to a rule
@@ -140,7 +140,7 @@ none_kept test (suc n) from y none low high = by (none_kept test n (from + 1) y)
     ]
 
 -- a page without a changed cylinder
-none_changed : (rows : List (Option RowValue)) (volume page : ℕ) (r : RowValue) → listed rows volume ≡ Some r → IsRow r → slice_get (changed_in rows (volume, page)) 0 ≡ None → (y : ℕ) → y / 8 ≡ page → state_of r y ≢ 4
+none_changed : (rows : List (Option RowValue)) (volume page : ℕ) (r : RowValue) → row_in_list rows volume ≡ Some r → IsRow r → slice_get (changed_in rows (volume, page)) 0 ≡ None → (y : ℕ) → y / 8 ≡ page → state_of r y ≢ 4
 none_changed rows volume page r there row none y on four =
     let fails = none_kept (is_changed rows volume) 8 (page * 8) y none (omega (arith, on)) (omega (arith, on)) in
     let so : (state_in rows volume y == 4) ≡ true = eq-eqb (state_in rows volume y) 4 (ap (λ (o : Option RowValue). state_of_row o y) there ∙ four) in
@@ -159,7 +159,7 @@ module _ {S C : Type 0} (v : CoreValue S C) (recorder : ℕ) (fits : recorder < 
   -- ---- a recorder with a task
 
   module _ (task : Task) (at : task_at v.tasks recorder ≡ Some task) where
-    abbrev mine : IsTask v.config.frames (listed v.rows) v.moving v.requests v.hosts task
+    abbrev mine : IsTask v.config.frames (row_in_list v.rows) v.moving v.requests v.hosts task
     mine = own v core recorder task at
 
     abbrev asked : Request
@@ -256,8 +256,8 @@ module _ {S C : Type 0} (v : CoreValue S C) (recorder : ℕ) (fits : recorder < 
 
         frees : (page : ℕ × ℕ) → task.victim ≡ Some page → Says (Frees page.0 page.1)
         frees page is = of_task (λ k q. MayFree v k page.0 page.1) (
-            let has = subst (λ (o : Option (ℕ × ℕ)). HasFrame (listed v.rows) task.frame o mine.request.volume (mine.request.cylinder / 8)) is mine.frame_ in
-            let row = row_of_frame (listed v.rows page.0) page.1 task.frame has.0 in
+            let has = subst (λ (o : Option (ℕ × ℕ)). HasFrame (row_in_list v.rows) task.frame o mine.request.volume (mine.request.cylinder / 8)) is mine.frame_ in
+            let row = row_of_frame (row_in_list v.rows page.0) page.1 task.frame has.0 in
             record {
               r = row.0;
               there = row.1;
@@ -273,8 +273,8 @@ module _ {S C : Type 0} (v : CoreValue S C) (recorder : ℕ) (fits : recorder < 
           of_task (λ k x. x.cylinder < 404 → k.frame < 200 → MayAssignPage v q.volume (page_of q.cylinder) k x) (λ low small.
               let same : q ≡ mine.request = some_is q mine.request (sym asked_ ∙ mine.asked) in
               let free : task.victim ≡ None = map_none _ task.victim no_victim in
-              let row = listed_row (listed v.rows mine.request.volume) (core.fit.mounted_ task.host mine.request.volume (core.on_mounted task.host mine.request mine.asked).0) in
-              let no_frame : frame_in (listed v.rows) mine.request.volume (page_of mine.request.cylinder) ≡ None = map_none _ (frame_in (listed v.rows) mine.request.volume (page_of mine.request.cylinder)) (sym (ap (option_and_then (staging v.rows task.frame)) mine.asked) ∙ next_is None free) in
+              let row = listed_row (row_in_list v.rows mine.request.volume) (core.fit.mounted_ task.host mine.request.volume (core.on_mounted task.host mine.request mine.asked).0) in
+              let no_frame : frame_in (row_in_list v.rows) mine.request.volume (page_of mine.request.cylinder) ≡ None = map_none _ (frame_in (row_in_list v.rows) mine.request.volume (page_of mine.request.cylinder)) (sym (ap (option_and_then (staging v.rows task.frame)) mine.asked) ∙ next_is None free) in
               let none_ : frame_of row.0 (mine.request.cylinder / 8) ≡ None = sym (ap (λ (o : Option RowValue). option_and_then (λ k. frame_of k (mine.request.cylinder / 8)) o) row.1) ∙ no_frame in (
                 ap (λ (x : Request). x.volume) same,
                 ap (λ (x : Request). x.cylinder / 8) same,
@@ -318,7 +318,7 @@ module _ {S C : Type 0} (v : CoreValue S C) (recorder : ℕ) (fits : recorder < 
     there = let long = core.fit.long in omega (arith, long, fits)
 
     module _ (h : ℕ) (q : Request) (asked_ : request_of v.requests h ≡ Some q) (queued : q.state ≡ request.Queued) where
-      takes : (frame : ℕ) → is_moving v frame ≡ false → frame < v.config.frames → HasFrame (listed v.rows) frame None q.volume (q.cylinder / 8) → MayTake v recorder h frame
+      takes : (frame : ℕ) → is_moving v frame ≡ false → frame < v.config.frames → HasFrame (row_in_list v.rows) frame None q.volume (q.cylinder / 8) → MayTake v recorder h frame
       takes frame rests known has = record {
         going = going;
         request = q;
@@ -337,7 +337,7 @@ module _ {S C : Type 0} (v : CoreValue S C) (recorder : ℕ) (fits : recorder < 
       }
 
       -- the page has no frame, nor is one free
-      takes_victim : frame_in (listed v.rows) q.volume (page_of q.cylinder) ≡ None → nat_lt 0 (length (candidates v)) ≡ true → MayTakeVictim v recorder h
+      takes_victim : frame_in (row_in_list v.rows) q.volume (page_of q.cylinder) ≡ None → nat_lt 0 (length (candidates v)) ≡ true → MayTakeVictim v recorder h
       takes_victim none some = record {
         going = going;
         request = q;
@@ -359,7 +359,7 @@ module _ {S C : Type 0} (v : CoreValue S C) (recorder : ℕ) (fits : recorder < 
             };
       }
 
-      picks_on : (o : Option ℕ) → frame_in (listed v.rows) q.volume (page_of q.cylinder) ≡ o → ForSome (pick_on v h o) Says
+      picks_on : (o : Option ℕ) → frame_in (row_in_list v.rows) q.volume (page_of q.cylinder) ≡ o → ForSome (pick_on v h o) Says
       picks_on (Some frame) has =
           where_test Says (not (is_moving v frame)) (Picks h frame) (λ rests. takes frame (is_not (is_moving v frame) rests) (core.framed q.volume (q.cylinder / 8) frame has) (inl has))
         where
@@ -372,7 +372,7 @@ module _ {S C : Type 0} (v : CoreValue S C) (recorder : ℕ) (fits : recorder < 
           (where_test Says (nat_lt 0 (length (candidates v))) (PicksVictim h) (takes_victim none))
 
     picks_for : (h : ℕ) (q : Request) → request_of v.requests h ≡ Some q → (state : RequestState) → q.state ≡ state → ForSome (pick_for v h q state) Says
-    picks_for h q asked_ request.Queued is = picks_on h q asked_ is (frame_in (listed v.rows) q.volume (page_of q.cylinder)) refl
+    picks_for h q asked_ request.Queued is = picks_on h q asked_ is (frame_in (row_in_list v.rows) q.volume (page_of q.cylinder)) refl
     picks_for h q asked_ request.Moving is = nothing Says None refl
     picks_for h q asked_ request.Ready is = nothing Says None refl
     picks_for h q asked_ (request.Failed fault) is = nothing Says None refl
@@ -446,17 +446,17 @@ module _ {S C : Type 0} (v : CoreValue S C) (recorder : ℕ) (fits : recorder < 
   rule_assigns volume page is = (says (Assigns volume page) is).1
 
   -- the row of the asked volume is there
-  pub rule_assigns_row : (volume page : ℕ) → work_rule v recorder ≡ Assigns volume page → IsSome (listed v.rows volume)
+  pub rule_assigns_row : (volume page : ℕ) → work_rule v recorder ≡ Assigns volume page → IsSome (row_in_list v.rows volume)
   rule_assigns_row volume page is = (says (Assigns volume page) is).0
 
 -- ---- from the rule to the event
 
 -- the rule doesn't look at the devices
-pub rule_seen : {S C : Type 0} (g : Ghosts S) (v : CoreValue S C) (n : ℕ) → work_rule (seen g v) n ≡ work_rule v n
+pub rule_seen : {S C : Type 0} (g : Ghosts S) (v : CoreValue S C) (n : ℕ) → work_rule (seen_core g v) n ≡ work_rule v n
 unfolding work_rule
 rule_seen g v n = refl
 
 pub work_event_by : {S C : Type 0} (g : Ghosts S) (may : List Candidate → ℕ → Type 0) (v : CoreValue S C) (n : ℕ) (answer : WorkAnswer) (core' : CoreData) (rule : WorkRule)
-    → work_rule v n ≡ rule → WorkDoes g.tells may (seen g v) n rule answer core' → WorkEvent g.tells may (seen g v) n answer core'
+    → work_rule v n ≡ rule → WorkDoes g.tells may (seen_core g v) n rule answer core' → WorkEvent g.tells may (seen_core g v) n answer core'
 work_event_by g may v n answer core' rule is does =
-    subst (λ (r : WorkRule). WorkDoes g.tells may (seen g v) n r answer core') (sym is ∙ sym (rule_seen g v n)) does
+    subst (λ (r : WorkRule). WorkDoes g.tells may (seen_core g v) n r answer core') (sym is ∙ sym (rule_seen g v n)) does

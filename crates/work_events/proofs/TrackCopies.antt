@@ -13,7 +13,7 @@ use Rattle.mss_base.proofs.Moments.{content_then}
 use Rattle.ckd_track.specs.Track.{reading}
 use Rattle.ckd_track.proofs.TrackFacts.{reading-zeros}
 use Rattle.volume_table.specs.Row.{RowValue, frame_of, state_of, cartridge_with}
-use Rattle.shown_volumes.specs.Shown.{RowsOf, rows_of, shown, block_at, on_cartridge, in_page}
+use Rattle.shown_volumes.specs.Shown.{RowsOf, rows_of, volumes_shown, block_at, on_cartridge, in_page}
 use Rattle.shown_volumes.specs.Sound.{IsSound, HasCartridgesOnce, IsStagedAs, IsSameAt}
 use Rattle.shown_volumes.specs.Changing.{IsOutside, IsQuiet, StillShows}
 use Rattle.shown_volumes.proofs.PlaceFacts.{in_frame}
@@ -62,7 +62,7 @@ module _ (frames : ℕ) (s n : SiteLog) (rows : RowsOf) (rows_are : rows_of (con
       (λ changed. cartridge_outside frames (content s) t.volume t.cylinder t.next is.row sound its_row is.due.cylinder_in more changed)
 
   -- at each moment of the copy the content shows the same, and what was loose lies outside
-  pub copy_shows : Writes (StillShows frames (shown (content s)) s) s n
+  pub copy_shows : Writes (StillShows frames (volumes_shown (content s)) s) s n
   copy_shows = most_moments frames t s n quiet sound lies_outside may
 
   -- so does the copy, firm or not

@@ -8,14 +8,14 @@ use Rattle.mss_base.specs.Content.{Write, SiteLog, Adds, Writes, content, image}
 use Rattle.ckd_plain.specs.Data.{State}
 use Rattle.ckd_plain.specs.History.{EntryData, after, HasNoStop}
 use Rattle.ckd_track.specs.Data.{Volumes}
-use Rattle.shown_volumes.specs.Shown.{shown}
+use Rattle.shown_volumes.specs.Shown.{volumes_shown}
 use Rattle.core_state.specs.IsCore.{AllUpTo}
-use Rattle.core_state.specs.StopRule.{answered, opening, MayShow, state_at}
+use Rattle.core_state.specs.StopRule.{answered_count, opening, MayShow, state_at}
 use Rattle.core_state.specs.TheCore.{IsWhole}
 use Rattle.core_state.proofs.EntryLemmas.{opening_same}
 use Rattle.core_state.proofs.StopsLemmas.{all_answered}
 use Rattle.mss_base.specs.Firsts.{◌or◌}
-use Rattle.volume_table.specs.Listed.{listed}
+use Rattle.volume_table.specs.Listed.{row_in_list}
 use Rattle.volume_table.specs.Row.{RowValue}
 use Rattle.fault_queue.specs.Requests.{RequestsData, request_of}
 use Rattle.transfers.specs.Copies.{in_cartridge, AddsAtMost}
@@ -51,9 +51,9 @@ continues w old new (inr (inr loose)) = (_, loose)
 
 -- what is shown where all entries are answered
 shows_all : (s : State) (es : List EntryData) (ms : List ℕ) (n k : ℕ) (V : Volumes) → HasNoStop es → AllUpTo n ms → length ms ≡ length es → n ≤ k
-    → MayShow (state_at s es ms k) (slice_get es (answered k es ms)) V → V ≡ (after s es).volumes
+    → MayShow (state_at s es ms k) (slice_get es (answered_count k es ms)) V → V ≡ (after s es).volumes
 shows_all s es ms n k V no_stop marks long late may_show =
-    let all_ : answered k es ms ≡ length es = all_answered n k es ms no_stop marks long late in
+    let all_ : answered_count k es ms ≡ length es = all_answered n k es ms no_stop marks long late in
     let at_end = subst (λ (j : ℕ). MayShow (after s (take j es)) (slice_get es j) V) all_ may_show in
     subst (λ (o : Option EntryData). MayShow (after s (take (length es) es)) o V) (slice_get_past es (length es) (omega arith)) at_end
     ∙ ap (λ (l : List EntryData). (after s l).volumes) (take_all (length es) es (omega arith))
@@ -84,12 +84,12 @@ module _ (tells : Type 0) (may : List Candidate → ℕ → Type 0) (core : Core
       subst (λ (r : WorkRule). WorkDoes tells may core n r told left) rule event
 
   module _ (is : IsRecorder core n) where
-    has_row : (rule : WorkRule) → work_rule core n ≡ rule → (volume : ℕ) → row_by rule ≡ Some volume → IsSome (listed core.rows volume)
+    has_row : (rule : WorkRule) → work_rule core n ≡ rule → (volume : ℕ) → row_by rule ≡ Some volume → IsSome (row_in_list core.rows volume)
     has_row (Ends t) rule volume named =
         let says = rule_ends core n is.there is.kept t rule in
         let copies = transfer_of_end t.kind says.task (says.may says.task says.request says.serves) in
         let due = (own core (is.kept says.going) n says.task says.serves.at).transfer_ t copies in
-        subst (λ (w : ℕ). IsSome (listed core.rows w)) (some_is t.volume volume named) (ap (λ (o : Option RowValue). is_some o) due.there)
+        subst (λ (w : ℕ). IsSome (row_in_list core.rows w)) (some_is t.volume volume named) (ap (λ (o : Option RowValue). is_some o) due.there)
       where
         transfer_of_end : (kind : TransferKind) (task : Task) → MayEnd core kind task t → task.transfer ≡ Some t
         transfer_of_end Destage task may_end = may_end.copies
@@ -98,8 +98,8 @@ module _ (tells : Type 0) (may : List Candidate → ℕ → Type 0) (core : Core
     has_row (Frees v page) rule volume named =
         let says = rule_frees core n is.there is.kept v page rule in
         let may_free = says.may says.task says.request says.serves in
-        subst (λ (w : ℕ). IsSome (listed core.rows w)) (some_is v volume named) (ap (λ (o : Option RowValue). is_some o) may_free.there)
-    has_row (Assigns v page) rule volume named = subst (λ (w : ℕ). IsSome (listed core.rows w)) (some_is v volume named) (rule_assigns_row core n is.there is.kept v page rule)
+        subst (λ (w : ℕ). IsSome (row_in_list core.rows w)) (some_is v volume named) (ap (λ (o : Option RowValue). is_some o) may_free.there)
+    has_row (Assigns v page) rule volume named = subst (λ (w : ℕ). IsSome (row_in_list core.rows w)) (some_is v volume named) (rule_assigns_row core n is.there is.kept v page rule)
     has_row (IsStopped fault) rule volume named = absurd (none_some volume named)
     has_row IsIdle rule volume named = absurd (none_some volume named)
     has_row (GivesBack cartridge) rule volume named = absurd (none_some volume named)
@@ -137,9 +137,9 @@ module _ (tells : Type 0) (may : List Candidate → ℕ → Type 0) (core : Core
         let hosts = comes.hosts in
         let since : left.first_write ≤ k = (let first = hosts.began in let before = was.began in omega (arith, first, before, late)) in
         let now = (whole_left.told tl).stops.shows k since early tear in
-        let same : MayShow (state_at (opening core.first_write left.site.told) core.history core.marks k) (slice_get core.history (answered k core.history core.marks)) (shown (image left.site.told k tear)) =
-        subst (λ (z : ℕ × List EntryData × List ℕ). MayShow (state_at (opening z.0 left.site.told) z.1 z.2 k) (slice_get z.1 (answered k z.1 z.2)) (shown (image left.site.told k tear))) (λ i. (hosts.began i, hosts.history i, hosts.marks i)) now in
-        let all_ = shows_all (opening core.first_write left.site.told) core.history core.marks (length core.site.told.log) k (shown (image left.site.told k tear)) went.no_stop was.entries whole.shaped.marked late same in
+        let same : MayShow (state_at (opening core.first_write left.site.told) core.history core.marks k) (slice_get core.history (answered_count k core.history core.marks)) (volumes_shown (image left.site.told k tear)) =
+        subst (λ (z : ℕ × List EntryData × List ℕ). MayShow (state_at (opening z.0 left.site.told) z.1 z.2 k) (slice_get z.1 (answered_count k z.1 z.2)) (volumes_shown (image left.site.told k tear))) (λ i. (hosts.began i, hosts.history i, hosts.marks i)) now in
+        let all_ = shows_all (opening core.first_write left.site.told) core.history core.marks (length core.site.told.log) k (volumes_shown (image left.site.told k tear)) went.no_stop was.entries whole.shaped.marked late same in
         all_ ∙ ap (λ (s : State). (after s core.history).volumes) (opening_same core.first_write core.site.told left.site.told grown.0 grown.1 was.began) ∙ sym went.shows
 
     -- ---- cartridges

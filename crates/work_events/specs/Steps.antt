@@ -7,14 +7,14 @@ use Rattle.fault_queue.specs.declared.queue.Request.{Request}
 use Rattle.fault_queue.specs.declared.queue.RequestState.TheVariants.{Failed}
 use Rattle.core_state.specs.declared.rule.WorkAnswer.{WorkAnswer}
 use Rattle.core_state.specs.declared.rule.WorkRule.{WorkRule}
-use Rattle.core_state.specs.CoreValue.{CoreValue, seen}
+use Rattle.core_state.specs.CoreValue.{CoreValue, seen_core}
 use Rattle.core_state.specs.WorkEvents.{WorkDoes}
 
 -- the answer, and the core after it, of whose site only so much is seen
 abbrev pub WorkStep : {S C : Type 0} → Ghosts S → choose.Ghosts C → CoreValue S C → ℕ → WorkRule
     → WorkAnswer → CoreValue S C → Type 0
 WorkStep g c old recorder rule answer new =
-    WorkDoes g.tells (c.may old.chooser) (seen g old) recorder rule answer (seen g new)
+    WorkDoes g.tells (c.may old.chooser) (seen_core g old) recorder rule answer (seen_core g new)
 
 -- no request has failed that hadn't
 abbrev pub FailsNone : RequestsData → RequestsData → Type 0

@@ -4,7 +4,7 @@ use Rattle.std.specs.Prelude.{Option, Some, None}
 use Rattle.mss_base.specs.Content.{Content, SiteLog, Adds, Writes, Tear, content, image}
 use Rattle.mss_base.specs.Counts.{IsFaultSince}
 use Rattle.mss_base.specs.declared.place.UnitNo.TheVariants.{Cartridge}
-use Rattle.shown_volumes.specs.Shown.{block_at, shown}
+use Rattle.shown_volumes.specs.Shown.{block_at, volumes_shown}
 use Rattle.fault_queue.specs.declared.queue.Request.{Request}
 use Rattle.fault_queue.specs.declared.queue.RequestState.TheVariants.{Failed}
 use Rattle.fault_queue.specs.Requests.{request_of}
@@ -48,7 +48,7 @@ abbrev pub ShowsTheSame : CoreData → CoreData → Type 0
 ShowsTheSame core left =
     (k : ℕ) (tear : Tear) → length core.site.told.log ≤ k
     → k ≤ length left.site.told.log
-    → shown (image left.site.told k tear) ≡ shown (content core.site.told)
+    → volumes_shown (image left.site.told k tear) ≡ volumes_shown (content core.site.told)
 
 -- ---- cartridges
 

@@ -3,7 +3,7 @@ ghost use Rattle.std.specs.Prelude.{◌≡◌, ◌⊎◌, ◌<◌, Bool};
 ghost use Rattle.mss_base.specs.Sites.{MayWrite};
 ghost use Rattle.mss_base.specs.declared.place.UnitNo.{UnitNo};
 ghost use Rattle.transfers.specs.Copies.{IsReadable};
-ghost use Rattle.core_state.specs.CoreValue.{seen};
+ghost use Rattle.core_state.specs.CoreValue.{seen_core};
 ghost use Rattle.core_state.specs.Devices.{FailRead};
 ghost use Rattle.core_state.specs.WorkRules.{work_rule};
 ghost use Rattle.core_state.specs.declared.rule.WorkRule.TheVariants.{Copies};
@@ -30,8 +30,8 @@ pub fn copy<S: Site, C: Choose>(
     ensures works { (but : UnitNo → Bool) → S.never_fails_but core.old.site but
         → IsReadable but transfer → core.new.requests ≡ core.old.requests }
     ensures unread { (but : UnitNo → Bool) → S.never_fails_but core.old.site but
-        → (core.new.requests ≡ core.old.requests) ⊎ FailRead S.tells (seen S.Site core.old).site
-        (seen S.Site core.new).site }
+        → (core.new.requests ≡ core.old.requests) ⊎ FailRead S.tells (seen_core S.Site core.old).site
+        (seen_core S.Site core.new).site }
 {
     let (task, _request) = served(core, recorder);
     if make_room(&mut core.session, &mut core.site, 1).is_err() {

@@ -4,7 +4,7 @@ ghost use Rattle.mss_base.specs.Sites.{MayWrite};
 ghost use Rattle.mss_base.specs.declared.place.UnitNo.{UnitNo};
 ghost use Rattle.transfers.specs.Copies.{IsReadable};
 ghost use Rattle.transfers.specs.declared.transfer.Transfer.{Transfer};
-ghost use Rattle.core_state.specs.CoreValue.{seen};
+ghost use Rattle.core_state.specs.CoreValue.{seen_core};
 ghost use Rattle.core_state.specs.Devices.{FailRead};
 ghost use Rattle.core_state.specs.WorkEvents.{WorkEvent};
 ghost use Rattle.core_state.specs.WorkRules.{work_rule};
@@ -32,7 +32,7 @@ use victim_choice::Choose;
 pub fn work_event<S: Site, C: Choose>(core: &mut Core<S, C>, recorder: RecorderNo) -> WorkAnswer
     requires recorder { recorder < core.old.config.recorders }
     ensures event { WorkEvent S.tells (C.may core.old.chooser)
-        (seen S.Site core.old) recorder result (seen S.Site core.new) }
+        (seen_core S.Site core.old) recorder result (seen_core S.Site core.new) }
     ensures chooser { core.new.chooser ≡ core.old.chooser }
     ensures devices { MayWrite S.Site END_ITEMS core.old.site core.new.site }
     ensures only_reads_fail { (but : UnitNo → Bool) → S.never_fails_but core.old.site but
@@ -42,8 +42,8 @@ pub fn work_event<S: Site, C: Choose>(core: &mut Core<S, C>, recorder: RecorderN
         → core.new.requests ≡ core.old.requests }
     ensures unread { (but : UnitNo → Bool) (t : Transfer) → S.never_fails_but core.old.site but
         → work_rule core.old recorder ≡ Copies t
-        → (core.new.requests ≡ core.old.requests) ⊎ FailRead S.tells (seen S.Site core.old).site
-        (seen S.Site core.new).site }
+        → (core.new.requests ≡ core.old.requests) ⊎ FailRead S.tells (seen_core S.Site core.old).site
+        (seen_core S.Site core.new).site }
     ensures ends { (but : UnitNo → Bool) (t : Transfer) → S.never_fails_but core.old.site but
         → work_rule core.old recorder ≡ Ends t → FailsNone core.old.requests core.new.requests }
 {

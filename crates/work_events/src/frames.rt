@@ -3,7 +3,7 @@ ghost use Rattle.std.specs.Prelude.{◌≡◌, ◌<◌, Bool, length, Some};
 ghost use Rattle.mss_base.specs.Sites.{MayWrite};
 ghost use Rattle.mss_base.specs.declared.place.UnitNo.{UnitNo};
 ghost use Rattle.staging_adapter.specs.Frames.{IsFrame, with_owner};
-ghost use Rattle.victim_choice.specs.Order.{touched};
+ghost use Rattle.victim_choice.specs.Order.{order_after};
 ghost use Rattle.core_state.specs.WorkRules.{work_rule};
 ghost use Rattle.core_state.specs.declared.rule.WorkRule.TheVariants.{Assigns, Frees};
 ghost use Rattle.work_events.specs.Steps.{WorkStep};
@@ -27,7 +27,7 @@ fn give_frame(
     requires known { IsFrame frames.old frame }
     requires ordered { frame < length recency.old }
     ensures frames { frames.new ≡ with_owner frame (Some (volume, page)) frames.old }
-    ensures recency { recency.new ≡ touched frame recency.old }
+    ensures recency { recency.new ≡ order_after frame recency.old }
 {
     frames.set_owner(frame, Some((volume, page)));
     recency.touch(frame);

@@ -19,6 +19,8 @@
 //! the change of a row leaves of a core is `ChangedRows`, over a core with room, for the answers,
 //! `RowSteps`, and behind the sync of copies `EndSteps`. What comes of any event, for the laws, is
 //! `Outcomes`.
+//!
+//! Layers above cite lemmas of `proofs/`: what every event of a recorder keeps (`WorkLawFacts`).
 #![tactic(auto)]
 
 mod carrying;

@@ -3,7 +3,7 @@ ghost use Rattle.std.specs.Prelude.{◌≡◌, ◌<◌, length, None, Some, IfSo
 ghost use Rattle.std.specs.Option.{option_and_then, unwrap_or};
 ghost use Rattle.core_state.specs.declared.rule.WorkRule.TheVariants.{IsIdle};
 ghost use Rattle.mss_base.specs.Firsts.{◌or◌};
-ghost use Rattle.volume_table.specs.Listed.{listed};
+ghost use Rattle.volume_table.specs.Listed.{row_in_list};
 ghost use Rattle.shown_volumes.specs.Sound.{frame_in};
 ghost use Rattle.core_state.specs.Pins.{page_of};
 ghost use Rattle.core_state.specs.WorkRules.{
@@ -199,7 +199,7 @@ fn return_rule<S: Site, C: Choose>(core: &Core<S, C>, recorder: RecorderNo) -> O
 /// The frame of the page that a request is on.
 fn asked_frame<S: Site, C: Choose>(core: &Core<S, C>, request: &Request) -> Option<FrameNo>
     requires going { core.now.stopped ≡ None }
-    ensures value { result ≡ frame_in (listed core.now.rows) request.now.volume
+    ensures value { result ≡ frame_in (row_in_list core.now.rows) request.now.volume
         (page_of request.now.cylinder) }
     ensures there { IfSome result (λ f. f < length core.now.owners) }
 {

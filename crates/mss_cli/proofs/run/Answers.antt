@@ -1,11 +1,11 @@
-use Rattle.mss_files.specs.Output.{known}
+use Rattle.mss_files.specs.Output.{known_bytes}
 use Rattle.mss_cli.proofs.run.Goals as goal
 
 pub returns-clause-does : goal.returns-clause-does
 returns-clause-does g c =
     let did = c.obey-ended in
     record {
-      put = record { bytes = known did.new.output.contents; faults = did.new.output.faults };
+      put = record { bytes = known_bytes did.new.output.contents; faults = did.new.output.faults };
       due = did.result.status;
       does = did.ensures.does;
       whole = did.ensures.whole;

@@ -2,8 +2,8 @@
 use Rattle.std.proofs.Common.{◌≡◌, [], sym, ap, ◌∙◌, Ok, Err}
 use Rattle.std.proofs.lemmas.Result.{IfOk-weaker}
 use Rattle.ckd_plain.specs.declared.host.HostState.{HostState}
-use Rattle.ckd_plain.specs.Checks.{admitted}
-use Rattle.ckd_plain.specs.Plain.{opened, refused_by}
+use Rattle.ckd_plain.specs.Checks.{admitted_command}
+use Rattle.ckd_plain.specs.Plain.{with_open_chain, refused_by}
 use Rattle.ckd_plain.proofs.ResponseFacts.{command_responds}
 use Rattle.ckd_plain.proofs.response.respond_command.Goals as goal
 
@@ -11,8 +11,8 @@ pub returns-in-Ok-clause-answer : goal.returns-in-Ok-clause-answer
 returns-in-Ok-clause-answer c =
     let asked = c.args.command.now in
     let bytes = c.as_slice-argument.result.now in
-    let is : admitted (opened c.args.host.now) asked.code bytes ≡ Ok c.in-Ok.kind =
-    ap (λ (h : HostState). admitted h asked.code bytes) (sym c.opened-now.ensures) ∙ sym c.admitted.ensures.value ∙ c.in-Ok.is in
+    let is : admitted_command (with_open_chain c.args.host.now) asked.code bytes ≡ Ok c.in-Ok.kind =
+    ap (λ (h : HostState). admitted_command h asked.code bytes) (sym c.opened-now.ensures) ∙ sym c.admitted.ensures.value ∙ c.in-Ok.is in
     rw (← c.as_slice-argument.ensures) (IfOk-weaker c.run_control.result _ _ (λ reply a.
     command_responds c.args.host.now asked.code bytes asked.chained _ c.run_control.new.host reply
     is (a (λ head. [])).reply_ (a (λ head. [])).host_) c.run_control.ensures.answer)
@@ -20,7 +20,7 @@ returns-in-Ok-clause-answer c =
 pub returns-in-Err-clause-answer : goal.returns-in-Err-clause-answer
 returns-in-Err-clause-answer c =
     let asked = c.args.command.now in
-    let is : admitted (opened c.args.host.now) asked.code asked.argument.items ≡ Err c.in-Err.check =
-    (λ i. admitted (sym c.opened-now.ensures i) asked.code (sym c.as_slice-argument.ensures i)) ∙ sym c.admitted.ensures.value ∙ c.in-Err.is in
+    let is : admitted_command (with_open_chain c.args.host.now) asked.code asked.argument.items ≡ Err c.in-Err.check =
+    (λ i. admitted_command (sym c.opened-now.ensures i) asked.code (sym c.as_slice-argument.ensures i)) ∙ sym c.admitted.ensures.value ∙ c.in-Err.is in
     command_responds c.args.host.now asked.code asked.argument.items asked.chained _ c.refused_by-reply.new.host c.refused_by-reply.result is
     c.refused_by-reply.ensures.reply_ (c.refused_by-reply.ensures.host_ ∙ ap (λ (h : HostState). (refused_by c.in-Err.check h).host) c.opened-now.ensures)

@@ -59,7 +59,7 @@ returns-in-Marks-clause-event g c =
 pub returns-in-Runs-clause-event : goal.returns-in-Runs-clause-event
 returns-in-Runs-clause-event g c =
     let now = c.args.core.now in
-    event_by g.S.Site now c.args.host (call_of c.args.call.now) (told_of c.run.result) _ (Runs c.in-Runs.command c.in-Runs.volume c.in-Runs.frame) (sym c.host_rule.ensures ∙ c.in-Runs.is) c.run.ensures.event
+    event_by g.S.Site now c.args.host (call_of c.args.call.now) (told_of c.run_on_frame.result) _ (Runs c.in-Runs.command c.in-Runs.volume c.in-Runs.frame) (sym c.host_rule.ensures ∙ c.in-Runs.is) c.run_on_frame.ensures.event
 
 pub returns-in-IsStopped-clause-only_reads_fail : goal.returns-in-IsStopped-clause-only_reads_fail
 returns-in-IsStopped-clause-only_reads_fail g c = λ but sound going. goes_by c.args.core.now c.args.host (call_of c.args.call.now) going c.in-IsStopped.fault (sym c.host_rule.ensures ∙ c.in-IsStopped.is)

@@ -4,7 +4,7 @@ use Rattle.std.specs.Prelude.{is_err, is_some}
 use Rattle.table_pair.specs.declared.change.TheConstants.{CHANGE_ITEMS}
 use Rattle.channel_commands.specs.Data.{stopped}
 use Rattle.channel_commands.specs.Views.{call_of}
-use Rattle.volume_table.specs.Listed.{listed}
+use Rattle.volume_table.specs.Listed.{row_in_list}
 use Rattle.volume_table.specs.declared.changes.Change.TheVariants.{Changed}
 use Rattle.core_state.specs.Agrees.{message_of}
 use Rattle.core_state.specs.declared.session.Event.TheVariants.{Host}
@@ -58,7 +58,7 @@ invariant_of-core-in-Ok-write_change g c =
     c.in-Ok-write_change.ensures.copies c.write_change.new.rows c.write_change.ensures.rows _ refl c.write_change.new.used.items c.in-Ok-write_change.ensures.used.done
     c.make_ready.new.requests (ready_is c.args.host (ready_for c.args.volume c.args.cylinder) c.core.inside.requests c.is_some-had.result (c.is_some-had.ensures ∙ ap is_some c.of.ensures) c.ask.new.requests c.in-Ok-ask.ensures.ok c.make_ready.new.requests c.make_ready.ensures)
     c.touch_all.new.tasks.items (c.touch_all.ensures ∙ ap (λ n. touched_all c.args.volume n c.core.inside.tasks.items) c.page.ensures)
-    (session_data c.note.new.self) (c.note.ensures.noted ∙ ap (with_last_event (Host c.args.host)) (c.in-Ok-write_change.ensures.session.told ∙ (λ i. with_last_message (message_of (S.writes c.write_change.new.site) c.args.volume (Changed c.args.cylinder) (listed c.core.inside.rows)) (c.prepare.ensures.session i))))
+    (session_data c.note.new.self) (c.note.ensures.noted ∙ ap (with_last_event (Host c.args.host)) (c.in-Ok-write_change.ensures.session.told ∙ (λ i. with_last_message (message_of (S.writes c.write_change.new.site) c.args.volume (Changed c.args.cylinder) (row_in_list c.core.inside.rows)) (c.prepare.ensures.session i))))
 
 pub returns-in-Ok-write_change-clause-event : goal.returns-in-Ok-write_change-clause-event
 returns-in-Ok-write_change-clause-event g c =
@@ -68,7 +68,7 @@ returns-in-Ok-write_change-clause-event g c =
     c.in-Ok-write_change.ensures.copies c.write_change.new.rows c.write_change.ensures.rows _ refl c.write_change.new.used.items c.in-Ok-write_change.ensures.used.done
     c.make_ready.new.requests (ready_is c.args.host (ready_for c.args.volume c.args.cylinder) c.core.inside.requests c.is_some-had.result (c.is_some-had.ensures ∙ ap is_some c.of.ensures) c.ask.new.requests c.in-Ok-ask.ensures.ok c.make_ready.new.requests c.make_ready.ensures)
     c.touch_all.new.tasks.items (c.touch_all.ensures ∙ ap (λ n. touched_all c.args.volume n c.core.inside.tasks.items) c.page.ensures)
-    (session_data c.note.new.self) (c.note.ensures.noted ∙ ap (with_last_event (Host c.args.host)) (c.in-Ok-write_change.ensures.session.told ∙ (λ i. with_last_message (message_of (S.writes c.write_change.new.site) c.args.volume (Changed c.args.cylinder) (listed c.core.inside.rows)) (c.prepare.ensures.session i))))
+    (session_data c.note.new.self) (c.note.ensures.noted ∙ ap (with_last_event (Host c.args.host)) (c.in-Ok-write_change.ensures.session.told ∙ (λ i. with_last_message (message_of (S.writes c.write_change.new.site) c.args.volume (Changed c.args.cylinder) (row_in_list c.core.inside.rows)) (c.prepare.ensures.session i))))
 
 pub invariant_of-core-in-Err : goal.invariant_of-core-in-Err
 invariant_of-core-in-Err g c =

@@ -2,7 +2,7 @@ use Rattle.std.proofs.Common.{◌≡◌, ◌≤◌, List, Option, None, sym, ◌
 use Rattle.channel_commands.specs.Data.{ReplyData}
 use Rattle.channel_commands.specs.Views.{call_of, reply_of}
 use Rattle.ckd_plain.specs.declared.host.HostState.{HostState}
-use Rattle.ckd_plain.specs.Plain.{NeedsNoTrack, responded}
+use Rattle.ckd_plain.specs.Plain.{NeedsNoTrack, response_to}
 use Rattle.volume_table.specs.Row.{RowValue}
 use Rattle.core_state.specs.CoreValue.{CoreValue}
 use Rattle.core_state.specs.HostEvents.{mark_in}
@@ -38,8 +38,8 @@ reply-requires-clause-upheld g c =
     c.host_at-state.ensures ∙ ap (λ (l : List HostState). host_at l c.args.host) (c.as_slice.ensures ∙ ap (λ (x : CoreValue g.row.S.Denot g.row.C.Denot). x.hosts) c.core.view_is) in
     let mark : c.mark_of-mark.result ≡ mark_in now.rows call =
     c.mark_of-mark.ensures ∙ ap (λ (l : List (Option RowValue)). mark_in l call) (ap (λ (x : CoreValue g.row.S.Denot g.row.C.Denot). x.rows) c.core.view_is) in
-    let answer : ◌≡◌ {A = ReplyData × HostState} (reply_of c.in-Ok.told, c.in-Ok.now) (responded (host_at now.hosts c.args.host) (mark_in now.rows call) call) =
-    c.in-Ok.ensures ∙ (λ i. responded (state i) (mark i) call) in
+    let answer : ◌≡◌ {A = ReplyData × HostState} (reply_of c.in-Ok.told, c.in-Ok.now) (response_to (host_at now.hosts c.args.host) (mark_in now.rows call) call) =
+    c.in-Ok.ensures ∙ (λ i. response_to (state i) (mark i) call) in
     subst (λ (x : ReplyData × HostState). IsUpheld g.S.Site.tells (g.S.Site.told now.site) (g.S.Site.writes now.site) (g.S.Site.faults now.site)
     (after_answer now (g.S.Site.writes now.site) c.args.host call None x)) (sym answer)
     (upheld_response g.S.Site.tells (g.S.Site.told now.site) (g.S.Site.writes now.site) (g.S.Site.faults now.site) now is (g.met.S.Site.counted now.site) c.args.host (low.0, omega (arith, low.1)) call

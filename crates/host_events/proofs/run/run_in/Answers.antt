@@ -7,7 +7,7 @@ use Rattle.channel_commands.specs.declared.call.Call.{Call}
 use Rattle.channel_commands.specs.declared.call.Call.TheVariants.{Mount, Demount, Command, Break}
 use Rattle.channel_commands.specs.declared.call.DeviceCommand.{DeviceCommand}
 use Rattle.ckd_plain.specs.Checks.{Passes}
-use Rattle.ckd_plain.specs.Plain.{opened}
+use Rattle.ckd_plain.specs.Plain.{with_open_chain}
 use Rattle.host_events.specs.Runs.{argument_of, is_chained}
 use Rattle.host_events.proofs.RanFacts.{run_on, look_still, look_reads}
 use Rattle.host_events.proofs.run.run_in.Goals as goal
@@ -24,7 +24,7 @@ unreachable-requires g c = not_command c.args.call.now c.requires.may.asks c.in_
 
 pub run_command-requires-clause-passes : goal.run_command-requires-clause-passes
 run_command-requires-clause-passes g c =
-    subst (Passes (opened c.args.host.now) c.args.command.now) (ap (λ (k : Call). argument_of (call_of k)) c.in-Command.is ∙ sym c.as_slice-bytes.ensures) c.requires.may.passes
+    subst (Passes (with_open_chain c.args.host.now) c.args.command.now) (ap (λ (k : Call). argument_of (call_of k)) c.in-Command.is ∙ sym c.as_slice-bytes.ensures) c.requires.may.passes
 
 pub returns-clause-comes : goal.returns-clause-comes
 returns-clause-comes g c =

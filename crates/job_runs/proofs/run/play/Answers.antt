@@ -1,7 +1,7 @@
 use Rattle.std.proofs.Common.{ap, subst}
 use Rattle.mss_base.specs.Configs.{ConfigData}
 use Rattle.job_text.specs.Jobs.{JobData}
-use Rattle.core_state.specs.CoreValue.{seen, seen_site}
+use Rattle.core_state.specs.CoreValue.{seen_core, seen_site}
 use Rattle.core_state.specs.Sessions.{session_data}
 use Rattle.mss_restart.proofs.Repaired.{written_on}
 use Rattle.job_runs.specs.Copies.{job_with}
@@ -16,8 +16,8 @@ returns-in-Ok g c =
     let tells = g.S.Site.tells in
     let is = c.in-Ok.ensures in
     let played = c.play_on in
-    let begun : IsBegun tells c.args.job.now.config (seen_site g.S.Site c.args.site) (seen g.S.Site core) =
-    subst (λ (k : ConfigData). IsBegun tells k (seen_site g.S.Site c.args.site) (seen g.S.Site core)) (ap (λ (j : JobData). j.config) c.job.view_is)
+    let begun : IsBegun tells c.args.job.now.config (seen_site g.S.Site c.args.site) (seen_core g.S.Site core) =
+    subst (λ (k : ConfigData). IsBegun tells k (seen_site g.S.Site c.args.site) (seen_core g.S.Site core)) (ap (λ (j : JobData). j.config) c.job.view_is)
     (begun_of g.S.Site c.job.inside.config c.args.chooser (seen_site g.S.Site c.args.site) core c.job.invariant.config_ is.restarts is.begins (λ t. (is.takes_up t).begins) c.look.ensures.told
     (λ t. g.met.S.Site.counted core.site t)) in
     record {

@@ -1,6 +1,6 @@
 use Rattle.std.proofs.Common.{rules, ◌≡◌, List, Option, refl, subst}
 use Rattle.mss_base.specs.Content.{content}
-use Rattle.volume_table.specs.Listed.{listed}
+use Rattle.volume_table.specs.Listed.{row_in_list}
 use Rattle.shown_volumes.specs.Shown.{shown_by}
 use Rattle.core_state.specs.Sessions.{session_data}
 use Rattle.session_report.specs.Parties.{Stream, seen_with, site_between, sink_between}
@@ -24,9 +24,9 @@ returns-clause-tells g c =
     let headings : c.as_slice-volumes.result.now ≡ c.args.job.now.config.volumes =
     search rules in
     let same : option_map (λ x. x.now) c.as_ref.result ≡ p.copier = c.as_ref.ensures.value in
-    let told_so = subst (λ (o : Option CopyData). IsTold (report_matter (session_data p.session) c.as_slice-volumes.result.now (shown_by (listed p.rows) (content (told p.site))) (behind_text o)) p.end (site_between g.S.Site p.site site) sink c.tell-told.result) same c.tell-told.ensures.told in
-    let report : IsTold (report_matter (session_data p.session) c.args.job.now.config.volumes (shown_by (listed p.rows) (content (told p.site))) (behind_text p.copier)) p.end (site_between g.S.Site p.site site) sink c.tell-told.result =
-    subst (λ (x : List Heading). IsTold (report_matter (session_data p.session) x (shown_by (listed p.rows) (content (told p.site))) (behind_text p.copier)) p.end (site_between g.S.Site p.site site) sink c.tell-told.result)
+    let told_so = subst (λ (o : Option CopyData). IsTold (report_matter (session_data p.session) c.as_slice-volumes.result.now (shown_by (row_in_list p.rows) (content (told p.site))) (behind_text o)) p.end (site_between g.S.Site p.site site) sink c.tell-told.result) same c.tell-told.ensures.told in
+    let report : IsTold (report_matter (session_data p.session) c.args.job.now.config.volumes (shown_by (row_in_list p.rows) (content (told p.site))) (behind_text p.copier)) p.end (site_between g.S.Site p.site site) sink c.tell-told.result =
+    subst (λ (x : List Heading). IsTold (report_matter (session_data p.session) x (shown_by (row_in_list p.rows) (content (told p.site))) (behind_text p.copier)) p.end (site_between g.S.Site p.site site) sink c.tell-told.result)
     headings told_so in
     λ was plain holds. (
       refl,
@@ -46,15 +46,15 @@ returns-clause-unread g c =
     let headings : c.as_slice-volumes.result.now ≡ c.args.job.now.config.volumes =
     search rules in
     let same : option_map (λ x. x.now) c.as_ref.result ≡ p.copier = c.as_ref.ensures.value in
-    let told_so = subst (λ (o : Option CopyData). IsTold (report_matter (session_data p.session) c.as_slice-volumes.result.now (shown_by (listed p.rows) (content (told p.site))) (behind_text o)) p.end (site_between g.S.Site p.site site) sink c.tell-told.result) same c.tell-told.ensures.told in
-    let unread_so = subst (λ (o : Option CopyData). OnRead c.tell-told.result (BreaksOff (IsUnread g.S.Site p.site (listed p.rows) c.as_slice-volumes.result.now) (report_matter (session_data p.session) c.as_slice-volumes.result.now (shown_by (listed p.rows) (content (told p.site))) (behind_text o))
+    let told_so = subst (λ (o : Option CopyData). IsTold (report_matter (session_data p.session) c.as_slice-volumes.result.now (shown_by (row_in_list p.rows) (content (told p.site))) (behind_text o)) p.end (site_between g.S.Site p.site site) sink c.tell-told.result) same c.tell-told.ensures.told in
+    let unread_so = subst (λ (o : Option CopyData). OnRead c.tell-told.result (BreaksOff (IsUnread g.S.Site p.site (row_in_list p.rows) c.as_slice-volumes.result.now) (report_matter (session_data p.session) c.as_slice-volumes.result.now (shown_by (row_in_list p.rows) (content (told p.site))) (behind_text o))
     (seen_with (site_between g.S.Site p.site site) sink))) same c.tell-told.ensures.unread in
-    let report : IsTold (report_matter (session_data p.session) c.args.job.now.config.volumes (shown_by (listed p.rows) (content (told p.site))) (behind_text p.copier)) p.end (site_between g.S.Site p.site site) sink c.tell-told.result =
-    subst (λ (x : List Heading). IsTold (report_matter (session_data p.session) x (shown_by (listed p.rows) (content (told p.site))) (behind_text p.copier)) p.end (site_between g.S.Site p.site site) sink c.tell-told.result)
+    let report : IsTold (report_matter (session_data p.session) c.args.job.now.config.volumes (shown_by (row_in_list p.rows) (content (told p.site))) (behind_text p.copier)) p.end (site_between g.S.Site p.site site) sink c.tell-told.result =
+    subst (λ (x : List Heading). IsTold (report_matter (session_data p.session) x (shown_by (row_in_list p.rows) (content (told p.site))) (behind_text p.copier)) p.end (site_between g.S.Site p.site site) sink c.tell-told.result)
     headings told_so in
     λ was plain. broken_of g.S.Site c.args.job.now was p.site site p.end (session_data p.session) p.rows
     plain c.requires.halts c.requires.rows
     (c.rows_of_a_content_show_its_volumes.ensures p.rows (content (told p.site))) sink c.tell-told.result c.tell-told.ensures.site p.copier report
-    (subst (λ (x : List Heading). OnRead c.tell-told.result (BreaksOff (IsUnread g.S.Site p.site (listed p.rows) x) (report_matter (session_data p.session) x (shown_by (listed p.rows) (content (told p.site))) (behind_text p.copier))
+    (subst (λ (x : List Heading). OnRead c.tell-told.result (BreaksOff (IsUnread g.S.Site p.site (row_in_list p.rows) x) (report_matter (session_data p.session) x (shown_by (row_in_list p.rows) (content (told p.site))) (behind_text p.copier))
     (seen_with (site_between g.S.Site p.site site) sink)))
     headings unread_so)

@@ -2,7 +2,7 @@ use Rattle.std.proofs.Common.{Option, arith, subst}
 use Rattle.core_state.specs.Sessions.{session_data}
 use Rattle.session_report.specs.Parties.{Stream, sink_between}
 use Rattle.mss_restart.proofs.Repaired.{written_on}
-use Rattle.volume_copy.specs.Beside.{asked}
+use Rattle.volume_copy.specs.Beside.{asked_copy}
 use Rattle.volume_copy.specs.Copies.{AskedCopy}
 use Rattle.job_runs.specs.Copies.{job_with}
 use Rattle.job_runs.specs.Runs.{TellsSession}
@@ -31,6 +31,6 @@ returns-in-Ok g c =
       ends = ends_of g.S.Site (g.C.Choose.may c.args.chooser) (job_with c.args.job.now c.args.copier) c.args.turns.now (seen_site g.S.Site c.args.site) p.site put.result.site p.end (session_data p.session)
           c.in-Ok.ensures.played sink put.result.outcome tells_it;
       unread = broke_off_of g.S.Site c.args.job.now c.args.site p.site put.result.site p.end (session_data p.session) p.rows
-          c.in-Ok.ensures.played.halts c.in-Ok.ensures.rows c.in-Ok.ensures.devices.sound read sink (asked c.args.copier) put.result.outcome tells_it
+          c.in-Ok.ensures.played.halts c.in-Ok.ensures.rows c.in-Ok.ensures.devices.sound read sink (asked_copy c.args.copier) put.result.outcome tells_it
           (put.ensures.unread (told c.args.site) c.in-Ok.ensures.played.promised.plain);
     }

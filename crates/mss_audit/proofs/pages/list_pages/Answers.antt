@@ -1,13 +1,13 @@
 use Rattle.std.proofs.Common.{refl}
-use Rattle.volume_table.specs.Listed.{listed}
+use Rattle.volume_table.specs.Listed.{row_in_list}
 use Rattle.mss_audit.specs.Findings.{page_findings}
 use Rattle.mss_audit.proofs.Joining.{joined_none, joined_next}
 use Rattle.mss_audit.proofs.pages.list_pages.Goals as goal
 
 pub loop-number-init : goal.loop-number-init
-loop-number-init c = joined_none (page_findings c.args.frames (listed c.args.rows.now)) _ _ refl
+loop-number-init c = joined_none (page_findings c.args.frames (row_in_list c.args.rows.now)) _ _ refl
 
 pub loop-number-preserved : goal.loop-number-preserved
 loop-number-preserved c =
-    joined_next (page_findings c.args.frames (listed c.args.rows.now)) c.args.findings.now.items c.loop-number.findings.items c.list_volume.new.findings.items c.loop-number.number c.volume_at.result c.volume_at.ensures
+    joined_next (page_findings c.args.frames (row_in_list c.args.rows.now)) c.args.findings.now.items c.loop-number.findings.items c.list_volume.new.findings.items c.loop-number.number c.volume_at.result c.volume_at.ensures
     c.loop-number.invariant c.in_ok-list_volume.ensures

@@ -3,7 +3,7 @@ use Rattle.std.proofs.lemmas.Result.{err_from_is_err_and}
 use Rattle.mss_base.specs.Content.{SiteLog, Settles, content, Writes}
 use Rattle.table_pair.specs.Pair.{ChangesRow, NoneOrNew}
 use Rattle.table_pair.specs.Slots.{IsChanged, no_slots}
-use Rattle.volume_table.specs.Listed.{listed}
+use Rattle.volume_table.specs.Listed.{row_in_list}
 use Rattle.shown_volumes.specs.declared.refused.Refused.{Refused}
 use Rattle.mss_restart.specs.Opening.{made}
 use Rattle.mss_restart.specs.Creations.{DoesChange}
@@ -48,7 +48,7 @@ returns-clause-does g c = λ tells.
       done_ = done;
       complete = record {
         row = row;
-        is_row = new_row (listed before) c.lowest_free-first.result c.lowest_free-second.result c.args.serial row c.lowest_free-first.ensures c.lowest_free-second.ensures c.in_ok-row.ensures;
+        is_row = new_row (row_in_list before) c.lowest_free-first.result c.lowest_free-second.result c.args.serial row c.lowest_free-first.ensures c.lowest_free-second.ensures c.in_ok-row.ensures;
         now = now_set before c.put.new.self volume row c.look.ensures.places low c.put.ensures.rows;
         moments = w;
         held = changed.holds;
@@ -62,7 +62,7 @@ pub returns-clause-row : goal.returns-clause-row
 returns-clause-row g c =
     let before = c.args.rows.now in
     makes_new before c.put.new.self c.args.volume c.args.serial c.in_ok-row.row _ _ c.look.ensures.places (let low : c.args.volume < 32 = search rules in low)
-    (new_row (listed before) c.lowest_free-first.result c.lowest_free-second.result c.args.serial c.in_ok-row.row c.lowest_free-first.ensures c.lowest_free-second.ensures c.in_ok-row.ensures)
+    (new_row (row_in_list before) c.lowest_free-first.result c.lowest_free-second.result c.args.serial c.in_ok-row.row c.lowest_free-first.ensures c.lowest_free-second.ensures c.in_ok-row.ensures)
     c.put.ensures.rows refl (search rules) c.writes.ensures
 
 pub returns-in_err-row-clause-does : goal.returns-in_err-row-clause-does

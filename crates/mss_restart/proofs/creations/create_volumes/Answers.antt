@@ -5,7 +5,7 @@ use Rattle.std.proofs.lemmas.Bool.{cond-true, cond-false}
 use Rattle.std.proofs.lemmas.Result.{err_from_is_err_and}
 use Rattle.mss_base.specs.Configs.{VolumeData}
 use Rattle.volume_table.specs.Row.{RowValue}
-use Rattle.volume_table.specs.Listed.{listed}
+use Rattle.volume_table.specs.Listed.{row_in_list}
 use Rattle.shown_volumes.specs.declared.refused.Refused.{Refused}
 use Rattle.shown_volumes.specs.Shown.{RowsOf}
 use Rattle.mss_restart.specs.Opening.{made, to_make}
@@ -18,7 +18,7 @@ use Rattle.mss_restart.proofs.creations.create_volumes.Goals.{then-missing+in_ok
 
 pub loop-entry-init : goal.loop-entry-init
 loop-entry-init g c =
-    let start = listed c.args.rows.now in
+    let start = row_in_list c.args.rows.now in
     let all = to_make start c.args.volumes.now in
     record {
       opening = λ tells. nothing_opened all (g.S.Site.told c.args.site.now) c.args.rows.now c.args.used.now.items (c.requires.known tells);
@@ -35,7 +35,7 @@ pub returns-in_err-create_volume-clause-told : goal.returns-in_err-create_volume
 returns-in_err-create_volume-clause-told g c = λ tells.
     let p = err_from_is_err_and c.from_residual.result c.from_residual.ensures.1 in
     let volumes = c.args.volumes.now in
-    let start = listed c.args.rows.now in
+    let start = row_in_list c.args.rows.now in
     let all = to_make start volumes in
     let begun = g.S.Site.told c.args.site.now in
     let mid = g.S.Site.told c.loop-entry.site in
@@ -50,22 +50,22 @@ returns-in_err-create_volume-clause-told g c = λ tells.
     let rest = rest_is volumes c.loop-entry.entry-index v (omega (arith, c.loop-entry-test.true)) c.entry-item.is in
     let fresh = (ap (λ (o : Option RowValue). is_some o) (sym c.row.ensures) ∙ c.is_none-missing.ensures ∙ ap not c.if-missing.true) in
     let change = made v.0 v.1 in
-    let next : to_make (listed rows) (drop c.loop-entry.entry-index volumes) ≡ change ∷ to_make (listed rows) behind = ap (to_make (listed rows)) rest ∙ cond-false _ _ _ fresh in
+    let next : to_make (row_in_list rows) (drop c.loop-entry.entry-index volumes) ≡ change ∷ to_make (row_in_list rows) behind = ap (to_make (row_in_list rows)) rest ∙ cond-false _ _ _ fresh in
     let opening = opening_as (known.opening tells) next in
     let does = c.create_volume.ensures.does tells in
     subst (λ (r : Result (Unit {0}) Refused). OpensVolumes ChangesWhole run begun now r) (sym (p.1 ∙ ap Err p.2)) (record {
-      moments = moments_on all start begun mid rows used change (to_make (listed rows) behind) opening now does.moments;
-      others = others_on all start begun mid rows used change (to_make (listed rows) behind) opening now does.others;
+      moments = moments_on all start begun mid rows used change (to_make (row_in_list rows) behind) opening now does.moments;
+      others = others_on all start begun mid rows used change (to_make (row_in_list rows) behind) opening now does.others;
       opened = tt;
       complete =
-          memory_changes all start (listed rows) (listed c.create_volume.new.rows) begun mid now steps steps (to_make (listed rows) (drop c.loop-entry.entry-index volumes)) c.in_err-create_volume.field-0.0
+          memory_changes all start (row_in_list rows) (row_in_list c.create_volume.new.rows) begun mid now steps steps (to_make (row_in_list rows) (drop c.loop-entry.entry-index volumes)) c.in_err-create_volume.field-0.0
           (known.logged tells) (λ is. (c.in_err-create_volume.ensures.memory (ap Err is)).log tells);
     })
 
 pub loop-entry-preserved : goal.loop-entry-preserved
 loop-entry-preserved g c =
     let volumes = c.args.volumes.now in
-    let start = listed c.args.rows.now in
+    let start = row_in_list c.args.rows.now in
     let all = to_make start volumes in
     let begun = g.S.Site.told c.args.site.now in
     let mid = g.S.Site.told c.loop-entry.site in
@@ -81,20 +81,20 @@ loop-entry-preserved g c =
       | then-missing+in_ok-create_volume w ↦ rw (w.site-is, w.rows-is, w.used-is, w.creations-is) (
           let one = w.in_ok-create_volume.ensures.row in
           let fresh = (ap (λ (o : Option RowValue). is_some o) (sym c.row.ensures) ∙ c.is_none-missing.ensures ∙ ap not w.if-missing.true) in
-          let next : to_make (listed rows) (drop c.loop-entry.entry-index volumes) ≡ change ∷ to_make (listed rows) behind = ap (to_make (listed rows)) rest ∙ cond-false _ _ _ fresh in
-          let after : to_make (listed rows) behind ≡ to_make (listed w.create_volume.new.rows) behind =
-          sym (ap (λ (r : RowsOf). to_make r behind) one.now ∙ to_make_past v.0 one.row (listed rows) behind rising.0) in
+          let next : to_make (row_in_list rows) (drop c.loop-entry.entry-index volumes) ≡ change ∷ to_make (row_in_list rows) behind = ap (to_make (row_in_list rows)) rest ∙ cond-false _ _ _ fresh in
+          let after : to_make (row_in_list rows) behind ≡ to_make (row_in_list w.create_volume.new.rows) behind =
+          sym (ap (λ (r : RowsOf). to_make r behind) one.now ∙ to_make_past v.0 one.row (row_in_list rows) behind rising.0) in
           record {
             opening = λ tells.
                 let does = w.create_volume.ensures.does tells in
-                opening_as (opened_too all start begun mid rows used change (to_make (listed rows) behind) (opening_as (known.opening tells) next) (g.S.Site.told w.create_volume.new.site) does.moments
+                opening_as (opened_too all start begun mid rows used change (to_make (row_in_list rows) behind) (opening_as (known.opening tells) next) (g.S.Site.told w.create_volume.new.site) does.moments
                 does.others (w.in_ok-create_volume.ensures.does tells).complete.firm w.create_volume.new.rows w.put_none.new.used.items (w.in_ok-create_volume.ensures.does tells).done_ known.places w.put_none.ensures) after;
             coming =
-                coming_as (coming_on all start (listed rows) c.loop-entry.creations.items change (to_make (listed rows) behind) (g.S.Site.writes c.args.site.now) (g.S.Site.writes c.loop-entry.site) (coming_as known.coming next)
-                (listed w.create_volume.new.rows) w.push.new.self.items (g.S.Site.writes w.create_volume.new.site) w.in_ok-create_volume.field-0 w.push.ensures.items one w.create_volume.ensures.site_.devices.written) after;
+                coming_as (coming_on all start (row_in_list rows) c.loop-entry.creations.items change (to_make (row_in_list rows) behind) (g.S.Site.writes c.args.site.now) (g.S.Site.writes c.loop-entry.site) (coming_as known.coming next)
+                (row_in_list w.create_volume.new.rows) w.push.new.self.items (g.S.Site.writes w.create_volume.new.site) w.in_ok-create_volume.field-0 w.push.ensures.items one w.create_volume.ensures.site_.devices.written) after;
             logged = λ tells.
-                logged_as (logged_on all start (listed rows) c.loop-entry.creations.items change (to_make (listed rows) behind) begun mid (logged_as (known.logged tells) next)
-                (listed w.create_volume.new.rows) w.push.new.self.items (g.S.Site.told w.create_volume.new.site) w.in_ok-create_volume.field-0 w.push.ensures.items (w.in_ok-create_volume.ensures.does tells).complete) after;
+                logged_as (logged_on all start (row_in_list rows) c.loop-entry.creations.items change (to_make (row_in_list rows) behind) begun mid (logged_as (known.logged tells) next)
+                (row_in_list w.create_volume.new.rows) w.push.new.self.items (g.S.Site.told w.create_volume.new.site) w.in_ok-create_volume.field-0 w.push.ensures.items (w.in_ok-create_volume.ensures.does tells).complete) after;
             places = search rules;
             rising = rising.1;
             room = omega (arith, known.room, w.push.ensures.spare);
@@ -103,7 +103,7 @@ loop-entry-preserved g c =
           })
       | else-missing w ↦ rw (w.site-is, w.rows-is, w.used-is, w.creations-is) (
           let has = (ap (λ (o : Option RowValue). is_some o) (sym c.row.ensures) ∙ c.is_none-missing.ensures ∙ ap not w.if-missing.false) in
-          let next : to_make (listed rows) (drop c.loop-entry.entry-index volumes) ≡ to_make (listed rows) behind = ap (to_make (listed rows)) rest ∙ cond-true _ _ _ has in
+          let next : to_make (row_in_list rows) (drop c.loop-entry.entry-index volumes) ≡ to_make (row_in_list rows) behind = ap (to_make (row_in_list rows)) rest ∙ cond-true _ _ _ has in
           record {
             opening = λ tells. opening_as (known.opening tells) next;
             coming = coming_as known.coming next;
@@ -124,11 +124,11 @@ returns-in_err-create_volume-clause-site_ g c =
 
 pub returns-clause-told : goal.returns-clause-told
 returns-clause-told g c = λ tells.
-    let start = listed c.args.rows.now in
+    let start = row_in_list c.args.rows.now in
     let all = to_make start c.args.volumes.now in
     let rows = c.loop-entry.rows in
     let none : drop c.loop-entry.entry-index c.args.volumes.now ≡ [] = drop_of_length-le c.args.volumes.now {i = c.loop-entry.entry-index} (omega (arith, c.loop-entry-test.false)) in
-    let ended = ap (to_make (listed rows)) none in
+    let ended = ap (to_make (row_in_list rows)) none in
     let begun = g.S.Site.told c.args.site.now in
     let now = g.S.Site.told c.loop-entry.site in
     let known = c.loop-entry.invariant in
@@ -136,13 +136,13 @@ returns-clause-told g c = λ tells.
       moments = (known.opening tells).moments;
       others = (known.opening tells).others;
       opened = all_opened all begun now c.args.rows.now rows c.loop-entry.used.items (opening_as (known.opening tells) ended);
-      complete = all_logged all start (listed rows) begun now c.loop-entry.creations.items (logged_as (known.logged tells) ended);
+      complete = all_logged all start (row_in_list rows) begun now c.loop-entry.creations.items (logged_as (known.logged tells) ended);
     }
 
 pub returns-clause-rows : goal.returns-clause-rows
 returns-clause-rows g c =
-    let start = listed c.args.rows.now in
-    let rows = listed c.loop-entry.rows in
+    let start = row_in_list c.args.rows.now in
+    let rows = row_in_list c.loop-entry.rows in
     let none : drop c.loop-entry.entry-index c.args.volumes.now ≡ [] = drop_of_length-le c.args.volumes.now {i = c.loop-entry.entry-index} (omega (arith, c.loop-entry-test.false)) in
     all_come (to_make start c.args.volumes.now) start rows (g.S.Site.writes c.args.site.now) (g.S.Site.writes c.loop-entry.site) c.loop-entry.creations.items (coming_as c.loop-entry.invariant.coming (ap (to_make rows) none))
 

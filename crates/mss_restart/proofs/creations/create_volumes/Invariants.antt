@@ -1,5 +1,5 @@
 use Rattle.std.proofs.Common.{◌≡◌, ◌≤◌, ◌+◌, length, drop}
-use Rattle.volume_table.specs.Listed.{listed}
+use Rattle.volume_table.specs.Listed.{row_in_list}
 use Rattle.mss_restart.specs.Creations.{WritesOn}
 use Rattle.mss_restart.specs.Opening.{to_make}
 use Rattle.mss_restart.proofs.Creating.{AreRising, IsOpening}
@@ -8,9 +8,9 @@ use Rattle.mss_restart.proofs.creations.create_volumes.Given as goal
 
 abbrev pub invariant-loop-entry : goal.invariant-loop-entry
 invariant-loop-entry g l = record {
-  opening : g.S.Site.tells → IsOpening (to_make (listed l.initial.rows) l.volumes) (listed l.initial.rows) (g.S.Site.told l.initial.site) (g.S.Site.told l.site) l.rows l.used.items (to_make (listed l.rows) (drop l.entry-index l.volumes));
-  coming : AreComing (to_make (listed l.initial.rows) l.volumes) (listed l.initial.rows) (g.S.Site.writes l.initial.site) (g.S.Site.writes l.site) (listed l.rows) l.creations.items (to_make (listed l.rows) (drop l.entry-index l.volumes));
-  logged : g.S.Site.tells → AreLogged (to_make (listed l.initial.rows) l.volumes) (listed l.initial.rows) (g.S.Site.told l.initial.site) (g.S.Site.told l.site) (listed l.rows) l.creations.items (to_make (listed l.rows) (drop l.entry-index l.volumes));
+  opening : g.S.Site.tells → IsOpening (to_make (row_in_list l.initial.rows) l.volumes) (row_in_list l.initial.rows) (g.S.Site.told l.initial.site) (g.S.Site.told l.site) l.rows l.used.items (to_make (row_in_list l.rows) (drop l.entry-index l.volumes));
+  coming : AreComing (to_make (row_in_list l.initial.rows) l.volumes) (row_in_list l.initial.rows) (g.S.Site.writes l.initial.site) (g.S.Site.writes l.site) (row_in_list l.rows) l.creations.items (to_make (row_in_list l.rows) (drop l.entry-index l.volumes));
+  logged : g.S.Site.tells → AreLogged (to_make (row_in_list l.initial.rows) l.volumes) (row_in_list l.initial.rows) (g.S.Site.told l.initial.site) (g.S.Site.told l.site) (row_in_list l.rows) l.creations.items (to_make (row_in_list l.rows) (drop l.entry-index l.volumes));
   places : length l.used.items ≡ 32;
   rising : AreRising (drop l.entry-index l.volumes);
   room : length l.volumes ≤ l.creations.spare + l.entry-index;

@@ -5,7 +5,7 @@ use Rattle.std.proofs.Math.ListN.{drop_of_length-le}
 use Rattle.std.proofs.lemmas.Bool.{cond-true, cond-false}
 use Rattle.std.proofs.lemmas.Result.{err_from_is_err_and}
 use Rattle.mss_base.specs.Configs.{VolumeData}
-use Rattle.volume_table.specs.Listed.{listed}
+use Rattle.volume_table.specs.Listed.{row_in_list}
 use Rattle.shown_volumes.specs.declared.refused.Refused.{Refused}
 use Rattle.shown_volumes.specs.Shown.{RowsOf}
 use Rattle.mss_restart.specs.Opening.{marked, to_mark}
@@ -19,7 +19,7 @@ use Rattle.mss_restart.proofs.marks.mark_volumes.Goals.{then-not-is_marked_as+in
 
 pub loop-entry-init : goal.loop-entry-init
 loop-entry-init g c =
-    let start = listed c.args.rows.now in
+    let start = row_in_list c.args.rows.now in
     let all = to_mark start c.args.volumes.now in
     record {
       opening = λ tells. nothing_opened all (g.S.Site.told c.args.site.now) c.args.rows.now c.args.used.now.items (c.requires.known tells);
@@ -37,7 +37,7 @@ pub returns-in_err-mark_volume-clause-told : goal.returns-in_err-mark_volume-cla
 returns-in_err-mark_volume-clause-told g c = λ tells.
     let p = err_from_is_err_and c.from_residual.result c.from_residual.ensures.1 in
     let volumes = c.args.volumes.now in
-    let start = listed c.args.rows.now in
+    let start = row_in_list c.args.rows.now in
     let all = to_mark start volumes in
     let begun = g.S.Site.told c.args.site.now in
     let mid = g.S.Site.told c.loop-entry.site in
@@ -52,22 +52,22 @@ returns-in_err-mark_volume-clause-told g c = λ tells.
     let rest = rest_is volumes c.loop-entry.entry-index v (omega (arith, c.loop-entry-test.true)) c.entry-item.is in
     let fresh = sym c.is_marked_as.ensures ∙ c.if-not-is_marked_as.true in
     let change = marked v.0 v.2 in
-    let next : to_mark (listed rows) (drop c.loop-entry.entry-index volumes) ≡ change ∷ to_mark (listed rows) behind = ap (to_mark (listed rows)) rest ∙ cond-false _ _ _ fresh in
+    let next : to_mark (row_in_list rows) (drop c.loop-entry.entry-index volumes) ≡ change ∷ to_mark (row_in_list rows) behind = ap (to_mark (row_in_list rows)) rest ∙ cond-false _ _ _ fresh in
     let opening = opening_as (known.opening tells) next in
     let does = c.mark_volume.ensures.does tells in
     subst (λ (r : Result (Unit {0}) Refused). OpensVolumes ChangesWhole run begun now r) (sym (p.1 ∙ ap Err p.2)) (record {
-      moments = moments_on all start begun mid rows used change (to_mark (listed rows) behind) opening now does.moments;
-      others = others_on all start begun mid rows used change (to_mark (listed rows) behind) opening now does.others;
+      moments = moments_on all start begun mid rows used change (to_mark (row_in_list rows) behind) opening now does.moments;
+      others = others_on all start begun mid rows used change (to_mark (row_in_list rows) behind) opening now does.others;
       opened = tt;
       complete =
-          memory_changes all start (listed rows) (listed c.mark_volume.new.rows) begun mid now steps steps (to_mark (listed rows) (drop c.loop-entry.entry-index volumes)) c.in_err-mark_volume.field-0.0
+          memory_changes all start (row_in_list rows) (row_in_list c.mark_volume.new.rows) begun mid now steps steps (to_mark (row_in_list rows) (drop c.loop-entry.entry-index volumes)) c.in_err-mark_volume.field-0.0
           (known.logged tells) (λ is. (c.in_err-mark_volume.ensures.memory (ap Err is)).log tells);
     })
 
 pub loop-entry-preserved : goal.loop-entry-preserved
 loop-entry-preserved g c =
     let volumes = c.args.volumes.now in
-    let start = listed c.args.rows.now in
+    let start = row_in_list c.args.rows.now in
     let all = to_mark start volumes in
     let begun = g.S.Site.told c.args.site.now in
     let mid = g.S.Site.told c.loop-entry.site in
@@ -78,36 +78,36 @@ loop-entry-preserved g c =
     let known = c.loop-entry.invariant in
     let rest = rest_is volumes c.loop-entry.entry-index v (omega (arith, c.loop-entry-test.true)) c.entry-item.is in
     let rising = rising_first v behind (subst AreRising rest known.rising) in
-    let known_there = subst (AllByRecursion (λ (x : VolumeData). IsSome (listed rows x.0))) rest known.there in
+    let known_there = subst (AllByRecursion (λ (x : VolumeData). IsSome (row_in_list rows x.0))) rest known.there in
     let change = marked v.0 v.2 in
     elim c.if-not-is_marked_as.branch [
       | then-not-is_marked_as+in_ok-mark_volume w ↦ rw (w.site-is, w.rows-is, w.used-is, w.marks-is) (
           let one = w.in_ok-mark_volume.ensures.row in
           let fresh = sym c.is_marked_as.ensures ∙ w.if-not-is_marked_as.true in
-          let next : to_mark (listed rows) (drop c.loop-entry.entry-index volumes) ≡ change ∷ to_mark (listed rows) behind = ap (to_mark (listed rows)) rest ∙ cond-false _ _ _ fresh in
-          let after : to_mark (listed rows) behind ≡ to_mark (listed w.mark_volume.new.rows) behind =
-          sym (ap (λ (r : RowsOf). to_mark r behind) one.now ∙ to_mark_past v.0 one.row (listed rows) behind rising.0) in
+          let next : to_mark (row_in_list rows) (drop c.loop-entry.entry-index volumes) ≡ change ∷ to_mark (row_in_list rows) behind = ap (to_mark (row_in_list rows)) rest ∙ cond-false _ _ _ fresh in
+          let after : to_mark (row_in_list rows) behind ≡ to_mark (row_in_list w.mark_volume.new.rows) behind =
+          sym (ap (λ (r : RowsOf). to_mark r behind) one.now ∙ to_mark_past v.0 one.row (row_in_list rows) behind rising.0) in
           record {
             opening = λ tells.
                 let does = w.mark_volume.ensures.does tells in
-                opening_as (opened_too all start begun mid rows used change (to_mark (listed rows) behind) (opening_as (known.opening tells) next) (g.S.Site.told w.mark_volume.new.site) does.moments
+                opening_as (opened_too all start begun mid rows used change (to_mark (row_in_list rows) behind) (opening_as (known.opening tells) next) (g.S.Site.told w.mark_volume.new.site) does.moments
                 does.others (w.in_ok-mark_volume.ensures.does tells).complete.firm w.mark_volume.new.rows w.mark_volume.new.used.items (w.in_ok-mark_volume.ensures.does tells).done_ known.places w.in_ok-mark_volume.ensures.used) after;
             coming =
-                coming_as (coming_on all start (listed rows) c.loop-entry.marks.items change (to_mark (listed rows) behind) (g.S.Site.writes c.args.site.now) (g.S.Site.writes c.loop-entry.site) (coming_as known.coming next)
-                (listed w.mark_volume.new.rows) w.push.new.self.items (g.S.Site.writes w.mark_volume.new.site) w.in_ok-mark_volume.field-0 w.push.ensures.items one w.mark_volume.ensures.site_.devices.written) after;
+                coming_as (coming_on all start (row_in_list rows) c.loop-entry.marks.items change (to_mark (row_in_list rows) behind) (g.S.Site.writes c.args.site.now) (g.S.Site.writes c.loop-entry.site) (coming_as known.coming next)
+                (row_in_list w.mark_volume.new.rows) w.push.new.self.items (g.S.Site.writes w.mark_volume.new.site) w.in_ok-mark_volume.field-0 w.push.ensures.items one w.mark_volume.ensures.site_.devices.written) after;
             logged = λ tells.
-                logged_as (logged_on all start (listed rows) c.loop-entry.marks.items change (to_mark (listed rows) behind) begun mid (logged_as (known.logged tells) next)
-                (listed w.mark_volume.new.rows) w.push.new.self.items (g.S.Site.told w.mark_volume.new.site) w.in_ok-mark_volume.field-0 w.push.ensures.items (w.in_ok-mark_volume.ensures.does tells).complete) after;
+                logged_as (logged_on all start (row_in_list rows) c.loop-entry.marks.items change (to_mark (row_in_list rows) behind) begun mid (logged_as (known.logged tells) next)
+                (row_in_list w.mark_volume.new.rows) w.push.new.self.items (g.S.Site.told w.mark_volume.new.site) w.in_ok-mark_volume.field-0 w.push.ensures.items (w.in_ok-mark_volume.ensures.does tells).complete) after;
             places = search rules;
             rising = rising.1;
             room = omega (arith, known.room, w.push.ensures.spare);
             count = w.in_ok-mark_volume.ensures.site_.stops ∙ known.count;
             devices = written_on g.S.Site c.args.site.now c.loop-entry.site w.mark_volume.new.site known.devices w.mark_volume.ensures.site_.devices;
-            there = still_there (listed rows) (listed w.mark_volume.new.rows) v.0 one.row one.now behind known_there.1;
+            there = still_there (row_in_list rows) (row_in_list w.mark_volume.new.rows) v.0 one.row one.now behind known_there.1;
           })
       | else-not-is_marked_as w ↦ rw (w.site-is, w.rows-is, w.used-is, w.marks-is) (
           let has = sym c.is_marked_as.ensures ∙ w.if-not-is_marked_as.false in
-          let next : to_mark (listed rows) (drop c.loop-entry.entry-index volumes) ≡ to_mark (listed rows) behind = ap (to_mark (listed rows)) rest ∙ cond-true _ _ _ has in
+          let next : to_mark (row_in_list rows) (drop c.loop-entry.entry-index volumes) ≡ to_mark (row_in_list rows) behind = ap (to_mark (row_in_list rows)) rest ∙ cond-true _ _ _ has in
           record {
             opening = λ tells. opening_as (known.opening tells) next;
             coming = coming_as known.coming next;
@@ -129,11 +129,11 @@ returns-in_err-mark_volume-clause-site_ g c =
 
 pub returns-clause-told : goal.returns-clause-told
 returns-clause-told g c = λ tells.
-    let start = listed c.args.rows.now in
+    let start = row_in_list c.args.rows.now in
     let all = to_mark start c.args.volumes.now in
     let rows = c.loop-entry.rows in
     let none : drop c.loop-entry.entry-index c.args.volumes.now ≡ [] = drop_of_length-le c.args.volumes.now {i = c.loop-entry.entry-index} (omega (arith, c.loop-entry-test.false)) in
-    let ended = ap (to_mark (listed rows)) none in
+    let ended = ap (to_mark (row_in_list rows)) none in
     let begun = g.S.Site.told c.args.site.now in
     let now = g.S.Site.told c.loop-entry.site in
     let known = c.loop-entry.invariant in
@@ -141,13 +141,13 @@ returns-clause-told g c = λ tells.
       moments = (known.opening tells).moments;
       others = (known.opening tells).others;
       opened = all_opened all begun now c.args.rows.now rows c.loop-entry.used.items (opening_as (known.opening tells) ended);
-      complete = all_logged all start (listed rows) begun now c.loop-entry.marks.items (logged_as (known.logged tells) ended);
+      complete = all_logged all start (row_in_list rows) begun now c.loop-entry.marks.items (logged_as (known.logged tells) ended);
     }
 
 pub returns-clause-rows : goal.returns-clause-rows
 returns-clause-rows g c =
-    let start = listed c.args.rows.now in
-    let rows = listed c.loop-entry.rows in
+    let start = row_in_list c.args.rows.now in
+    let rows = row_in_list c.loop-entry.rows in
     let none : drop c.loop-entry.entry-index c.args.volumes.now ≡ [] = drop_of_length-le c.args.volumes.now {i = c.loop-entry.entry-index} (omega (arith, c.loop-entry-test.false)) in
     all_come (to_mark start c.args.volumes.now) start rows (g.S.Site.writes c.args.site.now) (g.S.Site.writes c.loop-entry.site) c.loop-entry.marks.items (coming_as c.loop-entry.invariant.coming (ap (to_mark rows) none))
 

@@ -2,7 +2,7 @@ use Rattle.std.proofs.Common.{◌∙◌, ◌++◌, List, sym, ap, subst, Result,
 use Rattle.std.specs.Prelude.{OnOk}
 use Rattle.std.proofs.lemmas.Result.{err_from_is_err_and}
 use Rattle.mss_base.specs.Content.{content}
-use Rattle.volume_table.specs.Listed.{listed}
+use Rattle.volume_table.specs.Listed.{row_in_list}
 use Rattle.shown_volumes.specs.declared.refused.Refused.{Refused}
 use Rattle.mss_restart.specs.declared.opening.Opened.{Opened}
 use Rattle.mss_restart.specs.Opening.{OpeningChange, AreOpened, to_make, to_mark}
@@ -19,7 +19,7 @@ returns-in_err-create_volumes-clause-told g c = λ tells.
     let p = err_from_is_err_and c.from_residual.result c.from_residual.ensures.1 in
     let volumes = c.args.volumes.now in
     let before = c.args.opened.now in
-    let start = listed before.rows in
+    let start = row_in_list before.rows in
     let xs = to_make start volumes in
     let ys = to_mark start volumes in
     let s = g.S.Site.told c.args.site.now in
@@ -31,14 +31,14 @@ returns-in_err-create_volumes-clause-told g c = λ tells.
       others = others_more xs ys s t first.others;
       opened = tt;
       complete =
-          changes_more xs ys left.creations.items (steps_of left) start (listed left.rows) (listed left.rows) s t c.in_err-create_volumes.field-0.0 (c.in_err-create_volumes.ensures.told tells).complete;
+          changes_more xs ys left.creations.items (steps_of left) start (row_in_list left.rows) (row_in_list left.rows) s t c.in_err-create_volumes.field-0.0 (c.in_err-create_volumes.ensures.told tells).complete;
     })
 
 pub mark_volumes-requires-clause-there : goal.mark_volumes-requires-clause-there
 mark_volumes-requires-clause-there g c =
     let volumes = c.args.volumes.now in
-    let start = listed c.args.opened.now.rows in
-    let last = listed c.create_volumes.new.rows in
+    let start = row_in_list c.args.opened.now.rows in
+    let last = row_in_list c.create_volumes.new.rows in
     creates_all volumes start last c.requires.rising
     (told_opens (to_make start volumes) c.create_volumes.new.creations.items start last (g.S.Site.writes c.args.site.now) (g.S.Site.writes c.create_volumes.new.site) c.in_ok-create_volumes.ensures.rows)
 
@@ -46,7 +46,7 @@ pub returns-clause-told : goal.returns-clause-told
 returns-clause-told g c = λ tells.
     let volumes = c.args.volumes.now in
     let before = c.args.opened.now in
-    let start = listed before.rows in
+    let start = row_in_list before.rows in
     let between = c.create_volumes.new.rows in
     let rows = c.mark_volumes.new.rows in
     let used = c.mark_volumes.new.used.items in
@@ -60,9 +60,9 @@ returns-clause-told g c = λ tells.
     let t = g.S.Site.told c.mark_volumes.new.site in
     let first = c.create_volumes.ensures.told tells in
     let made = c.in_ok-create_volumes.ensures.told tells in
-    let same = to_mark_same (listed between) start volumes (creates_marks volumes start (listed between) c.requires.rising made.opened.opens) in
+    let same = to_mark_same (row_in_list between) start volumes (creates_marks volumes start (row_in_list between) c.requires.rising made.opened.opens) in
     let second = subst (λ (x : List OpeningChange). OpensVolumes ChangesWhole (record { changes = x; before = between; rows = rows; used = used; steps = b }) mid t r) same (c.mark_volumes.ensures.told tells) in
-    let firm = written_firm xs a start (listed between) s mid made.complete in
+    let firm = written_firm xs a start (row_in_list between) s mid made.complete in
     let used_mid = c.create_volumes.new.used.items in
     record {
       moments = moments_behind xs ys s mid t before.rows between rows used_mid used firm made.opened first.moments second.moments;
@@ -70,15 +70,15 @@ returns-clause-told g c = λ tells.
       opened =
           on_ok_too (AreOpened ys (content mid) (content t) between rows used) (AreOpened (xs ++ ys) (content s) (content t) before.rows rows used)
           (opened_behind xs ys s mid t before.rows between rows used_mid used firm made.opened) r second.opened;
-      complete = changes_behind xs ys a b start (listed between) (listed rows) s mid t r made.complete second.complete;
+      complete = changes_behind xs ys a b start (row_in_list between) (row_in_list rows) s mid t r made.complete second.complete;
     }
 
 pub returns-clause-rows : goal.returns-clause-rows
 returns-clause-rows g c =
     let volumes = c.args.volumes.now in
-    let start = listed c.args.opened.now.rows in
-    let between = listed c.create_volumes.new.rows in
-    let last = listed c.mark_volumes.new.rows in
+    let start = row_in_list c.args.opened.now.rows in
+    let between = row_in_list c.create_volumes.new.rows in
+    let last = row_in_list c.mark_volumes.new.rows in
     let a = c.create_volumes.new.creations.items in
     let b = c.mark_volumes.new.marks.items in
     let xs = to_make start volumes in

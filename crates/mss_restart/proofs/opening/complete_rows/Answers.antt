@@ -4,8 +4,8 @@ use Rattle.std.specs.Prelude.{OnOk}
 use Rattle.mss_base.specs.Configs.{ConfigData, VolumeData}
 use Rattle.mss_base.specs.Content.{content}
 use Rattle.shown_volumes.specs.declared.refused.Refused.{Refused}
-use Rattle.shown_volumes.specs.Shown.{shown}
-use Rattle.volume_table.specs.Listed.{listed}
+use Rattle.shown_volumes.specs.Shown.{volumes_shown}
+use Rattle.volume_table.specs.Listed.{row_in_list}
 use Rattle.mss_restart.specs.declared.opening.Opened.{Opened}
 use Rattle.mss_restart.specs.Opening.{AreOpened, opening_changes}
 use Rattle.mss_restart.specs.Creations.{AreTold, ChangesWhole, CompletesWhole, OpensVolumes, account_of}
@@ -23,13 +23,13 @@ returns-in_err-rewrite_rows-clause-told g c = λ tells.
     let p = err_from_is_err_and c.from_residual.result c.from_residual.ensures.1 in
     let volumes = c.args.config.now.volumes in
     let before = c.args.opened.now in
-    let changes = opening_changes (listed before.rows) volumes in
+    let changes = opening_changes (row_in_list before.rows) volumes in
     let left : Opened = record before { used = c.rewrite_rows.new.used } in
     let old = g.S.Site.told c.args.site.now in
     let new = g.S.Site.told c.rewrite_rows.new.site in
     let rewrites = c.rewrite_rows.ensures.rewrites tells in
     subst (λ (r : Result (Unit {0}) Refused). OpensVolumes CompletesWhole (run_of volumes before left) old new r) (sym (p.1 ∙ ap Err p.2)) (record {
-      moments = λ frames sound. no_front frames changes (shown (content old)) old new (rewrites.moments frames sound);
+      moments = λ frames sound. no_front frames changes (volumes_shown (content old)) old new (rewrites.moments frames sound);
       others = none_of changes old new rewrites.others;
       opened = tt;
       complete = rewrites_complete (account_of (run_of volumes before left)) old new c.in_err-rewrite_rows.field-0.0 (c.in_err-rewrite_rows.ensures.rewrites tells).complete;
@@ -53,7 +53,7 @@ returns-clause-told g c = λ tells.
     let before = c.args.opened.now in
     let between : Opened = record before { used = c.rewrite_rows.new.used } in
     let left = c.change_volumes.new.opened in
-    let changes = opening_changes (listed before.rows) volumes in
+    let changes = opening_changes (row_in_list before.rows) volumes in
     let r = c.change_volumes.result in
     let s = g.S.Site.told c.args.site.now in
     let mid = g.S.Site.told c.rewrite_rows.new.site in
@@ -75,8 +75,8 @@ pub returns-clause-rows : goal.returns-clause-rows
 returns-clause-rows g c =
     let volumes = c.args.config.now.volumes in
     let same : c.as_slice.result.now ≡ volumes = c.as_slice.ensures ∙ ap (λ (x : ConfigData). x.volumes) c.config.view_is in
-    let start = listed c.args.opened.now.rows in
-    let last = listed c.change_volumes.new.opened.rows in
+    let start = row_in_list c.args.opened.now.rows in
+    let last = row_in_list c.change_volumes.new.opened.rows in
     let steps = steps_of c.change_volumes.new.opened in
     let begun = g.S.Site.writes c.args.site.now in
     let mid = g.S.Site.writes c.rewrite_rows.new.site in

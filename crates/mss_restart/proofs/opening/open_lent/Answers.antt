@@ -3,7 +3,7 @@ use Rattle.std.proofs.lemmas.Result.{err_from_is_err_and}
 use Rattle.shown_volumes.specs.declared.refused.Refused.{Refused}
 use Rattle.shown_volumes.specs.Shown.{rows_of}
 use Rattle.mss_restart.specs.declared.opening.Opened.{Opened}
-use Rattle.volume_table.specs.Listed.{listed}
+use Rattle.volume_table.specs.Listed.{row_in_list}
 use Rattle.mss_restart.specs.Answers.{Opens, OpensWhole, account_from, steps_of}
 use Rattle.mss_restart.proofs.KnownRows.{rows_listed}
 use Rattle.mss_restart.proofs.Repaired.{stop_since}
@@ -23,7 +23,7 @@ returns-clause-opens g c = λ tells.
     let before = c.in_ok-rows.rows in
     let after = c.complete_rows.new.opened.rows in
     let used = c.complete_rows.new.opened.used.items in
-    let changes = opening_changes (listed before) c.args.config.now.volumes in
+    let changes = opening_changes (row_in_list before) c.args.config.now.volumes in
     opened c.args.config.now (content (g.S.Site.told c.args.site.now)) now before after used (subst (λ (x : ConfigData). AreRising x.volumes) c.config.view_is c.config.invariant.rising) c.look.ensures.places
     (c.in_ok-rows.ensures.known tells) (c.in_ok-rows.ensures.faultless tells) c.look-2.ensures.places
     (subst (λ (x : SiteLog). AreOpened changes (content x) now before after used) (c.known_rows.ensures.devices.log tells) (c.in_ok-complete_rows.ensures.told tells).opened)
@@ -97,7 +97,7 @@ returns-in_err-complete_rows-clause-leaves g c = λ tells.
       others = others_at s mid now rows volumes same places known (c.complete_rows.ensures.told tells).others;
       complete =
           subst (λ (r : Result Opened Refused). OpensWhole c.args.config.now s now r) (sym (p.1 ∙ ap Err p.2))
-          (refusal_complete c.args.config.now (steps_of c.complete_rows.new.opened) (listed rows) (listed c.complete_rows.new.opened.rows) s mid now c.in_err-complete_rows.field-0.0 same
+          (refusal_complete c.args.config.now (steps_of c.complete_rows.new.opened) (row_in_list rows) (row_in_list c.complete_rows.new.opened.rows) s mid now c.in_err-complete_rows.field-0.0 same
           (rows_listed rows (content s) places known) (c.in_err-complete_rows.ensures.told tells).complete);
     }
 
@@ -116,7 +116,7 @@ returns-clause-leaves g c = λ tells.
       moments = moments_at s mid now rows volumes same places known (c.complete_rows.ensures.told tells).moments;
       others = others_at s mid now rows volumes same places known (c.complete_rows.ensures.told tells).others;
       complete =
-          answer_complete c.args.config.now (steps_of c.complete_rows.new.opened) (listed rows) (listed after) s mid now same
+          answer_complete c.args.config.now (steps_of c.complete_rows.new.opened) (row_in_list rows) (row_in_list after) s mid now same
           (rows_listed rows (content s) places known) (rows_listed after (content now) c.look-2.ensures.places (c.in_ok-complete_rows.ensures.told tells).opened.known.told)
           (c.in_ok-complete_rows.ensures.told tells).complete;
     }

@@ -9,7 +9,7 @@ use Rattle.shown_volumes.specs.Faults.{serial_fault}
 use Rattle.shown_volumes.specs.Sound.{HasSerialsAsked}
 use Rattle.shown_volumes.specs.declared.refused.Refused.{Refused}
 use Rattle.mss_restart.specs.declared.rows.RowsRead.{RowsRead}
-use Rattle.volume_table.specs.Listed.{listed}
+use Rattle.volume_table.specs.Listed.{row_in_list}
 use Rattle.mss_restart.specs.Survey.{ReadsRows, KeepsFirst, KeepsRows}
 use Rattle.mss_restart.proofs.RowLemmas.{cause_since}
 use Rattle.mss_restart.proofs.TrackReads.{table_on}
@@ -73,7 +73,7 @@ loop-number-preserved g c =
           subst (λ (rows : List (Option RowValue)). SoFar begun now (n + 1) asked k rows c.or-unread.result) (sym put)
           (subst (λ (u : Option ℕ). SoFar begun now (n + 1) asked k (set c.loop-number.rows n read.row) u) (sym c.or-unread.ensures)
           (row_read begun mid now n asked k c.loop-number.rows c.loop-number.unread (known.read tells) (omega (arith, c.loop-number-test.true)) (Ok read) one read one.tells c.put.ensures.places c.in_ok-read.ensures.counts));
-      serials = subst (λ (rows : List (Option RowValue)). HasSerialsAsked asked (listed rows)) (sym put) (serials_on asked c.loop-number.rows n read.row c.put.ensures.places (omega (arith, c.loop-number-test.true)) known.serials none);
+      serials = subst (λ (rows : List (Option RowValue)). HasSerialsAsked asked (row_in_list rows)) (sym put) (serials_on asked c.loop-number.rows n read.row c.put.ensures.places (omega (arith, c.loop-number-test.true)) known.serials none);
       counts = subst (λ (u : Option ℕ). KeepsFirst begun now u) (sym c.or-unread.ensures) (first_kept begun mid now c.loop-number.unread read.unread known.counts known.devices.later c.in_ok-read.ensures.devices.later c.in_ok-read.ensures.counts);
       works = λ never. c.or-unread.ensures ∙ (λ i. option_or (known.works never i) (c.in_ok-read.ensures.works (table_on g.S.Site c.args.site.now c.loop-number.site known.devices.sound never) i));
       devices = reads_then g.S.Site c.args.site.now c.loop-number.site c.read_volume.new.site known.devices c.in_ok-read.ensures.devices;

@@ -5,7 +5,7 @@ use Rattle.mss_base.specs.Configs.{serial_in}
 use Rattle.mss_base.specs.Configs.{ConfigData}
 use Rattle.shown_volumes.specs.declared.refused.Refused.{Refused}
 use Rattle.mss_restart.specs.declared.rows.RowsRead.{RowsRead}
-use Rattle.volume_table.specs.Listed.{listed}
+use Rattle.volume_table.specs.Listed.{row_in_list}
 use Rattle.mss_restart.specs.Walks.{rest_fault}
 use Rattle.mss_restart.specs.Survey.{FindsFault, Surveys, rows_read}
 use Rattle.mss_restart.proofs.Surveyed.{rows_survey, good_survey, bad_survey, renamed, read_renamed, later_rows}
@@ -37,7 +37,7 @@ returns-in_err-check_rows-clause-found g c = λ tells.
     let k = content (g.S.Site.told c.args.site.now) in
     let e = c.in_err-check_rows.field-0.0 in
     let rows = c.in_ok-read.read.rows in
-    let found = subst (λ (x : Content). FindsFault e (rest_fault c.config.inside.frames (listed rows) x)) (ap content (c.in_ok-read.ensures.devices.log tells))
+    let found = subst (λ (x : Content). FindsFault e (rest_fault c.config.inside.frames (row_in_list rows) x)) (ap content (c.in_ok-read.ensures.devices.log tells))
     (c.in_err-check_rows.ensures.finds tells) in
     let behind = c.in_err-check_rows.ensures.behind in
     subst (λ (r : Result RowsRead Refused). Surveys before now c.args.config.now.frames (serial_in c.args.config.now.volumes) k (rows_read r)) (sym (p.1 ∙ ap Err p.2))
@@ -52,7 +52,7 @@ returns-clause-found g c = λ tells.
     let now = g.S.Site.faults c.check_rows.new.site in
     let k = content (g.S.Site.told c.args.site.now) in
     let rows = c.in_ok-read.read.rows in
-    let none = subst (λ (x : Content). rest_fault c.config.inside.frames (listed rows) x ≡ None) (ap content (c.in_ok-read.ensures.devices.log tells))
+    let none = subst (λ (x : Content). rest_fault c.config.inside.frames (row_in_list rows) x ≡ None) (ap content (c.in_ok-read.ensures.devices.log tells))
     (c.in_ok-check_rows.ensures.finds tells) in
     renamed before now c.config.inside.frames c.args.config.now.frames c.as_slice.result.now c.args.config.now.volumes k k (Ok rows)
     (ap (λ (x : ConfigData). x.frames) c.config.view_is) (c.as_slice.ensures ∙ ap (λ (x : ConfigData). x.volumes) c.config.view_is) refl
@@ -71,13 +71,13 @@ returns-clause-read g c = λ tells.
 pub returns-in_err-check_rows-clause-works : goal.returns-in_err-check_rows-clause-works
 returns-in_err-check_rows-clause-works g c = λ never.
     let p = err_from_is_err_and c.from_residual-in_err-check_rows.result c.from_residual-in_err-check_rows.ensures.1 in
-    rw (p.1, p.2) (c.in_err-check_rows.ensures.works (rows_readable g.S.Site c.read_rows.new.site (all_read_tracks g.S.Site c.read_rows.new.site (c.in_ok-read.ensures.devices.sound _ never)) (listed c.in_ok-read.read.rows)))
+    rw (p.1, p.2) (c.in_err-check_rows.ensures.works (rows_readable g.S.Site c.read_rows.new.site (all_read_tracks g.S.Site c.read_rows.new.site (c.in_ok-read.ensures.devices.sound _ never)) (row_in_list c.in_ok-read.read.rows)))
 
 pub returns-in_err-check_rows-clause-one_copy : goal.returns-in_err-check_rows-clause-one_copy
 returns-in_err-check_rows-clause-one_copy g c = λ tells loses paired.
     let p = err_from_is_err_and c.from_residual-in_err-check_rows.result c.from_residual-in_err-check_rows.ensures.1 in
     rw (p.1, p.2)
-    (c.in_err-check_rows.ensures.works (rows_readable g.S.Site c.read_rows.new.site (reads_tracks g.S.Site c.read_rows.new.site (loses_on g.S.Site c.args.site.now c.read_rows.new.site c.in_ok-read.ensures.devices.sound loses)) (listed c.in_ok-read.read.rows)))
+    (c.in_err-check_rows.ensures.works (rows_readable g.S.Site c.read_rows.new.site (reads_tracks g.S.Site c.read_rows.new.site (loses_on g.S.Site c.args.site.now c.read_rows.new.site c.in_ok-read.ensures.devices.sound loses)) (row_in_list c.in_ok-read.read.rows)))
 
 pub returns-in_err-read-clause-works : goal.returns-in_err-read-clause-works
 returns-in_err-read-clause-works g c = λ never.
@@ -101,6 +101,6 @@ returns-in_err-check_rows-clause-reads g c = λ tells table shown.
     let rows = c.in_ok-read.read.rows in
     let none : c.in_ok-read.read.unread ≡ None = c.in_ok-read.ensures.works table in
     let read = subst (λ (u : Option ℕ). AreRead before mid (serial_in c.as_slice.result.now) k rows u) none (c.in_ok-read.ensures.read tells) in
-    let are : listed rows ≡ rows_of k = rows_listed rows k c.look.ensures.places (rows_told before mid (serial_in c.as_slice.result.now) k rows read) in
+    let are : row_in_list rows ≡ rows_of k = rows_listed rows k c.look.ensures.places (rows_told before mid (serial_in c.as_slice.result.now) k rows read) in
     let later = rows_on g.S.Site c.args.site.now c.read_rows.new.site c.in_ok-read.ensures.devices.sound (rows_of k) shown in
     rw (p.1, p.2) (c.in_err-check_rows.ensures.works (subst (λ (x : RowsOf). CanReadRows g.S.Site c.read_rows.new.site x) (sym are) later))

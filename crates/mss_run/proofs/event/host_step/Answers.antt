@@ -2,12 +2,12 @@ use Rattle.std.proofs.Common.{◌≡◌, ℕ, true, length, None, sym, ◌∙◌
 use Rattle.std.specs.Prelude.{is_some}
 use Rattle.channel_commands.specs.Data.{CallData}
 use Rattle.channel_commands.specs.Views.{call_of}
-use Rattle.core_state.specs.CoreValue.{CoreData, seen}
+use Rattle.core_state.specs.CoreValue.{CoreData, seen_core}
 use Rattle.core_state.specs.HostEvents.{HostEvent, IsSame}
 use Rattle.core_state.specs.IsCore.{IsCore}
 use Rattle.host_events.specs.Answers.{told_of}
 use Rattle.host_events.proofs.RuleFacts.{core_seen}
-use Rattle.volume_copy.specs.Beside.{asked}
+use Rattle.volume_copy.specs.Beside.{asked_copy}
 use Rattle.mss_run.specs.Happens.{is_in_vain}
 use Rattle.mss_run.proofs.EventFacts.{core_read, happens, later_read, read_at, read_on, vain}
 use Rattle.mss_run.proofs.GoingOn.{stays_going}
@@ -15,12 +15,12 @@ use Rattle.mss_run.proofs.event.host_step.Goals as goal
 
 pub returns-clause-history : goal.returns-clause-history
 returns-clause-history g c =
-    let before : CoreData = seen g.S.Site c.args.copied.now.core in
-    let new : CoreData = seen g.S.Site c.host_event-answer.new.self.core in
+    let before : CoreData = seen_core g.S.Site c.args.copied.now.core in
+    let new : CoreData = seen_core g.S.Site c.host_event-answer.new.self.core in
     let h : ℕ = c.args.host in
     let call : CallData = call_of c.args.call.now in
     let told = told_of c.host_event-answer.result in
-    let read = read_at (is_some (asked c.args.copied.now.copier)) g.S.Site.tells before (λ (old : CoreData). HostEvent g.S.Site.tells old h call told new) c.host_event-answer.ensures.event in
+    let read = read_at (is_some (asked_copy c.args.copied.now.copier)) g.S.Site.tells before (λ (old : CoreData). HostEvent g.S.Site.tells old h call told new) c.host_event-answer.ensures.event in
     let old : CoreData = record before { site = read.0 } in
     let kept : old.stopped ≡ None → IsCore old = λ none. core_read before read.0 (core_seen g.S.Site c.args.copied.now.core (c.entries_beside-entries.ensures.kept none)) in
     happens old h call new told c.entries_beside-entries.ensures.few
@@ -29,12 +29,12 @@ returns-clause-history g c =
 
 pub returns-clause-later : goal.returns-clause-later
 returns-clause-later g c =
-    let before : CoreData = seen g.S.Site c.args.copied.now.core in
-    let new : CoreData = seen g.S.Site c.host_event-answer.new.self.core in
+    let before : CoreData = seen_core g.S.Site c.args.copied.now.core in
+    let new : CoreData = seen_core g.S.Site c.host_event-answer.new.self.core in
     let h : ℕ = c.args.host in
     let call : CallData = call_of c.args.call.now in
     let told = told_of c.host_event-answer.result in
-    let read = read_at (is_some (asked c.args.copied.now.copier)) g.S.Site.tells before (λ (old : CoreData). HostEvent g.S.Site.tells old h call told new) c.host_event-answer.ensures.event in
+    let read = read_at (is_some (asked_copy c.args.copied.now.copier)) g.S.Site.tells before (λ (old : CoreData). HostEvent g.S.Site.tells old h call told new) c.host_event-answer.ensures.event in
     let old : CoreData = record before { site = read.0 } in
     let kept : old.stopped ≡ None → IsCore old = λ none. core_read before read.0 (core_seen g.S.Site c.args.copied.now.core (c.entries_beside-entries.ensures.kept none)) in
     later_read g.S.Site.tells before new read.0 read.1 (c.events_are_later.ensures old h call told new kept read.2)
@@ -42,13 +42,13 @@ returns-clause-later g c =
 pub returns-clause-in_vain : goal.returns-clause-in_vain
 returns-clause-in_vain g c = λ is.
     let tells = g.S.Site.tells in
-    let before : CoreData = seen g.S.Site c.args.copied.now.core in
-    let new : CoreData = seen g.S.Site c.host_event-answer.new.self.core in
+    let before : CoreData = seen_core g.S.Site c.args.copied.now.core in
+    let new : CoreData = seen_core g.S.Site c.host_event-answer.new.self.core in
     let h : ℕ = c.args.host in
     let call : CallData = call_of c.args.call.now in
     let told = told_of c.host_event-answer.result in
     let vain_ : is_in_vain told (length before.events) (length new.events) ≡ true = sym (c.is_in_vain-in_vain.ensures ∙ (λ i. is_in_vain told (c.events_of-before.ensures i) (c.events_of-after.ensures i))) ∙ is in
-    read_on (is_some (asked c.args.copied.now.copier)) tells before (λ (old : CoreData). HostEvent tells old h call told new) (λ (old : CoreData). IsSame tells old new) (λ site event.
+    read_on (is_some (asked_copy c.args.copied.now.copier)) tells before (λ (old : CoreData). HostEvent tells old h call told new) (λ (old : CoreData). IsSame tells old new) (λ site event.
     let old : CoreData = record before { site = site } in
     let kept : old.stopped ≡ None → IsCore old = λ none. core_read before site (core_seen g.S.Site c.args.copied.now.core (c.entries_beside-entries.ensures.kept none)) in
     vain tells old h call new (λ w waited. c.waits_change_requests_alone.ensures.waits old h call w new kept waited) told event vain_)
@@ -59,12 +59,12 @@ returns-clause-sound g c = c.host_event-answer.ensures.devices.sound
 
 pub returns-clause-only_reads_fail : goal.returns-clause-only_reads_fail
 returns-clause-only_reads_fail g c = λ but never going.
-    let before : CoreData = seen g.S.Site c.args.copied.now.core in
-    let new : CoreData = seen g.S.Site c.host_event-answer.new.self.core in
+    let before : CoreData = seen_core g.S.Site c.args.copied.now.core in
+    let new : CoreData = seen_core g.S.Site c.host_event-answer.new.self.core in
     let h : ℕ = c.args.host in
     let call : CallData = call_of c.args.call.now in
     let told = told_of c.host_event-answer.result in
-    let read = read_at (is_some (asked c.args.copied.now.copier)) g.S.Site.tells before (λ (old : CoreData). HostEvent g.S.Site.tells old h call told new) c.host_event-answer.ensures.event in
+    let read = read_at (is_some (asked_copy c.args.copied.now.copier)) g.S.Site.tells before (λ (old : CoreData). HostEvent g.S.Site.tells old h call told new) c.host_event-answer.ensures.event in
     let old : CoreData = record before { site = read.0 } in
     let kept : old.stopped ≡ None → IsCore old = λ none. core_read before read.0 (core_seen g.S.Site c.args.copied.now.core (c.entries_beside-entries.ensures.kept none)) in
     stays_going g.S.Site.tells old h new call (λ w event. c.waits_change_requests_alone.ensures.waits old h call w new kept event) told read.2

@@ -1,5 +1,5 @@
 use Rattle.std.proofs.Common.{◌∙◌, subst}
-use Rattle.core_state.specs.CoreValue.{CoreData, seen}
+use Rattle.core_state.specs.CoreValue.{CoreData, seen_core}
 use Rattle.core_state.specs.declared.rule.WorkAnswer.{WorkAnswer}
 use Rattle.core_state.specs.declared.rule.WorkAnswer.TheVariants.{Idle}
 use Rattle.host_events.proofs.RuleFacts.{core_seen}
@@ -8,22 +8,22 @@ use Rattle.mss_run.proofs.event.work_step.Goals as goal
 
 pub returns-clause-history : goal.returns-clause-history
 returns-clause-history g c =
-    let old : CoreData = seen g.S.Site c.args.copied.now.core in
-    let new : CoreData = seen g.S.Site c.work_event.new.self.core in
+    let old : CoreData = seen_core g.S.Site c.args.copied.now.core in
+    let new : CoreData = seen_core g.S.Site c.work_event.new.self.core in
     (c.work_leaves_the_history.ensures c.args.copied.now.core.chooser old c.args.recorder c.work_event.result new c.work_event.ensures.event).history
 
 pub returns-clause-later : goal.returns-clause-later
 returns-clause-later g c =
-    let old : CoreData = seen g.S.Site c.args.copied.now.core in
-    let new : CoreData = seen g.S.Site c.work_event.new.self.core in
+    let old : CoreData = seen_core g.S.Site c.args.copied.now.core in
+    let new : CoreData = seen_core g.S.Site c.work_event.new.self.core in
     let is : IsRecorder old c.args.recorder =
     record { there = c.requires; kept = λ none. core_seen g.S.Site c.args.copied.now.core (c.entries_beside-before.ensures.kept none) } in
     c.work_is_later.ensures c.args.copied.now.core.chooser old c.args.recorder c.work_event.result new is c.work_event.ensures.event
 
 pub returns-clause-idle : goal.returns-clause-idle
 returns-clause-idle g c = λ idle.
-    let old : CoreData = seen g.S.Site c.args.copied.now.core in
-    let new : CoreData = seen g.S.Site c.work_event.new.self.core in
+    let old : CoreData = seen_core g.S.Site c.args.copied.now.core in
+    let new : CoreData = seen_core g.S.Site c.work_event.new.self.core in
     let is : IsRecorder old c.args.recorder =
     record { there = c.requires; kept = λ none. core_seen g.S.Site c.args.copied.now.core (c.entries_beside-before.ensures.kept none) } in
     let says : AnswerSays g.S.Site.tells old c.args.recorder Idle new =

@@ -1,7 +1,7 @@
 use Rattle.std.proofs.Common.{◌≡◌, ◌≤◌, ℕ, List, length, nat_eq, inl, sym, ◌∙◌, ap, subst, arith}
 use Rattle.std.specs.List.{IsDistinct}
 use Rattle.core_state.specs.Beginning.{IsLater}
-use Rattle.core_state.specs.CoreValue.{CoreData, seen}
+use Rattle.core_state.specs.CoreValue.{CoreData, seen_core}
 use Rattle.job_text.specs.Jobs.{ScriptData, JobData}
 use Rattle.seen_book.specs.Books.{AreOfThese}
 use Rattle.mss_run.specs.Runs.{AreEndsIn, AskByScript, hosts_of, run_answer}
@@ -27,9 +27,9 @@ run_all-passes-requires-clause-room g c =
 
 pub returns-clause-leaves : goal.returns-clause-leaves
 returns-clause-leaves g c =
-    let old : CoreData = seen g.S.Site c.args.core in
+    let old : CoreData = seen_core g.S.Site c.args.core in
     let closed = c.close-core in
-    let new : CoreData = seen g.S.Site closed.result.0 in
+    let new : CoreData = seen_core g.S.Site closed.result.0 in
     let log = closed.result.0.history in
     let ended = c.run_all-passes.result in
     let job = c.args.job.now in

@@ -1,7 +1,7 @@
 use Rattle.std.proofs.Common.{List, length, inr, sym, ◌∙◌, ap, subst}
 use Rattle.std.proofs.lemmas.List.Elements.{All-nil}
 use Rattle.ckd_plain.specs.History.{EntryData, IsLegal}
-use Rattle.core_state.specs.CoreValue.{CoreValue, seen}
+use Rattle.core_state.specs.CoreValue.{CoreValue, seen_core}
 use Rattle.core_state.specs.IsCore.{opening_of}
 use Rattle.core_state.proofs.Later.{later_none}
 use Rattle.job_text.specs.Jobs.{JobData}
@@ -19,7 +19,7 @@ returns-clause-leaves g c =
     let ends = c.as_slice-none.ensures in
     subst (λ (after : CoreValue g.row.S.Denot g.row.C.Denot). LeavesRun g.S.Site job core after c.new-ends.result.items c.answer_of-answer.result) (sym (c.into_parts-core.ensures.core ∙ c.new.ensures.core))
     (record {
-      later = later_none g.S.Site.tells (seen g.S.Site core);
+      later = later_none g.S.Site.tells (seen_core g.S.Site core);
       sound = λ but never. never;
       only_reads_fail = λ but never going. going;
       legal = λ tells. subst (λ (log : List EntryData). IsLegal (opening_of (g.S.Site.told core.site) core) log) (sym none) tt;

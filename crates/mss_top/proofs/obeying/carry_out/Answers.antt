@@ -54,23 +54,23 @@ returns-in-Threads-clause-one_copy g c = λ looks. absurd (let e : ◌≡◌ {A 
 
 pub returns-in-Show-clause-does : goal.returns-in-Show-clause-does
 returns-in-Show-clause-does g c =
-    let p : Parties = parties (source_between g.I.Source c.args.input.now c.args.input.now) (devices g.S.Site c.args.site c.look.result.site) (sink_between g.O.Sink c.args.output.now c.look.new.output) in
-    subst (λ (k : Command). Does (Some k) (g.C.Choose.may c.args.chooser) (NarrowMay g.F.Fn c.args.other) p c.look.result.status c.look.result.session) (sym c.in-Show.is) c.look.ensures.ended
+    let p : Parties = parties (source_between g.I.Source c.args.input.now c.args.input.now) (devices g.S.Site c.args.site c.list_site.result.site) (sink_between g.O.Sink c.args.output.now c.list_site.new.output) in
+    subst (λ (k : Command). Does (Some k) (g.C.Choose.may c.args.chooser) (NarrowMay g.F.Fn c.args.other) p c.list_site.result.status c.list_site.result.session) (sym c.in-Show.is) c.list_site.ensures.ended
 
 pub returns-in-Show-clause-unread : goal.returns-in-Show-clause-unread
 returns-in-Show-clause-unread g c = λ stop.
-    let p : Parties = parties (source_between g.I.Source c.args.input.now c.args.input.now) (devices g.S.Site c.args.site c.look.result.site) (sink_between g.O.Sink c.args.output.now c.look.new.output) in
-    subst (λ (k : Command). OutputBrokeOff g.S.Site c.args.site (Some k) p c.look.result.session) (sym c.in-Show.is) (c.look.ensures.unread stop)
+    let p : Parties = parties (source_between g.I.Source c.args.input.now c.args.input.now) (devices g.S.Site c.args.site c.list_site.result.site) (sink_between g.O.Sink c.args.output.now c.list_site.new.output) in
+    subst (λ (k : Command). OutputBrokeOff g.S.Site c.args.site (Some k) p c.list_site.result.session) (sym c.in-Show.is) (c.list_site.ensures.unread stop)
 
 pub returns-in-Show-clause-one_copy : goal.returns-in-Show-clause-one_copy
 returns-in-Show-clause-one_copy g c = λ looks.
-    c.look.ensures.one_copy (subst (λ (k : Command). LooksByOneCopy (Some k) g.S.Site c.args.site (sink_between g.O.Sink c.args.output.now c.look.new.output)) c.in-Show.is looks)
+    c.list_site.ensures.one_copy (subst (λ (k : Command). LooksByOneCopy (Some k) g.S.Site c.args.site (sink_between g.O.Sink c.args.output.now c.list_site.new.output)) c.in-Show.is looks)
 
 pub returns-in-Show-clause-devices : goal.returns-in-Show-clause-devices
 returns-in-Show-clause-devices g c = record {
-  written = omega (arith, c.look.ensures.site.unwritten);
-  later = c.look.ensures.site.later;
-  sound = c.look.ensures.site.sound;
+  written = omega (arith, c.list_site.ensures.site.unwritten);
+  later = c.list_site.ensures.site.later;
+  sound = c.list_site.ensures.site.sound;
 }
 
 pub returns-in-Audit-clause-does : goal.returns-in-Audit-clause-does

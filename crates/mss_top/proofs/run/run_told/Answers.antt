@@ -2,7 +2,7 @@ use Rattle.job_runs.specs.Parties.{Devices, devices}
 use Rattle.std.proofs.Common.{Option, subst}
 use Rattle.volume_copy.specs.Copies.{AskedCopy}
 use Rattle.mss_top.specs.Admission.{task_of}
-use Rattle.job_runs.specs.Runs.{ReportBrokeOff, Ends as JobEnds}
+use Rattle.job_runs.specs.Runs.{ReportBrokeOff, JobEnds}
 use Rattle.session_report.specs.Parties.{Stream, sink_between}
 use Rattle.mss_top.proofs.Broken.{load_unread}
 use Rattle.mss_top.proofs.Running.{runs_job, runs_load}

@@ -13,23 +13,23 @@ use Rattle.mss_top.proofs.showing.show.Goals as goal
 
 pub returns-in-Ok-Show-clause-ended : goal.returns-in-Ok-Show-clause-ended
 returns-in-Ok-Show-clause-ended g c =
-    let site : Devices = devices g.S.Site c.args.site c.look.result.site in
-    let sink : Stream = sink_between g.O.Sink c.args.output.now c.look.new.output in
-    subst (λ (asked : Option Command). EndsShown asked site sink c.look.result.status)
-    (sym (c.in-Ok-Show.ensures.asks ∙ ap (λ (k : Command). Some k) c.in-Ok-Show.field-0-is)) c.look.ensures.ended
+    let site : Devices = devices g.S.Site c.args.site c.list_site.result.site in
+    let sink : Stream = sink_between g.O.Sink c.args.output.now c.list_site.new.output in
+    subst (λ (asked : Option Command). EndsShown asked site sink c.list_site.result.status)
+    (sym (c.in-Ok-Show.ensures.asks ∙ ap (λ (k : Command). Some k) c.in-Ok-Show.field-0-is)) c.list_site.ensures.ended
 
 pub returns-in-Ok-Show-clause-complete : goal.returns-in-Ok-Show-clause-complete
 returns-in-Ok-Show-clause-complete g c = λ well.
-    let site : Devices = devices g.S.Site c.args.site c.look.result.site in
-    let sink : Stream = sink_between g.O.Sink c.args.output.now c.look.new.output in
-    look_complete (meaning (map string_bytes c.args.words.now)) site sink well c.look.result.status
-    (subst (λ (asked : Option Command). EndsShown asked site sink c.look.result.status)
-    (sym (c.in-Ok-Show.ensures.asks ∙ ap (λ (k : Command). Some k) c.in-Ok-Show.field-0-is)) c.look.ensures.ended)
+    let site : Devices = devices g.S.Site c.args.site c.list_site.result.site in
+    let sink : Stream = sink_between g.O.Sink c.args.output.now c.list_site.new.output in
+    look_complete (meaning (map string_bytes c.args.words.now)) site sink well c.list_site.result.status
+    (subst (λ (asked : Option Command). EndsShown asked site sink c.list_site.result.status)
+    (sym (c.in-Ok-Show.ensures.asks ∙ ap (λ (k : Command). Some k) c.in-Ok-Show.field-0-is)) c.list_site.ensures.ended)
 
 pub returns-in-Ok-Show-clause-one_copy : goal.returns-in-Ok-Show-clause-one_copy
 returns-in-Ok-Show-clause-one_copy g c = λ looks.
-    let sink : Stream = sink_between g.O.Sink c.args.output.now c.look.new.output in
-    c.look.ensures.one_copy
+    let sink : Stream = sink_between g.O.Sink c.args.output.now c.list_site.new.output in
+    c.list_site.ensures.one_copy
     (subst (λ (asked : Option Command). LooksByOneCopy asked g.S.Site c.args.site sink) (c.in-Ok-Show.ensures.asks ∙ ap (λ (k : Command). Some k) c.in-Ok-Show.field-0-is) looks)
 
 pub returns-in-Err-clause-one_copy : goal.returns-in-Err-clause-one_copy

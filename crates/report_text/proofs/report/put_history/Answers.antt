@@ -2,7 +2,7 @@ use Rattle.std.proofs.Common.{◌≡◌, Err, Result, length, refl, sym, ap, ◌
 use Rattle.std.proofs.lemmas.Result.{err_from_is_err_and}
 use Rattle.std.specs.Prelude.{codes}
 use Rattle.mss_base.proofs.Putting.{puts_after, puts_stops}
-use Rattle.report_text.specs.Texts.{numbered, entry_text, history_text}
+use Rattle.report_text.specs.Texts.{numbered_lines, entry_text, history_text}
 use Rattle.report_text.specs.declared.report.ReportFault.{ReportFault}
 use Rattle.report_text.specs.declared.report.ReportFault.TheVariants.{Output, Memory}
 use Rattle.report_text.proofs.LineLemmas.{begun_behind, puts_failed}
@@ -12,12 +12,12 @@ pub returns-in_err-put_text-clause-bytes : goal.returns-in_err-put_text-clause-b
 unfolding history_text
 returns-in_err-put_text-clause-bytes g c = λ told.
     puts_failed c.from_residual.result _ (g.O.Sink.told c.args.output.now) (g.O.Sink.told c.put_text.new.output) (history_text c.args.entries.now) c.from_residual.ensures.1
-    (puts_stops (g.O.Sink.told c.args.output.now) (g.O.Sink.told c.put_text.new.output) (codes "MSS REPORT 1\n") (numbered entry_text 1 c.args.entries.now) (c.in_err-put_text.ensures.bytes told))
+    (puts_stops (g.O.Sink.told c.args.output.now) (g.O.Sink.told c.put_text.new.output) (codes "MSS REPORT 1\n") (numbered_lines entry_text 1 c.args.entries.now) (c.in_err-put_text.ensures.bytes told))
 
 pub returns-clause-bytes : goal.returns-clause-bytes
 unfolding history_text
 returns-clause-bytes g c = λ told.
-    puts_after c.put_entries.result (g.O.Sink.told c.args.output.now) (g.O.Sink.told c.put_text.new.output) (g.O.Sink.told c.put_entries.new.output) (codes "MSS REPORT 1\n") (numbered entry_text 1 c.args.entries.now)
+    puts_after c.put_entries.result (g.O.Sink.told c.args.output.now) (g.O.Sink.told c.put_text.new.output) (g.O.Sink.told c.put_entries.new.output) (codes "MSS REPORT 1\n") (numbered_lines entry_text 1 c.args.entries.now)
     (c.in_ok-put_text.ensures.bytes told) (c.put_entries.ensures.bytes told)
 
 pub returns-in_err-put_text-clause-begun : goal.returns-in_err-put_text-clause-begun
@@ -29,5 +29,5 @@ returns-in_err-put_text-clause-begun g c = λ told memory.
 pub returns-clause-begun : goal.returns-clause-begun
 returns-clause-begun g c = λ told memory.
     let size : length (codes "MSS REPORT 1\n") ≡ 13 = refl in
-    begun_behind c.put_entries.result (g.O.Sink.told c.args.output.now) (g.O.Sink.told c.put_text.new.output) (g.O.Sink.told c.put_entries.new.output) (codes "MSS REPORT 1\n") (numbered entry_text 1 c.args.entries.now)
+    begun_behind c.put_entries.result (g.O.Sink.told c.args.output.now) (g.O.Sink.told c.put_text.new.output) (g.O.Sink.told c.put_entries.new.output) (codes "MSS REPORT 1\n") (numbered_lines entry_text 1 c.args.entries.now)
     (omega (arith, size)) (c.in_ok-put_text.ensures.bytes told) (c.put_entries.ensures.bytes told)

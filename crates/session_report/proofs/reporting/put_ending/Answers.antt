@@ -9,7 +9,7 @@ use Rattle.session_report.specs.Parties.{site_between, sink_between}
 use Rattle.session_report.specs.Reports.{finished}
 use Rattle.session_report.specs.declared.fault.ReportFault.TheVariants as report_fault
 use Rattle.mss_base.specs.Content.{content}
-use Rattle.volume_table.specs.Listed.{listed}
+use Rattle.volume_table.specs.Listed.{row_in_list}
 use Rattle.shown_volumes.specs.Shown.{shown_by}
 use Rattle.report_text.specs.declared.report.ReportFault.TheVariants as part
 use Rattle.session_report.proofs.Framing.{fault_grows, grows_front, grows_none, grows_then, line_behind, put_no_read}
@@ -52,7 +52,7 @@ returns-in_err-put_stopped-in-Err-Read-clause-unread g c =
 
 pub returns-in-Err-Read-clause-unread : goal.returns-in-Err-Read-clause-unread
 returns-in-Err-Read-clause-unread g c =
-    told_broken_off (shown_by (listed c.args.rows.now) (content (g.S.Site.told c.args.site.now))) c.args.volumes.now (behind_text (option_map (λ c. c.now) c.args.copy)) (site_between g.S.Site c.args.site.now c.put_to_end.new.site)
+    told_broken_off (shown_by (row_in_list c.args.rows.now) (content (g.S.Site.told c.args.site.now))) c.args.volumes.now (behind_text (option_map (λ c. c.now) c.args.copy)) (site_between g.S.Site c.args.site.now c.put_to_end.new.site)
     (sink_between g.O.Sink c.args.output.now c.put_stopped.new.output) c.args.last (Err (report_fault.Read c.in-Err-Read.fault)) _ c.in-Err-Read.field-0 c.in-Err-Read.fault _ c.in-Err-Read.field-0-is c.in-Err-Read.ensures.counted c.in-Err-Read.ensures.bytes
     (λ t. subst (λ (n : ℕ). g.O.Sink.told c.put_stopped.new.output ≡ g.O.Sink.told c.put_to_end.new.output ++ stopped_text n) c.in-Err-Read.fault-is (c.in_ok-put_stopped-in-Err-Read.ensures.bytes t.1))
 

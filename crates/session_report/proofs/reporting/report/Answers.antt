@@ -3,7 +3,7 @@ use Rattle.std.proofs.lemmas.Result.{err_from_is_err_and}
 use Rattle.std.specs.Option.{option_map}
 use Rattle.mss_base.specs.Content.{content}
 use Rattle.ckd_track.specs.Data.{Volumes}
-use Rattle.volume_table.specs.Listed.{listed}
+use Rattle.volume_table.specs.Listed.{row_in_list}
 use Rattle.shown_volumes.specs.Shown.{shown_by}
 use Rattle.core_state.specs.Sessions.{session_data}
 use Rattle.report_text.specs.Texts.{stopped_text}
@@ -25,7 +25,7 @@ returns-in_err-put_opening-clause-report g c =
 pub returns-in_err-put_stopped-in-Some-clause-report : goal.returns-in_err-put_stopped-in-Some-clause-report
 returns-in_err-put_stopped-in-Some-clause-report g c =
     let p = err_from_is_err_and c.from_residual-in_err-put_stopped-in-Some.result c.from_residual-in_err-put_stopped-in-Some.ensures.1 in
-    let shown : Volumes = shown_by (listed c.args.rows.now) (content (g.S.Site.told c.args.site.now)) in
+    let shown : Volumes = shown_by (row_in_list c.args.rows.now) (content (g.S.Site.told c.args.site.now)) in
     let behind : List ℕ = behind_text (option_map (λ c. c.now) c.args.copy) in
     subst (λ (stop : Option ℕ). IsReported (report_matter (session_data c.args.session.now) c.args.volumes.now shown behind) (ending_of stop c.args.last) (site_between g.S.Site c.args.site.now c.args.site.now) (sink_between g.O.Sink c.args.output.now c.put_stopped.new.output) c.from_residual-in_err-put_stopped-in-Some.result)
     (sym c.in-Some.is)
@@ -34,7 +34,7 @@ returns-in_err-put_stopped-in-Some-clause-report g c =
 
 pub returns-in-Some-clause-report : goal.returns-in-Some-clause-report
 returns-in-Some-clause-report g c =
-    let shown : Volumes = shown_by (listed c.args.rows.now) (content (g.S.Site.told c.args.site.now)) in
+    let shown : Volumes = shown_by (row_in_list c.args.rows.now) (content (g.S.Site.told c.args.site.now)) in
     let behind : List ℕ = behind_text (option_map (λ c. c.now) c.args.copy) in
     subst (λ (stop : Option ℕ). IsReported (report_matter (session_data c.args.session.now) c.args.volumes.now shown behind) (ending_of stop c.args.last) (site_between g.S.Site c.args.site.now c.args.site.now) (sink_between g.O.Sink c.args.output.now c.put_stopped.new.output) _)
     (sym c.in-Some.is)
@@ -43,7 +43,7 @@ returns-in-Some-clause-report g c =
 
 pub returns-clause-report : goal.returns-clause-report
 returns-clause-report g c =
-    let shown : Volumes = shown_by (listed c.args.rows.now) (content (g.S.Site.told c.args.site.now)) in
+    let shown : Volumes = shown_by (row_in_list c.args.rows.now) (content (g.S.Site.told c.args.site.now)) in
     let behind : List ℕ = behind_text (option_map (λ c. c.now) c.args.copy) in
     subst (λ (stop : Option ℕ). IsReported (report_matter (session_data c.args.session.now) c.args.volumes.now shown behind) (ending_of stop c.args.last) (site_between g.S.Site c.args.site.now c.put_ending.new.site) (sink_between g.O.Sink c.args.output.now c.put_ending.new.output) c.put_ending.result)
     (sym c.in-None.is)
@@ -61,10 +61,10 @@ returns-in_err-put_stopped-in-Some-clause-unread g c =
 
 pub returns-clause-unread : goal.returns-clause-unread
 returns-clause-unread g c =
-    broken_behind (opening_text (session_data c.args.session.now)) (shown_by (listed c.args.rows.now) (content (g.S.Site.told c.args.site.now))) c.args.volumes.now (behind_text (option_map (λ c. c.now) c.args.copy)) (finished c.args.last)
+    broken_behind (opening_text (session_data c.args.session.now)) (shown_by (row_in_list c.args.rows.now) (content (g.S.Site.told c.args.site.now))) c.args.volumes.now (behind_text (option_map (λ c. c.now) c.args.copy)) (finished c.args.last)
     (site_between g.S.Site c.args.site.now c.put_ending.new.site) (sink_between g.O.Sink c.args.output.now c.put_ending.new.output) c.put_ending.result
     (g.O.Sink.told c.put_opening.new.output) (g.O.Sink.faults c.put_opening.new.output) c.in_ok-put_opening.ensures.bytes c.in_ok-put_opening.ensures.cause.same
-    (IsUnread g.S.Site c.args.site.now (listed c.args.rows.now) c.args.volumes.now) c.put_ending.result c.put_ending.ensures.unread
+    (IsUnread g.S.Site c.args.site.now (row_in_list c.args.rows.now) c.args.volumes.now) c.put_ending.result c.put_ending.ensures.unread
 
 pub returns-in_err-put_opening-clause-framed : goal.returns-in_err-put_opening-clause-framed
 returns-in_err-put_opening-clause-framed g c = λ told.

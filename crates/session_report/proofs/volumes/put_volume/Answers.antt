@@ -2,7 +2,7 @@ use Rattle.std.proofs.Common.{◌≡◌, ◌++◌, Bool, ℕ, List, Option, ◌�
 use Rattle.std.proofs.lemmas.Result.{err_from_is_err_and}
 use Rattle.mss_base.specs.Content.{content}
 use Rattle.volume_table.specs.Row.{RowValue}
-use Rattle.volume_table.specs.Listed.{listed}
+use Rattle.volume_table.specs.Listed.{row_in_list}
 use Rattle.shown_volumes.specs.Shown.{is_marked}
 use Rattle.mss_base.specs.Puts.{PutsFront}
 use Rattle.mss_base.proofs.Putting.{puts_stops}
@@ -17,7 +17,7 @@ returns-in_err-put_heading-clause-bytes g c =
     let p = err_from_is_err_and c.from_residual.result c.from_residual.ensures.1 in
     let was = g.O.Sink.told c.args.output.now in
     let mid = g.O.Sink.told c.put_heading.new.output in
-    let row = listed c.args.rows.now c.args.volume in
+    let row = row_in_list c.args.rows.now c.args.volume in
     let heading : Bool → List ℕ = heading_text c.args.volume c.args.serial.now in
     rw (p.1, p.2)
     (λ t. puts_stops was mid (heading (is_marked row))

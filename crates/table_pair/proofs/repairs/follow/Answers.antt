@@ -3,7 +3,7 @@ use Rattle.std.specs.Prelude.{OnOk}
 use Rattle.mss_base.specs.Content.{content}
 use Rattle.mss_base.specs.declared.place.BlockPlace.{BlockPlace}
 use Rattle.volume_table.specs.Grammar.{body}
-use Rattle.table_pair.specs.Copies.{copy_on, filled, HasGates, IsRewriting, WritesCopy}
+use Rattle.table_pair.specs.Copies.{copy_on, filled_copy, HasGates, IsRewriting, WritesCopy}
 use Rattle.table_pair.specs.Repairs.{HoldsToldRow, LosesSlots, NeedsNoRepair}
 use Rattle.table_pair.proofs.PairLemmas.{held_settled}
 use Rattle.table_pair.proofs.FollowLemmas.{on_ok_gives}
@@ -43,9 +43,9 @@ returns-clause-done g c = λ tells.
     let bytes = body c.encode_row.new.into in
     let behind = (c.requires.stale tells).behind in
     let w = subst (λ (at : BlockPlace). WritesCopy at (IsRewriting bytes (copy_on s at)) s t) c.place_of-at.ensures (c.rewrite_copy.ensures.moments tells) in
-    let done : OnOk c.rewrite_copy.result (copy_on t c.place_of-at.result ≡ filled bytes (copy_on s c.place_of-at.result)) = c.rewrite_copy.ensures.done tells in
+    let done : OnOk c.rewrite_copy.result (copy_on t c.place_of-at.result ≡ filled_copy bytes (copy_on s c.place_of-at.result)) = c.rewrite_copy.ensures.done tells in
     on_ok_gives c.rewrite_copy.result _ (HoldsToldRow volume (content s) (content t)) (λ is.
-    let there = subst (λ (at : BlockPlace). copy_on t at ≡ filled bytes (copy_on s at)) c.place_of-at.ensures is in
+    let there = subst (λ (at : BlockPlace). copy_on t at ≡ filled_copy bytes (copy_on s at)) c.place_of-at.ensures is in
     follow_told volume s t stale.row bytes c.encode_row.ensures.again stale.copy behind (follow_holds volume s t stale.row bytes c.encode_row.ensures.again stale.copy behind w there)) done
 
 pub returns-clause-emptied : goal.returns-clause-emptied
@@ -56,9 +56,9 @@ returns-clause-emptied g c = λ tells.
     let stale = c.args.stale.now in
     let bytes = body c.encode_row.new.into in
     let w = subst (λ (at : BlockPlace). WritesCopy at (IsRewriting bytes (copy_on s at)) s t) c.place_of-at.ensures (c.rewrite_copy.ensures.moments tells) in
-    let done : OnOk c.rewrite_copy.result (copy_on t c.place_of-at.result ≡ filled bytes (copy_on s c.place_of-at.result)) = c.rewrite_copy.ensures.done tells in
+    let done : OnOk c.rewrite_copy.result (copy_on t c.place_of-at.result ≡ filled_copy bytes (copy_on s c.place_of-at.result)) = c.rewrite_copy.ensures.done tells in
     on_ok_gives c.rewrite_copy.result _ (LosesSlots stale.copy volume (content s) (content t)) (λ is.
-    let there = subst (λ (at : BlockPlace). copy_on t at ≡ filled bytes (copy_on s at)) c.place_of-at.ensures is in
+    let there = subst (λ (at : BlockPlace). copy_on t at ≡ filled_copy bytes (copy_on s at)) c.place_of-at.ensures is in
     follow_slots volume s t stale.row bytes c.encode_row.ensures.again stale.copy w there) done
 
 pub returns-clause-settled : goal.returns-clause-settled
@@ -70,9 +70,9 @@ returns-clause-settled g c = λ tells.
     let bytes = body c.encode_row.new.into in
     let behind = (c.requires.stale tells).behind in
     let w = subst (λ (at : BlockPlace). WritesCopy at (IsRewriting bytes (copy_on s at)) s t) c.place_of-at.ensures (c.rewrite_copy.ensures.moments tells) in
-    let done : OnOk c.rewrite_copy.result (copy_on t c.place_of-at.result ≡ filled bytes (copy_on s c.place_of-at.result)) = c.rewrite_copy.ensures.done tells in
+    let done : OnOk c.rewrite_copy.result (copy_on t c.place_of-at.result ≡ filled_copy bytes (copy_on s c.place_of-at.result)) = c.rewrite_copy.ensures.done tells in
     on_ok_gives c.rewrite_copy.result _ (NeedsNoRepair volume (content t)) (λ is.
-    let there = subst (λ (at : BlockPlace). copy_on t at ≡ filled bytes (copy_on s at)) c.place_of-at.ensures is in
+    let there = subst (λ (at : BlockPlace). copy_on t at ≡ filled_copy bytes (copy_on s at)) c.place_of-at.ensures is in
     held_settled stale.row volume (content t) (follow_holds volume s t stale.row bytes c.encode_row.ensures.again stale.copy behind w there)) done
 
 pub returns-clause-needed : goal.returns-clause-needed

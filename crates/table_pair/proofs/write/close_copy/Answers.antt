@@ -1,6 +1,6 @@
 use Rattle.std.proofs.Common.{◌≡◌, ◌⊎◌, inl, ◌∙◌, length, refl, arith}
 use Rattle.mss_base.specs.Content.{content}
-use Rattle.table_pair.specs.Copies.{copy_on, shut}
+use Rattle.table_pair.specs.Copies.{copy_on, shut_copy}
 use Rattle.table_pair.proofs.WriteLemmas.{byte_put, nothing_written, closing, closed}
 use Rattle.table_pair.proofs.write.close_copy.Goals as goal
 
@@ -31,4 +31,4 @@ pub returns-else-is_open-clause-moments : goal.returns-else-is_open-clause-momen
 returns-else-is_open-clause-moments g c = λ _.
     let at = c.args.at.now in
     let copy = copy_on (g.S.Site.told c.args.site.now) at in
-    nothing_written at (λ now. (now ≡ copy) ⊎ (now ≡ shut copy)) _ _ refl (inl refl)
+    nothing_written at (λ now. (now ≡ copy) ⊎ (now ≡ shut_copy copy)) _ _ refl (inl refl)

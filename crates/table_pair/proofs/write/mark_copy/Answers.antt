@@ -2,7 +2,7 @@ use Rattle.std.proofs.Common.{◌≡◌, ◌⊎◌, ◌≢◌, ◌∷◌, [], �
 use Rattle.std.proofs.lemmas.Bool.{ne_eqb}
 use Rattle.mss_base.specs.Content.{SiteLog, content, Adds}
 use Rattle.mss_base.specs.declared.place.BlockPlace.{BlockPlace}
-use Rattle.table_pair.specs.Copies.{copy_at, copy_on, marked}
+use Rattle.table_pair.specs.Copies.{copy_at, copy_on, marked_copy}
 use Rattle.table_pair.proofs.CopyLemmas.{mark_of, same_mark}
 use Rattle.mss_base.specs.Content.{write_at}
 use Rattle.table_journal.specs.Slots.{slots}
@@ -14,7 +14,7 @@ use Rattle.table_pair.proofs.write.mark_copy.Goals as goal
 unmade : (at : BlockPlace) (s : SiteLog) (block : List ℕ) → block ≡ content s at.unit at.block → get_or block 511 0 ≡ 0 → (copy_on s at).is_made ≡ false
 unmade at s block read is = ap (λ (b : List ℕ). (copy_at b).is_made) (sym read) ∙ mark_of block ∙ ap (λ (n : ℕ). not (n == 0)) is
 
-made : (at : BlockPlace) (s : SiteLog) (block : List ℕ) → block ≡ content s at.unit at.block → get_or block 511 0 ≢ 0 → copy_on s at ≡ marked (copy_on s at)
+made : (at : BlockPlace) (s : SiteLog) (block : List ℕ) → block ≡ content s at.unit at.block → get_or block 511 0 ≢ 0 → copy_on s at ≡ marked_copy (copy_on s at)
 made at s block read is =
     let mark : (copy_on s at).is_made ≡ true = ap (λ (b : List ℕ). (copy_at b).is_made) (sym read) ∙ mark_of block ∙ ap not (ne_eqb (get_or block 511 0) 0 is) in
     sym (same_mark (copy_on s at) true mark)
@@ -81,10 +81,10 @@ pub returns-in_err-read-clause-moments : goal.returns-in_err-read-clause-moments
 returns-in_err-read-clause-moments g c = λ tells.
     let at = c.args.at.now in
     let copy = copy_on (g.S.Site.told c.args.site.now) at in
-    nothing_written at (λ now. (now ≡ copy) ⊎ (now ≡ marked copy)) _ _ (c.read.ensures.told tells) (inl refl)
+    nothing_written at (λ now. (now ≡ copy) ⊎ (now ≡ marked_copy copy)) _ _ (c.read.ensures.told tells) (inl refl)
 
 pub returns-then-block-ne0-clause-moments : goal.returns-then-block-ne0-clause-moments
 returns-then-block-ne0-clause-moments g c = λ tells.
     let at = c.args.at.now in
     let copy = copy_on (g.S.Site.told c.args.site.now) at in
-    nothing_written at (λ now. (now ≡ copy) ⊎ (now ≡ marked copy)) _ _ (c.read.ensures.told tells) (inl refl)
+    nothing_written at (λ now. (now ≡ copy) ⊎ (now ≡ marked_copy copy)) _ _ (c.read.ensures.told tells) (inl refl)

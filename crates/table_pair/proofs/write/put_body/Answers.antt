@@ -1,6 +1,6 @@
 use Rattle.std.proofs.Common.{◌≡◌, ◌∙◌, refl}
 use Rattle.mss_base.specs.Content.{Settles}
-use Rattle.table_pair.specs.Copies.{byte_on, copy_on, emptied}
+use Rattle.table_pair.specs.Copies.{byte_on, copy_on, emptied_copy}
 use Rattle.table_pair.proofs.FollowLemmas.{on_ok_gives}
 use Rattle.table_pair.proofs.WriteLemmas.{puts_then, puts_body, puts_gate, puts_sync, putting, put_firm, puts_firm, put_alone, mark_alone, put_both, mark_both}
 use Rattle.table_pair.proofs.write.put_body.Goals as goal
@@ -30,7 +30,7 @@ returns-then-not-has_slots-clause-done g c = λ tells.
     let t = g.S.Site.told c.write.new.self in
     let u = g.S.Site.told c.sync.new.self in
     let first = c.in_ok-write.ensures.ok tells in
-    on_ok_gives c.sync.result _ (copy_on u at ≡ emptied c.args.body.now (copy_on s at))
+    on_ok_gives c.sync.result _ (copy_on u at ≡ emptied_copy c.args.body.now (copy_on s at))
     (put_alone at c.args.body.now c.requires.long s t (g.met.S.Site.whole c.args.site.now at.unit at.block tells) first u (c.requires.none tells c.if-not-has_slots.true)) (c.sync.ensures.ok tells)
 
 pub returns-then-not-has_slots-clause-mark : goal.returns-then-not-has_slots-clause-mark
@@ -84,7 +84,7 @@ returns-clause-done g c = λ tells.
     let first = c.in_ok-write.ensures.ok tells in
     let u = g.S.Site.told c.sync-2.new.self in
     let second = c.in_ok-write-2.ensures.ok tells in
-    on_ok_gives c.sync-2.result _ (copy_on u at ≡ emptied c.args.body.now (copy_on s at))
+    on_ok_gives c.sync-2.result _ (copy_on u at ≡ emptied_copy c.args.body.now (copy_on s at))
     (put_both at c.args.body.now c.requires.long s t (g.met.S.Site.whole c.args.site.now at.unit at.block tells) first r u (g.met.S.Site.whole c.write.new.self at.unit at.block tells) _ refl second) (c.sync-2.ensures.ok tells)
 
 pub returns-clause-mark : goal.returns-clause-mark

@@ -2,17 +2,17 @@ use Rattle.std.proofs.Common.{◌≡◌, ◌⊎◌, ℕ, List, Option, length, r
 use Rattle.std.specs.Prelude.{is_some, IfSome}
 use Rattle.volume_table.specs.Row.{RowValue}
 use Rattle.core_state.specs.Beginning.{IsLater}
-use Rattle.core_state.specs.CoreValue.{CoreValue, seen, seen_site}
+use Rattle.core_state.specs.CoreValue.{CoreValue, seen_core, seen_site}
 use Rattle.core_state.specs.SessionData.{SessionData, data_of}
 use Rattle.core_state.specs.Sessions.{session_data}
 use Rattle.core_state.proofs.Later.{later_then}
 use Rattle.core_state.proofs.Moved.{told_seen}
 use Rattle.ckd_plain.specs.History.{EntryData}
 use Rattle.mss_restart.specs.Creations.{WritesOn}
-use Rattle.mss_run.specs.Runs.{AskByScript, Leaves, hosts_of, run_answer}
+use Rattle.mss_run.specs.Runs.{AskByScript, LeavesEnds, hosts_of, run_answer}
 use Rattle.seen_book.specs.Books.{AreOfThese}
 use Rattle.serial_driver.specs.declared.answer.DriveAnswer.{DriveAnswer}
-use Rattle.volume_copy.specs.Beside.{asked}
+use Rattle.volume_copy.specs.Beside.{asked_copy}
 use Rattle.job_runs.specs.Copies.{EndsForCopy, IsCopyOf, job_with}
 use Rattle.job_runs.proofs.CopyTold.{copies_of}
 use Rattle.job_runs.proofs.FinishFacts.{WasRead, halted_finished, later_read, part_same, told_going, was_read}
@@ -33,11 +33,11 @@ returns g c =
     let ended = c.into_session-site in
     let tells = g.S.Site.tells in
     let told = g.S.Site.told in
-    let read : WasRead g.S.Site at left = was_read g.S.Site at left (is_some (asked copier)) done.ensures.core in
+    let read : WasRead g.S.Site at left = was_read g.S.Site at left (is_some (asked_copy copier)) done.ensures.core in
     let history : left.history ≡ at.history = part_same g.S.Site at left read (λ (v : CoreValue g.row.S.Denot g.row.C.Denot). v.history) refl in
     let stop : left.stopped ≡ at.stopped = part_same g.S.Site at left read (λ (v : CoreValue g.row.S.Denot g.row.C.Denot). v.stopped) refl in
-    let later : IsLater tells (seen g.S.Site c.args.core) (seen g.S.Site left) =
-    later_then tells (seen g.S.Site c.args.core) (seen g.S.Site at) (seen g.S.Site left) ran.ensures.later (later_read g.S.Site at left read) in
+    let later : IsLater tells (seen_core g.S.Site c.args.core) (seen_core g.S.Site left) =
+    later_then tells (seen_core g.S.Site c.args.core) (seen_core g.S.Site at) (seen_core g.S.Site left) ran.ensures.later (later_read g.S.Site at left read) in
     let site : left.site ≡ ended.result.0 = sym ended.ensures.site in
     let session : data_of left ≡ session_data ended.result.1 = sym ended.ensures.session in
     let run : Option ℕ → List EntryData → DriveAnswer = λ stopped entries. ended_as (run_answer stopped (length entries) (length c.args.job.now.hosts) hosts) in
@@ -54,19 +54,19 @@ returns g c =
       only_reads_fail = λ but never going. ap (λ (x : SessionData). x.stopped) (sym session) ∙ stop ∙ ran.ensures.only_reads_fail but never going;
       session = λ was begun.
           subst (λ (x : g.row.S.Denot × SessionData). IsPlayedAtOnce (job_with c.args.job.now c.args.copier) (record { tells = tells; was = was; now = seen_site g.S.Site x.0 }) done.result hosts x.1) (λ i. (site i, session i))
-          (played_at_once g.S.Site c.args.job.now (asked c.args.copier) c.args.core left done.result hosts
+          (played_at_once g.S.Site c.args.job.now (asked_copy c.args.copier) c.args.core left done.result hosts
           later (subst (AreOfThese (hosts_of c.args.job.now.hosts)) (sym history) ran.ensures.hosts)
-          (subst (λ (es : List EntryData). Leaves es c.args.job.now.hosts hosts) (sym history) ran.ensures.ends)
+          (subst (λ (es : List EntryData). LeavesEnds es c.args.job.now.hosts hosts) (sym history) ran.ensures.ends)
           (subst (λ (es : List EntryData). AskByScript es c.args.job.now.hosts) (sym history) ran.ensures.follow)
-          (subst (λ (e : DriveAnswer). EndsAs (asked c.args.copier) e done.result) (λ i. run (sym stop i) (sym history i)) (ends_as copier (run at.stopped at.history) done.result ends (asked c.args.copier) ran.ensures.copier)) was begun
+          (subst (λ (e : DriveAnswer). EndsAs (asked_copy c.args.copier) e done.result) (λ i. run (sym stop i) (sym history i)) (ends_as copier (run at.stopped at.history) done.result ends (asked_copy c.args.copier) ran.ensures.copier)) was begun
           (promised_of g.S.Site c.args.core left c.args.job.now.config later c.look.ensures.told c.look.ensures.counted c.look.ensures.marked was begun
-          (λ t over later' kept. law.plain c.args.job.now.config was (seen g.S.Site c.args.core) (seen g.S.Site left) t over later' kept)
-          (λ t over later' kept. law.stops c.args.job.now.config was (seen g.S.Site c.args.core) (seen g.S.Site left) t over later' kept)));
+          (λ t over later' kept. law.plain c.args.job.now.config was (seen_core g.S.Site c.args.core) (seen_core g.S.Site left) t over later' kept)
+          (λ t over later' kept. law.stops c.args.job.now.config was (seen_core g.S.Site c.args.core) (seen_core g.S.Site left) t over later' kept)));
       copy = λ was begun whole.
           let halts = halted_finished copier (run at.stopped at.history) done.result ends at.stopped (run_halts at.stopped (length at.history) (length c.args.job.now.hosts) hosts) in
           let none = stop ∙ told_going done.result at.stopped whole halts in
           subst (λ (x : g.row.S.Denot × SessionData). IfSome done.new.copier (IsCopyOf tells c.args.job.now.config was.told (g.S.Site.faults x.0) x.1)) (λ i. (site i, session i))
           (copies_of g.S.Site left c.args.job.now.config was.told none
-          (λ t. law.begins c.args.job.now.config was (seen g.S.Site c.args.core) (seen g.S.Site left) t (begun.over t) later (told_seen g.S.Site left (c.look.ensures.told t)))
+          (λ t. law.begins c.args.job.now.config was (seen_core g.S.Site c.args.core) (seen_core g.S.Site left) t (begun.over t) later (told_seen g.S.Site left (c.look.ensures.told t)))
           done.new.copier (done.ensures.copied whole ran.ensures.stands));
     }

@@ -2,7 +2,7 @@ use Rattle.std.proofs.Common.{Option, subst}
 use Rattle.mss_base.specs.Sound.{StaysSound}
 use Rattle.core_state.specs.Sessions.{session_data}
 use Rattle.session_report.specs.Parties.{Stream, sink_between}
-use Rattle.volume_copy.specs.Beside.{asked}
+use Rattle.volume_copy.specs.Beside.{asked_copy}
 use Rattle.volume_copy.specs.Copies.{AskedCopy}
 use Rattle.job_runs.specs.Copies.{job_with}
 use Rattle.job_runs.specs.Runs.{TellsSession}
@@ -43,7 +43,7 @@ returns-in-Ok-clause-unread g c =
     let whole : Devices = devices g.S.Site c.args.site p.site in
     let sound : StaysSound g.S.Site.never_fails_but c.args.site p.site = λ but never. c.play_on-done.ensures.devices.sound but (c.in-Ok.ensures.devices.sound but never) in
     broke_off_of g.S.Site c.args.job.now c.args.site p.site put.result.site p.end (session_data p.session) p.rows
-    (played_halts (job_with c.args.job.now c.args.copier) whole p.end done.hosts.items (session_data p.session) played) c.play_on-done.ensures.rows sound put.ensures.site sink (asked c.args.copier) put.result.outcome
+    (played_halts (job_with c.args.job.now c.args.copier) whole p.end done.hosts.items (session_data p.session) played) c.play_on-done.ensures.rows sound put.ensures.site sink (asked_copy c.args.copier) put.result.outcome
     (subst (λ (o : Option AskedCopy). TellsSession (record { job = c.args.job.now; copy = o }) (told c.args.site) (devices g.S.Site p.site put.result.site) sink p.end (session_data p.session) put.result.outcome) c.play_on-done.ensures.asked
     (put.ensures.tells (told c.args.site) played.promised.plain (c.play_on-done.ensures.copy (seen_site g.S.Site c.args.site) c.in-Ok.ensures.begun))) (put.ensures.unread (told c.args.site) played.promised.plain)
 

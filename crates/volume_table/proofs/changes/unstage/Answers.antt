@@ -2,7 +2,7 @@ use Rattle.std.proofs.Common.{◌≡◌, ◌+◌, ◌*◌, ◌≤◌, ◌<◌, �
 use Rattle.std.proofs.lemmas.Grind.{common_steps}
 use Rattle.std.proofs.lemmas.List.{length-map, length-set, map-set, get_or-map}
 use Rattle.volume_table.specs.States.{state_number}
-use Rattle.volume_table.specs.Changes.{unstaged}
+use Rattle.volume_table.specs.Changes.{unstaged_state}
 use Rattle.volume_table.specs.declared.state.CylinderState.{CylinderState}
 use Rattle.volume_table.specs.declared.state.CylinderState.TheVariants.{Blank}
 use Rattle.volume_table.proofs.RowLemmas.{step_before, step_done, step_left, unstage_done}
@@ -28,12 +28,12 @@ loop-cylinder-preserved c =
     let inside : n < length now = omega arith in
     let from : 8 * c.args.page ≤ n = omega arith in
     let read : state_number (get_or c.loop-cylinder.states.items n Blank) ≡ get_or now n 0 = sym (get_or-map state_number c.loop-cylinder.states.items n Blank 0 (omega arith)) in
-    let is : state ≡ unstaged (get_or now n 0) =
-    c.unstaged.ensures ∙ ap (λ (xs : List CylinderState). unstaged (state_number (get_or xs n Blank))) c.as_slice.ensures ∙ ap unstaged read in
+    let is : state ≡ unstaged_state (get_or now n 0) =
+    c.unstaged.ensures ∙ ap (λ (xs : List CylinderState). unstaged_state (state_number (get_or xs n Blank))) c.as_slice.ensures ∙ ap unstaged_state read in
     let new : set now n state ≡ map state_number c.set.new.self.items = sym (ap (map state_number) c.set.ensures.items ∙ map-set state_number c.loop-cylinder.states.items n c.unstaged.result) in
     record {
       long = ap length c.set.ensures.items ∙ length-set c.loop-cylinder.states.items n c.unstaged.result ∙ s.long;
       before = subst (λ (xs : List ℕ). (k : ℕ) → k < 8 * c.args.page → get_or xs k 0 ≡ get_or old k 0) new (step_before c.args.page n old now state inside from is s.before);
-      done = subst (λ (xs : List ℕ). (k : ℕ) → 8 * c.args.page ≤ k → k < n + 1 → get_or xs k 0 ≡ unstaged (get_or old k 0)) new (step_done c.args.page n old now state inside from is s.left s.done);
+      done = subst (λ (xs : List ℕ). (k : ℕ) → 8 * c.args.page ≤ k → k < n + 1 → get_or xs k 0 ≡ unstaged_state (get_or old k 0)) new (step_done c.args.page n old now state inside from is s.left s.done);
       left = subst (λ (xs : List ℕ). (k : ℕ) → n + 1 ≤ k → get_or xs k 0 ≡ get_or old k 0) new (step_left c.args.page n old now state inside from is s.left);
     }

@@ -2,14 +2,14 @@ use Rattle.std.proofs.Common.{◌≡◌, ◌≤◌, length, Some, refl, sym, ◌
 use Rattle.std.specs.Prelude.{is_err, slice_set}
 use Rattle.table_pair.specs.declared.change.TheConstants.{CHANGE_ITEMS}
 use Rattle.volume_table.specs.declared.changes.Change.TheVariants.{Assign}
-use Rattle.victim_choice.specs.Order.{touched}
+use Rattle.victim_choice.specs.Order.{order_after}
 use Rattle.core_state.specs.declared.session.Event.TheVariants.{Work}
 use Rattle.core_state.specs.CoreValue.{CoreValue}
 use Rattle.core_state.specs.declared.rule.WorkAnswer.TheVariants.{Stopped}
 use Rattle.core_state.specs.SessionData.{SessionData, data_of, of_parts, with_last_event, with_last_message}
 use Rattle.core_state.specs.Sessions.{session_data}
 use Rattle.core_state.specs.Agrees.{message_of}
-use Rattle.volume_table.specs.Listed.{listed}
+use Rattle.volume_table.specs.Listed.{row_in_list}
 use Rattle.work_events.proofs.KeptFacts.{kept_at, in_order}
 use Rattle.work_events.proofs.RowSteps.{has_room, kept_as, kept_room, row_changed, row_failed, row_held, row_stopped, row_there, slots_counted, stopped_is}
 use Rattle.work_events.proofs.RoomFacts.{room_going, room_same, room_spares, room_writes, when_ok, works_always}
@@ -81,10 +81,10 @@ invariant_of-core-in-Ok g c =
     let is = c.core.view_is in
     let x = c.write_change.new.site in
     let done_ = row_changed g.S.Site has c.args.volume (Assign c.args.page c.served-task.result.0.frame) x c.write_change.ensures.rows c.write_change.ensures.site_.devices _ c.in-Ok.ensures.copies _ refl c.in-Ok.ensures.used.done c.in-Ok.ensures.session.told (g.met.S.Site.counted x) c.in-Ok.ensures.site_.cause.same in
-    let told : session_data c.did.new.session ≡ with_last_event (Work c.args.recorder) (with_last_message (message_of (g.S.Site.writes x) c.args.volume (Assign c.args.page c.served-task.result.0.frame) (listed now.rows)) (data_of now)) = c.did.ensures.told ∙ ap (with_last_event (Work c.args.recorder)) done_.told in
+    let told : session_data c.did.new.session ≡ with_last_event (Work c.args.recorder) (with_last_message (message_of (g.S.Site.writes x) c.args.volume (Assign c.args.page c.served-task.result.0.frame) (row_in_list now.rows)) (data_of now)) = c.did.ensures.told ∙ ap (with_last_event (Work c.args.recorder)) done_.told in
     let owners : c.give_frame.new.frames.owners ≡ slice_set now.owners c.served-task.result.0.frame (Some (c.args.volume, c.args.page)) = ap (λ f. f.owners) c.give_frame.ensures.frames ∙ (λ i. slice_set (is i).owners c.served-task.result.0.frame (Some (c.args.volume, c.args.page))) in
     let moving : c.give_frame.new.frames.moving ≡ now.moving = ap (λ f. f.moving) c.give_frame.ensures.frames ∙ ap (λ (z : CoreValue g.row.S.Denot g.row.C.Denot). z.moving) is in
-    let recency : c.give_frame.new.recency ≡ touched c.served-task.result.0.frame now.recency = c.give_frame.ensures.recency ∙ ap (λ (z : CoreValue g.row.S.Denot g.row.C.Denot). touched c.served-task.result.0.frame z.recency) is in
+    let recency : c.give_frame.new.recency ≡ order_after c.served-task.result.0.frame now.recency = c.give_frame.ensures.recency ∙ ap (λ (z : CoreValue g.row.S.Denot g.row.C.Denot). order_after c.served-task.result.0.frame z.recency) is in
     kept_as g.S.Site x _ _
     (kept_assigned g.row.S.Denot g.S.Site.tells (g.S.Site.told now.site) (g.S.Site.told x) (g.S.Site.writes now.site) (g.S.Site.faults now.site) (g.S.Site.writes x) (g.S.Site.faults x) now has.kept says.going c.args.recorder c.served-task.result.0 c.served-task.result.1 c.served-task.ensures.serves x done_.more done_.le c.args.volume c.args.page may done_.done_)
     (λ i. record (of_parts (is i) x (done_.rows_ i) (owners i) (moving i) (is i).requests (is i).tasks (is i).hosts (told i)) { used = done_.used_ i; recency = recency i })
@@ -96,10 +96,10 @@ returns-in-Ok-clause-event g c =
     let is = c.core.view_is in
     let x = c.write_change.new.site in
     let done_ = row_changed g.S.Site has c.args.volume (Assign c.args.page c.served-task.result.0.frame) x c.write_change.ensures.rows c.write_change.ensures.site_.devices _ c.in-Ok.ensures.copies _ refl c.in-Ok.ensures.used.done c.in-Ok.ensures.session.told (g.met.S.Site.counted x) c.in-Ok.ensures.site_.cause.same in
-    let told : session_data c.did.new.session ≡ with_last_event (Work c.args.recorder) (with_last_message (message_of (g.S.Site.writes x) c.args.volume (Assign c.args.page c.served-task.result.0.frame) (listed now.rows)) (data_of now)) = c.did.ensures.told ∙ ap (with_last_event (Work c.args.recorder)) done_.told in
+    let told : session_data c.did.new.session ≡ with_last_event (Work c.args.recorder) (with_last_message (message_of (g.S.Site.writes x) c.args.volume (Assign c.args.page c.served-task.result.0.frame) (row_in_list now.rows)) (data_of now)) = c.did.ensures.told ∙ ap (with_last_event (Work c.args.recorder)) done_.told in
     let owners : c.give_frame.new.frames.owners ≡ slice_set now.owners c.served-task.result.0.frame (Some (c.args.volume, c.args.page)) = ap (λ f. f.owners) c.give_frame.ensures.frames ∙ (λ i. slice_set (is i).owners c.served-task.result.0.frame (Some (c.args.volume, c.args.page))) in
     let moving : c.give_frame.new.frames.moving ≡ now.moving = ap (λ f. f.moving) c.give_frame.ensures.frames ∙ ap (λ (z : CoreValue g.row.S.Denot g.row.C.Denot). z.moving) is in
-    let recency : c.give_frame.new.recency ≡ touched c.served-task.result.0.frame now.recency = c.give_frame.ensures.recency ∙ ap (λ (z : CoreValue g.row.S.Denot g.row.C.Denot). touched c.served-task.result.0.frame z.recency) is in
+    let recency : c.give_frame.new.recency ≡ order_after c.served-task.result.0.frame now.recency = c.give_frame.ensures.recency ∙ ap (λ (z : CoreValue g.row.S.Denot g.row.C.Denot). order_after c.served-task.result.0.frame z.recency) is in
     let path : ◌≡◌ {A = CoreValue g.row.S.Denot g.row.C.Denot} _ (assigned now c.args.recorder c.served-task.result.0 c.args.volume c.args.page x (g.S.Site.writes x)) = λ i. record (of_parts (is i) x (done_.rows_ i) (owners i) (moving i) (is i).requests (is i).tasks (is i).hosts (told i)) { used = done_.used_ i; recency = recency i } in
     assigned_does g.S.Site (g.C.Choose.may now.chooser) now _ c.args.recorder c.served-task.result.0 c.args.volume c.args.page c.did.result c.did.ensures.answer c.served-task.ensures.serves.at done_.have path
 

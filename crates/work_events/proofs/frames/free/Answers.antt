@@ -8,7 +8,7 @@ use Rattle.core_state.specs.declared.rule.WorkAnswer.TheVariants.{Stopped}
 use Rattle.core_state.specs.SessionData.{SessionData, data_of, of_parts, with_last_event, with_last_message}
 use Rattle.core_state.specs.Sessions.{session_data}
 use Rattle.core_state.specs.Agrees.{message_of}
-use Rattle.volume_table.specs.Listed.{listed}
+use Rattle.volume_table.specs.Listed.{row_in_list}
 use Rattle.core_state.specs.Working.{MayFree}
 use Rattle.work_events.proofs.KeptFacts.{kept_at}
 use Rattle.work_events.proofs.RowSteps.{has_room, kept_as, kept_room, row_changed, row_failed, row_held, row_stopped, row_there, slots_counted, stopped_is}
@@ -71,7 +71,7 @@ invariant_of-core-in-Ok g c =
     let is = c.core.view_is in
     let x = c.write_change.new.site in
     let done_ = row_changed g.S.Site has c.args.volume (Free c.args.page) x c.write_change.ensures.rows c.write_change.ensures.site_.devices _ c.in-Ok.ensures.copies _ refl c.in-Ok.ensures.used.done c.in-Ok.ensures.session.told (g.met.S.Site.counted x) c.in-Ok.ensures.site_.cause.same in
-    let told : session_data c.did.new.session ≡ with_last_event (Work c.args.recorder) (with_last_message (message_of (g.S.Site.writes x) c.args.volume (Free c.args.page) (listed now.rows)) (data_of now)) = c.did.ensures.told ∙ ap (with_last_event (Work c.args.recorder)) done_.told in
+    let told : session_data c.did.new.session ≡ with_last_event (Work c.args.recorder) (with_last_message (message_of (g.S.Site.writes x) c.args.volume (Free c.args.page) (row_in_list now.rows)) (data_of now)) = c.did.ensures.told ∙ ap (with_last_event (Work c.args.recorder)) done_.told in
     let owners : c.set_owner.new.self.owners ≡ slice_set now.owners c.served.result.0.frame None = ap (λ f. f.owners) c.set_owner.ensures ∙ (λ i. slice_set (is i).owners c.served.result.0.frame None) in
     let moving : c.set_owner.new.self.moving ≡ now.moving = ap (λ f. f.moving) c.set_owner.ensures ∙ ap (λ (z : CoreValue g.row.S.Denot g.row.C.Denot). z.moving) is in
     let tasks : c.put_task.new.tasks.items ≡ slice_set now.tasks c.args.recorder (Some (record c.served.result.0 { victim = None })) = c.put_task.ensures ∙ (λ i. slice_set (is i).tasks c.args.recorder (Some (record c.served.result.0 { victim = None }))) in
@@ -86,7 +86,7 @@ returns-in-Ok-clause-event g c =
     let is = c.core.view_is in
     let x = c.write_change.new.site in
     let done_ = row_changed g.S.Site has c.args.volume (Free c.args.page) x c.write_change.ensures.rows c.write_change.ensures.site_.devices _ c.in-Ok.ensures.copies _ refl c.in-Ok.ensures.used.done c.in-Ok.ensures.session.told (g.met.S.Site.counted x) c.in-Ok.ensures.site_.cause.same in
-    let told : session_data c.did.new.session ≡ with_last_event (Work c.args.recorder) (with_last_message (message_of (g.S.Site.writes x) c.args.volume (Free c.args.page) (listed now.rows)) (data_of now)) = c.did.ensures.told ∙ ap (with_last_event (Work c.args.recorder)) done_.told in
+    let told : session_data c.did.new.session ≡ with_last_event (Work c.args.recorder) (with_last_message (message_of (g.S.Site.writes x) c.args.volume (Free c.args.page) (row_in_list now.rows)) (data_of now)) = c.did.ensures.told ∙ ap (with_last_event (Work c.args.recorder)) done_.told in
     let owners : c.set_owner.new.self.owners ≡ slice_set now.owners c.served.result.0.frame None = ap (λ f. f.owners) c.set_owner.ensures ∙ (λ i. slice_set (is i).owners c.served.result.0.frame None) in
     let moving : c.set_owner.new.self.moving ≡ now.moving = ap (λ f. f.moving) c.set_owner.ensures ∙ ap (λ (z : CoreValue g.row.S.Denot g.row.C.Denot). z.moving) is in
     let tasks : c.put_task.new.tasks.items ≡ slice_set now.tasks c.args.recorder (Some (record c.served.result.0 { victim = None })) = c.put_task.ensures ∙ (λ i. slice_set (is i).tasks c.args.recorder (Some (record c.served.result.0 { victim = None }))) in

@@ -2,7 +2,7 @@ use Rattle.std.proofs.Common.{◌≡◌, ◌≤◌, ◌∙◌, List, sym, ap, su
 use Rattle.std.specs.Prelude.{OnOk}
 use Rattle.std.proofs.lemmas.List.{length-take-le}
 use Rattle.mss_base.specs.Content.{Content, Item}
-use Rattle.memory_devices.specs.Memory.{held}
+use Rattle.memory_devices.specs.Memory.{content_in}
 use Rattle.memory_devices.specs.Logged.{LogValue, total_length, items_of}
 use Rattle.memory_devices.specs.Redone.{redone}
 use Rattle.memory_devices.proofs.LoggedLemmas.{length-items_of, total_length-take, items_of-take, redone_items}
@@ -26,6 +26,6 @@ returns c =
     let bytes = c.self.inside.bytes.items in
     let first : items_of (take c.args.count c.deref.result.now) c.deref-2.result.now ≡ take c.args.count c.args.self.now.items =
     (λ i. items_of (take c.args.count (c.deref.ensures.value i)) (c.deref-2.ensures.value i)) ∙ items_of-take c.args.count es bytes ∙ ap (λ (v : LogValue). take c.args.count v.items) c.self.view_is in
-    let start = held c.args.blocks.now in
+    let start = content_in c.args.blocks.now in
     let made = redone_items c.args.how start (take c.args.count c.deref.result.now) c.deref-2.result.now ∙ ap (λ (ws : List Item). redone c.args.how start ws) first in
-    subst (λ (d : Content). OnOk c.redo_all.result (held c.redo_all.new.blocks ≡ d)) made c.redo_all.ensures
+    subst (λ (d : Content). OnOk c.redo_all.result (content_in c.redo_all.new.blocks ≡ d)) made c.redo_all.ensures

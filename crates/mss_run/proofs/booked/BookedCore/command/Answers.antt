@@ -1,6 +1,6 @@
 use Rattle.std.proofs.Common.{◌≡◌, List, Some, sym, ◌∙◌, ap, subst}
 use Rattle.ckd_plain.specs.History.{EntryData}
-use Rattle.core_state.specs.CoreValue.{CoreData, CoreValue, seen}
+use Rattle.core_state.specs.CoreValue.{CoreData, CoreValue, seen_core}
 use Rattle.seen_book.specs.Openings.{IsLegalFrom}
 use Rattle.mss_run.proofs.AnswerFacts.{opens_still, legal_from}
 use Rattle.mss_run.proofs.booked.BookedCore.command.Goals as goal
@@ -10,8 +10,8 @@ told-book-requires-clause-legal g c =
     let opening = g.N.Opening.opening in
     let before = c.self.inside.copied.core in
     let after = c.host_step-answer.new.copied.core in
-    let old : CoreData = seen g.S.Site before in
-    let new : CoreData = seen g.S.Site after in
+    let old : CoreData = seen_core g.S.Site before in
+    let new : CoreData = seen_core g.S.Site after in
     let opens = opens_still opening g.N.Setup.setup g.S.Site.tells (g.S.Site.never_fails_but before.site) (g.S.Site.never_fails_but after.site) old new c.self.invariant.opens
     c.entries_beside-before.ensures.began c.host_step-answer.ensures.later c.host_step-answer.ensures.sound c.host_step-answer.ensures.only_reads_fail in
     let same : c.as_slice-history.result.now ≡ after.history = c.as_slice-history.ensures ∙ c.history.ensures ∙ ap (λ (v : CoreValue g.row.S.Denot g.row.C.Denot). v.history) c.core.ensures in
@@ -23,8 +23,8 @@ invariant_of-self g c =
     let opening = g.N.Opening.opening in
     let before = c.self.inside.copied.core in
     let after = c.host_step-answer.new.copied.core in
-    let old : CoreData = seen g.S.Site before in
-    let new : CoreData = seen g.S.Site after in
+    let old : CoreData = seen_core g.S.Site before in
+    let new : CoreData = seen_core g.S.Site after in
     let same : c.as_slice-history.result.now ≡ after.history = c.as_slice-history.ensures ∙ c.history.ensures ∙ ap (λ (v : CoreValue g.row.S.Denot g.row.C.Denot). v.history) c.core.ensures in
     record {
       made = c.in-Some.book.made;

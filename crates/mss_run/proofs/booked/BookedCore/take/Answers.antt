@@ -1,7 +1,7 @@
 use Rattle.std.proofs.Common.{List, Some, sym, ◌∙◌, ap}
 use Rattle.std.specs.Prelude.{is_some}
 use Rattle.ckd_plain.specs.History.{EntryData}
-use Rattle.volume_copy.specs.Beside.{asked}
+use Rattle.volume_copy.specs.Beside.{asked_copy}
 use Rattle.mss_run.proofs.AnswerFacts.{history_read, opens_read}
 use Rattle.mss_run.proofs.booked.BookedCore.take.Goals as goal
 
@@ -9,7 +9,7 @@ pub invariant_of-self : goal.invariant_of-self
 invariant_of-self g c =
     let before = c.self.inside.copied.core in
     let after = c.take.new.self.core in
-    let copies = is_some (asked c.self.inside.copied.copier) in
+    let copies = is_some (asked_copy c.self.inside.copied.copier) in
     record {
       made = c.self.invariant.made;
       book_ = c.self.invariant.book_ ∙ ap (λ (l : List EntryData). Some record { list = l; made = c.self.invariant.made }) (sym (history_read g.S.Site before after copies c.take.ensures.core));

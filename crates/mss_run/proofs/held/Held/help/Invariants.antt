@@ -1,10 +1,10 @@
 use Rattle.std.proofs.Common.{◌≡◌}
-use Rattle.core_state.specs.CoreValue.{seen}
+use Rattle.core_state.specs.CoreValue.{seen_core}
 use Rattle.core_state.specs.HostEvents.{IsSame}
 use Rattle.mss_run.proofs.held.Held.help.Given as goal
 
 abbrev pub invariant-loop-number : goal.invariant-loop-number
 invariant-loop-number g l = record {
   present : l.self.present ≡ l.initial.self.present;
-  same : IsSame g.S.Site.tells (seen g.S.Site l.initial.self.session.core) (seen g.S.Site l.self.session.core);
+  same : IsSame g.S.Site.tells (seen_core g.S.Site l.initial.self.session.core) (seen_core g.S.Site l.self.session.core);
 }

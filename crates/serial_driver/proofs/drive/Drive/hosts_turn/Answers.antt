@@ -1,5 +1,5 @@
 use Rattle.std.proofs.Common.{◌≡◌, ◌≤◌, ◌<◌, length, None, arith, subst}
-use Rattle.core_state.specs.CoreValue.{CoreValue, seen}
+use Rattle.core_state.specs.CoreValue.{CoreValue, seen_core}
 use Rattle.core_state.specs.IsCore.{IsCore}
 use Rattle.host_events.proofs.RuleFacts.{core_seen}
 use Rattle.script_places.specs.Scripts.{calls_of}
@@ -10,8 +10,8 @@ use Rattle.serial_driver.proofs.drive.Drive.hosts_turn.Goals as goal
 
 pub loop-number-init : goal.loop-number-init
 loop-number-init g c = record {
-  so_far = hosts_begin (terms_of g.S.Site g.C.Choose.may c.args.self.now) c.args.self.now.scripts (seen g.S.Site c.args.self.now.core);
-  goes_on = λ _. none_yet c.args.self.now.scripts (seen g.S.Site c.args.self.now.core);
+  so_far = hosts_begin (terms_of g.S.Site g.C.Choose.may c.args.self.now) c.args.self.now.scripts (seen_core g.S.Site c.args.self.now.core);
+  goes_on = λ _. none_yet c.args.self.now.scripts (seen_core g.S.Site c.args.self.now.core);
   leaves = leaves_none g.S.Site c.args.self.now;
 }
 
@@ -37,12 +37,12 @@ returns-in_default g c =
 pub returns-clause-turns : goal.returns-clause-turns
 returns-clause-turns g c =
     let past : length c.args.self.now.scripts ≤ c.loop-number.number = omega (arith, c.loop-number-test.false, c.host_count-hosts.ensures) in
-    hosts_over (terms_of g.S.Site g.C.Choose.may c.args.self.now) c.args.self.now.scripts (seen g.S.Site c.args.self.now.core) c.loop-number.number (seen g.S.Site c.loop-number.self.core) past c.loop-number.invariant.so_far
+    hosts_over (terms_of g.S.Site g.C.Choose.may c.args.self.now) c.args.self.now.scripts (seen_core g.S.Site c.args.self.now.core) c.loop-number.number (seen_core g.S.Site c.loop-number.self.core) past c.loop-number.invariant.so_far
 
 pub returns-clause-falls : goal.returns-clause-falls
 returns-clause-falls g c = λ _ settled going some.
     let past : length c.args.self.now.scripts ≤ c.loop-number.number = omega (arith, c.loop-number-test.false, c.host_count-hosts.ensures) in
     let kept : c.args.self.now.core.stopped ≡ None → IsCore c.args.self.now.core = subst (λ (v : CoreValue g.row.S.Denot g.row.C.Denot). v.stopped ≡ None → IsCore v) c.core.ensures.value c.look.ensures.kept in
-    let calls = someone (calls_of c.args.self.now.scripts) (hosts_of c.args.self.now.scripts) (seen g.S.Site c.args.self.now.core) some in
-    run_falls c.args.self.now.scripts (seen g.S.Site c.args.self.now.core) c.loop-number.number (seen g.S.Site c.loop-number.self.core) past (c.loop-number.invariant.goes_on going)
-    (c.settled_cores_go_on.ensures (seen g.S.Site c.args.self.now.core) (calls_of c.args.self.now.scripts c.args.self.now.core.history) (core_seen g.S.Site c.args.self.now.core (kept going)) settled (c.look_at_hosts.ensures.owners going) calls)
+    let calls = someone (calls_of c.args.self.now.scripts) (hosts_of c.args.self.now.scripts) (seen_core g.S.Site c.args.self.now.core) some in
+    run_falls c.args.self.now.scripts (seen_core g.S.Site c.args.self.now.core) c.loop-number.number (seen_core g.S.Site c.loop-number.self.core) past (c.loop-number.invariant.goes_on going)
+    (c.settled_cores_go_on.ensures (seen_core g.S.Site c.args.self.now.core) (calls_of c.args.self.now.scripts c.args.self.now.core.history) (core_seen g.S.Site c.args.self.now.core (kept going)) settled (c.look_at_hosts.ensures.owners going) calls)

@@ -1,5 +1,5 @@
 use Rattle.std.proofs.Common.{◌≡◌, None, subst}
-use Rattle.core_state.specs.CoreValue.{seen}
+use Rattle.core_state.specs.CoreValue.{seen_core}
 use Rattle.core_progress.specs.Progress.{OwnersCall}
 use Rattle.script_places.specs.Scripts.{script_of, exchanges_of, calls_of}
 use Rattle.script_places.proofs.ScriptFacts.{plays_to_end}
@@ -13,7 +13,7 @@ returns-clause-scripts g c = subst (λ (d : DriveValue g.row.S.Denot g.row.C.Den
 
 pub returns-clause-owners : goal.returns-clause-owners
 returns-clause-owners g c =
-    subst (λ (d : DriveValue g.row.S.Denot g.row.C.Denot). d.core.stopped ≡ None → OwnersCall (seen g.S.Site d.core) (calls_of d.scripts d.core.history)) c.self.view_is
+    subst (λ (d : DriveValue g.row.S.Denot g.row.C.Denot). d.core.stopped ≡ None → OwnersCall (seen_core g.S.Site d.core) (calls_of d.scripts d.core.history)) c.self.view_is
     (owners_call g.S.Site c.self.inside.session.core c.self.inside.scripts.now c.self.inside.places.items c.self.invariant)
 
 pub returns-clause-ended : goal.returns-clause-ended

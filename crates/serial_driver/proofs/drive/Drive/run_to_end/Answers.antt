@@ -1,5 +1,5 @@
 use Rattle.std.proofs.Common.{sym, ◌∙◌}
-use Rattle.core_state.specs.CoreValue.{seen}
+use Rattle.core_state.specs.CoreValue.{seen_core}
 use Rattle.serial_driver.specs.Drives.{terms_of}
 use Rattle.serial_driver.proofs.EventRuns.{leaves_none}
 use Rattle.serial_driver.proofs.RoundFacts.{no_host_calls, rounds_begin, round_none, round_left, round_halts, round_leaves, round_done, round_stops, round_goes, round_falls}
@@ -7,7 +7,7 @@ use Rattle.serial_driver.proofs.drive.Drive.run_to_end.Goals as goal
 
 pub loop-self-init : goal.loop-self-init
 loop-self-init g c = record {
-  so_far = rounds_begin (terms_of g.S.Site g.C.Choose.may c.args.self.now) c.args.self.now.scripts (seen g.S.Site c.args.self.now.core);
+  so_far = rounds_begin (terms_of g.S.Site g.C.Choose.may c.args.self.now) c.args.self.now.scripts (seen_core g.S.Site c.args.self.now.core);
   leaves = leaves_none g.S.Site c.args.self.now;
 }
 
@@ -40,4 +40,4 @@ returns-in_default-hosts_turn g c = record {
 pub returns-then-not-some_host_calls-clause-ended : goal.returns-then-not-some_host_calls-clause-ended
 returns-then-not-some_host_calls-clause-ended g c = λ _ h.
     c.look_at_hosts.ensures.ended h
-    (no_host_calls c.loop-self.self.scripts (seen g.S.Site c.loop-self.self.core) (sym c.some_host_calls.ensures ∙ c.if-not-some_host_calls.true) h)
+    (no_host_calls c.loop-self.self.scripts (seen_core g.S.Site c.loop-self.self.core) (sym c.some_host_calls.ensures ∙ c.if-not-some_host_calls.true) h)

@@ -1,7 +1,7 @@
 use Rattle.std.proofs.Common.{◌<◌, arith, refl, ◌∙◌, ap, subst}
 use Rattle.serial_driver.specs.Answers.{of_work}
-use Rattle.serial_driver.specs.Drives.{DriveValue, Leaves}
-use Rattle.volume_copy.specs.Beside.{asked}
+use Rattle.serial_driver.specs.Drives.{DriveValue, LeavesDrive}
+use Rattle.volume_copy.specs.Beside.{asked_copy}
 use Rattle.serial_driver.proofs.WorkFacts.{work_session, work_halts, work_cause, work_driven, no_limit}
 use Rattle.serial_driver.proofs.drive.Drive.work.Goals as goal
 
@@ -13,11 +13,11 @@ invariant_of-self g c =
 pub returns-clause-leaves : goal.returns-clause-leaves
 returns-clause-leaves g c =
     let low : c.args.recorder < c.self.inside.session.core.config.recorders = omega (arith, c.requires, ap (λ (d : DriveValue g.row.S.Denot g.row.C.Denot). d.core.config.recorders) c.self.view_is) in
-    subst (λ (d : DriveValue g.row.S.Denot g.row.C.Denot). Leaves g.S.Site d (record { core = c.work_event.new.self.core; copier = c.work_event.new.self.copier; scripts = c.self.inside.scripts.now }) (of_work c.work_event.result)) c.self.view_is
+    subst (λ (d : DriveValue g.row.S.Denot g.row.C.Denot). LeavesDrive g.S.Site d (record { core = c.work_event.new.self.core; copier = c.work_event.new.self.copier; scripts = c.self.inside.scripts.now }) (of_work c.work_event.result)) c.self.view_is
     (record {
       session = work_session g.S.Site (g.C.Choose.may c.self.inside.session.core.chooser) c.self.inside.session.core c.work_event.new.self.core c.look.ensures.kept c.args.recorder low c.work_event.result c.work_event.ensures.event;
       scripts_ = refl;
-      copier_ = ap asked c.work_event.ensures.copier;
+      copier_ = ap asked_copy c.work_event.ensures.copier;
       chooser_ = c.work_event.ensures.chooser;
       written = c.work_event.ensures.devices.written;
       later = c.work_event.ensures.devices.later;

@@ -1,5 +1,5 @@
 use Rattle.std.proofs.Common.{rules, ◌≡◌, ◌<◌, sym, subst}
-use Rattle.victim_choice.specs.Order.{untouched, IsOrder}
+use Rattle.victim_choice.specs.Order.{first_order, IsOrder}
 use Rattle.victim_choice.proofs.OrderFacts.{untouched_is_order, order_whole}
 use Rattle.victim_choice.proofs.CacheFacts.{order_of_put}
 use Rattle.victim_choice.proofs.recency.Recency.new.Goals as goal
@@ -12,4 +12,4 @@ loop-number-preserved c =
 
 pub invariant_of-result : goal.invariant_of-result
 invariant_of-result c =
-    subst IsOrder (sym c.loop-number.invariant.order) (order_whole c.loop-number.number (untouched c.loop-number.number) (untouched_is_order c.loop-number.number))
+    subst IsOrder (sym c.loop-number.invariant.order) (order_whole c.loop-number.number (first_order c.loop-number.number) (untouched_is_order c.loop-number.number))

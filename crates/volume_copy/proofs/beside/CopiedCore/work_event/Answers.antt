@@ -1,5 +1,5 @@
 use Rattle.std.proofs.Common.{◌<◌, subst, sym}
-use Rattle.core_state.specs.CoreValue.{CoreData, seen}
+use Rattle.core_state.specs.CoreValue.{CoreData, seen_core}
 use Rattle.core_state.specs.TheCore.{IsWhole}
 use Rattle.core_state.proofs.Moved.{whole_seen}
 use Rattle.volume_copy.specs.Beside.{CopiedValue}
@@ -10,8 +10,8 @@ use Rattle.volume_copy.proofs.beside.CopiedCore.work_event.Goals as goal
 
 pub invariant_of-self : goal.invariant_of-self
 invariant_of-self g c =
-    let old : CoreData = seen g.S.Site c.self.inside.core in
-    let new : CoreData = seen g.S.Site c.work_event.new.core in
+    let old : CoreData = seen_core g.S.Site c.self.inside.core in
+    let new : CoreData = seen_core g.S.Site c.work_event.new.core in
     let whole : IsWhole g.S.Site.tells old.site.told old = whole_seen g.S.Site c.self.inside.core c.look.ensures.whole in
     let there : c.args.recorder < old.config.recorders = subst (λ (v : CopiedValue g.row.S.Denot g.row.C.Denot). c.args.recorder < v.core.config.recorders) (sym c.self.view_is) c.requires.recorder in
     let leaves : LeavesHosts old new = c.work_leaves_the_history.ensures c.self.inside.core.chooser old c.args.recorder c.work_event.result new c.work_event.ensures.event in

@@ -1,6 +1,6 @@
 use Rattle.std.proofs.Common.{subst}
 use Rattle.mss_base.specs.Content.{content}
-use Rattle.volume_table.specs.Listed.{listed}
+use Rattle.volume_table.specs.Listed.{row_in_list}
 use Rattle.shown_volumes.specs.Shown.{shown_by}
 use Rattle.core_state.specs.CoreValue.{CoreValue}
 use Rattle.volume_copy.specs.Steps.{TakesOrFails}
@@ -16,7 +16,7 @@ invariant_of-core g c =
 pub returns-clause-takes : goal.returns-clause-takes
 returns-clause-takes g c =
     next_takes g.S.Site.tells _ c.in-Some.number _ _ c.args.self.now c.take_track.new.self c.in-Some.ensures
-    (subst (λ (v : CoreValue g.row.S.Denot g.row.C.Denot). TakesOrFails g.S.Site.tells (shown_by (listed v.rows) (content (g.S.Site.told v.site))) c.in-Some.number
+    (subst (λ (v : CoreValue g.row.S.Denot g.row.C.Denot). TakesOrFails g.S.Site.tells (shown_by (row_in_list v.rows) (content (g.S.Site.told v.site))) c.in-Some.number
     (g.S.Site.faults v.site) (g.S.Site.faults c.take_track.new.site) c.args.self.now c.take_track.new.self) c.core.view_is c.in_ok-take_track.ensures.takes)
 
 pub returns-clause-keeps : goal.returns-clause-keeps

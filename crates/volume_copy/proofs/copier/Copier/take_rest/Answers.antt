@@ -1,6 +1,6 @@
 use Rattle.std.proofs.Common.{◌≡◌, true, false, sym, ap, ◌∙◌, arith}
 use Rattle.mss_base.specs.Content.{SiteLog, content}
-use Rattle.volume_table.specs.Listed.{listed}
+use Rattle.volume_table.specs.Listed.{row_in_list}
 use Rattle.shown_volumes.specs.Shown.{shown_by}
 use Rattle.table_pair.proofs.SiteLemmas.{reads_then}
 use Rattle.volume_copy.proofs.StepFacts.{rests_all, rests_end, rests_once}
@@ -13,7 +13,7 @@ returns-then-not-is_taking-clause-rest g c =
 pub loop-number-preserved : goal.loop-number-preserved
 loop-number-preserved g c = record {
   site_ = reads_then g.S.Site _ _ _ c.loop-number.invariant.site_ c.take_once.ensures.site;
-  rests_ = rests_once _ _ _ _ _ _ _ _ (λ tl. ap (λ (t : SiteLog). shown_by (listed c.args.rows.now) (content t)) (c.loop-number.invariant.site_.log tl)) _ _
+  rests_ = rests_once _ _ _ _ _ _ _ _ (λ tl. ap (λ (t : SiteLog). shown_by (row_in_list c.args.rows.now) (content t)) (c.loop-number.invariant.site_.log tl)) _ _
       (c.is_taking.ensures.taking.0 c.if-not-is_taking.false) c.in_ok-take_once.ensures.takes c.loop-number.invariant.rests_;
 }
 

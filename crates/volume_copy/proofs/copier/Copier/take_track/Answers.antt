@@ -2,7 +2,7 @@ use Rattle.std.proofs.Common.{◌≡◌, Some, Err, refl, ap, subst, ◌∙◌}
 use Rattle.std.specs.Option.{option_and_then}
 use Rattle.mss_base.specs.Content.{content}
 use Rattle.ckd_track.specs.Data.{Volumes}
-use Rattle.volume_table.specs.Listed.{listed}
+use Rattle.volume_table.specs.Listed.{row_in_list}
 use Rattle.shown_volumes.specs.Shown.{shown_by, source, track_at}
 use Rattle.volume_copy.specs.declared.copier.CopyState.TheVariants.{Failed}
 use Rattle.volume_copy.specs.Copies.{CopyData, records_of, taken_at, track_of}
@@ -15,7 +15,7 @@ use Rattle.volume_copy.proofs.copier.Copier.take_track.Goals as goal
 pub returns-in-Ok-clause-takes : goal.returns-in-Ok-clause-takes
 returns-in-Ok-clause-takes g c =
     let tells : Type 0 = g.S.Site.tells in
-    let shown : Volumes = shown_by (listed c.args.rows.now) (content (g.S.Site.told c.args.site.now)) in
+    let shown : Volumes = shown_by (row_in_list c.args.rows.now) (content (g.S.Site.told c.args.site.now)) in
     let old : CopyData = record { volume = c.self.inside.volume; after_ = c.self.inside.after; state = c.self.inside.state; point = c.self.inside.point; tracks = c.self.inside.tracks } in
     let new : CopyData = record old { state = c.state_with-self-inside.result; tracks = c.put.new.self } in
     let told : tells → records_of c.in-Ok.taken ≡ Some (track_of shown old.volume c.args.number) =
