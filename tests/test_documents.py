@@ -132,5 +132,14 @@ class Names(Test):
         self.assertEqual(unknown, [])
 
 
+class Families(Test):
+    """Each crate stands in the list of families, once."""
+
+    def test_each_crate_once(self):
+        listed = re.findall(r"^- `(\w+)`:", (TOP / "crates/README.md").read_text(), re.M)
+        crates = [folder.name for folder in (TOP / "crates").iterdir() if folder.is_dir()]
+        self.assertEqual(sorted(listed), sorted(crates))
+
+
 if __name__ == "__main__":
     unittest.main()
