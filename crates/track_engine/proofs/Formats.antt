@@ -16,11 +16,12 @@ use Rattle.ckd_plain.specs.declared.unit_check.Refusal.{Refusal}
 use Rattle.ckd_plain.specs.declared.unit_check.UnitCheck.TheVariants as check
 use Rattle.ckd_plain.specs.Checks.{◌>>=◌}
 use Rattle.ckd_plain.specs.Index.{Found, same_record}
-use Rattle.ckd_plain.specs.Effects.{Outcome, new_record, prior_number, fits, format_outcome, write_}
+use Rattle.ckd_plain.specs.Effects.{Effect, Outcome, new_record, prior_number, fits, format_outcome, write_}
 use Rattle.track_engine.specs.declared.find.RecordPlace.{RecordPlace}
 use Rattle.track_engine.specs.declared.place.CylinderPlace.{CylinderPlace}
 use Rattle.track_engine.specs.declared.place.NotDone.{NotDone}
-use Rattle.track_engine.specs.Found.{found_at}
+use Rattle.track_engine.specs.declared.place.NotDone.TheVariants.{Refused, Fault}
+use Rattle.track_engine.specs.Found.{found_at, GivesBut}
 use Rattle.track_engine.specs.Tracks.{tracks_on, IsBlockOn}
 use Rattle.track_engine.specs.Writing.{CarriesOut, Spells, Target, formatted_behind, target_in, target_of}
 use Rattle.track_engine.proofs.Steps.{carried_over}
@@ -37,9 +38,10 @@ module _ (track : List RecordData) (host : HostState) (left : Prior) (argument :
   given = write_ track host left write.CountKeyData argument
 
   -- the record isn't there
-  pub format_refused : (refusal : Refusal) → same_record track host (prior_number left) ≡ Err refusal → given ≡ Err refusal
+  pub format_unfound : {X Y : Type 0} (view : X → Found) (view' : Y → Effect) (why : NotDone) → GivesBut view (Err why) (same_record track host (prior_number left)) → GivesBut view' (Err why) given
   unfolding write_
-  format_refused refusal is = ap (λ (r : Result Found Refusal). r >>= λ found. format_outcome (fits (with_new found.number)) (with_new found.number) found) is
+  format_unfound view view' (Refused refusal) is = ap (λ (r : Result Found Refusal). r >>= λ found. format_outcome (fits (with_new found.number)) (with_new found.number) found) is
+  format_unfound view view' (Fault fault) is = tt
 
   module _ (block : List ℕ) (at : RecordPlace) (is : same_record track host (prior_number left) ≡ Ok (found_at block at)) where
     given_is : given ≡ format_outcome (fits (with_new at.number)) (with_new at.number) (found_at block at)

@@ -1,17 +1,17 @@
 -- Devices that were read at most, one read after another.
-use Rattle.std.proofs.Common.{◌≡◌, ℕ, ◌+◌, ◌≤◌, Bool, false, length, Result, Ok, Err, OnOk, ◌∙◌, ap, arith, subst}
+use Rattle.std.proofs.Common.{◌≡◌, ℕ, Bool, length, Result, Ok, Err, ◌∙◌, ap, arith, subst}
 use Rattle.std.specs.Prelude.{IfErr}
 use Rattle.std.proofs.lemmas.Result.{on_ok_weaker}
 use Rattle.mss_base.specs.Content.{SiteLog}
 use Rattle.mss_base.specs.Counts.{Rises, IsFaultSince}
-use Rattle.mss_base.specs.Sites.{OnlyReads, MayWrite}
+use Rattle.mss_base.specs.Sites.{OnlyReads}
 use Rattle.mss_base.specs.declared.place.UnitNo.{UnitNo}
 use Rattle.mss_base.specs.declared.site.Site.{Ghosts}
 use Rattle.ckd_plain.specs.declared.done.DoneCommand.{DoneCommand}
 use Rattle.track_engine.specs.declared.place.EngineFault.TheVariants.{ReadFailed, WriteFailed, Memory}
 use Rattle.track_engine.specs.declared.place.NotDone.{NotDone}
 use Rattle.track_engine.specs.declared.place.NotDone.TheVariants.{Refused, Fault}
-use Rattle.track_engine.specs.Faults.{IsReadFault, IsUndone, HasNoFailedWrite, ReadsDevices, UsesDevices, Untroubled, HasReadFault, HasWriteFault}
+use Rattle.track_engine.specs.Faults.{IsReadFault, IsUndone, HasNoFailedWrite, ReadsDevices, UsesDevices}
 
 module _ {S : Type 0} (g : Ghosts S) where
   pub reads_then : (a b c : S) → OnlyReads g a b → OnlyReads g b c → OnlyReads g a c

@@ -1,5 +1,5 @@
 -- What the plain machine makes of a write data or write key data, once its record is found, and what the write leaves step by step.
-use Rattle.std.proofs.Common.{◌≡◌, inr, ℕ, suc, ◌-◌, ◌≤◌, Bool, true, false, List, [], ◌++◌, take, length, Some, None, Result, Ok, Err, refl, sym, ap, ◌∙◌, arith, length-append, length-take, length-drop}
+use Rattle.std.proofs.Common.{◌≡◌, inr, ℕ, suc, ◌+◌, ◌-◌, ◌≤◌, Bool, true, false, List, [], ◌++◌, take, length, Some, None, Result, Ok, Err, refl, sym, ap, subst, ◌∙◌, arith, length-append, length-take, length-drop}
 use Rattle.std.specs.Prelude.{slice_index_or, replicate}
 use Rattle.std.proofs.lemmas.List.{length-take-le, length-replicate}
 use Rattle.std.proofs.lemmas.Option.{slice_get-get_or}
@@ -9,7 +9,7 @@ use Rattle.mss_base.proofs.Moments.{block_weaker}
 use Rattle.channel_commands.specs.declared.command.Command.TheVariants as command
 use Rattle.ckd_track.specs.Data.{RecordData, blank_record}
 use Rattle.ckd_track.specs.Track.{Reading, reading}
-use Rattle.ckd_track.specs.Updating.{IsUpdating, updated_length, with_bytes, record_behind, updated_records}
+use Rattle.ckd_track.specs.Updating.{IsUpdating, MayUpdate, updated_length, with_bytes, record_behind, updated_records}
 use Rattle.ckd_plain.specs.declared.done.DoneCommand.{DoneCommand}
 use Rattle.ckd_plain.specs.declared.host.HostState.{HostState}
 use Rattle.ckd_plain.specs.declared.host.Position.TheVariants as position
@@ -23,10 +23,14 @@ use Rattle.ckd_plain.specs.Near.{IsOverwritten}
 use Rattle.ckd_plain.specs.declared.found.FoundRecord.{FoundRecord}
 use Rattle.ckd_plain.specs.Views.{effect_of, found_of, item_of}
 use Rattle.track_engine.specs.declared.find.RecordPlace.{RecordPlace}
-use Rattle.track_engine.specs.declared.place.NotDone.TheVariants.{Fault}
+use Rattle.track_engine.specs.declared.place.CylinderPlace.{CylinderPlace}
+use Rattle.track_engine.specs.declared.place.NotDone.{NotDone}
+use Rattle.track_engine.specs.declared.place.NotDone.TheVariants.{Refused, Fault}
 use Rattle.track_engine.specs.declared.place.EngineFault.TheVariants.{WriteFailed}
-use Rattle.track_engine.specs.Found.{found_at, IsPlaceOf}
-use Rattle.track_engine.specs.Writing.{IsBetween, IsStep, CarriesOut, target_in, update_kind, updated_at}
+use Rattle.track_engine.specs.Found.{found_at, StandsIn, GivesBut}
+use Rattle.track_engine.specs.Tracks.{tracks_on, IsBlockOn}
+use Rattle.track_engine.specs.Writing.{IsBetween, IsStep, CarriesOut, Target, target_in, target_of, update_kind, updated_at, updated_with}
+use Rattle.track_engine.proofs.Steps.{carried_over}
 
 -- ---- what the plain machine gives
 
@@ -57,55 +61,68 @@ unfolding write_
 bound false track host left argument = refl
 bound true track host left argument = refl
 
-module _ (key_too : Bool) (block : List ℕ) (host : HostState) (left : Prior) (argument : List ℕ) (number : ℕ) (number_is : number ≡ prior_number left)
-    (there : List RecordData) (here : (reading block).records ≡ there) where
-  abbrev track : List RecordData
-  track = (reading block).records
+-- the record isn't there
+pub update_unfound : {X : Type 0} (view : X → Found) (view' : DoneCommand → Effect) (key_too : Bool) (track : List RecordData) (host : HostState) (left : Prior) (argument : List ℕ) (why : NotDone)
+    → GivesBut view (Err why) (same_record track host (prior_number left)) → GivesBut view' (Err why) (given key_too track host left argument)
+update_unfound view view' key_too track host left argument (Refused refusal) is =
+    bound key_too track host left argument ∙ ap (λ (r : Result Found Refusal). r >>= λ found. plain_updated track found (with_argument key_too found.item argument)) is
+update_unfound view view' key_too track host left argument (Fault fault) is = tt
 
-  -- the record that the command before left
-  given_there : given key_too there host left argument ≡ (same_record track host number >>= λ found. plain_updated track found (with_argument key_too found.item argument))
-  given_there = ap (λ (t : List RecordData). given key_too t host left argument) (sym here) ∙ bound key_too track host left argument
-      ∙ ap (λ (k : ℕ). same_record track host k >>= λ found. plain_updated track found (with_argument key_too found.item argument)) (sym number_is)
+module _ (key_too : Bool) (block : List ℕ) (at : RecordPlace) (first : 1 ≤ at.number) where
+  abbrev there : List RecordData
+  there = (reading block).records
 
-  pub update_refused : (refusal : Refusal) → same_record track host number ≡ Err refusal → given key_too there host left argument ≡ Err refusal
-  update_refused refusal is = given_there ∙ ap (λ (r : Result Found Refusal). r >>= λ found. plain_updated track found (with_argument key_too found.item argument)) is
+  -- the record that is updated
+  abbrev item : RecordData
+  item = record_behind (at.number - 1) there
 
-  module _ (at : RecordPlace) (itself : IsPlaceOf number host block at) (first : 1 ≤ prior_number left) (is : same_record track host number ≡ Ok (found_at block at)) where
-    abbrev old : RecordData
-    old = record_behind (at.number - 1) track
+  found_is : found_at block at ≡ record { number = at.number; item = item; host = at.host }
+  found_is = (λ i. record { number = at.number; item = item_behind there at.host at.number first i; host = at.host })
 
-    pub number_at_hand : at.number ≡ prior_number left
-    number_at_hand = itself.number_ ∙ number_is
+  -- it is there: with the argument in the place of its data, or of its key and data
+  pub update_given : (track : List RecordData) (host : HostState) (left : Prior) (argument : List ℕ) → there ≡ track → same_record track host (prior_number left) ≡ Ok (found_at block at)
+      → given key_too track host left argument ≡ Ok (updated_with key_too there argument at)
+  update_given track host left argument here is =
+      bound key_too track host left argument
+      ∙ ap (λ (r : Result Found Refusal). r >>= λ found. plain_updated track found (with_argument key_too found.item argument)) is
+      ∙ ap (λ (found : Found). plain_updated track found (with_argument key_too found.item argument)) found_is
+      ∙ ap (λ (r : RecordData). plain_updated track (record { number = at.number; item = item; host = at.host }) r) (with_argument-is key_too item argument)
+      ∙ ap (λ (t : List RecordData). plain_updated t (record { number = at.number; item = item; host = at.host }) (with_bytes key_too (padded_bytes (updated_length key_too item) argument) item)) (sym here)
 
-    found_is : found_at block at ≡ record { number = at.number; item = old; host = at.host }
-    found_is = (λ i. record { number = at.number; item = item_behind track at.host at.number (omega (arith, number_at_hand)) i; host = at.host })
+  -- as long as the bytes that are updated
+  pub updated_length_there : (found : FoundRecord) (n : ℕ) → found_of found ≡ found_at block at → n ≡ updated_length key_too (item_of found) → n ≡ updated_length key_too item
+  updated_length_there found n found_there n_is = n_is ∙ ap (λ (f : Found). updated_length key_too f.item) (found_there ∙ found_is)
 
-    -- of the length of its data, or of its key and data
-    pub update_given : (found : FoundRecord) (bytes : List ℕ) (length_there : ℕ) → found_of found ≡ found_at block at → length_there ≡ updated_length key_too (item_of found) → bytes ≡ padded_bytes length_there argument
-        → given key_too there host left argument ≡ Ok (updated_at key_too track bytes at)
-    update_given found bytes length_there found_there length_is bytes_are =
-        let item_is : item_of found ≡ old = ap (λ (f : Found). f.item) (found_there ∙ found_is) in
-        let bytes_is : padded_bytes (updated_length key_too old) argument ≡ bytes = sym (bytes_are ∙ ap (λ (n : ℕ). padded_bytes n argument) (length_is ∙ ap (updated_length key_too) item_is)) in
-        given_there ∙ ap (λ (r : Result Found Refusal). r >>= λ found. plain_updated track found (with_argument key_too found.item argument)) is
-        ∙ ap (λ (found : Found). plain_updated track found (with_argument key_too found.item argument)) found_is
-        ∙ ap (λ (r : RecordData). plain_updated track (record { number = at.number; item = old; host = at.host }) r) (with_argument-is key_too old argument ∙ ap (λ (b : List ℕ). with_bytes key_too b old) bytes_is)
+  module _ (argument bytes : List ℕ) (n : ℕ) (n_is : n ≡ updated_length key_too item) (bytes_are : bytes ≡ padded_bytes n argument) where
+    pub may_update : StandsIn block at → MayUpdate at.number at.begins_at key_too bytes block
+    may_update stands = record {
+      first = first;
+      there = stands.there;
+      found = stands.begins first;
+      long = ap length bytes_are ∙ long_padded n argument ∙ n_is;
+    }
 
-    -- as many bytes as the record has
-    pub update_long : (found : FoundRecord) (bytes : List ℕ) (length_there : ℕ) → found_of found ≡ found_at block at → length_there ≡ updated_length key_too (item_of found) → bytes ≡ padded_bytes length_there argument
-        → length bytes ≡ updated_length key_too old
-    update_long found bytes length_there found_there length_is bytes_are =
-        let item_is : item_of found ≡ old = ap (λ (f : Found). f.item) (found_there ∙ found_is) in
-        ap length bytes_are ∙ long_padded length_there argument ∙ length_is ∙ ap (updated_length key_too) item_is
+    pub argument_updated : (to : Target) (s t : SiteLog) (result : Result DoneCommand NotDone)
+        → CarriesOut (Ok (updated_at key_too there bytes at)) (command.Write (update_kind key_too)) to s t result
+        → CarriesOut (Ok (updated_with key_too there argument at)) (command.Write (update_kind key_too)) to s t result
+    argument_updated to s t result carried =
+        subst (λ (b : List ℕ). CarriesOut (Ok (updated_at key_too there b at)) (command.Write (update_kind key_too)) to s t result) (bytes_are ∙ ap (λ (k : ℕ). padded_bytes k argument) n_is) carried
 
     -- a record without bytes to update
-    pub update_of_nothing : (found : FoundRecord) (bytes : List ℕ) (length_there : ℕ) → found_of found ≡ found_at block at → length_there ≡ updated_length key_too (item_of found) → bytes ≡ padded_bytes length_there argument
-        → updated_length key_too (record_behind (prior_number left - 1) there) ≡ 0 → bytes ≡ []
-    update_of_nothing found bytes length_there found_there length_is bytes_are none =
-        let item_is : item_of found ≡ old = ap (λ (f : Found). f.item) (found_there ∙ found_is) in
-        let zero_there : length_there ≡ 0 =
-        length_is ∙ ap (updated_length key_too) item_is ∙ (λ i. updated_length key_too (record_behind (number_at_hand i - 1) (here i))) ∙ none in
+    pub no_bytes : updated_length key_too item ≡ 0 → bytes ≡ []
+    no_bytes none =
         let no_fill : 0 - length argument ≡ 0 = omega arith in
-        bytes_are ∙ ap (λ (n : ℕ). padded_bytes n argument) zero_there ∙ ap (λ (n : ℕ). take 0 argument ++ replicate n 0) no_fill
+        bytes_are ∙ ap (λ (k : ℕ). padded_bytes k argument) (n_is ∙ none) ∙ ap (λ (k : ℕ). take 0 argument ++ replicate k 0) no_fill
+
+-- an update of the record that was found, in the block that was brought, is the write that was asked for
+pub update_there : (place : CylinderPlace) (host : HostState) (left : Prior) (key_too : Bool) (argument block : List ℕ) (to : BlockPlace) (at : RecordPlace) (s mid t : SiteLog) (result : Result DoneCommand NotDone)
+    → 1 ≤ at.number → same_record (tracks_on s place host.head) host (prior_number left) ≡ Ok (found_at block at)
+    → at.number ≡ prior_number left → IsBlockOn s place host.head block
+    → to ≡ record { unit = place.unit; block = place.first_block + host.head } → mid ≡ s
+    → CarriesOut (Ok (updated_with key_too (reading block).records argument at)) (command.Write (update_kind key_too)) (target_in to block at) mid t result
+    → CarriesOut (write_ (tracks_on s place host.head) host left (update_kind key_too) argument) (command.Write (update_kind key_too)) (target_of s place host left) s t result
+update_there place host left key_too argument block to at s mid t result first is number there to_is same carried =
+    carried_over _ _ _ _ _ _ _ _ result (update_given key_too block at first (tracks_on s place host.head) host left argument there.records is) number there.records to_is same carried
 
 -- ---- what the write leaves
 

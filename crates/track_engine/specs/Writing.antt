@@ -19,6 +19,7 @@ use Rattle.ckd_plain.specs.declared.host.HostState.{HostState}
 use Rattle.ckd_plain.specs.declared.host.Position.TheVariants as position
 use Rattle.ckd_plain.specs.declared.host.Prior.{Prior}
 use Rattle.ckd_plain.specs.declared.host.Prior.TheVariants as prior
+use Rattle.ckd_plain.specs.Data.{padded_bytes}
 use Rattle.ckd_plain.specs.Effects.{Effect, Outcome, DONE, status_of, new_record, prior_number}
 use Rattle.ckd_plain.specs.Near.{IsOverwrittenAt, IsEndedAt}
 use Rattle.track_engine.specs.declared.find.RecordPlace.{RecordPlace}
@@ -140,3 +141,9 @@ updated_at key_too track bytes at = record {
   host = record at.host { position = position.Done at.number };
   written = Some (updated_records key_too (at.number - 1) bytes track);
 }
+
+-- the record at a place updated with the front of an argument, or with an argument and zeros behind it
+abbrev pub updated_with : Bool → List RecordData → List ℕ → RecordPlace → Effect
+updated_with key_too track argument at =
+    updated_at key_too track
+    (padded_bytes (updated_length key_too (record_behind (at.number - 1) track)) argument) at

@@ -155,7 +155,7 @@ pub fn next_record<S: Site>(
 
 /// Record `number` itself, on the host's track, which is that of the block.
 #[tactic(auto, unfolding(ckd_plain::specs::Index::same_record))]
-pub fn same_record(block: &[u8], host: &HostState, number: u8) -> Result<RecordPlace, Refusal>
+fn same_record(block: &[u8], host: &HostState, number: u8) -> Result<RecordPlace, Refusal>
     requires { length block.now ≡ BLOCK_BYTES }
     ensures found { MatchResult result
         (λ at. same_record (reading block.now).records host.now number ≡ Ok (found_at block.now at))
@@ -170,6 +170,25 @@ pub fn same_record(block: &[u8], host: &HostState, number: u8) -> Result<RecordP
         });
     };
     Ok(at)
+}
+
+/// Record `number` itself, on the host's track. The block that has it is brought then.
+pub fn bring_record<S: Site>(
+    site: &mut S,
+    place: &CylinderPlace,
+    host: &HostState,
+    number: u8,
+) -> Result<RecordPlace, NotDone>
+    ensures found { S.tells → GivesBut (found_at (S.brought site.new)) result
+        (same_record (tracks_on (S.told site.old) place.now host.now.head) host.now number) }
+    ensures itself { IfOk result (IsPlaceOf number host.now (S.brought site.new)) }
+    ensures block { S.tells → OnOk result
+        (IsBlockOn (S.told site.old) place.now host.now.head (S.brought site.new)) }
+    ensures volume { KeepsVolume (λ at. at.host) host.now.mounted result }
+    ensures site_ { ReadsDevices S.Site place.now.unit site.old site.new result }
+{
+    bring_block(site, place, host.head)?;
+    Ok(same_record(site.brought(), host, number)?)
 }
 
 /// The record at hand on the host's track, or else the next from R1. The block that has it is brought then.
@@ -189,8 +208,7 @@ pub fn this_or_next<S: Site>(
     let Some(number) = at_hand else {
         return next_record(site, place, host, 1, multi);
     };
-    bring_block(site, place, host.head)?;
-    Ok(same_record(site.brought(), host, number)?)
+    bring_record(site, place, host, number)
 }
 
 /// The host at the home address of its track, or of the next. No block is needed for that.

@@ -13,11 +13,11 @@ ghost use Rattle.ckd_plain.specs.Effects.{new_record, prior_number, write_};
 ghost use Rattle.ckd_plain.specs.Views.{item_of};
 ghost use Rattle.track_engine.specs.Tracks.{tracks_on, AreTracksOn, IsBlockOn, IsTrackAt};
 ghost use Rattle.track_engine.specs.Faults.{HasNotFailed, ReadsDevices, UsesDevices};
-ghost use Rattle.track_engine.specs.Found.{IsPlaceOf, GivesBut, KeepsVolume};
+ghost use Rattle.track_engine.specs.Found.{IsPlaceOf, GivesBut, KeepsVolume, StandsIn};
 ghost use Rattle.track_engine.specs.Writing.{CarriesOut, Spells, formatted_behind, target_in};
-ghost use Rattle.track_engine.specs.Writing.{target_of, update_kind, updated_at};
+ghost use Rattle.track_engine.specs.Writing.{target_of, update_kind, updated_at, updated_with};
 
-use crate::find::{RecordPlace, bring_block, found_in, same_record};
+use crate::find::{RecordPlace, bring_record, found_in};
 use crate::place::{CylinderPlace, EngineFault, NotDone};
 use channel_commands::{Command, WriteKind};
 use ckd_plain::steps::{DONE, DoneCommand, FoundRecord, written};
@@ -76,10 +76,8 @@ fn kept_record<S: Site>(
     ensures volume { KeepsVolume (λ at. at.host) host.now.mounted result }
     ensures site_ { ReadsDevices S.Site place.now.unit site.old site.new result }
 {
-    bring_block(site, place, host.head)?;
-    let block = site.brought();
-    let at = same_record(block, host, left.number())?;
-    let cost = cost_of_front(block, at.number) + cost_at(argument, 0);
+    let at = bring_record(site, place, host, left.number())?;
+    let cost = cost_of_front(site.brought(), at.number) + cost_at(argument, 0);
     if cost > TRACK_COST {
         return Err(NotDone::Refused(Refusal {
             check: UnitCheck::InvalidTrackFormat,
@@ -222,6 +220,39 @@ fn update_at<S: Site>(
     }
 }
 
+/// Updates the record at a place with an argument, in the block that was brought last.
+#[tactic(auto, using(crate::proofs::Updates::argument_updated))]
+fn update_argument<S: Site>(
+    alloc: Global,
+    site: &mut S,
+    to: &BlockPlace,
+    at: &RecordPlace,
+    key_too: bool,
+    argument: &[u8],
+) -> Result<DoneCommand, NotDone>
+    requires track { S.tells → IsTrackAt (content (S.told site.old)) to.now (S.brought site.old) }
+    requires first { 1 ≤ at.now.number }
+    requires stands { StandsIn (S.brought site.old) at.now }
+    requires room { UPDATE_ITEMS ≤ S.spare site.old }
+    ensures done { S.tells → CarriesOut (Ok
+        (updated_with key_too (reading (S.brought site.old)).records argument.now at.now))
+        (Command.Write (update_kind key_too)) (target_in to.now (S.brought site.old) at.now)
+        (S.told site.old) (S.told site.new) result }
+    ensures volume { KeepsVolume (λ done. done.host) at.now.host.mounted result }
+    ensures untouched { updated_length key_too (record_behind (at.now.number - 1)
+        (reading (S.brought site.old)).records) ≡ 0 → site.new ≡ site.old }
+    ensures site_ { UsesDevices S.Site UPDATE_ITEMS true to.now.unit site.old site.new result }
+{
+    let length = updated_length(&found_in(site.brought(), at), key_too);
+    match first_bytes(argument, length) {
+        Some(bytes) => update_at(alloc, site, to, at, key_too, bytes),
+        None => {
+            let bytes = Bytes::padded(alloc, length, argument)?;
+            update_at(alloc, site, to, at, key_too, bytes.as_slice())
+        }
+    }
+}
+
 /// Write data, or with `key_too` write key data.
 pub fn write_data<S: Site>(
     alloc: Global,
@@ -248,15 +279,6 @@ pub fn write_data<S: Site>(
     ensures site_ { UsesDevices S.Site UPDATE_ITEMS true place.now.unit site.old site.new result }
 {
     let to = place.block_of(host.head);
-    bring_block(site, place, host.head)?;
-    let block = site.brought();
-    let at = same_record(block, host, left.number())?;
-    let length = updated_length(&found_in(block, &at), key_too);
-    match first_bytes(argument, length) {
-        Some(bytes) => update_at(alloc, site, &to, &at, key_too, bytes),
-        None => {
-            let bytes = Bytes::padded(alloc, length, argument)?;
-            update_at(alloc, site, &to, &at, key_too, bytes.as_slice())
-        }
-    }
+    let at = bring_record(site, place, host, left.number())?;
+    update_argument(alloc, site, &to, &at, key_too, argument)
 }
