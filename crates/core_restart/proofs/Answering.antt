@@ -14,7 +14,7 @@ use Rattle.mss_restart.specs.Answers.{TellsChanges, account_from}
 use Rattle.core_restart.specs.Console.{steps_in}
 use Rattle.mss_restart.specs.Usable.{AreUsableFor}
 use Rattle.core_state.specs.CoreValue.{CoreValue, DevicesSeen}
-use Rattle.core_restart.specs.Opening.{HasOpened, OpensAny, OpensTold, opened_in}
+use Rattle.core_restart.specs.Opening.{HasOpened, OpensAny, OpensSynced, OpensTold, opened_in}
 
 module _ {S C : Type 0} (config : ConfigData) (old new : DevicesSeen) (opened : Opened) (core : CoreValue S C) (has : HasOpened opened core) where
   -- so it is of the same rows, slots and steps in the core
@@ -40,3 +40,13 @@ module _ {S C : Type 0} (config : ConfigData) (old new : DevicesSeen) (opened : 
     refused = tt;
     kept = is.kept;
   }
+
+-- all was synced, and then opened, as the core has it
+pub opened_as : {S C : Type 0} (tells : Type 0) (config : ConfigData) (old new : DevicesSeen) (opened : Opened) (core : CoreValue S C) → HasOpened opened core
+    → OpensSynced tells config old new (Ok opened) → OpensSynced tells config old new (Ok (opened_in core))
+opened_as tells config old new opened core has is = record {
+  synced = is.synced;
+  sync = is.sync;
+  told = λ t. told_as config is.synced new opened core has (is.told t);
+  any = any_as config is.synced new opened core has is.any;
+}

@@ -12,9 +12,9 @@ use Rattle.core_state.specs.Devices.{FailSync}
 use Rattle.core_restart.specs.Console.{steps_in}
 
 -- the site that the core has, or that is handed back
-abbrev pub site_of : {S C : Type 0} → Result (CoreValue S C) (S × Refused) → S
-site_of (Ok core) = core.site
-site_of (Err refused) = refused.0
+abbrev pub site_left : {S C : Type 0} → Result (CoreValue S C) (S × Refused) → S
+site_left (Ok core) = core.site
+site_left (Err refused) = refused.0
 
 -- the rows of the core, with their slots in use, and the steps that its console tells, as one list; no
 -- room is told
@@ -33,10 +33,10 @@ pub record HasOpened {S C : Type 0} (opened : Opened) (core : CoreValue S C) : T
   pub steps_ : steps_in core.console ≡ steps_of opened
 
 -- what was opened, or why the site is refused
-abbrev pub answer_of : {S C : Type 0} → Result (CoreValue S C) (S × Refused)
+abbrev pub opening_answer : {S C : Type 0} → Result (CoreValue S C) (S × Refused)
     → Result Opened Refused
-answer_of (Ok core) = Ok (opened_in core)
-answer_of (Err refused) = Err refused.1
+opening_answer (Ok core) = Ok (opened_in core)
+opening_answer (Err refused) = Err refused.1
 
 -- what restart makes of a site that tells, and what of every site it answers: as the opening of its
 -- rows does

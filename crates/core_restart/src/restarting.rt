@@ -2,6 +2,7 @@
 ghost use Rattle.std.specs.Prelude.{◌≡◌, IfOk, IfErr, OnOk};
 ghost use Rattle.mss_restart.specs.Survey.{NeverFails, TellsNoFailure};
 ghost use Rattle.mss_restart.specs.Creations.{WritesOn};
+ghost use Rattle.mss_restart.specs.Opening.{answer_of, site_of};
 ghost use Rattle.core_state.specs.SessionData.{new_session};
 ghost use Rattle.core_state.specs.Sessions.{session_data};
 ghost use Rattle.core_restart.specs.Begins.{Begins};
@@ -10,9 +11,10 @@ ghost use Rattle.core_restart.specs.Opening.{
   IsUnsynced,
   Restarts,
   SyncsAll,
-  answer_of,
-  site_of,
+  opening_answer,
+  site_left,
 };
+ghost use Rattle.core_restart.specs.Prepared.{prepared_answer, prepared_site};
 ghost use Rattle.core_restart.specs.Parts.{AreParts, MayBegin};
 ghost use Rattle.core_restart.specs.TakingUp.{TakesUp};
 ghost use Rattle.core_state.specs.CoreValue.{seen_site};
@@ -29,26 +31,35 @@ use victim_choice::{Choose, Chooser};
 
 /// The session that begins now.
 fn session_of<S: Site>(alloc: Global, site: &S, console: MessageList) -> Session
-    ensures { session_data result ≡ new_session console.items (S.writes site.now) (S.faults site.now) }
+    ensures { session_data result
+        ≡ new_session console.items (S.writes site.now) (S.faults site.now) }
 {
     Session::new(alloc, console, site.writes(), site.faults())
 }
 
-/// The core of a session that begins now, of an opened site.
-fn begin<S: Site, C: Choose>(
-    alloc: Global,
+/// An opened site, and what a core on it is made of.
+struct Prepared<S> {
     site: S,
     opened: Opened,
     parts: Parts,
-    chooser: C,
-) -> Core<S, C>
+}
+
+/// The core of a session that begins now.
+fn begin<S: Site, C: Choose>(alloc: Global, prepared: Prepared<S>, chooser: C) -> Core<S, C>
     requires able { C.can_choose chooser }
-    requires parts { AreParts parts.config parts }
-    requires opened { MayBegin S.tells (S.told site) (S.writes site) parts.config opened }
-    ensures begins { Begins parts.config chooser (S.writes site) (S.faults site) result }
-    ensures site { result.site ≡ site }
-    ensures opened { HasOpened opened result }
+    requires parts { AreParts prepared.parts.config prepared.parts }
+    requires opened { MayBegin S.tells (S.told prepared.site) (S.writes prepared.site)
+        prepared.parts.config prepared.opened }
+    ensures begins { Begins prepared.parts.config chooser (S.writes prepared.site)
+        (S.faults prepared.site) result }
+    ensures site { result.site ≡ prepared.site }
+    ensures opened { HasOpened prepared.opened result }
 {
+    let Prepared {
+        site,
+        opened,
+        parts,
+    } = prepared;
     let Parts {
         config,
         buffer,
@@ -105,6 +116,45 @@ fn sync_site<S: Site>(site: &mut S) -> Result<(), Refused>
     Ok(())
 }
 
+/// Makes firm all that earlier runs wrote to a site, and opens its rows.
+fn open_synced<S: Site>(
+    alloc: Global,
+    site: S,
+    config: &Config,
+) -> Result<(S, Opened), (S, Refused)>
+    ensures opens { Restarts S.tells config.now (seen_site S.Site site)
+        (seen_site S.Site (site_of result)) (answer_of result) }
+    ensures works { NeverFails S.Site site → TellsNoFailure (answer_of result) }
+    ensures devices { WritesOn S.Site site (site_of result) }
+{
+    let mut site = site;
+    match sync_site(&mut site) {
+        Ok(()) => open_rows(alloc, site, config),
+        Err(refused) => Err((site, refused)),
+    }
+}
+
+/// Takes the memory of a core, but for that of the rows that it creates, and opens a site for it.
+fn prepare<S: Site>(alloc: Global, site: S, config: &Config) -> Result<Prepared<S>, (S, Refused)>
+    ensures opens { Restarts S.tells config.now (seen_site S.Site site)
+        (seen_site S.Site (prepared_site result)) (prepared_answer result) }
+    ensures works { NeverFails S.Site site → TellsNoFailure (prepared_answer result) }
+    ensures devices { WritesOn S.Site site (prepared_site result) }
+    ensures parts { IfOk result (λ prepared. AreParts config.now prepared.parts) }
+{
+    let Ok(parts) = Parts::new(alloc, config) else {
+        return Err((site, Refused::Memory));
+    };
+    match open_synced(alloc, site, config) {
+        Ok((site, opened)) => Ok(Prepared {
+            site,
+            opened,
+            parts,
+        }),
+        Err(refusal) => Err(refusal),
+    }
+}
+
 /// Opens a site and makes the core of a session on it, in which nothing has happened yet. The session begins with the
 /// volumes that the site showed and the further ones of the configuration, blank, with the marks that it asks for; its
 /// console tells which were created, and which marks were changed.
@@ -126,29 +176,21 @@ pub fn restart<S: Site, C: Choose + Drop>(
 ) -> Result<Core<S, C>, (S, Refused)>
     requires able { C.can_choose chooser }
     ensures restarts { Restarts S.tells config.now (seen_site S.Site site)
-        (seen_site S.Site (site_of result)) (answer_of result) }
+        (seen_site S.Site (site_left result)) (opening_answer result) }
     ensures takes_up { S.tells → TakesUp config.now (seen_site S.Site site)
-        (seen_site S.Site (site_of result)) result }
-    ensures works { NeverFails S.Site site → TellsNoFailure (answer_of result) }
-    ensures devices { WritesOn S.Site site (site_of result) }
+        (seen_site S.Site (site_left result)) result }
+    ensures works { NeverFails S.Site site → TellsNoFailure (opening_answer result) }
+    ensures devices { WritesOn S.Site site (site_left result) }
     ensures begins { IfOk result (λ core.
         Begins config.now chooser (S.writes core.site) (S.faults core.site) core) }
 {
     // The numbers of its volumes rise.
     let _volumes = &config.volumes;
-    let Ok(parts) = Parts::new(alloc, config) else {
-        return Err((site, Refused::Memory));
-    };
-    let mut site = site;
-    match sync_site(&mut site) {
-        Ok(()) => {}
-        Err(refused) => return Err((site, refused)),
-    }
-    match open_rows(alloc, site, config) {
+    match prepare(alloc, site, config) {
         Err(refusal) => Err(refusal),
-        Ok((site, opened)) => {
-            opened.rows.look();
-            Ok(begin(alloc, site, opened, parts, chooser))
+        Ok(prepared) => {
+            prepared.opened.rows.look();
+            Ok(begin(alloc, prepared, chooser))
         }
     }
 }
