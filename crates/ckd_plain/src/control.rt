@@ -107,10 +107,12 @@ pub fn run_control(
     requires passes { Passes (with_open_chain host.old) command argument.now }
     requires no_track { is_data command ≡ false }
     ensures answer { IfOk result (λ reply. (tracks : Tracks)
-        → Responds (command_answer tracks (with_open_chain host.old) command argument.now chained) host.new
+        → Responds (command_answer tracks
+        (with_open_chain host.old) command argument.now chained) host.new
         reply) }
     ensures unwritten { IfOk result (λ reply. (tracks : Tracks)
-        → (command_answer tracks (with_open_chain host.old) command argument.now chained).written ≡ None) }
+        → (command_answer tracks (with_open_chain host.old) command argument.now chained).written
+        ≡ None) }
     ensures done { IfOk result (λ reply. IsDone (reply_of reply)) }
     ensures chain { IfOk result (λ reply. KeepsChain chained (reply_of reply) host.new) }
     ensures mounted { host.new.mounted ≡ host.old.mounted }

@@ -8,10 +8,10 @@ use mss_base::Bytes;
 /// Channel end and device end.
 pub const DONE: u8 = 0x0C;
 
-/// The same with status modifier: a search is met.
+/// Channel end, device end and status modifier: a search is met.
 pub const MET: u8 = 0x4C;
 
-/// The same with unit exception: a record has no data.
+/// Channel end, device end and unit exception: a record has no data.
 pub const END_OF_FILE: u8 = 0x0D;
 
 /// Channel end, device end and unit check.

@@ -54,15 +54,18 @@ pub fn equipment_entry_is_next()
     ensures { (s : State) (before : ℕ) (e : EntryData) → e.reply ≡ equipment_check
         → e.number ≡ before + 1 → IsSome e.fault
         → IsDataCommand s e.host e.call → IsAlone s e.host e.call
-        → IsNextEntry s before e × (state_after s e ≡ state_after_check UnitCheck.EquipmentCheck s e.host) }
+        → IsNextEntry s before e
+        × (state_after s e ≡ state_after_check UnitCheck.EquipmentCheck s e.host) }
 {}
 
-/// The same of no-space, which has no fault.
+/// A no-space may come next in place of a data command's reply. It has no fault. It leaves the volumes, ends the chain,
+/// and sets the sense.
 pub fn no_space_entry_is_next()
     ensures { (s : State) (before : ℕ) (e : EntryData) → e.reply ≡ no_space → e.number ≡ before + 1
         → e.fault ≡ None
         → IsDataCommand s e.host e.call → IsAlone s e.host e.call
-        → IsNextEntry s before e × (state_after s e ≡ state_after_check UnitCheck.NoSpace s e.host) }
+        → IsNextEntry s before e
+        × (state_after s e ≡ state_after_check UnitCheck.NoSpace s e.host) }
 {}
 
 /// A stopped write with its fault may come next, and leaves the state.
@@ -110,7 +113,8 @@ pub fn write_gives_no_bytes()
 
 /// A write that passes its checks is in an open chain, so opening one changes nothing.
 pub fn writes_are_in_chain()
-    ensures { (host : HostState) (c : Command) (argument : List ℕ) → Passes (with_open_chain host) c argument
+    ensures { (host : HostState) (c : Command) (argument : List ℕ)
+        → Passes (with_open_chain host) c argument
         → is_write c ≡ true
         → with_open_chain host ≡ host }
 {}
@@ -193,7 +197,8 @@ pub fn sense_tells_the_unit_check()
 /// A command that ends without unit check clears the sense, but for no-op and sense, which leave it.
 pub fn next_command_clears_the_sense()
     ensures { (s : State) (h code : ℕ) (argument : List ℕ) (chained : Bool) (c : Command)
-        → admitted_command (with_open_chain (s.host h)) code argument ≡ Ok c → unit_check_of s h code argument ≡ None
+        → admitted_command (with_open_chain (s.host h)) code argument ≡ Ok c
+        → unit_check_of s h code argument ≡ None
         → ((plain s h (command code argument chained)).1.host h).sense
         ≡ (if keeps_sense c then (s.host h).sense else no_sense) }
 {}

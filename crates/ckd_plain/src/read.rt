@@ -12,7 +12,7 @@ use mss_base::{Bytes, NoMemory};
 use std::alloc::Global;
 
 /// The bytes of both.
-fn joined(alloc: Global, first: &[u8], second: &[u8]) -> Result<Bytes, NoMemory>
+fn join(alloc: Global, first: &[u8], second: &[u8]) -> Result<Bytes, NoMemory>
     ensures { IfOk result (λ bytes. bytes.items ≡ first.now ++ second.now) }
 {
     let mut bytes = Bytes::of(alloc, first)?;
@@ -25,7 +25,8 @@ impl FoundRecord<'_> {
     #[tactic(auto, unfolding(crate::specs::Effects::is_ending))]
     pub fn given(&self, alloc: Global, what: ReadWhat) -> Result<DoneCommand, NoMemory>
         requires counted { HasCount (item_of self.now) }
-        ensures value { IfOk result (λ done. effect_of done ≡ record_given what (found_of self.now)) }
+        ensures value { IfOk result
+            (λ done. effect_of done ≡ record_given what (found_of self.now)) }
     {
         let (bytes, position, status) = match what {
             ReadWhat::Data => (
@@ -34,12 +35,12 @@ impl FoundRecord<'_> {
                 self.status(),
             ),
             ReadWhat::KeyData => (
-                joined(alloc, self.key, self.body)?,
+                join(alloc, self.key, self.body)?,
                 Position::Done(self.number),
                 self.status(),
             ),
             ReadWhat::CountKeyData => {
-                let mut bytes = joined(alloc, &self.count(), self.key)?;
+                let mut bytes = join(alloc, &self.count(), self.key)?;
                 bytes.append(self.body)?;
                 (bytes, Position::Done(self.number), self.status())
             }

@@ -48,7 +48,8 @@ pub fn update_record<S: Site>(
         (S.told site.old) (S.told site.new) }
     ensures done { S.tells → OnOk result (reading (block_of (S.told site.new) at.now)
         ≡ record (reading (S.brought site.old)) {
-          records = updated_records key_too (number - 1) bytes.now (reading (S.brought site.old)).records;
+          records = updated_records key_too (number - 1) bytes.now
+              (reading (S.brought site.old)).records;
         }) }
     ensures untouched { bytes.now ≡ [] → site.new ≡ site.old }
     ensures firm { S.tells → OnOk result (Settles (S.told site.old) (S.told site.new)) }

@@ -248,7 +248,8 @@ fn command_by(name: &str, options: &ArgMatches<'_>) -> Option<Command>
 /// What the parsed words mean.
 fn meaning(matches: &ArgMatches<'_>) -> Option<Command>
     ensures value { (words : List (List ℕ))
-        → expected_top words ≡ Some (subcommand_rows_of matches.now) → result ≡ command_without_rules words }
+        → expected_top words ≡ Some (subcommand_rows_of matches.now)
+        → result ≡ command_without_rules words }
     ensures within { IfSome result IsWithin }
 {
     match matches.subcommand() {

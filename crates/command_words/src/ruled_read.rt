@@ -39,7 +39,8 @@ fn serial_words(alloc: Global, options: &[String]) -> Result<Vec<String>, AllocE
 
 /// What options ask for behind `serial`.
 fn read_settings(alloc: Global, options: &[String]) -> Result<Command, CommandFault>
-    ensures meaning { Reads result (command_without_rules (codes "serial" ∷ map string_bytes options.now)) }
+    ensures meaning { Reads result
+        (command_without_rules (codes "serial" ∷ map string_bytes options.now)) }
     ensures within { IfOk result IsWithin }
 {
     let words = serial_words(alloc, options)?;

@@ -42,7 +42,7 @@ fn add<C: Choose + Drop>(
     Ok(end)
 }
 
-/// The same, where memory that runs out is how the comparison ends.
+/// Adds the session that a chooser leads to. Where memory runs out, the comparison ends by it.
 fn go_on<C: Choose + Drop>(
     alloc: Global,
     job: &Job,

@@ -187,7 +187,8 @@ fn play_on<S: Site, C: Choose + Drop>(
     requires going { core.stopped ≡ None }
     requires ready { IfSome copier (IsReadyFor core.history) }
     requires turns { AreTurns job.now.hosts job.now.config turns.now }
-    ensures session { (was : DevicesSeen) → IsBegun S.tells job.now.config was (seen_core S.Site core)
+    ensures session { (was : DevicesSeen)
+        → IsBegun S.tells job.now.config was (seen_core S.Site core)
         → IsPlayed (C.may core.chooser) (job_with job.now copier) turns.now
         (record { tells = S.tells; was = was; now = seen_site S.Site result.site })
         result.end (session_data result.session) }
@@ -287,7 +288,8 @@ pub fn put_report<S: Site, O: Sink>(
         (S.told played.site) (session_data played.session))
         → OnUnread result.outcome (λ s. BreaksOff
         (IsUnread S.Site played.site (row_in_list played.rows) job.now.config.volumes)
-        (matter_of job.now (content was) s []) (seen_with (site_between S.Site played.site result.site)
+        (matter_of job.now (content was) s [])
+        (seen_with (site_between S.Site played.site result.site)
         (sink_between O.Sink output.old output.new))) }
     ensures site { OnlyReads S.Site played.site result.site }
 {

@@ -59,7 +59,8 @@ fn take_block(blocks: &mut Blocks, room: &mut Vec<Block>, place: &BlockPlace) ->
 fn put_block(blocks: &mut Blocks, place: BlockPlace, block: Block)
     requires { 1 ≤ map_spare blocks.old }
     ensures held { (unit : UnitNo) (at : ℕ) → content_in blocks.new unit at
-        ≡ (if same_place place (record { unit = unit; block = at }) then block else content_in blocks.old unit at) }
+        ≡ (if same_place place
+        (record { unit = unit; block = at }) then block else content_in blocks.old unit at) }
     ensures spare { map_spare blocks.old ≤ map_spare blocks.new + 1 }
 {
     match blocks.insert(place, block) {
@@ -111,7 +112,8 @@ pub fn grow_block(
 ) -> Result<(), NoMemory>
     requires inside { offset + length bytes.now ≤ 16384 }
     ensures written { OnOk result
-        (content_in blocks.new ≡ with_write (content_in blocks.old) (write_at place.now offset bytes.now)) }
+        (content_in blocks.new
+        ≡ with_write (content_in blocks.old) (write_at place.now offset bytes.now)) }
 {
     reserve_blocks(alloc, room, 1)?;
     blocks.reserve(1)?;

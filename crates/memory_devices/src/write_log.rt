@@ -113,7 +113,8 @@ impl WriteLog {
     ) -> Result<(), NoMemory>
         requires within { count ≤ length self.now.items }
         ensures { OnOk result
-            (content_in blocks.new ≡ redone how (content_in blocks.old) (take count self.now.items)) }
+            (content_in blocks.new
+            ≡ redone how (content_in blocks.old) (take count self.now.items)) }
     {
         redo_all(alloc, blocks, &self.entries[..count], &self.bytes, how)
     }
@@ -337,7 +338,8 @@ fn tear_block(
 ) -> Result<(), NoMemory>
     requires inside { offset + length ≤ 16384 }
     ensures { OnOk result
-        (content_in blocks.new ≡ covered_range (content_in blocks.old) place.now offset length tear.now) }
+        (content_in blocks.new
+        ≡ covered_range (content_in blocks.old) place.now offset length tear.now) }
 {
     let mut room = Vec::new(alloc);
     let length = length as usize;

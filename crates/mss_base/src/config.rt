@@ -23,7 +23,8 @@ impl Model for Config {
 
     ghost view = { λ c. record { frames = c.frames; recorders = c.recorders; volumes = c.volumes.items } };
 
-    ghost invariant = { λ c. IsConfig (record { frames = c.frames; recorders = c.recorders; volumes = c.volumes.items }) };
+    ghost invariant = { λ c. IsConfig
+        (record { frames = c.frames; recorders = c.recorders; volumes = c.volumes.items }) };
 }
 
 impl Config {

@@ -83,7 +83,8 @@ impl<W: Write + Drop> Sink for StdSink<W> {
     /// Puts the bytes behind those before them. A call that failed has put a front of them.
     fn put(&mut self, bytes: &[u8]) -> Result<(), Failed>
         ensures bytes { AlwaysKnown W.contents
-            → Puts result (known_bytes self.old.contents) (known_bytes self.new.contents) bytes.now }
+            → Puts result (known_bytes self.old.contents)
+            (known_bytes self.new.contents) bytes.now }
         ensures appended { OnOk result (Appends self.old.contents self.new.contents bytes.now) }
         ensures front { OnErr result (AppendsFront self.old.contents self.new.contents bytes.now) }
         ensures counted { self.new.faults ≡ count_after (is_err result) self.old.faults }

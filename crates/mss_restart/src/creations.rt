@@ -98,7 +98,8 @@ pub fn create_volumes<S: Site>(
         })
         (S.told site.old) (S.told site.new) result }
     ensures places { length used.new.items ≡ 32 }
-    ensures rows { OnOk result (AreTold (to_make (row_in_list rows.old) volumes.now) creations.new.items
+    ensures rows { OnOk result
+        (AreTold (to_make (row_in_list rows.old) volumes.now) creations.new.items
         (row_in_list rows.old) (row_in_list rows.new) (S.writes site.old) (S.writes site.new)) }
     ensures site_ { StepsOn S.Site site.old site.new result }
 {

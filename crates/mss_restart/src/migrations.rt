@@ -29,7 +29,8 @@ fn migrate_row<S: Site>(
     requires known { S.tells → AreKnown rows.now used.old.items (content (S.told site.old)) }
     requires places { length used.old.items ≡ 32 }
     ensures moments { S.tells → Writes
-        (ChangesRow volume (KeepsRow volume (content (S.told site.old))) (content (S.told site.old)))
+        (ChangesRow volume (KeepsRow volume (content (S.told site.old)))
+        (content (S.told site.old)))
         (S.told site.old) (S.told site.new) }
     ensures others { S.tells → RepairsOthers [] (S.told site.old) (S.told site.new) }
     ensures done { S.tells → OnOk result (IsMigration volume (S.told site.old) (S.told site.new)) }

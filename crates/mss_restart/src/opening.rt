@@ -121,7 +121,8 @@ fn change_volumes<S: Site>(
     ensures places { length opened.new.used.items ≡ 32 }
     ensures rows { OnOk result (AreTold
         (opening_changes (row_in_list opened.old.rows) volumes.now) (steps_of opened.new)
-        (row_in_list opened.old.rows) (row_in_list opened.new.rows) (S.writes site.old) (S.writes site.new)) }
+        (row_in_list opened.old.rows) (row_in_list opened.new.rows) (S.writes site.old)
+        (S.writes site.new)) }
     ensures site_ { StepsOn S.Site site.old site.new result }
 {
     create_volumes(
@@ -157,7 +158,8 @@ fn complete_rows<S: Site>(
     ensures places { length opened.new.used.items ≡ 32 }
     ensures rows { OnOk result (AreTold
         (opening_changes (row_in_list opened.old.rows) config.now.volumes) (steps_of opened.new)
-        (row_in_list opened.old.rows) (row_in_list opened.new.rows) (S.writes site.old) (S.writes site.new)) }
+        (row_in_list opened.old.rows) (row_in_list opened.new.rows) (S.writes site.old)
+        (S.writes site.new)) }
     ensures site_ { StepsOn S.Site site.old site.new result }
 {
     rewrite_rows(alloc, site, &opened.rows, &mut opened.used)?;

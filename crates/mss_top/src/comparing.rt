@@ -89,7 +89,7 @@ pub fn compare_input<I: Source, O: Sink, F: Fn(&Candidate) -> bool + Drop>(
     }
 }
 
-/// The same beside a site, which is handed back as it is. No device of a comparison fails.
+/// Compares beside a site, which is handed back as it is. No device of a comparison fails.
 pub fn compare_beside<I: Source, O: Sink, S: Site, F: Fn(&Candidate) -> bool + Drop>(
     alloc: Global,
     input: &mut I,

@@ -130,7 +130,8 @@ pub fn obey<
 ) -> Ended<S>
     requires able { C.can_choose chooser }
     requires test { IsTest F.Fn other }
-    ensures does { Does (meaning (map string_bytes words.now)) (C.may chooser) (NarrowMay F.Fn other)
+    ensures does { Does (meaning (map string_bytes words.now)) (C.may chooser)
+        (NarrowMay F.Fn other)
         (parties (source_between I.Source input.old input.new) (devices S.Site site result.site)
         (sink_between O.Sink output.old output.new)) result.status result.session }
     ensures whole { IsWhole (meaning (map string_bytes words.now))

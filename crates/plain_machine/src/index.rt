@@ -27,7 +27,7 @@ fn record_at<'a>(track: &'a Track, host: &HostState, number: usize) -> Option<Fo
     Some(FoundRecord::stored(number as u8, record, host))
 }
 
-/// The same, on the tracks of a cylinder.
+/// The record of this number on the track under the host's head, one of a cylinder's tracks.
 fn record_under<'a>(tracks: &'a [Track], host: &HostState, number: usize) -> Option<FoundRecord<'a>>
     requires { length tracks.now ≡ HEADS }
     ensures item { IsRecordAt number host.now result

@@ -25,7 +25,8 @@ fn read_record(
     requires cylinder { length tracks.now ≡ HEADS }
     requires no_home { what ≢ ReadWhat.Home }
     requires no_zero { what ≢ ReadWhat.RecordZero }
-    ensures { GivesUnless effect_of result (read_outcome (cylinder_of tracks.now) host.now what multi) }
+    ensures { GivesUnless effect_of result
+        (read_outcome (cylinder_of tracks.now) host.now what multi) }
 {
     match &this_or_next(tracks, host, at_hand(what, host.position), multi) {
         Ok(found) => Ok(found.given(alloc, what)?),
@@ -43,7 +44,8 @@ pub fn read(
     multi: bool,
 ) -> Result<DoneCommand, Trouble>
     requires cylinder { length tracks.now ≡ HEADS }
-    ensures { GivesUnless effect_of result (read_outcome (cylinder_of tracks.now) host.now what multi) }
+    ensures { GivesUnless effect_of result
+        (read_outcome (cylinder_of tracks.now) host.now what multi) }
 {
     match what {
         ReadWhat::Home => Ok(home_read(alloc, &to_home(*host, multi)?)?),

@@ -96,7 +96,8 @@ impl PlainVolume {
     pub fn blank(alloc: Global, serial: Serial, read_only: bool) -> Result<PlainVolume, NoMemory>
         ensures serial { IfOk result (λ v. v.serial ≡ serial) }
         ensures read_only { IfOk result (λ v. v.read_only ≡ read_only) }
-        ensures cylinders { IfOk result (λ v. v.cylinders ≡ replicate CYLINDERS (replicate HEADS [])) }
+        ensures cylinders { IfOk result
+            (λ v. v.cylinders ≡ replicate CYLINDERS (replicate HEADS [])) }
     {
         let mut cylinders = Vec::new(alloc);
         for _ in 0..CYLINDERS {
@@ -132,10 +133,12 @@ impl PlainVolume {
         ensures serial { self.new.serial ≡ self.old.serial }
         ensures read_only { self.new.read_only ≡ self.old.read_only }
         ensures cylinders { let c = host.old.cylinder in
-            self.new.cylinders ≡ slice_set self.old.cylinders c (slice_index_or self.new.cylinders c []) }
+            self.new.cylinders
+            ≡ slice_set self.old.cylinders c (slice_index_or self.new.cylinders c []) }
         ensures answer { let old = slice_index_or self.old.cylinders host.old.cylinder [] in
             let new = slice_index_or self.new.cylinders host.old.cylinder [] in
-            IfOk result (Answers (for_command (answer_on_tracks (cylinder_of old) host.old) command.now)
+            IfOk result (Answers
+            (for_command (answer_on_tracks (cylinder_of old) host.old) command.now)
             host.old old new host.new) }
         ensures host_stays { OnErr result (host.new ≡ host.old) }
         ensures tracks_stay { OnErr result (self.new ≡ self.old) }
@@ -172,7 +175,8 @@ pub fn run_under(
 ) -> Result<Reply, NoMemory>
     requires { length volumes.old ≡ 32 }
     ensures answer { IfOk result (AnswersOn
-        (for_command (answer_on_tracks (tracks_under (volumes_of volumes.old) host.old) host.old) command.now)
+        (for_command (answer_on_tracks
+        (tracks_under (volumes_of volumes.old) host.old) host.old) command.now)
         host.old volumes.old volumes.new host.new) }
     ensures host_stays { OnErr result (host.new ≡ host.old) }
     ensures volumes_stay { OnErr result (volumes.new ≡ volumes.old) }

@@ -22,8 +22,10 @@ pub(crate) fn split_host<H: ForHost>(
     requires host { host ≡ H.new_host }
     requires holds { book.old.me.0.holds ≡ true }
     requires fresh { Contains book.old.me.0.made host → ⊥ }
-    ensures book { (book.new.table_id ≡ book.old.table_id) × (book.new.me ≡ (with_made host book.old.me.0, book.old.me.1)) }
-    ensures pass { (result.table_id ≡ book.old.table_id) × (result.me ≡ (host_of host book.old.me.0, [])) }
+    ensures book { (book.new.table_id ≡ book.old.table_id)
+        × (book.new.me ≡ (with_made host book.old.me.0, book.old.me.1)) }
+    ensures pass { (result.table_id ≡ book.old.table_id)
+        × (result.me ≡ (host_of host book.old.me.0, [])) }
 {
     // The clauses speak of the host; no code does.
     let _ = host;
@@ -32,9 +34,11 @@ pub(crate) fn split_host<H: ForHost>(
 
 /// Joins the book into a host's seat.
 pub(crate) fn join_book(table: &Words, pass: &mut Seat<(), View>, book: Seat<(), View>)
-    requires word { IsWord table.now.shared.table_id pass.old.table_id × IsWord table.now.shared.table_id book.table_id }
+    requires word { IsWord table.now.shared.table_id pass.old.table_id
+        × IsWord table.now.shared.table_id book.table_id }
     requires holds { (book.me.0.holds ≡ true) × (book.me.1 ≡ []) }
-    ensures { (pass.new.table_id ≡ pass.old.table_id) × (pass.new.me ≡ (with_book pass.old.me.0 book.me.0, pass.old.me.1)) }
+    ensures { (pass.new.table_id ≡ pass.old.table_id)
+        × (pass.new.me ≡ (with_book pass.old.me.0 book.me.0, pass.old.me.1)) }
 {
     table.shared.join_seat::<JoinsBook>(pass, book);
 }
@@ -62,8 +66,10 @@ pub(crate) fn append_entry<E: OfEntry>(
 pub(crate) fn split_book(table: &Words, pass: &mut Seat<(), View>) -> Seat<(), View>
     requires word { IsWord table.now.shared.table_id pass.old.table_id }
     requires holds { (pass.old.me.0.holds ≡ true) × (pass.old.me.0.hosted ≡ true) }
-    ensures pass { (pass.new.table_id ≡ pass.old.table_id) × (pass.new.me ≡ (without_book pass.old.me.0, pass.old.me.1)) }
-    ensures book { (result.table_id ≡ pass.old.table_id) × (result.me ≡ (book_of pass.old.me.0, [])) }
+    ensures pass { (pass.new.table_id ≡ pass.old.table_id)
+        × (pass.new.me ≡ (without_book pass.old.me.0, pass.old.me.1)) }
+    ensures book { (result.table_id ≡ pass.old.table_id)
+        × (result.me ≡ (book_of pass.old.me.0, [])) }
 {
     table.shared.split_seat::<SplitsBook>(pass)
 }
@@ -79,9 +85,11 @@ pub(crate) fn load(table: &Words, seat: &mut Seat<(), View>) -> u64
 
 /// Joins a host's seat into the book's, for good.
 pub(crate) fn join_pass(table: &Words, book: &mut Seat<(), View>, pass: Seat<(), View>)
-    requires word { IsWord table.now.shared.table_id book.old.table_id × IsWord table.now.shared.table_id pass.table_id }
+    requires word { IsWord table.now.shared.table_id book.old.table_id
+        × IsWord table.now.shared.table_id pass.table_id }
     requires holds { (book.old.me.0.holds ≡ true) × (pass.me.0.hosted ≡ true) × (pass.me.1 ≡ []) }
-    ensures { (book.new.table_id ≡ book.old.table_id) × (book.new.me ≡ (with_pass book.old.me.0 pass.me.0, book.old.me.1)) }
+    ensures { (book.new.table_id ≡ book.old.table_id)
+        × (book.new.me ≡ (with_pass book.old.me.0 pass.me.0, book.old.me.1)) }
 {
     table.shared.join_seat::<JoinsPass>(book, pass);
 }

@@ -98,7 +98,8 @@ fn put_to_end<S: Site, O: Sink>(
 ) -> Result<(), VolumesFault>
     ensures bytes { let shown = shown_by (row_in_list rows.now) (content (S.told site.old)) in
         let behind = behind_text (option_map (λ c. c.now) copy.entry) in
-        PutsVolumes (S.tells × O.tells) (IsUnread S.Site site.old (row_in_list rows.now) volumes.now)
+        PutsVolumes (S.tells × O.tells)
+        (IsUnread S.Site site.old (row_in_list rows.now) volumes.now)
         (untitled_matter volumes.now shown behind)
         (volumes_text shown volumes.now ++ (behind ++ last_text last))
         (O.told output.old) (O.told output.new) result }
@@ -133,7 +134,8 @@ pub fn put_ending<S: Site, O: Sink>(
     ensures unread { let shown = shown_by (row_in_list rows.now) (content (S.told site.old)) in
         let behind = behind_text (option_map (λ c. c.now) copy.entry) in
         OnRead result (BreaksOff (IsUnread S.Site site.old (row_in_list rows.now) volumes.now)
-        (untitled_matter volumes.now shown behind) (seen_with (site_between S.Site site.old site.new)
+        (untitled_matter volumes.now shown behind)
+        (seen_with (site_between S.Site site.old site.new)
         (sink_between O.Sink output.old output.new))) }
     ensures closed { O.tells → Closes last (O.told output.old) (O.told output.new) result }
     ensures counted { SiteCounts (S.faults site.old) (S.faults site.new) result }

@@ -148,7 +148,8 @@ pub fn put_volumes<S: Site, O: Sink>(
     line: &mut Bytes,
 ) -> Result<(), VolumesFault>
     ensures bytes { let shown = shown_by (row_in_list rows.now) (content (S.told site.old)) in
-        PutsVolumes (S.tells × O.tells) (IsUnread S.Site site.old (row_in_list rows.now) volumes.now)
+        PutsVolumes (S.tells × O.tells)
+        (IsUnread S.Site site.old (row_in_list rows.now) volumes.now)
         (untitled_matter volumes.now shown []) (volumes_text shown volumes.now)
         (O.told output.old) (O.told output.new) result }
     ensures grown { O.tells → Grows (O.told output.old) (O.told output.new) }

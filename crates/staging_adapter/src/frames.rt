@@ -20,7 +20,8 @@ impl Model for Frames {
 
     ghost view = { λ f. record { owners = f.owners.items; moving = f.moving.items } };
 
-    ghost invariant = { λ f. AreFrames (record { owners = f.owners.items; moving = f.moving.items }) };
+    ghost invariant = { λ f. AreFrames
+        (record { owners = f.owners.items; moving = f.moving.items }) };
 }
 
 impl Frames {

@@ -84,7 +84,8 @@ pub fn migrate<S: Site>(
     requires slots { S.tells → HasSlots used volume (content (S.told site.old)) }
     requires room { CHANGE_ITEMS ≤ S.spare site.old }
     ensures moments { S.tells → Writes
-        (ChangesRow volume (KeepsRow volume (content (S.told site.old))) (content (S.told site.old)))
+        (ChangesRow volume (KeepsRow volume (content (S.told site.old)))
+        (content (S.told site.old)))
         (S.told site.old) (S.told site.new) }
     ensures marks { S.tells → Writes (KeepsMarks volume (content (S.told site.old)))
         (S.told site.old) (S.told site.new) }

@@ -44,7 +44,8 @@ fn read_copy<S: Site>(
     ensures copy { S.tells → IfOk result (λ c. IsReadOf (S.faults site.old) (S.faults site.new)
         (block_of (S.told site.old) at.now) (read_of_copy c)) }
     ensures kept { CopyKeeps (S.faults site.old) (S.faults site.new) result }
-    ensures works { IsReadable S.Site site.old at.now.unit → IfOk result (λ c. read_of_copy c ≢ unread) }
+    ensures works { IsReadable S.Site site.old at.now.unit
+        → IfOk result (λ c. read_of_copy c ≢ unread) }
     ensures devices { OnlyReads S.Site site.old site.new }
 {
     match block.read(site, at) {
@@ -69,7 +70,8 @@ fn taken(
 ) -> Result<RowRead, RowTrouble>
     requires { copy ≡ A → unread ≡ None }
     ensures told { Tells result (copy_reading copy (is_some unread) row) }
-    ensures kept { (before now : ℕ) → MissingKeeps before now unread → KeepsCount before now result }
+    ensures kept { (before now : ℕ) → MissingKeeps before now unread
+        → KeepsCount before now result }
     ensures there { unread ≡ None → MissesNone result }
 {
     match row {

@@ -119,7 +119,8 @@ fn follow<S: Site>(site: &mut S, volume: VolumeNo, stale: &Stale) -> Result<(), 
     requires stale { S.tells → IsStaleOn stale.now volume (content (S.told site.old)) }
     requires room { COPY_ITEMS ≤ S.spare site.old }
     ensures moments { S.tells → Writes
-        (ChangesRow volume (KeepsRow volume (content (S.told site.old))) (content (S.told site.old)))
+        (ChangesRow volume (KeepsRow volume (content (S.told site.old)))
+        (content (S.told site.old)))
         (S.told site.old) (S.told site.new) }
     ensures marks { S.tells → Writes (KeepsMarks volume (content (S.told site.old)))
         (S.told site.old) (S.told site.new) }
@@ -184,7 +185,8 @@ pub fn repair<S: Site>(
     volume: VolumeNo,
 ) -> Result<SlotsUsed, RepairFault>
     ensures moments { S.tells → Writes
-        (ChangesRow volume (KeepsRow volume (content (S.told site.old))) (content (S.told site.old)))
+        (ChangesRow volume (KeepsRow volume (content (S.told site.old)))
+        (content (S.told site.old)))
         (S.told site.old) (S.told site.new) }
     ensures marks { S.tells → Writes (KeepsMarks volume (content (S.told site.old)))
         (S.told site.old) (S.told site.new) }

@@ -60,10 +60,12 @@ fn close_copy<S: Site>(site: &mut S, at: &BlockPlace, is_open: bool) -> Result<(
     requires told { S.tells → (copy_on (S.told site.old) at.now).is_open ≡ is_open }
     requires room { FIRM_ITEMS ≤ S.spare site.old }
     ensures moments { S.tells → WritesCopy at.now
-        (λ c. (c ≡ copy_on (S.told site.old) at.now) ⊎ (c ≡ shut_copy (copy_on (S.told site.old) at.now)))
+        (λ c. (c ≡ copy_on (S.told site.old) at.now)
+        ⊎ (c ≡ shut_copy (copy_on (S.told site.old) at.now)))
         (S.told site.old) (S.told site.new) }
     ensures done { S.tells →
-        OnOk result (copy_on (S.told site.new) at.now ≡ shut_copy (copy_on (S.told site.old) at.now)) }
+        OnOk result (copy_on (S.told site.new) at.now
+        ≡ shut_copy (copy_on (S.told site.old) at.now)) }
     ensures gate { S.tells → IsTrue is_open
         → OnOk result (byte_on (S.told site.new) at.now GATE ≡ CLOSED) }
     ensures firm { S.tells → OnOk result (Settles (S.told site.old) (S.told site.new)) }
@@ -87,9 +89,11 @@ fn put_body<S: Site>(
     requires none { S.tells → has_slots ≡ false → (copy_on (S.told site.old) at.now).slots ≡ [] }
     requires room { BODY_ITEMS ≤ S.spare site.old }
     ensures moments { S.tells → WritesCopy at.now
-        (IsFilling body.now (copy_on (S.told site.old) at.now)) (S.told site.old) (S.told site.new) }
+        (IsFilling body.now (copy_on (S.told site.old) at.now)) (S.told site.old)
+        (S.told site.new) }
     ensures done { S.tells → OnOk result
-        (copy_on (S.told site.new) at.now ≡ emptied_copy body.now (copy_on (S.told site.old) at.now)) }
+        (copy_on (S.told site.new) at.now
+        ≡ emptied_copy body.now (copy_on (S.told site.old) at.now)) }
     ensures mark { S.tells → OnOk result
         (byte_on (S.told site.new) at.now MADE ≡ byte_on (S.told site.old) at.now MADE) }
     ensures firm { S.tells → OnOk result (Settles (S.told site.old) (S.told site.new)) }
@@ -115,9 +119,11 @@ pub fn fill_copy<S: Site>(
     requires none { S.tells → has_slots ≡ false → (copy_on (S.told site.old) at.now).slots ≡ [] }
     requires room { FILL_ITEMS ≤ S.spare site.old }
     ensures moments { S.tells → WritesCopy at.now
-        (IsFilling body.now (copy_on (S.told site.old) at.now)) (S.told site.old) (S.told site.new) }
+        (IsFilling body.now (copy_on (S.told site.old) at.now)) (S.told site.old)
+        (S.told site.new) }
     ensures done { S.tells → OnOk result
-        (copy_on (S.told site.new) at.now ≡ filled_copy body.now (copy_on (S.told site.old) at.now)) }
+        (copy_on (S.told site.new) at.now
+        ≡ filled_copy body.now (copy_on (S.told site.old) at.now)) }
     ensures mark { S.tells → OnOk result
         (byte_on (S.told site.new) at.now MADE ≡ byte_on (S.told site.old) at.now MADE) }
     ensures grown { S.tells →
@@ -142,9 +148,11 @@ pub fn rewrite_copy<S: Site>(
     requires told { S.tells → HasGates gates (copy_on (S.told site.old) at.now) }
     requires room { COPY_ITEMS ≤ S.spare site.old }
     ensures moments { S.tells → WritesCopy at.now
-        (IsRewriting body.now (copy_on (S.told site.old) at.now)) (S.told site.old) (S.told site.new) }
+        (IsRewriting body.now (copy_on (S.told site.old) at.now)) (S.told site.old)
+        (S.told site.new) }
     ensures done { S.tells → OnOk result
-        (copy_on (S.told site.new) at.now ≡ filled_copy body.now (copy_on (S.told site.old) at.now)) }
+        (copy_on (S.told site.new) at.now
+        ≡ filled_copy body.now (copy_on (S.told site.old) at.now)) }
     ensures grown { S.tells →
         OnOk result (length (S.told site.old).log < length (S.told site.new).log) }
     ensures firm { S.tells → OnOk result (Settles (S.told site.old) (S.told site.new)) }
@@ -159,10 +167,12 @@ pub fn rewrite_copy<S: Site>(
 pub fn mark_copy<S: Site>(site: &mut S, at: &BlockPlace) -> Result<bool, Failed>
     requires room { FIRM_ITEMS ≤ S.spare site.old }
     ensures moments { S.tells → WritesCopy at.now
-        (λ c. (c ≡ copy_on (S.told site.old) at.now) ⊎ (c ≡ marked_copy (copy_on (S.told site.old) at.now)))
+        (λ c. (c ≡ copy_on (S.told site.old) at.now)
+        ⊎ (c ≡ marked_copy (copy_on (S.told site.old) at.now)))
         (S.told site.old) (S.told site.new) }
     ensures done { S.tells →
-        OnOk result (copy_on (S.told site.new) at.now ≡ marked_copy (copy_on (S.told site.old) at.now)) }
+        OnOk result (copy_on (S.told site.new) at.now
+        ≡ marked_copy (copy_on (S.told site.old) at.now)) }
     ensures none { S.tells → IfOk result (λ has_slots. has_slots ≡ false
         → (copy_on (S.told site.old) at.now).slots ≡ []) }
     ensures mark { S.tells → byte_on (S.told site.old) at.now MADE ≡ 0

@@ -81,7 +81,7 @@ fn copied<S: Site + Send + Drop, C: Choose + Send + Drop, G: Gate + Sync, R: Thr
     is_whole(&end)
 }
 
-/// The same of a run on this site.
+/// Whether the copy of a run on this site is whole.
 fn copied_on<
     S: Site + Send + Drop,
     C: Choose + Send + Drop,

@@ -91,7 +91,8 @@ fn play_on<S: Site + Send, C: Choose + Drop + Send, G: Gate + Sync, R: Threads +
     requires config { core.config ≡ job.now.config }
     requires writes { core.first_write ≡ S.writes core.site }
     requires faults { core.first_faults ≡ S.faults core.site }
-    ensures session { (was : DevicesSeen) → IsBegun S.tells job.now.config was (seen_core S.Site core)
+    ensures session { (was : DevicesSeen)
+        → IsBegun S.tells job.now.config was (seen_core S.Site core)
         → IsPlayedAtOnce (job_with job.now copier) (record {
           tells = S.tells;
           was = was;

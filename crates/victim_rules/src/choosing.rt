@@ -47,7 +47,7 @@ fn narrows(given: &[Candidate], rules: &[Rule], rule: &Rule) -> bool
 }
 
 /// The rules in force, with another behind them if it narrows what they leave.
-fn joined(given: &[Candidate], force: Ruled, rule: &Rule) -> Ruled
+fn with_rule(given: &[Candidate], force: Ruled, rule: &Rule) -> Ruled
     requires room { length force < 8 }
     requires met { list_any (meets given.now force) given.now ≡ true }
     ensures leaves { (rules : List Rule)
@@ -74,7 +74,7 @@ fn in_force(given: &[Candidate], rules: &[Rule]) -> Ruled
 {
     let mut force = Ruled::none();
     for rule in rules {
-        force = joined(given, force, rule);
+        force = with_rule(given, force, rule);
     }
     force
 }

@@ -13,5 +13,6 @@ pub fn closures_narrow<F: Fn(&Candidate) -> bool>()
     ensures { (keeps : F) (test : Candidate → Bool)
         → ((c : Candidate) (answer : Bool) → FnReturnsAt F.Fn keeps c answer → answer ≡ test c)
         → (given : List Candidate) (place : ℕ) → 1 ≤ length given
-        → NarrowMay F.Fn keeps given place → IsFirstLeft given (narrowed_candidates test given) place }
+        → NarrowMay F.Fn keeps given place
+        → IsFirstLeft given (narrowed_candidates test given) place }
 {}

@@ -160,7 +160,8 @@ impl<S: Site, C: Choose> CopiedCore<S, C> {
     ///
     /// Memory for the copy comes first: where it is wanting, the answer is that of an event without memory.
     pub fn host_event(&mut self, host: HostNo, call: &Call) -> HostAnswer
-        ensures event { HostEventBeside S.Site (is_some (asked_copy self.old.copier)) self.old.core host
+        ensures event { HostEventBeside S.Site
+            (is_some (asked_copy self.old.copier)) self.old.core host
             (call_of call.now) (told_of result) self.new.core }
         ensures copier { asked_copy self.new.copier ≡ asked_copy self.old.copier }
         ensures chooser { self.new.core.chooser ≡ self.old.core.chooser }

@@ -7,7 +7,7 @@ ghost use Rattle.core_state.specs.WorkRules.{work_rule};
 ghost use Rattle.core_state.specs.declared.rule.WorkRule.TheVariants.{Fetches, GivesBack};
 ghost use Rattle.work_events.specs.Steps.{WorkStep};
 
-use crate::parts::did;
+use crate::parts::tell_work;
 use accessors::{Rail, cell_place, plan_move, recorder_place};
 use cartridge_store::{Place, Store};
 use core_state::{Core, WorkAnswer, WorkKind};
@@ -16,7 +16,7 @@ use recording_devices::Recorder;
 use victim_choice::Choose;
 
 /// A recorder with a cartridge in it.
-fn loaded(cartridge: CartridgeNo) -> Recorder
+fn recorder_with(cartridge: CartridgeNo) -> Recorder
     ensures { result ≡ Some cartridge }
 {
     let mut recorder = Recorder::empty();
@@ -73,7 +73,7 @@ pub fn give_back<S: Site, C: Choose>(
     );
     core.recorders
         .set(usize::from(recorder.get()), Recorder::empty());
-    did(&mut core.session, recorder, WorkKind::GiveBack)
+    tell_work(&mut core.session, recorder, WorkKind::GiveBack)
 }
 
 /// Carries a cartridge from its cell to a recorder that holds none. After want of memory all is as
@@ -100,6 +100,6 @@ pub fn fetch<S: Site, C: Choose>(
         recorder_place(recorder),
     );
     core.recorders
-        .set(usize::from(recorder.get()), loaded(cartridge));
-    did(&mut core.session, recorder, WorkKind::Fetch)
+        .set(usize::from(recorder.get()), recorder_with(cartridge));
+    tell_work(&mut core.session, recorder, WorkKind::Fetch)
 }

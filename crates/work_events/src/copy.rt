@@ -9,7 +9,7 @@ ghost use Rattle.core_state.specs.WorkRules.{work_rule};
 ghost use Rattle.core_state.specs.declared.rule.WorkRule.TheVariants.{Copies};
 ghost use Rattle.work_events.specs.Steps.{WorkStep};
 
-use crate::parts::{Failing, did, end_failed, put_task, served};
+use crate::parts::{Failing, end_failed, put_task, task_and_request, tell_work};
 use core_state::{Core, Task, WorkAnswer, WorkKind, make_room};
 use mss_base::{RecorderNo, Site};
 use transfers::{Transfer, copy_track};
@@ -30,10 +30,11 @@ pub fn copy<S: Site, C: Choose>(
     ensures works { (but : UnitNo → Bool) → S.never_fails_but core.old.site but
         → IsReadable but transfer → core.new.requests ≡ core.old.requests }
     ensures unread { (but : UnitNo → Bool) → S.never_fails_but core.old.site but
-        → (core.new.requests ≡ core.old.requests) ⊎ FailRead S.tells (seen_core S.Site core.old).site
+        → (core.new.requests ≡ core.old.requests)
+        ⊎ FailRead S.tells (seen_core S.Site core.old).site
         (seen_core S.Site core.new).site }
 {
-    let (task, _request) = served(core, recorder);
+    let (task, _request) = task_and_request(core, recorder);
     if make_room(&mut core.session, &mut core.site, 1).is_err() {
         return WorkAnswer::Memory;
     }
@@ -45,7 +46,7 @@ pub fn copy<S: Site, C: Choose>(
                 ..task
             };
             put_task(&mut core.tasks, recorder, Some(goes_on));
-            did(&mut core.session, recorder, WorkKind::Copy)
+            tell_work(&mut core.session, recorder, WorkKind::Copy)
         }
         Err(_) => {
             let fault = core.site.faults();

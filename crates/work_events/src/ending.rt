@@ -13,7 +13,9 @@ ghost use Rattle.staging_adapter.specs.Frames.{IsFrame};
 ghost use Rattle.work_events.specs.Leaving.{left_by};
 ghost use Rattle.work_events.specs.Steps.{FailsNone, WorkStep};
 
-use crate::parts::{Failing, did, end_failed, end_task, put_task, served, stop};
+use crate::parts::{
+    Failing, end_failed, end_task, put_task, task_and_request, tell_stop, tell_work,
+};
 use core_state::{Core, Task, WorkAnswer, WorkKind, make_room, write_change};
 use fault_queue::{Queue, RequestState};
 use mss_base::{Failed, RecorderNo, Site};
@@ -102,7 +104,7 @@ pub fn end<S: Site, C: Choose>(
     ensures none_fails { (but : UnitNo → Bool) → S.never_fails_but core.old.site but
         → FailsNone core.old.requests core.new.requests }
 {
-    let (task, _request) = served(core, recorder);
+    let (task, _request) = task_and_request(core, recorder);
     if make_room(&mut core.session, &mut core.site, END_ITEMS).is_err() {
         return WorkAnswer::Memory;
     }
@@ -141,8 +143,8 @@ pub fn end<S: Site, C: Choose>(
                 &task,
                 transfer.kind,
             );
-            did(&mut core.session, recorder, WorkKind::End)
+            tell_work(&mut core.session, recorder, WorkKind::End)
         }
-        Err(_) => stop(&mut core.session, recorder, core.site.faults()),
+        Err(_) => tell_stop(&mut core.session, recorder, core.site.faults()),
     }
 }

@@ -42,7 +42,8 @@ pub fn work_event<S: Site, C: Choose>(core: &mut Core<S, C>, recorder: RecorderN
         → core.new.requests ≡ core.old.requests }
     ensures unread { (but : UnitNo → Bool) (t : Transfer) → S.never_fails_but core.old.site but
         → work_rule core.old recorder ≡ Copies t
-        → (core.new.requests ≡ core.old.requests) ⊎ FailRead S.tells (seen_core S.Site core.old).site
+        → (core.new.requests ≡ core.old.requests)
+        ⊎ FailRead S.tells (seen_core S.Site core.old).site
         (seen_core S.Site core.new).site }
     ensures ends { (but : UnitNo → Bool) (t : Transfer) → S.never_fails_but core.old.site but
         → work_rule core.old recorder ≡ Ends t → FailsNone core.old.requests core.new.requests }

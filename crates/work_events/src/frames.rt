@@ -8,7 +8,7 @@ ghost use Rattle.core_state.specs.WorkRules.{work_rule};
 ghost use Rattle.core_state.specs.declared.rule.WorkRule.TheVariants.{Assigns, Frees};
 ghost use Rattle.work_events.specs.Steps.{WorkStep};
 
-use crate::parts::{did, put_task, served, stop};
+use crate::parts::{put_task, task_and_request, tell_stop, tell_work};
 use core_state::{Core, Task, WorkAnswer, WorkKind, make_room, write_change};
 use mss_base::{FrameNo, Page, RecorderNo, Site, VolumeNo};
 use staging_adapter::Frames;
@@ -49,7 +49,7 @@ pub fn free<S: Site, C: Choose>(
     ensures works { (but : UnitNo → Bool) → S.never_fails_but core.old.site but
         → core.new.stopped ≡ core.old.stopped }
 {
-    let (task, _request) = served(core, recorder);
+    let (task, _request) = task_and_request(core, recorder);
     if make_room(&mut core.session, &mut core.site, CHANGE_ITEMS).is_err() {
         return WorkAnswer::Memory;
     }
@@ -69,9 +69,9 @@ pub fn free<S: Site, C: Choose>(
             };
             core.frames.set_owner(task.frame, None);
             put_task(&mut core.tasks, recorder, Some(goes_on));
-            did(&mut core.session, recorder, WorkKind::Free)
+            tell_work(&mut core.session, recorder, WorkKind::Free)
         }
-        Err(_) => stop(&mut core.session, recorder, core.site.faults()),
+        Err(_) => tell_stop(&mut core.session, recorder, core.site.faults()),
     }
 }
 
@@ -93,7 +93,7 @@ pub fn assign<S: Site, C: Choose>(
     ensures works { (but : UnitNo → Bool) → S.never_fails_but core.old.site but
         → core.new.stopped ≡ core.old.stopped }
 {
-    let (task, _request) = served(core, recorder);
+    let (task, _request) = task_and_request(core, recorder);
     if make_room(&mut core.session, &mut core.site, CHANGE_ITEMS).is_err() {
         return WorkAnswer::Memory;
     }
@@ -109,8 +109,8 @@ pub fn assign<S: Site, C: Choose>(
     ) {
         Ok(()) => {
             give_frame(&mut core.frames, &mut core.recency, frame, volume, page);
-            did(&mut core.session, recorder, WorkKind::Assign)
+            tell_work(&mut core.session, recorder, WorkKind::Assign)
         }
-        Err(_) => stop(&mut core.session, recorder, core.site.faults()),
+        Err(_) => tell_stop(&mut core.session, recorder, core.site.faults()),
     }
 }

@@ -18,7 +18,10 @@ use staging_adapter::Frames;
 use victim_choice::Choose;
 
 /// The task of a recorder that has one, and its host's request.
-pub fn served<S: Site, C: Choose>(core: &Core<S, C>, recorder: RecorderNo) -> (Task, Request)
+pub fn task_and_request<S: Site, C: Choose>(
+    core: &Core<S, C>,
+    recorder: RecorderNo,
+) -> (Task, Request)
     requires { IsServing core.now recorder }
     ensures serves { Serves core.now recorder result.0 result.1 }
     ensures low { result.1.cylinder < CYLINDERS }
@@ -66,7 +69,7 @@ pub fn end_task(
 }
 
 /// Tells an event of a recorder, which did this.
-pub fn did(session: &mut Session, recorder: RecorderNo, what: WorkKind) -> WorkAnswer
+pub fn tell_work(session: &mut Session, recorder: RecorderNo, what: WorkKind) -> WorkAnswer
     requires { 1 ≤ session.old.events.spare }
     ensures told { session_data session.new ≡
         with_last_event (Work recorder) (session_data session.old) }
@@ -77,7 +80,7 @@ pub fn did(session: &mut Session, recorder: RecorderNo, what: WorkKind) -> WorkA
 }
 
 /// Tells an event of a recorder in which a write failed, behind which the count of faults was this.
-pub fn stop(session: &mut Session, recorder: RecorderNo, fault: u64) -> WorkAnswer
+pub fn tell_stop(session: &mut Session, recorder: RecorderNo, fault: u64) -> WorkAnswer
     requires { 1 ≤ session.old.events.spare }
     ensures told { session_data session.new ≡
         with_last_event (Work recorder) (session_data session.old) }
@@ -127,5 +130,5 @@ pub fn end_failed(
         &failing.task,
         failed,
     );
-    did(session, failing.recorder, failing.what)
+    tell_work(session, failing.recorder, failing.what)
 }

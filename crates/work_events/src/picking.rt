@@ -9,7 +9,7 @@ ghost use Rattle.work_events.specs.Chosen.{MayAnswer};
 ghost use Rattle.work_events.specs.Steps.{WorkStep};
 
 use crate::choices::candidates;
-use crate::parts::{did, end_task, put_task, served};
+use crate::parts::{end_task, put_task, task_and_request, tell_work};
 use core_state::{Core, Task, WorkAnswer, WorkKind};
 use fault_queue::{Queue, RequestState};
 use mss_base::{FrameNo, HostNo, RecorderNo, Site};
@@ -37,7 +37,7 @@ fn begin_task(
 }
 
 /// The candidate that a chooser answers.
-fn chosen<C: Choose>(chooser: &Chooser<C>, choices: &[Candidate]) -> Candidate
+fn choose_among<C: Choose>(chooser: &Chooser<C>, choices: &[Candidate]) -> Candidate
     requires { 1 ≤ length choices.now }
     ensures { MayAnswer (C.may chooser.now) choices.now result }
 {
@@ -75,7 +75,7 @@ pub fn pick<S: Site, C: Choose>(
         recorder,
         task,
     );
-    did(&mut core.session, recorder, WorkKind::Pick)
+    tell_work(&mut core.session, recorder, WorkKind::Pick)
 }
 
 /// Takes a host's request, with the frame that the chooser takes from another page. After want of
@@ -97,7 +97,7 @@ pub fn pick_victim<S: Site, C: Choose>(
     if core.session.reserve().is_err() {
         return WorkAnswer::Memory;
     }
-    let choice = chosen(&core.chooser, choices.as_slice());
+    let choice = choose_among(&core.chooser, choices.as_slice());
     let task = Task {
         host,
         frame: choice.frame,
@@ -112,7 +112,7 @@ pub fn pick_victim<S: Site, C: Choose>(
         recorder,
         task,
     );
-    did(&mut core.session, recorder, WorkKind::Pick)
+    tell_work(&mut core.session, recorder, WorkKind::Pick)
 }
 
 /// Gives up a task whose victim a host used, and its request waits again. After want of memory all
@@ -124,7 +124,7 @@ pub fn abandon<S: Site, C: Choose>(core: &mut Core<S, C>, recorder: RecorderNo) 
     ensures chooser { core.new.chooser ≡ core.old.chooser }
     ensures site { core.new.site ≡ core.old.site }
 {
-    let (task, _request) = served(core, recorder);
+    let (task, _request) = task_and_request(core, recorder);
     if core.session.reserve().is_err() {
         return WorkAnswer::Memory;
     }
@@ -137,5 +137,5 @@ pub fn abandon<S: Site, C: Choose>(core: &mut Core<S, C>, recorder: RecorderNo) 
         &task,
         queued,
     );
-    did(&mut core.session, recorder, WorkKind::Abandon)
+    tell_work(&mut core.session, recorder, WorkKind::Abandon)
 }

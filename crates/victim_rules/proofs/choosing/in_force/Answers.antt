@@ -25,9 +25,9 @@ loop-rule-preserved c =
     let within : k < length rules = omega arith in
     let next : drop k rules ≡ c.rule-item.result ∷ drop (k + 1) rules = drop_more rules k c.rule-item.result within ∙ ap (λ (r : Rule). r ∷ drop (k + 1) rules) (sym c.rule-item.is) in
     record {
-      narrowed = c.loop-rule.invariant.narrowed ∙ ap (λ (rest : List Rule). narrowed_by given rest left) next ∙ c.joined-force.ensures.leaves (drop (k + 1) rules);
-      met = c.joined-force.ensures.met;
-      room = omega (arith, c.joined-force.ensures.few);
+      narrowed = c.loop-rule.invariant.narrowed ∙ ap (λ (rest : List Rule). narrowed_by given rest left) next ∙ c.with_rule-force.ensures.leaves (drop (k + 1) rules);
+      met = c.with_rule-force.ensures.met;
+      room = omega (arith, c.with_rule-force.ensures.few);
     }
 
 pub returns : goal.returns

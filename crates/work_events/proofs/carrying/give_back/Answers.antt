@@ -41,7 +41,7 @@ invariant_of-core-2 g c =
     let says = rule_returns now c.args.recorder c.requires.fits kept.whole.kept c.args.cartridge c.requires.rule in
     let known : c.args.cartridge < length now.store = subst (λ (z : CoreValue g.row.S.Denot g.row.C.Denot). c.args.cartridge < length z.store) is c.put.ensures.known in
     let number : c.from.result ≡ c.args.recorder = c.from.ensures ∙ c.get-3.ensures.value in
-    let told : session_data c.did.new.session ≡ with_last_event (Work c.args.recorder) (data_of now) = c.did.ensures.told ∙ ap (with_last_event (Work c.args.recorder)) (c.reserve.ensures.same.told ∙ ap (λ (z : CoreValue g.row.S.Denot g.row.C.Denot). data_of z) is) in
+    let told : session_data c.tell_work.new.session ≡ with_last_event (Work c.args.recorder) (data_of now) = c.tell_work.ensures.told ∙ ap (with_last_event (Work c.args.recorder)) (c.reserve.ensures.same.told ∙ ap (λ (z : CoreValue g.row.S.Denot g.row.C.Denot). data_of z) is) in
     let recorders : c.set.new.self.items ≡ slice_set now.recorders c.args.recorder None = c.set.ensures.items ∙ (λ i. slice_set (is i).recorders (number i) (c.empty.ensures i)) in
     let store : c.put.new.store ≡ with_place c.args.cartridge (home_of c.args.cartridge) now.store = c.put.ensures.there ∙ (λ i. with_place c.args.cartridge (Cell (c.get.ensures.value i)) (is i).store) in
     let path : ◌≡◌ {A = CoreValue g.row.S.Denot g.row.C.Denot} _ (record now { recorders = slice_set now.recorders c.args.recorder None; store = with_place c.args.cartridge (home_of c.args.cartridge) now.store; rail = c.carry.new.rail; events = now.events ++ Work c.args.recorder ∷ [] }) =
@@ -54,18 +54,18 @@ returns-clause-event g c =
     let now = c.args.core.now in
     let is = c.core.view_is in
     let number : c.from.result ≡ c.args.recorder = c.from.ensures ∙ c.get-3.ensures.value in
-    let told : session_data c.did.new.session ≡ with_last_event (Work c.args.recorder) (data_of now) = c.did.ensures.told ∙ ap (with_last_event (Work c.args.recorder)) (c.reserve.ensures.same.told ∙ ap (λ (z : CoreValue g.row.S.Denot g.row.C.Denot). data_of z) is) in
+    let told : session_data c.tell_work.new.session ≡ with_last_event (Work c.args.recorder) (data_of now) = c.tell_work.ensures.told ∙ ap (with_last_event (Work c.args.recorder)) (c.reserve.ensures.same.told ∙ ap (λ (z : CoreValue g.row.S.Denot g.row.C.Denot). data_of z) is) in
     let recorders : c.set.new.self.items ≡ slice_set now.recorders c.args.recorder None = c.set.ensures.items ∙ (λ i. slice_set (is i).recorders (number i) (c.empty.ensures i)) in
     let store : c.put.new.store ≡ with_place c.args.cartridge (home_of c.args.cartridge) now.store = c.put.ensures.there ∙ (λ i. with_place c.args.cartridge (Cell (c.get.ensures.value i)) (is i).store) in
     let rail : c.carry.new.rail ≡ moved_from_to (recorder_place c.args.recorder) (cell_place c.args.cartridge) now.rail = c.carry.ensures ∙ (λ i. moved_from_to (c.recorder_place.ensures.place i) ((c.cell_place.ensures.place ∙ ap cell_place c.get-2.ensures.value) i) (is i).rail) in
     let path : ◌≡◌ {A = CoreValue g.row.S.Denot g.row.C.Denot} _ (record now { site = c.core.inside.site; recorders = slice_set now.recorders c.args.recorder None; store = with_place c.args.cartridge (home_of c.args.cartridge) now.store; rail = moved_from_to (recorder_place c.args.recorder) (cell_place c.args.cartridge) now.rail; events = now.events ++ Work c.args.recorder ∷ [] }) =
     λ i. record (of_parts (is i) c.core.inside.site (is i).rows (is i).owners (is i).moving (is i).requests (is i).tasks (is i).hosts (told i)) { recorders = recorders i; store = store i; rail = rail i } in
-    gives_back_does g.S.Site (g.C.Choose.may now.chooser) now _ c.args.recorder c.args.cartridge c.did.result c.did.ensures.answer (ap (λ (z : CoreValue g.row.S.Denot g.row.C.Denot). z.site) is) path
+    gives_back_does g.S.Site (g.C.Choose.may now.chooser) now _ c.args.recorder c.args.cartridge c.tell_work.result c.tell_work.ensures.answer (ap (λ (z : CoreValue g.row.S.Denot g.row.C.Denot). z.site) is) path
 
 -- ---- there is room for what it tells
 
-pub did-requires : goal.did-requires
-did-requires g c = let room = when_ok c.reserve.result (sym c.is_err.ensures.value ∙ c.if-is_err.false) c.reserve.ensures.room in room.event
+pub tell_work-requires : goal.tell_work-requires
+tell_work-requires g c = let room = when_ok c.reserve.result (sym c.is_err.ensures.value ∙ c.if-is_err.false) c.reserve.ensures.room in room.event
 
 -- ---- without room nothing changed, and its chooser and site stay
 

@@ -10,8 +10,8 @@ use Rattle.work_events.proofs.CopySteps.{copied_is, copy_does, copy_kept, copy_u
 use Rattle.work_events.proofs.FailedSteps.{failed_is}
 use Rattle.work_events.proofs.copy.copy.Goals as goal
 
-pub served-task-requires : goal.served-task-requires
-served-task-requires g c =
+pub task_and_request-task-requires : goal.task_and_request-task-requires
+task_and_request-task-requires g c =
     let now = c.args.core.now in
     let is = c.core.view_is in
     let kept = kept_at g.S.Site _ now is c.core.invariant in
@@ -29,7 +29,7 @@ copy_track-requires-clause-more g c =
     let is = c.core.view_is in
     let kept = kept_at g.S.Site _ now is c.core.invariant in
     let says = rule_copies now c.args.recorder c.requires.fits kept.whole.kept c.args.transfer c.requires.rule in
-    let may = says.may c.served-task.result.0 c.served-task.result.1 c.served-task.ensures.serves c.served-task.ensures.low in
+    let may = says.may c.task_and_request-task.result.0 c.task_and_request-task.result.1 c.task_and_request-task.ensures.serves c.task_and_request-task.ensures.low in
     may.more
 
 pub end_failed-requires-clause-frame : goal.end_failed-requires-clause-frame
@@ -37,7 +37,7 @@ end_failed-requires-clause-frame g c =
     let now = c.args.core.now in
     let has = has_room g.S.Site now c.core.view_is c.core.invariant c.make_room.new.site _ c.make_room.ensures.session c.make_room.ensures.site in
     let says = rule_copies now c.args.recorder c.requires.fits has.kept.whole.kept c.args.transfer c.requires.rule in
-    let low = (has.kept.whole.kept says.going).tasks_.each c.args.recorder c.served-task.result.0 c.served-task.ensures.serves.at in
+    let low = (has.kept.whole.kept says.going).tasks_.each c.args.recorder c.task_and_request-task.result.0 c.task_and_request-task.ensures.serves.at in
     let size : length c.core.inside.frames.owners ≡ now.config.frames = ap (λ (z : CoreValue g.row.S.Denot g.row.C.Denot). length z.owners) has.is ∙ has.kept.whole.shaped.owners_ in
     let fits = low.low in
     omega (arith, size, fits)
@@ -47,11 +47,11 @@ invariant_of-core-in-Ok g c =
     let now = c.args.core.now in
     let has = has_room g.S.Site now c.core.view_is c.core.invariant c.make_room.new.site _ c.make_room.ensures.session c.make_room.ensures.site in
     let says = rule_copies now c.args.recorder c.requires.fits has.kept.whole.kept c.args.transfer c.requires.rule in
-    let task = c.served-task.result.0 in
-    let asked = c.served-task.result.1 in
-    let serves = c.served-task.ensures.serves in
-    let may = says.may task asked serves c.served-task.ensures.low in
-    let path = copied_is g.S.Site has c.args.transfer c.copy_track.new.site _ c.in-Ok.ensures.copies c.args.recorder task c.in-Ok.ensures.done c.put_task.ensures c.did.ensures.told in
+    let task = c.task_and_request-task.result.0 in
+    let asked = c.task_and_request-task.result.1 in
+    let serves = c.task_and_request-task.ensures.serves in
+    let may = says.may task asked serves c.task_and_request-task.ensures.low in
+    let path = copied_is g.S.Site has c.args.transfer c.copy_track.new.site _ c.in-Ok.ensures.copies c.args.recorder task c.in-Ok.ensures.done c.put_task.ensures c.tell_work.ensures.told in
     copy_kept g.S.Site has c.args.transfer c.copy_track.new.site _ c.in-Ok.ensures.copies c.args.recorder task says.going asked serves may _ path
 
 pub returns-in-Ok-clause-event : goal.returns-in-Ok-clause-event
@@ -59,21 +59,21 @@ returns-in-Ok-clause-event g c =
     let now = c.args.core.now in
     let has = has_room g.S.Site now c.core.view_is c.core.invariant c.make_room.new.site _ c.make_room.ensures.session c.make_room.ensures.site in
     let says = rule_copies now c.args.recorder c.requires.fits has.kept.whole.kept c.args.transfer c.requires.rule in
-    let task = c.served-task.result.0 in
-    let asked = c.served-task.result.1 in
-    let serves = c.served-task.ensures.serves in
-    let path = copied_is g.S.Site has c.args.transfer c.copy_track.new.site _ c.in-Ok.ensures.copies c.args.recorder task c.in-Ok.ensures.done c.put_task.ensures c.did.ensures.told in
-    copy_does g.S.Site has c.args.transfer c.copy_track.new.site _ c.in-Ok.ensures.copies c.args.recorder task (g.C.Choose.may now.chooser) asked serves c.did.result c.did.ensures.answer _ path
+    let task = c.task_and_request-task.result.0 in
+    let asked = c.task_and_request-task.result.1 in
+    let serves = c.task_and_request-task.ensures.serves in
+    let path = copied_is g.S.Site has c.args.transfer c.copy_track.new.site _ c.in-Ok.ensures.copies c.args.recorder task c.in-Ok.ensures.done c.put_task.ensures c.tell_work.ensures.told in
+    copy_does g.S.Site has c.args.transfer c.copy_track.new.site _ c.in-Ok.ensures.copies c.args.recorder task (g.C.Choose.may now.chooser) asked serves c.tell_work.result c.tell_work.ensures.answer _ path
 
 pub invariant_of-core-in-Err : goal.invariant_of-core-in-Err
 invariant_of-core-in-Err g c =
     let now = c.args.core.now in
     let has = has_room g.S.Site now c.core.view_is c.core.invariant c.make_room.new.site _ c.make_room.ensures.session c.make_room.ensures.site in
     let says = rule_copies now c.args.recorder c.requires.fits has.kept.whole.kept c.args.transfer c.requires.rule in
-    let task = c.served-task.result.0 in
-    let asked = c.served-task.result.1 in
-    let serves = c.served-task.ensures.serves in
-    let may = says.may task asked serves c.served-task.ensures.low in
+    let task = c.task_and_request-task.result.0 in
+    let asked = c.task_and_request-task.result.1 in
+    let serves = c.task_and_request-task.ensures.serves in
+    let may = says.may task asked serves c.task_and_request-task.ensures.low in
     let path = failed_is g.S.Site has c.copy_track.new.site c.args.recorder task c.end_failed.ensures.frames c.faults-fault.ensures c.end_failed.ensures.requests c.end_failed.ensures.tasks c.end_failed.ensures.told in
     copy_unkept g.S.Site has c.args.transfer c.copy_track.new.site _ c.in-Err.ensures.copies c.args.recorder task says.going asked serves may _ path
 
@@ -82,9 +82,9 @@ returns-in-Err-clause-event g c =
     let now = c.args.core.now in
     let has = has_room g.S.Site now c.core.view_is c.core.invariant c.make_room.new.site _ c.make_room.ensures.session c.make_room.ensures.site in
     let says = rule_copies now c.args.recorder c.requires.fits has.kept.whole.kept c.args.transfer c.requires.rule in
-    let task = c.served-task.result.0 in
-    let asked = c.served-task.result.1 in
-    let serves = c.served-task.ensures.serves in
+    let task = c.task_and_request-task.result.0 in
+    let asked = c.task_and_request-task.result.1 in
+    let serves = c.task_and_request-task.ensures.serves in
     let path = failed_is g.S.Site has c.copy_track.new.site c.args.recorder task c.end_failed.ensures.frames c.faults-fault.ensures c.end_failed.ensures.requests c.end_failed.ensures.tasks c.end_failed.ensures.told in
     copy_undone g.S.Site has c.args.transfer c.copy_track.new.site _ c.in-Err.ensures.copies c.args.recorder task (g.C.Choose.may now.chooser) asked serves c.end_failed.result c.end_failed.ensures.answer _ refl path
 
@@ -112,11 +112,11 @@ copy_track-requires-clause-room g c = when_ok c.make_room.result (sym c.is_err.e
 pub put_task-requires : goal.put_task-requires
 put_task-requires g c = its_place g.S.Site c.args.recorder c.core.view_is c.core.invariant c.requires.fits
 
-pub did-requires : goal.did-requires
-did-requires g c = when_ok c.make_room.result (sym c.is_err.ensures.value ∙ c.if-is_err.false) c.make_room.ensures.room_events
+pub tell_work-requires : goal.tell_work-requires
+tell_work-requires g c = when_ok c.make_room.result (sym c.is_err.ensures.value ∙ c.if-is_err.false) c.make_room.ensures.room_events
 
 pub end_failed-requires-clause-asked : goal.end_failed-requires-clause-asked
-end_failed-requires-clause-asked g c = its_request c.served-task.result.0.host c.served-task.result.1 c.core.view_is c.served-task.ensures.serves.asked
+end_failed-requires-clause-asked g c = its_request c.task_and_request-task.result.0.host c.task_and_request-task.result.1 c.core.view_is c.task_and_request-task.ensures.serves.asked
 
 pub end_failed-requires-clause-fits : goal.end_failed-requires-clause-fits
 end_failed-requires-clause-fits g c = its_place g.S.Site c.args.recorder c.core.view_is c.core.invariant c.requires.fits

@@ -17,8 +17,8 @@ use Rattle.work_events.proofs.RuleFacts.{rule_frees}
 use Rattle.work_events.proofs.FreeWhole.{due_freed, freed, freed_does, kept_freed, unfreed_does}
 use Rattle.work_events.proofs.frames.free.Goals as goal
 
-pub served-requires : goal.served-requires
-served-requires g c =
+pub task_and_request-requires : goal.task_and_request-requires
+task_and_request-requires g c =
     let now = c.args.core.now in
     let kept = kept_at g.S.Site _ now c.core.view_is c.core.invariant in
     let says = rule_frees now c.args.recorder c.requires.fits kept.whole.kept c.args.volume c.args.page c.requires.rule in
@@ -34,8 +34,8 @@ write_change-requires-clause-there g c =
     let now = c.args.core.now in
     let has = has_room g.S.Site now c.core.view_is c.core.invariant c.make_room.new.site _ c.make_room.ensures.session c.make_room.ensures.site in
     let says = rule_frees now c.args.recorder c.requires.fits has.kept.whole.kept c.args.volume c.args.page c.requires.rule in
-    let may : MayFree now c.served.result.0 c.args.volume c.args.page = says.may c.served.result.0 c.served.result.1 c.served.ensures.serves in
-    let due = due_freed g.row.S.Denot g.S.Site.tells (g.S.Site.told now.site) now has.kept.whole says.going c.args.recorder c.served.result.0 c.served.result.1 c.served.ensures.serves c.args.volume c.args.page may in
+    let may : MayFree now c.task_and_request.result.0 c.args.volume c.args.page = says.may c.task_and_request.result.0 c.task_and_request.result.1 c.task_and_request.ensures.serves in
+    let due = due_freed g.row.S.Denot g.S.Site.tells (g.S.Site.told now.site) now has.kept.whole says.going c.args.recorder c.task_and_request.result.0 c.task_and_request.result.1 c.task_and_request.ensures.serves c.args.volume c.args.page may in
     row_there g.S.Site has c.args.volume (Free c.args.page) due says.going
 
 pub write_change-requires-clause-places : goal.write_change-requires-clause-places
@@ -48,8 +48,8 @@ write_change-requires-clause-held g c =
     let now = c.args.core.now in
     let has = has_room g.S.Site now c.core.view_is c.core.invariant c.make_room.new.site _ c.make_room.ensures.session c.make_room.ensures.site in
     let says = rule_frees now c.args.recorder c.requires.fits has.kept.whole.kept c.args.volume c.args.page c.requires.rule in
-    let may : MayFree now c.served.result.0 c.args.volume c.args.page = says.may c.served.result.0 c.served.result.1 c.served.ensures.serves in
-    let due = due_freed g.row.S.Denot g.S.Site.tells (g.S.Site.told now.site) now has.kept.whole says.going c.args.recorder c.served.result.0 c.served.result.1 c.served.ensures.serves c.args.volume c.args.page may in
+    let may : MayFree now c.task_and_request.result.0 c.args.volume c.args.page = says.may c.task_and_request.result.0 c.task_and_request.result.1 c.task_and_request.ensures.serves in
+    let due = due_freed g.row.S.Denot g.S.Site.tells (g.S.Site.told now.site) now has.kept.whole says.going c.args.recorder c.task_and_request.result.0 c.task_and_request.result.1 c.task_and_request.ensures.serves c.args.volume c.args.page may in
     row_held g.S.Site has c.args.volume (Free c.args.page) due says.going
 
 pub set_owner-requires : goal.set_owner-requires
@@ -57,7 +57,7 @@ set_owner-requires g c =
     let now = c.args.core.now in
     let has = has_room g.S.Site now c.core.view_is c.core.invariant c.make_room.new.site _ c.make_room.ensures.session c.make_room.ensures.site in
     let says = rule_frees now c.args.recorder c.requires.fits has.kept.whole.kept c.args.volume c.args.page c.requires.rule in
-    let its = (has.kept.whole.kept says.going).tasks_.each c.args.recorder c.served.result.0 c.served.ensures.serves.at in
+    let its = (has.kept.whole.kept says.going).tasks_.each c.args.recorder c.task_and_request.result.0 c.task_and_request.ensures.serves.at in
     let size : length c.core.inside.frames.owners ≡ now.config.frames = ap (λ (z : CoreValue g.row.S.Denot g.row.C.Denot). length z.owners) has.is ∙ has.kept.whole.shaped.owners_ in
     let fits = its.low in
     omega (arith, size, fits)
@@ -67,16 +67,16 @@ invariant_of-core-in-Ok g c =
     let now = c.args.core.now in
     let has = has_room g.S.Site now c.core.view_is c.core.invariant c.make_room.new.site _ c.make_room.ensures.session c.make_room.ensures.site in
     let says = rule_frees now c.args.recorder c.requires.fits has.kept.whole.kept c.args.volume c.args.page c.requires.rule in
-    let may : MayFree now c.served.result.0 c.args.volume c.args.page = says.may c.served.result.0 c.served.result.1 c.served.ensures.serves in
+    let may : MayFree now c.task_and_request.result.0 c.args.volume c.args.page = says.may c.task_and_request.result.0 c.task_and_request.result.1 c.task_and_request.ensures.serves in
     let is = c.core.view_is in
     let x = c.write_change.new.site in
     let done_ = row_changed g.S.Site has c.args.volume (Free c.args.page) x c.write_change.ensures.rows c.write_change.ensures.site_.devices _ c.in-Ok.ensures.copies _ refl c.in-Ok.ensures.used.done c.in-Ok.ensures.session.told (g.met.S.Site.counted x) c.in-Ok.ensures.site_.cause.same in
-    let told : session_data c.did.new.session ≡ with_last_event (Work c.args.recorder) (with_last_message (message_of (g.S.Site.writes x) c.args.volume (Free c.args.page) (row_in_list now.rows)) (data_of now)) = c.did.ensures.told ∙ ap (with_last_event (Work c.args.recorder)) done_.told in
-    let owners : c.set_owner.new.self.owners ≡ slice_set now.owners c.served.result.0.frame None = ap (λ f. f.owners) c.set_owner.ensures ∙ (λ i. slice_set (is i).owners c.served.result.0.frame None) in
+    let told : session_data c.tell_work.new.session ≡ with_last_event (Work c.args.recorder) (with_last_message (message_of (g.S.Site.writes x) c.args.volume (Free c.args.page) (row_in_list now.rows)) (data_of now)) = c.tell_work.ensures.told ∙ ap (with_last_event (Work c.args.recorder)) done_.told in
+    let owners : c.set_owner.new.self.owners ≡ slice_set now.owners c.task_and_request.result.0.frame None = ap (λ f. f.owners) c.set_owner.ensures ∙ (λ i. slice_set (is i).owners c.task_and_request.result.0.frame None) in
     let moving : c.set_owner.new.self.moving ≡ now.moving = ap (λ f. f.moving) c.set_owner.ensures ∙ ap (λ (z : CoreValue g.row.S.Denot g.row.C.Denot). z.moving) is in
-    let tasks : c.put_task.new.tasks.items ≡ slice_set now.tasks c.args.recorder (Some (record c.served.result.0 { victim = None })) = c.put_task.ensures ∙ (λ i. slice_set (is i).tasks c.args.recorder (Some (record c.served.result.0 { victim = None }))) in
+    let tasks : c.put_task.new.tasks.items ≡ slice_set now.tasks c.args.recorder (Some (record c.task_and_request.result.0 { victim = None })) = c.put_task.ensures ∙ (λ i. slice_set (is i).tasks c.args.recorder (Some (record c.task_and_request.result.0 { victim = None }))) in
     kept_as g.S.Site x _ _
-    (kept_freed g.row.S.Denot g.S.Site.tells (g.S.Site.told now.site) (g.S.Site.told x) (g.S.Site.writes now.site) (g.S.Site.faults now.site) (g.S.Site.writes x) (g.S.Site.faults x) now has.kept says.going c.args.recorder c.served.result.0 c.served.result.1 c.served.ensures.serves x done_.more done_.le c.args.volume c.args.page may done_.done_)
+    (kept_freed g.row.S.Denot g.S.Site.tells (g.S.Site.told now.site) (g.S.Site.told x) (g.S.Site.writes now.site) (g.S.Site.faults now.site) (g.S.Site.writes x) (g.S.Site.faults x) now has.kept says.going c.args.recorder c.task_and_request.result.0 c.task_and_request.result.1 c.task_and_request.ensures.serves x done_.more done_.le c.args.volume c.args.page may done_.done_)
     (λ i. record (of_parts (is i) x (done_.rows_ i) (owners i) (moving i) (is i).requests (tasks i) (is i).hosts (told i)) { used = done_.used_ i })
 
 pub returns-in-Ok-clause-event : goal.returns-in-Ok-clause-event
@@ -86,21 +86,21 @@ returns-in-Ok-clause-event g c =
     let is = c.core.view_is in
     let x = c.write_change.new.site in
     let done_ = row_changed g.S.Site has c.args.volume (Free c.args.page) x c.write_change.ensures.rows c.write_change.ensures.site_.devices _ c.in-Ok.ensures.copies _ refl c.in-Ok.ensures.used.done c.in-Ok.ensures.session.told (g.met.S.Site.counted x) c.in-Ok.ensures.site_.cause.same in
-    let told : session_data c.did.new.session ≡ with_last_event (Work c.args.recorder) (with_last_message (message_of (g.S.Site.writes x) c.args.volume (Free c.args.page) (row_in_list now.rows)) (data_of now)) = c.did.ensures.told ∙ ap (with_last_event (Work c.args.recorder)) done_.told in
-    let owners : c.set_owner.new.self.owners ≡ slice_set now.owners c.served.result.0.frame None = ap (λ f. f.owners) c.set_owner.ensures ∙ (λ i. slice_set (is i).owners c.served.result.0.frame None) in
+    let told : session_data c.tell_work.new.session ≡ with_last_event (Work c.args.recorder) (with_last_message (message_of (g.S.Site.writes x) c.args.volume (Free c.args.page) (row_in_list now.rows)) (data_of now)) = c.tell_work.ensures.told ∙ ap (with_last_event (Work c.args.recorder)) done_.told in
+    let owners : c.set_owner.new.self.owners ≡ slice_set now.owners c.task_and_request.result.0.frame None = ap (λ f. f.owners) c.set_owner.ensures ∙ (λ i. slice_set (is i).owners c.task_and_request.result.0.frame None) in
     let moving : c.set_owner.new.self.moving ≡ now.moving = ap (λ f. f.moving) c.set_owner.ensures ∙ ap (λ (z : CoreValue g.row.S.Denot g.row.C.Denot). z.moving) is in
-    let tasks : c.put_task.new.tasks.items ≡ slice_set now.tasks c.args.recorder (Some (record c.served.result.0 { victim = None })) = c.put_task.ensures ∙ (λ i. slice_set (is i).tasks c.args.recorder (Some (record c.served.result.0 { victim = None }))) in
-    let path : ◌≡◌ {A = CoreValue g.row.S.Denot g.row.C.Denot} _ (freed now c.args.recorder c.served.result.0 c.args.volume c.args.page x (g.S.Site.writes x)) = λ i. record (of_parts (is i) x (done_.rows_ i) (owners i) (moving i) (is i).requests (tasks i) (is i).hosts (told i)) { used = done_.used_ i } in
-    freed_does g.S.Site (g.C.Choose.may now.chooser) now _ c.args.recorder c.served.result.0 c.args.volume c.args.page c.did.result c.did.ensures.answer c.served.ensures.serves.at done_.have path
+    let tasks : c.put_task.new.tasks.items ≡ slice_set now.tasks c.args.recorder (Some (record c.task_and_request.result.0 { victim = None })) = c.put_task.ensures ∙ (λ i. slice_set (is i).tasks c.args.recorder (Some (record c.task_and_request.result.0 { victim = None }))) in
+    let path : ◌≡◌ {A = CoreValue g.row.S.Denot g.row.C.Denot} _ (freed now c.args.recorder c.task_and_request.result.0 c.args.volume c.args.page x (g.S.Site.writes x)) = λ i. record (of_parts (is i) x (done_.rows_ i) (owners i) (moving i) (is i).requests (tasks i) (is i).hosts (told i)) { used = done_.used_ i } in
+    freed_does g.S.Site (g.C.Choose.may now.chooser) now _ c.args.recorder c.task_and_request.result.0 c.args.volume c.args.page c.tell_work.result c.tell_work.ensures.answer c.task_and_request.ensures.serves.at done_.have path
 
 pub invariant_of-core-in-Err : goal.invariant_of-core-in-Err
 invariant_of-core-in-Err g c =
     let now = c.args.core.now in
     let has = has_room g.S.Site now c.core.view_is c.core.invariant c.make_room.new.site _ c.make_room.ensures.session c.make_room.ensures.site in
     let says = rule_frees now c.args.recorder c.requires.fits has.kept.whole.kept c.args.volume c.args.page c.requires.rule in
-    let may : MayFree now c.served.result.0 c.args.volume c.args.page = says.may c.served.result.0 c.served.result.1 c.served.ensures.serves in
-    let due = due_freed g.row.S.Denot g.S.Site.tells (g.S.Site.told now.site) now has.kept.whole says.going c.args.recorder c.served.result.0 c.served.result.1 c.served.ensures.serves c.args.volume c.args.page may in
-    row_stopped g.S.Site has c.args.volume (Free c.args.page) c.write_change.new.site c.write_change.ensures.rows c.write_change.ensures.site_.devices _ c.in-Err.ensures.copies due says.going c.args.recorder c.in-Err.ensures.site_.cause.failed c.in-Err.ensures.used.failed c.in-Err.ensures.session.stopped c.stop.ensures.told
+    let may : MayFree now c.task_and_request.result.0 c.args.volume c.args.page = says.may c.task_and_request.result.0 c.task_and_request.result.1 c.task_and_request.ensures.serves in
+    let due = due_freed g.row.S.Denot g.S.Site.tells (g.S.Site.told now.site) now has.kept.whole says.going c.args.recorder c.task_and_request.result.0 c.task_and_request.result.1 c.task_and_request.ensures.serves c.args.volume c.args.page may in
+    row_stopped g.S.Site has c.args.volume (Free c.args.page) c.write_change.new.site c.write_change.ensures.rows c.write_change.ensures.site_.devices _ c.in-Err.ensures.copies due says.going c.args.recorder c.in-Err.ensures.site_.cause.failed c.in-Err.ensures.used.failed c.in-Err.ensures.session.stopped c.tell_stop.ensures.told
 
 pub returns-in-Err-clause-event : goal.returns-in-Err-clause-event
 returns-in-Err-clause-event g c =
@@ -108,8 +108,8 @@ returns-in-Err-clause-event g c =
     let has = has_room g.S.Site now c.core.view_is c.core.invariant c.make_room.new.site _ c.make_room.ensures.session c.make_room.ensures.site in
     let x = c.write_change.new.site in
     let fails = row_failed g.S.Site has c.args.volume (Free c.args.page) x c.write_change.ensures.rows c.write_change.ensures.site_.devices _ c.in-Err.ensures.copies c.in-Err.ensures.site_.counted c.in-Err.ensures.site_.cause.failed in
-    let path = stopped_is g.S.Site has c.args.volume (Free c.args.page) x c.write_change.ensures.rows c.write_change.ensures.site_.devices _ c.in-Err.ensures.copies c.args.recorder c.in-Err.ensures.used.failed c.in-Err.ensures.session.stopped c.stop.ensures.told in
-    unfreed_does g.S.Site (g.C.Choose.may now.chooser) now _ c.args.recorder c.served.result.0 c.args.volume c.args.page c.stop.result (c.stop.ensures.answer ∙ ap Stopped c.faults.ensures) c.served.ensures.serves.at fails path
+    let path = stopped_is g.S.Site has c.args.volume (Free c.args.page) x c.write_change.ensures.rows c.write_change.ensures.site_.devices _ c.in-Err.ensures.copies c.args.recorder c.in-Err.ensures.used.failed c.in-Err.ensures.session.stopped c.tell_stop.ensures.told in
+    unfreed_does g.S.Site (g.C.Choose.may now.chooser) now _ c.args.recorder c.task_and_request.result.0 c.args.volume c.args.page c.tell_stop.result (c.tell_stop.ensures.answer ∙ ap Stopped c.faults.ensures) c.task_and_request.ensures.serves.at fails path
 
 -- ---- the recorder has its place
 
@@ -126,12 +126,12 @@ pub write_change-requires-clause-room_console : goal.write_change-requires-claus
 write_change-requires-clause-room_console g c =
     when_ok c.make_room.result (sym c.is_err.ensures.value ∙ c.if-is_err.false) c.make_room.ensures.room_console
 
-pub did-requires : goal.did-requires
-did-requires g c =
+pub tell_work-requires : goal.tell_work-requires
+tell_work-requires g c =
     subst (λ (e : _). 1 ≤ e.spare) (sym c.write_change.ensures.session.events_) (when_ok c.make_room.result (sym c.is_err.ensures.value ∙ c.if-is_err.false) c.make_room.ensures.room_events)
 
-pub stop-requires : goal.stop-requires
-stop-requires g c =
+pub tell_stop-requires : goal.tell_stop-requires
+tell_stop-requires g c =
     subst (λ (e : _). 1 ≤ e.spare) (sym c.write_change.ensures.session.events_) (when_ok c.make_room.result (sym c.is_err.ensures.value ∙ c.if-is_err.false) c.make_room.ensures.room_events)
 
 -- ---- what it leaves of the site, and that it goes on where no write fails
@@ -159,7 +159,7 @@ returns-in-Ok-clause-devices g c =
 pub returns-in-Ok-clause-works : goal.returns-in-Ok-clause-works
 returns-in-Ok-clause-works g c =
     let has = has_room g.S.Site c.args.core.now c.core.view_is c.core.invariant c.make_room.new.site _ c.make_room.ensures.session c.make_room.ensures.site in
-    λ but never. ap (λ (d : SessionData). d.stopped) (c.did.ensures.told ∙ ap (with_last_event (Work c.args.recorder)) c.in-Ok.ensures.session.told) ∙ room_going g.S.Site has
+    λ but never. ap (λ (d : SessionData). d.stopped) (c.tell_work.ensures.told ∙ ap (with_last_event (Work c.args.recorder)) c.in-Ok.ensures.session.told) ∙ room_going g.S.Site has
 
 pub returns-in-Err-clause-devices : goal.returns-in-Err-clause-devices
 returns-in-Err-clause-devices g c =

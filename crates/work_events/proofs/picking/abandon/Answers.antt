@@ -14,8 +14,8 @@ use Rattle.work_events.proofs.RuleFacts.{rule_abandons}
 use Rattle.work_events.proofs.PickWhole.{kept_abandoned}
 use Rattle.work_events.proofs.picking.abandon.Goals as goal
 
-pub served-task-requires : goal.served-task-requires
-served-task-requires g c =
+pub task_and_request-task-requires : goal.task_and_request-task-requires
+task_and_request-task-requires g c =
     let now = c.args.core.now in
     let is = c.core.view_is in
     let kept = kept_at g.S.Site _ now is c.core.invariant in
@@ -29,7 +29,7 @@ end_task-requires-clause-frame g c =
     let kept = kept_at g.S.Site _ now is c.core.invariant in
     let says = rule_abandons now c.args.recorder c.requires.fits kept.whole.kept c.requires.rule in
     let size : length c.core.inside.frames.owners ≡ now.config.frames = ap (λ (z : CoreValue g.row.S.Denot g.row.C.Denot). length z.owners) is ∙ kept.whole.shaped.owners_ in
-    let low = ((kept.whole.kept says.going).tasks_.each c.args.recorder c.served-task.result.0 c.served-task.ensures.serves.at).low in
+    let low = ((kept.whole.kept says.going).tasks_.each c.args.recorder c.task_and_request-task.result.0 c.task_and_request-task.ensures.serves.at).low in
     omega (arith, size, low)
 
 pub invariant_of-core-2 : goal.invariant_of-core-2
@@ -38,39 +38,39 @@ invariant_of-core-2 g c =
     let is = c.core.view_is in
     let kept = kept_at g.S.Site _ now is c.core.invariant in
     let says = rule_abandons now c.args.recorder c.requires.fits kept.whole.kept c.requires.rule in
-    let told : session_data c.did.new.session ≡ with_last_event (Work c.args.recorder) (data_of now) = c.did.ensures.told ∙ ap (with_last_event (Work c.args.recorder)) (c.reserve.ensures.same.told ∙ ap (λ (z : CoreValue g.row.S.Denot g.row.C.Denot). data_of z) is) in
+    let told : session_data c.tell_work.new.session ≡ with_last_event (Work c.args.recorder) (data_of now) = c.tell_work.ensures.told ∙ ap (with_last_event (Work c.args.recorder)) (c.reserve.ensures.same.told ∙ ap (λ (z : CoreValue g.row.S.Denot g.row.C.Denot). data_of z) is) in
     let tasks : c.end_task.new.tasks.items ≡ slice_set now.tasks c.args.recorder None = c.end_task.ensures.tasks ∙ (λ i. slice_set (is i).tasks c.args.recorder None) in
-    let moving : c.end_task.new.frames.moving ≡ slice_set now.moving c.served-task.result.0.frame false = ap (λ f. f.moving) c.end_task.ensures.frames ∙ (λ i. slice_set (is i).moving c.served-task.result.0.frame false) in
+    let moving : c.end_task.new.frames.moving ≡ slice_set now.moving c.task_and_request-task.result.0.frame false = ap (λ f. f.moving) c.end_task.ensures.frames ∙ (λ i. slice_set (is i).moving c.task_and_request-task.result.0.frame false) in
     let owners : c.end_task.new.frames.owners ≡ now.owners = ap (λ f. f.owners) c.end_task.ensures.frames ∙ ap (λ (z : CoreValue g.row.S.Denot g.row.C.Denot). z.owners) is in
-    let requests : c.end_task.new.requests ≡ with_state c.served-task.result.0.host Queued now.requests = c.end_task.ensures.requests ∙ (λ i. with_state c.served-task.result.0.host Queued (is i).requests) in
-    let path : ◌≡◌ {A = CoreValue g.row.S.Denot g.row.C.Denot} _ (record now { moving = slice_set now.moving c.served-task.result.0.frame false; requests = with_state c.served-task.result.0.host Queued now.requests; tasks = slice_set now.tasks c.args.recorder None; events = now.events ++ Work c.args.recorder ∷ [] }) =
+    let requests : c.end_task.new.requests ≡ with_state c.task_and_request-task.result.0.host Queued now.requests = c.end_task.ensures.requests ∙ (λ i. with_state c.task_and_request-task.result.0.host Queued (is i).requests) in
+    let path : ◌≡◌ {A = CoreValue g.row.S.Denot g.row.C.Denot} _ (record now { moving = slice_set now.moving c.task_and_request-task.result.0.frame false; requests = with_state c.task_and_request-task.result.0.host Queued now.requests; tasks = slice_set now.tasks c.args.recorder None; events = now.events ++ Work c.args.recorder ∷ [] }) =
     λ i. of_parts (is i) (is i).site (is i).rows (owners i) (moving i) (requests i) (tasks i) (is i).hosts (told i) in
     subst (λ (z : CoreValue g.row.S.Denot g.row.C.Denot). IsKept g.S.Site.tells (g.S.Site.told z.site) (g.S.Site.writes z.site) (g.S.Site.faults z.site) z) (sym path)
-    (kept_abandoned g.row.S.Denot g.S.Site.tells (g.S.Site.told now.site) (g.S.Site.writes now.site) (g.S.Site.faults now.site) now kept says.going c.args.recorder c.served-task.result.0 c.served-task.result.1 c.served-task.ensures.serves)
+    (kept_abandoned g.row.S.Denot g.S.Site.tells (g.S.Site.told now.site) (g.S.Site.writes now.site) (g.S.Site.faults now.site) now kept says.going c.args.recorder c.task_and_request-task.result.0 c.task_and_request-task.result.1 c.task_and_request-task.ensures.serves)
 
 pub returns-clause-event : goal.returns-clause-event
 returns-clause-event g c =
     let now = c.args.core.now in
     let is = c.core.view_is in
-    let told : session_data c.did.new.session ≡ with_last_event (Work c.args.recorder) (data_of now) = c.did.ensures.told ∙ ap (with_last_event (Work c.args.recorder)) (c.reserve.ensures.same.told ∙ ap (λ (z : CoreValue g.row.S.Denot g.row.C.Denot). data_of z) is) in
+    let told : session_data c.tell_work.new.session ≡ with_last_event (Work c.args.recorder) (data_of now) = c.tell_work.ensures.told ∙ ap (with_last_event (Work c.args.recorder)) (c.reserve.ensures.same.told ∙ ap (λ (z : CoreValue g.row.S.Denot g.row.C.Denot). data_of z) is) in
     let tasks : c.end_task.new.tasks.items ≡ slice_set now.tasks c.args.recorder None = c.end_task.ensures.tasks ∙ (λ i. slice_set (is i).tasks c.args.recorder None) in
-    let moving : c.end_task.new.frames.moving ≡ slice_set now.moving c.served-task.result.0.frame false = ap (λ f. f.moving) c.end_task.ensures.frames ∙ (λ i. slice_set (is i).moving c.served-task.result.0.frame false) in
+    let moving : c.end_task.new.frames.moving ≡ slice_set now.moving c.task_and_request-task.result.0.frame false = ap (λ f. f.moving) c.end_task.ensures.frames ∙ (λ i. slice_set (is i).moving c.task_and_request-task.result.0.frame false) in
     let owners : c.end_task.new.frames.owners ≡ now.owners = ap (λ f. f.owners) c.end_task.ensures.frames ∙ ap (λ (z : CoreValue g.row.S.Denot g.row.C.Denot). z.owners) is in
-    let requests : c.end_task.new.requests ≡ with_state c.served-task.result.0.host Queued now.requests = c.end_task.ensures.requests ∙ (λ i. with_state c.served-task.result.0.host Queued (is i).requests) in
-    let path : ◌≡◌ {A = CoreValue g.row.S.Denot g.row.C.Denot} _ (record now { site = c.core.inside.site; moving = slice_set now.moving c.served-task.result.0.frame false; requests = with_state c.served-task.result.0.host Queued now.requests; tasks = slice_set now.tasks c.args.recorder None; events = now.events ++ Work c.args.recorder ∷ [] }) =
+    let requests : c.end_task.new.requests ≡ with_state c.task_and_request-task.result.0.host Queued now.requests = c.end_task.ensures.requests ∙ (λ i. with_state c.task_and_request-task.result.0.host Queued (is i).requests) in
+    let path : ◌≡◌ {A = CoreValue g.row.S.Denot g.row.C.Denot} _ (record now { site = c.core.inside.site; moving = slice_set now.moving c.task_and_request-task.result.0.frame false; requests = with_state c.task_and_request-task.result.0.host Queued now.requests; tasks = slice_set now.tasks c.args.recorder None; events = now.events ++ Work c.args.recorder ∷ [] }) =
     λ i. of_parts (is i) c.core.inside.site (is i).rows (owners i) (moving i) (requests i) (tasks i) (is i).hosts (told i) in
-    abandons_does g.S.Site (g.C.Choose.may now.chooser) now _ c.args.recorder c.served-task.result.0 c.did.result c.did.ensures.answer c.served-task.ensures.serves.at (ap (λ (z : CoreValue g.row.S.Denot g.row.C.Denot). z.site) is) path
+    abandons_does g.S.Site (g.C.Choose.may now.chooser) now _ c.args.recorder c.task_and_request-task.result.0 c.tell_work.result c.tell_work.ensures.answer c.task_and_request-task.ensures.serves.at (ap (λ (z : CoreValue g.row.S.Denot g.row.C.Denot). z.site) is) path
 
 -- ---- there is room for what it tells
 
-pub did-requires : goal.did-requires
-did-requires g c = let room = when_ok c.reserve.result (sym c.is_err.ensures.value ∙ c.if-is_err.false) c.reserve.ensures.room in room.event
+pub tell_work-requires : goal.tell_work-requires
+tell_work-requires g c = let room = when_ok c.reserve.result (sym c.is_err.ensures.value ∙ c.if-is_err.false) c.reserve.ensures.room in room.event
 
 pub end_task-requires-clause-fits : goal.end_task-requires-clause-fits
 end_task-requires-clause-fits g c = its_place g.S.Site c.args.recorder c.core.view_is c.core.invariant c.requires.fits
 
 pub end_task-requires-clause-asked : goal.end_task-requires-clause-asked
-end_task-requires-clause-asked g c = its_request c.served-task.result.0.host c.served-task.result.1 c.core.view_is c.served-task.ensures.serves.asked
+end_task-requires-clause-asked g c = its_request c.task_and_request-task.result.0.host c.task_and_request-task.result.1 c.core.view_is c.task_and_request-task.ensures.serves.asked
 
 -- ---- without room nothing changed, and its chooser and site stay
 

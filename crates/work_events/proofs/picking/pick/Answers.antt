@@ -38,7 +38,7 @@ invariant_of-core-2 g c =
     let is = c.core.view_is in
     let kept = kept_at g.S.Site _ now is c.core.invariant in
     let says = rule_picks now c.args.recorder c.requires.fits kept.whole.kept c.args.host c.args.frame c.requires.rule in
-    let told : session_data c.did.new.session ≡ with_last_event (Work c.args.recorder) (data_of now) = c.did.ensures.told ∙ ap (with_last_event (Work c.args.recorder)) (c.reserve.ensures.same.told ∙ ap (λ (z : CoreValue g.row.S.Denot g.row.C.Denot). data_of z) is) in
+    let told : session_data c.tell_work.new.session ≡ with_last_event (Work c.args.recorder) (data_of now) = c.tell_work.ensures.told ∙ ap (with_last_event (Work c.args.recorder)) (c.reserve.ensures.same.told ∙ ap (λ (z : CoreValue g.row.S.Denot g.row.C.Denot). data_of z) is) in
     let tasks : c.begin_task.new.tasks.items ≡ slice_set now.tasks c.args.recorder (Some (task_for c.args.host c.args.frame None)) = c.begin_task.ensures.tasks ∙ (λ i. slice_set (is i).tasks c.args.recorder (Some (task_for c.args.host c.args.frame None))) in
     let moving : c.begin_task.new.frames.moving ≡ slice_set now.moving c.args.frame true = ap (λ f. f.moving) c.begin_task.ensures.frames ∙ (λ i. slice_set (is i).moving c.args.frame true) in
     let owners : c.begin_task.new.frames.owners ≡ now.owners = ap (λ f. f.owners) c.begin_task.ensures.frames ∙ ap (λ (z : CoreValue g.row.S.Denot g.row.C.Denot). z.owners) is in
@@ -52,19 +52,19 @@ pub returns-clause-event : goal.returns-clause-event
 returns-clause-event g c =
     let now = c.args.core.now in
     let is = c.core.view_is in
-    let told : session_data c.did.new.session ≡ with_last_event (Work c.args.recorder) (data_of now) = c.did.ensures.told ∙ ap (with_last_event (Work c.args.recorder)) (c.reserve.ensures.same.told ∙ ap (λ (z : CoreValue g.row.S.Denot g.row.C.Denot). data_of z) is) in
+    let told : session_data c.tell_work.new.session ≡ with_last_event (Work c.args.recorder) (data_of now) = c.tell_work.ensures.told ∙ ap (with_last_event (Work c.args.recorder)) (c.reserve.ensures.same.told ∙ ap (λ (z : CoreValue g.row.S.Denot g.row.C.Denot). data_of z) is) in
     let tasks : c.begin_task.new.tasks.items ≡ slice_set now.tasks c.args.recorder (Some (task_for c.args.host c.args.frame None)) = c.begin_task.ensures.tasks ∙ (λ i. slice_set (is i).tasks c.args.recorder (Some (task_for c.args.host c.args.frame None))) in
     let moving : c.begin_task.new.frames.moving ≡ slice_set now.moving c.args.frame true = ap (λ f. f.moving) c.begin_task.ensures.frames ∙ (λ i. slice_set (is i).moving c.args.frame true) in
     let owners : c.begin_task.new.frames.owners ≡ now.owners = ap (λ f. f.owners) c.begin_task.ensures.frames ∙ ap (λ (z : CoreValue g.row.S.Denot g.row.C.Denot). z.owners) is in
     let requests : c.begin_task.new.requests ≡ with_state c.args.host Moving now.requests = c.begin_task.ensures.requests ∙ (λ i. with_state c.args.host Moving (is i).requests) in
     let path : ◌≡◌ {A = CoreValue g.row.S.Denot g.row.C.Denot} _ (record now { site = c.core.inside.site; moving = slice_set now.moving c.args.frame true; requests = with_state c.args.host Moving now.requests; tasks = slice_set now.tasks c.args.recorder (Some (task_for c.args.host c.args.frame None)); events = now.events ++ Work c.args.recorder ∷ [] }) =
     λ i. of_parts (is i) c.core.inside.site (is i).rows (owners i) (moving i) (requests i) (tasks i) (is i).hosts (told i) in
-    picks_does g.S.Site (g.C.Choose.may now.chooser) now _ c.args.recorder c.args.host c.args.frame c.did.result c.did.ensures.answer (ap (λ (z : CoreValue g.row.S.Denot g.row.C.Denot). z.site) is) path
+    picks_does g.S.Site (g.C.Choose.may now.chooser) now _ c.args.recorder c.args.host c.args.frame c.tell_work.result c.tell_work.ensures.answer (ap (λ (z : CoreValue g.row.S.Denot g.row.C.Denot). z.site) is) path
 
 -- ---- there is room for what it tells
 
-pub did-requires : goal.did-requires
-did-requires g c = let room = when_ok c.reserve.result (sym c.is_err.ensures.value ∙ c.if-is_err.false) c.reserve.ensures.room in room.event
+pub tell_work-requires : goal.tell_work-requires
+tell_work-requires g c = let room = when_ok c.reserve.result (sym c.is_err.ensures.value ∙ c.if-is_err.false) c.reserve.ensures.room in room.event
 
 pub begin_task-requires-clause-fits : goal.begin_task-requires-clause-fits
 begin_task-requires-clause-fits g c = its_place g.S.Site c.args.recorder c.core.view_is c.core.invariant c.requires.fits

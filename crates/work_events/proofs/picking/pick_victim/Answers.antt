@@ -24,8 +24,8 @@ candidates-requires g c =
     let says = rule_picks_victim now c.args.recorder c.requires.fits kept.whole.kept c.args.host c.requires.rule in
     record { going = says.going }
 
-pub chosen-choice-requires : goal.chosen-choice-requires
-chosen-choice-requires g c =
+pub choose_among-choice-requires : goal.choose_among-choice-requires
+choose_among-choice-requires g c =
     let now = c.args.core.now in
     let is = c.core.view_is in
     let kept = kept_at g.S.Site _ now is c.core.invariant in
@@ -42,8 +42,8 @@ begin_task-requires-clause-frame g c =
     let kept = kept_at g.S.Site _ now is c.core.invariant in
     let says = rule_picks_victim now c.args.recorder c.requires.fits kept.whole.kept c.args.host c.requires.rule in
     let list : c.as_slice.result.now ≡ candidates now = c.as_slice.ensures ∙ c.in-Ok.ensures in
-    let answer = c.chosen-choice.ensures in
-    let may = says.may answer.0 c.chosen-choice.result (ap (λ (l : List Candidate). slice_get l answer.0) (sym list) ∙ answer.2) in
+    let answer = c.choose_among-choice.ensures in
+    let may = says.may answer.0 c.choose_among-choice.result (ap (λ (l : List Candidate). slice_get l answer.0) (sym list) ∙ answer.2) in
     let size : length c.core.inside.frames.owners ≡ now.config.frames = ap (λ (z : CoreValue g.row.S.Denot g.row.C.Denot). length z.owners) is ∙ kept.whole.shaped.owners_ in
     let low = may.known in
     omega (arith, size, low)
@@ -55,8 +55,8 @@ begin_task-requires-clause-asked g c =
     let kept = kept_at g.S.Site _ now is c.core.invariant in
     let says = rule_picks_victim now c.args.recorder c.requires.fits kept.whole.kept c.args.host c.requires.rule in
     let list : c.as_slice.result.now ≡ candidates now = c.as_slice.ensures ∙ c.in-Ok.ensures in
-    let answer = c.chosen-choice.ensures in
-    let may = says.may answer.0 c.chosen-choice.result (ap (λ (l : List Candidate). slice_get l answer.0) (sym list) ∙ answer.2) in
+    let answer = c.choose_among-choice.ensures in
+    let may = says.may answer.0 c.choose_among-choice.result (ap (λ (l : List Candidate). slice_get l answer.0) (sym list) ∙ answer.2) in
     ap is_some (ap (λ (z : CoreValue g.row.S.Denot g.row.C.Denot). request_of z.requests c.args.host) is ∙ may.asked)
 
 pub invariant_of-core-2 : goal.invariant_of-core-2
@@ -66,38 +66,38 @@ invariant_of-core-2 g c =
     let kept = kept_at g.S.Site _ now is c.core.invariant in
     let says = rule_picks_victim now c.args.recorder c.requires.fits kept.whole.kept c.args.host c.requires.rule in
     let list : c.as_slice.result.now ≡ candidates now = c.as_slice.ensures ∙ c.in-Ok.ensures in
-    let answer = c.chosen-choice.ensures in
-    let may = says.may answer.0 c.chosen-choice.result (ap (λ (l : List Candidate). slice_get l answer.0) (sym list) ∙ answer.2) in
-    let told : session_data c.did.new.session ≡ with_last_event (Work c.args.recorder) (data_of now) = c.did.ensures.told ∙ ap (with_last_event (Work c.args.recorder)) (c.reserve.ensures.same.told ∙ ap (λ (z : CoreValue g.row.S.Denot g.row.C.Denot). data_of z) is) in
-    let tasks : c.begin_task.new.tasks.items ≡ slice_set now.tasks c.args.recorder (Some (task_for c.args.host c.chosen-choice.result.frame (Some (c.chosen-choice.result.volume, c.chosen-choice.result.page)))) = c.begin_task.ensures.tasks ∙ (λ i. slice_set (is i).tasks c.args.recorder (Some (task_for c.args.host c.chosen-choice.result.frame (Some (c.chosen-choice.result.volume, c.chosen-choice.result.page))))) in
-    let moving : c.begin_task.new.frames.moving ≡ slice_set now.moving c.chosen-choice.result.frame true = ap (λ f. f.moving) c.begin_task.ensures.frames ∙ (λ i. slice_set (is i).moving c.chosen-choice.result.frame true) in
+    let answer = c.choose_among-choice.ensures in
+    let may = says.may answer.0 c.choose_among-choice.result (ap (λ (l : List Candidate). slice_get l answer.0) (sym list) ∙ answer.2) in
+    let told : session_data c.tell_work.new.session ≡ with_last_event (Work c.args.recorder) (data_of now) = c.tell_work.ensures.told ∙ ap (with_last_event (Work c.args.recorder)) (c.reserve.ensures.same.told ∙ ap (λ (z : CoreValue g.row.S.Denot g.row.C.Denot). data_of z) is) in
+    let tasks : c.begin_task.new.tasks.items ≡ slice_set now.tasks c.args.recorder (Some (task_for c.args.host c.choose_among-choice.result.frame (Some (c.choose_among-choice.result.volume, c.choose_among-choice.result.page)))) = c.begin_task.ensures.tasks ∙ (λ i. slice_set (is i).tasks c.args.recorder (Some (task_for c.args.host c.choose_among-choice.result.frame (Some (c.choose_among-choice.result.volume, c.choose_among-choice.result.page))))) in
+    let moving : c.begin_task.new.frames.moving ≡ slice_set now.moving c.choose_among-choice.result.frame true = ap (λ f. f.moving) c.begin_task.ensures.frames ∙ (λ i. slice_set (is i).moving c.choose_among-choice.result.frame true) in
     let owners : c.begin_task.new.frames.owners ≡ now.owners = ap (λ f. f.owners) c.begin_task.ensures.frames ∙ ap (λ (z : CoreValue g.row.S.Denot g.row.C.Denot). z.owners) is in
     let requests : c.begin_task.new.requests ≡ with_state c.args.host Moving now.requests = c.begin_task.ensures.requests ∙ (λ i. with_state c.args.host Moving (is i).requests) in
-    let path : ◌≡◌ {A = CoreValue g.row.S.Denot g.row.C.Denot} _ (record now { moving = slice_set now.moving c.chosen-choice.result.frame true; requests = with_state c.args.host Moving now.requests; tasks = slice_set now.tasks c.args.recorder (Some (task_for c.args.host c.chosen-choice.result.frame (Some (c.chosen-choice.result.volume, c.chosen-choice.result.page)))); events = now.events ++ Work c.args.recorder ∷ [] }) =
+    let path : ◌≡◌ {A = CoreValue g.row.S.Denot g.row.C.Denot} _ (record now { moving = slice_set now.moving c.choose_among-choice.result.frame true; requests = with_state c.args.host Moving now.requests; tasks = slice_set now.tasks c.args.recorder (Some (task_for c.args.host c.choose_among-choice.result.frame (Some (c.choose_among-choice.result.volume, c.choose_among-choice.result.page)))); events = now.events ++ Work c.args.recorder ∷ [] }) =
     λ i. of_parts (is i) (is i).site (is i).rows (owners i) (moving i) (requests i) (tasks i) (is i).hosts (told i) in
     subst (λ (z : CoreValue g.row.S.Denot g.row.C.Denot). IsKept g.S.Site.tells (g.S.Site.told z.site) (g.S.Site.writes z.site) (g.S.Site.faults z.site) z) (sym path)
-    (kept_picked g.row.S.Denot g.S.Site.tells (g.S.Site.told now.site) (g.S.Site.writes now.site) (g.S.Site.faults now.site) now kept says.going c.args.recorder (task_for c.args.host c.chosen-choice.result.frame (Some (c.chosen-choice.result.volume, c.chosen-choice.result.page))) says.request may)
+    (kept_picked g.row.S.Denot g.S.Site.tells (g.S.Site.told now.site) (g.S.Site.writes now.site) (g.S.Site.faults now.site) now kept says.going c.args.recorder (task_for c.args.host c.choose_among-choice.result.frame (Some (c.choose_among-choice.result.volume, c.choose_among-choice.result.page))) says.request may)
 
 pub returns-clause-event : goal.returns-clause-event
 returns-clause-event g c =
     let now = c.args.core.now in
     let is = c.core.view_is in
     let list : c.as_slice.result.now ≡ candidates now = c.as_slice.ensures ∙ c.in-Ok.ensures in
-    let answer = c.chosen-choice.ensures in
-    let told : session_data c.did.new.session ≡ with_last_event (Work c.args.recorder) (data_of now) = c.did.ensures.told ∙ ap (with_last_event (Work c.args.recorder)) (c.reserve.ensures.same.told ∙ ap (λ (z : CoreValue g.row.S.Denot g.row.C.Denot). data_of z) is) in
-    let tasks : c.begin_task.new.tasks.items ≡ slice_set now.tasks c.args.recorder (Some (task_for c.args.host c.chosen-choice.result.frame (Some (c.chosen-choice.result.volume, c.chosen-choice.result.page)))) = c.begin_task.ensures.tasks ∙ (λ i. slice_set (is i).tasks c.args.recorder (Some (task_for c.args.host c.chosen-choice.result.frame (Some (c.chosen-choice.result.volume, c.chosen-choice.result.page))))) in
-    let moving : c.begin_task.new.frames.moving ≡ slice_set now.moving c.chosen-choice.result.frame true = ap (λ f. f.moving) c.begin_task.ensures.frames ∙ (λ i. slice_set (is i).moving c.chosen-choice.result.frame true) in
+    let answer = c.choose_among-choice.ensures in
+    let told : session_data c.tell_work.new.session ≡ with_last_event (Work c.args.recorder) (data_of now) = c.tell_work.ensures.told ∙ ap (with_last_event (Work c.args.recorder)) (c.reserve.ensures.same.told ∙ ap (λ (z : CoreValue g.row.S.Denot g.row.C.Denot). data_of z) is) in
+    let tasks : c.begin_task.new.tasks.items ≡ slice_set now.tasks c.args.recorder (Some (task_for c.args.host c.choose_among-choice.result.frame (Some (c.choose_among-choice.result.volume, c.choose_among-choice.result.page)))) = c.begin_task.ensures.tasks ∙ (λ i. slice_set (is i).tasks c.args.recorder (Some (task_for c.args.host c.choose_among-choice.result.frame (Some (c.choose_among-choice.result.volume, c.choose_among-choice.result.page))))) in
+    let moving : c.begin_task.new.frames.moving ≡ slice_set now.moving c.choose_among-choice.result.frame true = ap (λ f. f.moving) c.begin_task.ensures.frames ∙ (λ i. slice_set (is i).moving c.choose_among-choice.result.frame true) in
     let owners : c.begin_task.new.frames.owners ≡ now.owners = ap (λ f. f.owners) c.begin_task.ensures.frames ∙ ap (λ (z : CoreValue g.row.S.Denot g.row.C.Denot). z.owners) is in
     let requests : c.begin_task.new.requests ≡ with_state c.args.host Moving now.requests = c.begin_task.ensures.requests ∙ (λ i. with_state c.args.host Moving (is i).requests) in
-    let path : ◌≡◌ {A = CoreValue g.row.S.Denot g.row.C.Denot} _ (record now { site = c.core.inside.site; moving = slice_set now.moving c.chosen-choice.result.frame true; requests = with_state c.args.host Moving now.requests; tasks = slice_set now.tasks c.args.recorder (Some (task_for c.args.host c.chosen-choice.result.frame (Some (c.chosen-choice.result.volume, c.chosen-choice.result.page)))); events = now.events ++ Work c.args.recorder ∷ [] }) =
+    let path : ◌≡◌ {A = CoreValue g.row.S.Denot g.row.C.Denot} _ (record now { site = c.core.inside.site; moving = slice_set now.moving c.choose_among-choice.result.frame true; requests = with_state c.args.host Moving now.requests; tasks = slice_set now.tasks c.args.recorder (Some (task_for c.args.host c.choose_among-choice.result.frame (Some (c.choose_among-choice.result.volume, c.choose_among-choice.result.page)))); events = now.events ++ Work c.args.recorder ∷ [] }) =
     λ i. of_parts (is i) c.core.inside.site (is i).rows (owners i) (moving i) (requests i) (tasks i) (is i).hosts (told i) in
     let may_ : g.C.Choose.may now.chooser (candidates now) answer.0 = subst (λ (x : (List Candidate → ℕ → Type 0) × List Candidate). x.0 x.1 answer.0) (λ i. (g.C.Choose.may (is i).chooser, list i)) answer.1 in
-    picks_victim_does g.S.Site (g.C.Choose.may now.chooser) now _ c.args.recorder c.args.host answer.0 c.chosen-choice.result c.did.result may_ (ap (λ (l : List Candidate). slice_get l answer.0) (sym list) ∙ answer.2) c.did.ensures.answer (ap (λ (z : CoreValue g.row.S.Denot g.row.C.Denot). z.site) is) path
+    picks_victim_does g.S.Site (g.C.Choose.may now.chooser) now _ c.args.recorder c.args.host answer.0 c.choose_among-choice.result c.tell_work.result may_ (ap (λ (l : List Candidate). slice_get l answer.0) (sym list) ∙ answer.2) c.tell_work.ensures.answer (ap (λ (z : CoreValue g.row.S.Denot g.row.C.Denot). z.site) is) path
 
 -- ---- there is room for what it tells
 
-pub did-requires : goal.did-requires
-did-requires g c = let room = when_ok c.reserve.result (sym c.is_err.ensures.value ∙ c.if-is_err.false) c.reserve.ensures.room in room.event
+pub tell_work-requires : goal.tell_work-requires
+tell_work-requires g c = let room = when_ok c.reserve.result (sym c.is_err.ensures.value ∙ c.if-is_err.false) c.reserve.ensures.room in room.event
 
 pub begin_task-requires-clause-fits : goal.begin_task-requires-clause-fits
 begin_task-requires-clause-fits g c = its_place g.S.Site c.args.recorder c.core.view_is c.core.invariant c.requires.fits
