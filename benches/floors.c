@@ -178,7 +178,7 @@ static void lists(const long *numbers) {
     free(kept);
 }
 
-// keep N BYTES: so many bytes of the block, copied N times, as a history keeps what a command was given or gave.
+// keep N BYTES: so many bytes of the block, copied N times, as a history keeps what a command read.
 static void keep(const long *numbers) {
     for (long number = 0; number < numbers[0]; number++)
         memcpy(malloc(numbers[1]), block + FIRST, numbers[1]);

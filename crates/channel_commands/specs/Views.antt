@@ -1,5 +1,8 @@
 -- What calls, replies and command words of the code stand for.
 use Rattle.std.specs.Prelude.{ℕ, Bool, List}
+use Rattle.std.specs.Arc.{arc_value}
+use Rattle.channel_commands.specs.declared.argument.Argument.{Argument}
+use Rattle.channel_commands.specs.declared.argument.Argument.TheVariants as argument
 use Rattle.channel_commands.specs.declared.call.Call.{Call}
 use Rattle.channel_commands.specs.declared.call.Call.TheVariants as call
 use Rattle.channel_commands.specs.declared.call.DeviceCommand.{DeviceCommand}
@@ -8,6 +11,11 @@ use Rattle.channel_commands.specs.declared.ccw.Ccw.TheVariants as ccw
 use Rattle.channel_commands.specs.declared.call.Reply.{Reply}
 use Rattle.channel_commands.specs.declared.call.Reply.TheVariants as reply
 use Rattle.channel_commands.specs.Data.{CallData, mount, demount, command, break, ReplyData, done, mounted, demounted, already_mounted, not_mounted, no_volume, in_chain, program_check, chain_limit, equipment_check, no_space, stopped, CcwData, device, transfer}
+
+-- the bytes of an argument
+abbrev pub argument_bytes : Argument → List ℕ
+argument_bytes (argument.Inline bytes) = bytes.items
+argument_bytes (argument.Shared bytes) = (arc_value bytes).items
 
 -- a reply as plain data
 abbrev pub reply_of : Reply → ReplyData
@@ -26,7 +34,7 @@ reply_of reply.Stopped = stopped
 
 -- what a function of a code, an argument and a chaining gives for a device command
 abbrev pub for_command : {X : Type 0} → (ℕ → List ℕ → Bool → X) → DeviceCommand → X
-for_command f c = f c.code c.argument.items c.chained
+for_command f c = f c.code (argument_bytes c.argument) c.chained
 
 -- a device command as plain data
 abbrev pub asked_of : DeviceCommand → CallData
@@ -41,5 +49,5 @@ call_of (call.Break cause) = break cause
 
 -- a command word as plain data
 abbrev pub ccw_of : Ccw → CcwData
-ccw_of (ccw.Device code argument) = device code argument.items
+ccw_of (ccw.Device code argument) = device code (argument_bytes argument)
 ccw_of (ccw.Transfer to) = transfer to

@@ -1,4 +1,5 @@
 //! Calls of hosts and their replies.
+use crate::argument::Argument;
 use mss_base::{Bytes, VolumeNo};
 
 /// Why a channel program broke off.
@@ -15,7 +16,7 @@ pub enum BreakCause {
 pub struct DeviceCommand {
     pub code: u8,
     /// The bytes that the channel moves to the device; those past what the command needs are ignored.
-    pub argument: Bytes,
+    pub argument: Argument,
     /// Whether a further command is to follow in the same chain.
     pub chained: bool,
 }

@@ -24,7 +24,8 @@ fn read(what: ReadWhat, multi: bool) -> Command
 ///
 /// Bit 0x80 means multi-track. Transfer in channel, 0x08, is a word of a program and no device command.
 pub fn command_of(code: u8) -> Result<Command, UnknownCode>
-    ensures { MatchResult result (λ command. command_of code ≡ Some command) (λ e. command_of code ≡ None) }
+    ensures { MatchResult result (λ command. command_of code ≡ Some command)
+        (λ e. command_of code ≡ None) }
 {
     Ok(match code {
         0x03 => Command::NoOp,

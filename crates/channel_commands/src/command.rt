@@ -57,7 +57,7 @@ pub enum SearchField {
 /// When a search is met: how the track's bytes compare with the argument's, unsigned and from the left.
 #[derive(Clone, Copy, Debug, PartialEq, Eq)]
 pub enum SearchTest {
-    /// The same.
+    /// They are the same.
     Equal,
     /// The track's are higher.
     High,

@@ -7,25 +7,18 @@ ghost use Rattle.channel_program.specs.Views.{HoldsCommand, IsNextCommand};
 use crate::cursor::command_at;
 use crate::program::Program;
 use channel_commands::{Call, DeviceCommand};
-use mss_base::{Bytes, NoMemory};
-use std::alloc::Global;
+use mss_base::NoMemory;
 
-/// A copy of the command at a word.
-pub fn command_call(
-    alloc: Global,
-    program: &Program,
-    word: u8,
-    chained: bool,
-) -> Result<Call, NoMemory>
+/// The command at a word, as a call.
+pub fn command_call(program: &Program, word: u8, chained: bool) -> Result<Call, NoMemory>
     requires { HoldsCommand program.now word }
     ensures { (at : Standing) → IsNextCommand program.now at word chained
         → IfOk result (λ call. next_call program.now at ≡ Some (call_of call)) }
 {
     let (code, argument) = command_at(program, word);
-    let argument = Bytes::of(alloc, argument)?;
     Ok(Call::Command(DeviceCommand {
         code,
-        argument,
+        argument: argument.share()?,
         chained,
     }))
 }

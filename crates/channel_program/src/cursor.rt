@@ -2,12 +2,12 @@
 ghost use Rattle.std.specs.Prelude.{◌≡◌, Bool, map, slice_get};
 ghost use Rattle.std.specs.Option.{option_map};
 ghost use Rattle.channel_commands.specs.Data.{device, command};
-ghost use Rattle.channel_commands.specs.Views.{ccw_of, reply_of};
+ghost use Rattle.channel_commands.specs.Views.{argument_bytes, ccw_of, reply_of};
 ghost use Rattle.channel_program.specs.Script.{Standing, next_call, word_reached, command_in, word_after};
 ghost use Rattle.channel_program.specs.Views.{standing_of, Says, Moves, HoldsCommand, IsNextCommand};
 
 use crate::program::Program;
-use channel_commands::{Ccw, Reply};
+use channel_commands::{Argument, Ccw, Reply};
 
 /// The place of a program: the word of its last command, and how many commands it ran.
 #[derive(Clone, Copy)]
@@ -140,14 +140,16 @@ pub fn next(program: &Program, cursor: &mut Cursor, last: Option<&Reply>) -> Nex
 }
 
 /// The code and the argument of a word that is a command, as each word is that `next` gives.
-pub fn command_at(program: &Program, word: u8) -> (u8, &[u8])
+pub fn command_at(program: &Program, word: u8) -> (u8, &Argument)
     requires { HoldsCommand program.now word }
-    ensures word { slice_get program.now word ≡ Some (device result.0 result.1.now) }
+    ensures word { slice_get program.now word
+        ≡ Some (device result.0 (argument_bytes result.1.now)) }
     ensures call { (at : Standing) (chained : Bool) → IsNextCommand program.now at word chained
-        → next_call program.now at ≡ Some (command result.0 result.1.now chained) }
+        → next_call program.now at
+        ≡ Some (command result.0 (argument_bytes result.1.now) chained) }
 {
     match &program.as_slice()[word as usize] {
-        Ccw::Device { code, argument } => (*code, argument.as_slice()),
+        Ccw::Device { code, argument } => (*code, argument),
         Ccw::Transfer { .. } => unreachable!(),
     }
 }

@@ -3,7 +3,7 @@ ghost use Rattle.std.specs.Prelude.{◌≡◌, IfOk};
 ghost use Rattle.channel_commands.specs.Views.{ccw_of};
 ghost use Rattle.draws.specs.Load.{last_word, program_of, track_bytes};
 
-use channel_commands::Ccw;
+use channel_commands::{Argument, Ccw};
 use channel_program::{Program, Words};
 use mss_base::{Bytes, CYLINDERS, HEADS, NoMemory};
 use std::alloc::Global;
@@ -35,19 +35,18 @@ fn last_word(alloc: Global, track: &[u8; 4], choice: u32) -> Result<Ccw, NoMemor
     ensures { IfOk result (λ word. ccw_of word ≡ last_word track.now choice) }
 {
     if choice % 2 != 0 {
-        let argument = Bytes::new(alloc);
         return Ok(Ccw::Device {
             code: READ_RECORD_ZERO,
-            argument,
+            argument: Argument::empty(),
         });
     }
     let data = choice.to_be_bytes();
     let count = [track[0], track[1], track[2], track[3], 1, 0, 0, 4];
-    let mut argument = Bytes::of(alloc, &count)?;
-    argument.append(&data)?;
+    let mut record = Bytes::of(alloc, &count)?;
+    record.append(&data)?;
     Ok(Ccw::Device {
         code: WRITE_COUNT_KEY_DATA,
-        argument,
+        argument: Argument::keep(alloc, record)?,
     })
 }
 
@@ -56,8 +55,8 @@ pub fn program_of(alloc: Global, place: u32, head: u32, choice: u32) -> Result<P
     ensures { IfOk result (λ program. program ≡ program_of place head choice) }
 {
     let track = track_bytes(place, head);
-    let seek = Bytes::of(alloc, &[0, 0, track[0], track[1], track[2], track[3]])?;
-    let search = Bytes::of(alloc, &[track[0], track[1], track[2], track[3], 0])?;
+    let seek = Argument::of(alloc, &[0, 0, track[0], track[1], track[2], track[3]])?;
+    let search = Argument::of(alloc, &[track[0], track[1], track[2], track[3], 0])?;
     let last = last_word(alloc, &track, choice)?;
     let mut words = Words::new(alloc);
     words.push(Ccw::Device {

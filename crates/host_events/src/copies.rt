@@ -11,18 +11,18 @@ use ckd_plain::Entry;
 use mss_base::{Bytes, HostNo, NoMemory};
 use std::alloc::Global;
 
-fn copy_of_command(alloc: Global, command: &DeviceCommand) -> Result<DeviceCommand, NoMemory>
+fn copy_of_command(command: &DeviceCommand) -> Result<DeviceCommand, NoMemory>
     ensures { IfOk result (λ copy. asked_of copy ≡ asked_of command.now) }
 {
     Ok(DeviceCommand {
         code: command.code,
-        argument: Bytes::of(alloc, command.argument.as_slice())?,
+        argument: command.argument.share()?,
         chained: command.chained,
     })
 }
 
-/// A copy of a call. Only the argument of a command takes memory.
-pub fn copy_of_call(alloc: Global, call: &Call) -> Result<Call, NoMemory>
+/// A copy of a call, which shares the argument of a command. It takes no memory.
+pub fn copy_of_call(call: &Call) -> Result<Call, NoMemory>
     ensures { IfOk result (λ copy. call_of copy ≡ call_of call.now) }
 {
     Ok(match call {
@@ -31,7 +31,7 @@ pub fn copy_of_call(alloc: Global, call: &Call) -> Result<Call, NoMemory>
             bind: *bind,
         },
         Call::Demount => Call::Demount,
-        Call::Command(command) => Call::Command(copy_of_command(alloc, command)?),
+        Call::Command(command) => Call::Command(copy_of_command(command)?),
         Call::Break { cause } => Call::Break { cause: *cause },
     })
 }

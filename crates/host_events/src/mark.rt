@@ -84,7 +84,7 @@ pub fn mark<S: Site, C: Choose>(
     // there before the row changes.
     let session = &mut core.session;
     let site = &mut core.site;
-    let Ok(copy) = prepare(core.alloc, session, site, call, CHANGE_ITEMS) else {
+    let Ok(copy) = prepare(session, site, call, CHANGE_ITEMS) else {
         return HostAnswer::Memory;
     };
     let had = core.requests.of(host).is_some();

@@ -8,12 +8,10 @@ use crate::copies::copy_of_call;
 use channel_commands::Call;
 use core_state::{Session, make_room};
 use mss_base::{NoMemory, Site};
-use std::alloc::Global;
 
 /// A copy of a call, with room for what its event tells and for so many writes. After want of
 /// memory all but the room is as it was.
 pub fn prepare<S: Site>(
-    alloc: Global,
     session: &mut Session,
     site: &mut S,
     call: &Call,
@@ -28,7 +26,7 @@ pub fn prepare<S: Site>(
     ensures room_site { OnOk result (writes ≤ S.spare site.new) }
     ensures site { Reserves S.Site site.old site.new }
 {
-    let copy = copy_of_call(alloc, call)?;
+    let copy = copy_of_call(call)?;
     make_room(session, site, writes)?;
     Ok(copy)
 }

@@ -34,7 +34,8 @@ pub fn refused<S: Site, C: Choose>(core: &Core<S, C>) -> HostAnswer
     }
 }
 
-/// The same of a core that isn't stopped.
+/// What a call is answered for which memory is wanting, where the core isn't stopped: that the history is full, or want
+/// of memory. Nothing changes.
 fn lacking<S: Site, C: Choose>(core: &Core<S, C>) -> HostAnswer
     requires going { core.now.stopped ≡ None }
     ensures event { (h : ℕ) (call : CallData) → HostEvent S.tells (seen_core S.Site core.now) h call

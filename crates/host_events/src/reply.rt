@@ -67,7 +67,7 @@ pub fn reply<S: Site, C: Choose>(
     ensures chooser { core.new.chooser ≡ core.old.chooser }
     ensures site { core.new.site ≡ core.old.site }
 {
-    let Ok(call) = copy_of_call(core.alloc, call) else {
+    let Ok(call) = copy_of_call(call) else {
         return HostAnswer::Memory;
     };
     let Ok(told) = copy_of_reply(core.alloc, &reply) else {

@@ -225,7 +225,7 @@ pub fn run_on_frame<S: Site, C: Choose>(
     let alloc = core.alloc;
     let session = &mut core.session;
     let site = &mut core.site;
-    let Ok(copy) = prepare(alloc, session, site, call, FORMAT_ITEMS) else {
+    let Ok(copy) = prepare(session, site, call, FORMAT_ITEMS) else {
         return HostAnswer::Memory;
     };
     let index = session.history.as_slice().len() as u64;

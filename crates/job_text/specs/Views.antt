@@ -1,4 +1,5 @@
 -- What lines, items and readings of the code stand for.
+use Rattle.channel_commands.specs.Views.{argument_bytes}
 use Rattle.channel_program.specs.Script.{ItemData, mounting, demounting, program as running}
 use Rattle.job_text.specs.declared.line.Line.{Line}
 use Rattle.job_text.specs.declared.line.Line.TheVariants as variant
@@ -14,7 +15,7 @@ line_data variant.Done = done
 line_data (variant.Mount s bind) = mount s bind
 line_data variant.Demount = demount
 line_data variant.Program = program
-line_data (variant.Ccw code argument) = ccw code argument.items
+line_data (variant.Ccw code argument) = ccw code (argument_bytes argument)
 line_data (variant.Tic to) = tic to
 line_data variant.End = end
 

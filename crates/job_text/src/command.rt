@@ -2,19 +2,21 @@
 //!
 //! Most lines of a long job are such. Their words stand at known places, so they needn't be cut out and looked up.
 ghost use Rattle.std.specs.Prelude.{◌≡◌, ◌++◌, ◌∷◌, codes, IfOk, IfSome};
+ghost use Rattle.channel_commands.specs.Views.{argument_bytes};
 ghost use Rattle.job_text.specs.Lines.{ccw};
 ghost use Rattle.job_text.specs.FirstLine.{BeginsWith};
 
 use crate::lines::parted_at;
-use crate::words::{bytes_of, pair_value};
-use mss_base::{Bytes, NoMemory};
+use crate::words::{argument_of, pair_value};
+use channel_commands::Argument;
+use mss_base::NoMemory;
 use std::alloc::Global;
 
 /// A command, and the text behind its line.
 #[derive(Drop)]
 pub struct Command<'t> {
     pub code: u8,
-    pub argument: Bytes,
+    pub argument: Argument,
     pub behind: &'t [u8],
 }
 
@@ -44,7 +46,7 @@ fn last_word(text: &[u8]) -> Option<(&[u8], &[u8])>
 /// The command that the first line of a text is, where it is spelled so.
 pub fn command_at<'t>(alloc: Global, text: &'t [u8]) -> Result<Option<Command<'t>>, NoMemory>
     ensures { IfOk result (λ found. IfSome found (λ c.
-        BeginsWith (ccw c.code c.argument.items) text.now c.behind.now)) }
+        BeginsWith (ccw c.code (argument_bytes c.argument)) text.now c.behind.now)) }
 {
     let Some((high, low, next, rest)) = behind_keyword(text) else {
         return Ok(None);
@@ -55,7 +57,7 @@ pub fn command_at<'t>(alloc: Global, text: &'t [u8]) -> Result<Option<Command<'t
     if next == b'\n' {
         return Ok(Some(Command {
             code,
-            argument: Bytes::new(alloc),
+            argument: Argument::empty(),
             behind: rest,
         }));
     }
@@ -65,7 +67,7 @@ pub fn command_at<'t>(alloc: Global, text: &'t [u8]) -> Result<Option<Command<'t
     let Some((digits, behind)) = last_word(rest) else {
         return Ok(None);
     };
-    let Some(argument) = bytes_of(alloc, digits)? else {
+    let Some(argument) = argument_of(alloc, digits)? else {
         return Ok(None);
     };
     Ok(Some(Command {

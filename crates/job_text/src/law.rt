@@ -47,7 +47,8 @@ pub fn job_back()
 
 /// The canonical texts of lines, each of which stands where it may and is good, are read as the job that they say.
 pub fn lines_back()
-    ensures { (lines : List LineData) (t : SoFar) → LeadsTo nothing lines t → is_after t.place ≡ true
+    ensures { (lines : List LineData) (t : SoFar) → LeadsTo nothing lines t
+        → is_after t.place ≡ true
         → length (flat_map line_text lines) ≤ TEXT_LIMIT
         → job_of (flat_map line_text lines) ≡ Ok (job t) }
 {}

@@ -9,7 +9,8 @@ ghost use Rattle.job_text.specs.Outcomes.{Gives, Tests};
 ghost use Rattle.job_text.specs.Views.{line_data};
 
 use crate::kind::{JobKind, Keyword};
-use crate::words::{append_copies, byte, bytes_of, is_word, number, serial};
+use crate::words::{append_copies, argument_of, byte, bytes_of, is_word, number, serial};
+use channel_commands::Argument;
 use mss_base::{Bytes, HostNo, NoMemory, Serial, VolumeNo};
 use std::alloc::{AllocError, AllocFailed, Global};
 
@@ -37,7 +38,7 @@ pub enum Line {
     Program,
     Ccw {
         code: u8,
-        argument: Bytes,
+        argument: Argument,
     },
     Tic {
         to: u8,
@@ -123,7 +124,8 @@ fn spelled_as(word: &[u8], text: &str) -> Result<(), LineFault>
 }
 
 fn in_range(number: u32, low: u32, high: u32) -> Result<(), LineFault>
-    ensures { Tests result (nat_le low number && nat_le number high) JobKind.Range (λ _. (low ≤ number) × (number ≤ high)) }
+    ensures { Tests result (nat_le low number && nat_le number high) JobKind.Range
+        (λ _. (low ≤ number) × (number ≤ high)) }
 {
     if number < low {
         return Err(LineFault::Bad(JobKind::Range));
@@ -141,7 +143,9 @@ fn mss_line(
     for_recorders: &[u8],
     recorders: &[u8],
 ) -> Result<Line, LineFault>
-    ensures { Gives line_data result (line_of Mss (version.now ∷ for_frames.now ∷ frames.now ∷ for_recorders.now ∷ recorders.now ∷ [])) }
+    ensures { Gives line_data result
+        (line_of Mss
+        (version.now ∷ for_frames.now ∷ frames.now ∷ for_recorders.now ∷ recorders.now ∷ [])) }
 {
     let version = spelled_number(version)?;
     spelled_as(for_frames, "frames")?;
@@ -174,7 +178,8 @@ fn volume_line(volume: &[u8], serial: &[u8]) -> Result<Line, LineFault>
 }
 
 fn volume_readonly_line(volume: &[u8], serial: &[u8], readonly: &[u8]) -> Result<Line, LineFault>
-    ensures { Gives line_data result (line_of Volume (volume.now ∷ serial.now ∷ readonly.now ∷ [])) }
+    ensures { Gives line_data result
+        (line_of Volume (volume.now ∷ serial.now ∷ readonly.now ∷ [])) }
 {
     let volume = spelled_number(volume)?;
     let serial = spelled_serial(serial)?;
@@ -227,13 +232,13 @@ fn tic_line(to: &[u8]) -> Result<Line, LineFault>
     Ok(Line::Tic { to: to as u8 })
 }
 
-fn ccw_line(alloc: Global, code: &[u8]) -> Result<Line, LineFault>
+fn ccw_line(code: &[u8]) -> Result<Line, LineFault>
     ensures { Gives line_data result (line_of Ccw (code.now ∷ [])) }
 {
     let code = spelled_byte(code)?;
     Ok(Line::Ccw {
         code,
-        argument: Bytes::new(alloc),
+        argument: Argument::empty(),
     })
 }
 
@@ -241,7 +246,7 @@ fn ccw_hex_line(alloc: Global, code: &[u8], hex: &[u8]) -> Result<Line, LineFaul
     ensures { Gives line_data result (line_of Ccw (code.now ∷ hex.now ∷ [])) }
 {
     let code = spelled_byte(code)?;
-    let Some(argument) = bytes_of(alloc, hex)? else {
+    let Some(argument) = argument_of(alloc, hex)? else {
         return Err(LineFault::Bad(JobKind::Shape));
     };
     Ok(Line::Ccw { code, argument })
@@ -254,15 +259,17 @@ fn ccw_fill_line(
     byte: &[u8],
     count: &[u8],
 ) -> Result<Line, LineFault>
-    ensures { Gives line_data result (line_of Ccw (code.now ∷ fill.now ∷ byte.now ∷ count.now ∷ [])) }
+    ensures { Gives line_data result
+        (line_of Ccw (code.now ∷ fill.now ∷ byte.now ∷ count.now ∷ [])) }
 {
     let code = spelled_byte(code)?;
     spelled_as(fill, "fill")?;
     let byte = spelled_byte(byte)?;
     let count = spelled_number(count)?;
     in_range(count, 1, 65_798)?;
-    let mut argument = Bytes::new(alloc);
-    append_copies(&mut argument, byte, count as usize)?;
+    let mut bytes = Bytes::new(alloc);
+    append_copies(&mut bytes, byte, count as usize)?;
+    let argument = Argument::keep(alloc, bytes)?;
     Ok(Line::Ccw { code, argument })
 }
 
@@ -274,17 +281,19 @@ fn ccw_hex_fill_line(
     byte: &[u8],
     count: &[u8],
 ) -> Result<Line, LineFault>
-    ensures { Gives line_data result (line_of Ccw (code.now ∷ hex.now ∷ fill.now ∷ byte.now ∷ count.now ∷ [])) }
+    ensures { Gives line_data result
+        (line_of Ccw (code.now ∷ hex.now ∷ fill.now ∷ byte.now ∷ count.now ∷ [])) }
 {
     let code = spelled_byte(code)?;
-    let Some(mut argument) = bytes_of(alloc, hex)? else {
+    let Some(mut bytes) = bytes_of(alloc, hex)? else {
         return Err(LineFault::Bad(JobKind::Shape));
     };
     spelled_as(fill, "fill")?;
     let byte = spelled_byte(byte)?;
     let count = spelled_number(count)?;
     in_range(count, 1, 65_798)?;
-    append_copies(&mut argument, byte, count as usize)?;
+    append_copies(&mut bytes, byte, count as usize)?;
+    let argument = Argument::keep(alloc, bytes)?;
     Ok(Line::Ccw { code, argument })
 }
 
@@ -332,7 +341,7 @@ fn ccw_words(alloc: Global, words: &[&[u8]]) -> Result<Line, LineFault>
     ensures { Gives line_data result (line_of Ccw (map (λ w. w.now) words.now)) }
 {
     match words {
-        [code] => ccw_line(alloc, code),
+        [code] => ccw_line(code),
         [code, hex] => ccw_hex_line(alloc, code, hex),
         [code, fill, byte, count] => ccw_fill_line(alloc, code, fill, byte, count),
         [code, hex, fill, byte, count] => { ccw_hex_fill_line(alloc, code, hex, fill, byte, count) }

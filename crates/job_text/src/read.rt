@@ -106,7 +106,9 @@ fn put_numbered(
     volumes: &[(VolumeNo, Serial, bool)],
     number: u8,
 ) -> Result<(), NoMemory>
-    ensures { OnOk result (ordered.new.items ≡ ordered.old.items ++ option_to_list (find (λ v. v.0 == number) volumes.now)) }
+    ensures { OnOk result
+        (ordered.new.items
+        ≡ ordered.old.items ++ option_to_list (find (λ v. v.0 == number) volumes.now)) }
 {
     if let Some(volume) = volume_with(volumes, number) {
         ordered.reserve(1)?;

@@ -4,6 +4,7 @@ ghost use Rattle.std.specs.Option.{option_map, option_map_or};
 ghost use Rattle.std.specs.List.{list_all, list_any, find};
 ghost use Rattle.job_text.specs.Words.{is_printable};
 ghost use Rattle.std.specs.Str.{bytes_eq};
+ghost use Rattle.channel_commands.specs.Views.{argument_bytes};
 ghost use Rattle.job_text.specs.Lines.{spelling, keywords_at, keyword_at, mss, volume, host, done, mount, demount, program, ccw, tic, end};
 ghost use Rattle.job_text.specs.Grammar.{nothing, after_line, line_of_words, line_after, scripts, is_twice, number_of_serial};
 ghost use Rattle.job_text.specs.Outcomes.{Steps};
@@ -14,9 +15,9 @@ use crate::job::{HostScript, HostScripts, Item, ItemList};
 use crate::kind::{JobKind, Keyword, Place};
 use crate::line::{Line, LineFault, line_of};
 use crate::words::{cut_words, is_skipped, is_word};
-use channel_commands::Ccw;
+use channel_commands::{Argument, Ccw};
 use channel_program::{Program, WORD_LIMIT, Words};
-use mss_base::{Bytes, HostNo, Listed, NoMemory, Serial, VolumeList, VolumeNo};
+use mss_base::{HostNo, Listed, NoMemory, Serial, VolumeList, VolumeNo};
 use std::alloc::Global;
 use std::mem;
 
@@ -164,7 +165,8 @@ impl Reading {
     }
 
     fn put_mss(&mut self, frames: u16, recorders: u8) -> Result<(), LineFault>
-        ensures { Steps result (so_far self.new) (after_line (so_far self.old) (mss frames recorders)) }
+        ensures { Steps result (so_far self.new)
+            (after_line (so_far self.old) (mss frames recorders)) }
     {
         self.place = Place::Volumes;
         self.frames = frames;
@@ -199,7 +201,9 @@ impl Reading {
 
     /// Puts the present host behind the closed ones.
     fn close(&mut self, alloc: Global) -> Result<(), LineFault>
-        ensures { Steps result (so_far self.new) (Ok (record (so_far self.old) { closed = scripts (so_far self.old); present = None; items = [] })) }
+        ensures { Steps result (so_far self.new)
+            (Ok (record
+            (so_far self.old) { closed = scripts (so_far self.old); present = None; items = [] })) }
     {
         let items = mem::replace(&mut self.items, ItemList::new(alloc));
         if let Some(host) = self.present {
@@ -230,7 +234,8 @@ impl Reading {
     }
 
     fn put_mount(&mut self, serial: Serial, bind: bool) -> Result<(), LineFault>
-        ensures { Steps result (so_far self.new) (after_line (so_far self.old) (mount serial bind)) }
+        ensures { Steps result (so_far self.new)
+            (after_line (so_far self.old) (mount serial bind)) }
     {
         let Some(volume) = self.volume_of(&serial) else {
             return Err(LineFault::Bad(JobKind::Absent));
@@ -264,8 +269,9 @@ impl Reading {
     }
 
     /// Puts a command into the open program.
-    pub fn put_ccw(&mut self, code: u8, argument: Bytes) -> Result<(), LineFault>
-        ensures { Steps result (so_far self.new) (after_line (so_far self.old) (ccw code argument.items)) }
+    pub fn put_ccw(&mut self, code: u8, argument: Argument) -> Result<(), LineFault>
+        ensures { Steps result (so_far self.new)
+            (after_line (so_far self.old) (ccw code (argument_bytes argument))) }
     {
         let length = argument.as_slice().len();
         if self.words.len() >= WORD_LIMIT {
@@ -326,7 +332,8 @@ impl Reading {
     }
 
     fn put_words(&mut self, alloc: Global, words: &[&[u8]]) -> Result<(), LineFault>
-        ensures { Steps result (so_far self.new) (line_of_words (so_far self.old) (map (λ w. w.now) words.now)) }
+        ensures { Steps result (so_far self.new)
+            (line_of_words (so_far self.old) (map (λ w. w.now) words.now)) }
     {
         let [first, rest @ ..] = words else {
             return Err(LineFault::Bad(JobKind::Unknown));

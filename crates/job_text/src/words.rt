@@ -1,11 +1,14 @@
 //! The words of a line, and how they are spelled.
-ghost use Rattle.std.specs.Prelude.{◌≡◌, ℕ, ◌<◌, ◌==◌, ◌++◌, [], ◌∷◌, true, false, Option, Some, None, length, map};
+ghost use Rattle.std.specs.Prelude.{◌≡◌, ℕ, ◌<◌, ◌≤◌, ◌*◌, ◌==◌, ◌++◌, [], ◌∷◌, true, false, Option, Some, None, length, map};
 ghost use Rattle.std.specs.Prelude.{replicate, IfOk, IfSome, OnOk, MatchOption};
 ghost use Rattle.std.specs.List.{list_all, slice_split};
 ghost use Rattle.std.specs.Str.{bytes_eq};
 ghost use Rattle.hex.specs.Hex.{hex_digit_value};
+ghost use Rattle.channel_commands.specs.Views.{argument_bytes};
 ghost use Rattle.job_text.specs.Words.{words_of, is_skipped, is_printable, is_number, number_word, is_hex, bytes_of, is_hex_byte, byte_of, byte_word, is_serial};
 
+use arrayvec::ArrayVec;
+use channel_commands::{Argument, INLINE_BYTES};
 use mss_base::{Bytes, NoMemory, Serial, are_digits, number_of};
 use std::alloc::{AllocError, Global};
 
@@ -103,25 +106,66 @@ pub fn pair_value(high: u8, low: u8) -> Option<u8>
     Some(high * 16 + low)
 }
 
-/// The bytes that the pairs of a word say, if it is pairs of hexadecimal digits.
-pub fn bytes_of(alloc: Global, word: &[u8]) -> Result<Option<Bytes>, NoMemory>
-    ensures { IfOk result (λ read. MatchOption read (is_hex word.now ≡ false)
-        (λ bytes. (is_hex word.now ≡ true) × (bytes.items ≡ bytes_of word.now))) }
+/// The bytes that the pairs of a word say, if it is pairs of hexadecimal digits, and no more than an argument keeps in
+/// itself.
+fn few_bytes_of(word: &[u8]) -> Option<ArrayVec<u8, INLINE_BYTES>>
+    requires { length word.now ≤ 2 * INLINE_BYTES }
+    ensures { MatchOption result (is_hex word.now ≡ false)
+        (λ bytes. (is_hex word.now ≡ true) × (bytes.items ≡ bytes_of word.now)) }
 {
     if word.is_empty() || word.len() % 2 != 0 {
-        return Ok(None);
+        return None;
     }
-    let mut bytes = Bytes::new(alloc);
-    bytes.reserve(word.len() / 2)?;
+    let mut bytes = ArrayVec::new();
     let mut rest = word;
     while let [high, low, after @ ..] = rest {
         let Some(byte) = pair_value(*high, *low) else {
-            return Ok(None);
+            return None;
         };
         bytes.push(byte);
         rest = after;
     }
+    Some(bytes)
+}
+
+/// The bytes that the pairs of a word say, if it is pairs of hexadecimal digits. They are read by pieces.
+pub fn bytes_of(alloc: Global, word: &[u8]) -> Result<Option<Bytes>, NoMemory>
+    ensures { IfOk result (λ read. MatchOption read (is_hex word.now ≡ false)
+        (λ bytes. (is_hex word.now ≡ true) × (bytes.items ≡ bytes_of word.now))) }
+{
+    let mut bytes = Bytes::new(alloc);
+    bytes.reserve(word.len() / 2)?;
+    let mut rest = word;
+    while rest.len() > 2 * INLINE_BYTES {
+        let (piece, after) = rest.split_at(2 * INLINE_BYTES);
+        let Some(few) = few_bytes_of(piece) else {
+            return Ok(None);
+        };
+        bytes.append(few.as_slice())?;
+        rest = after;
+    }
+    let Some(few) = few_bytes_of(rest) else {
+        return Ok(None);
+    };
+    bytes.append(few.as_slice())?;
     Ok(Some(bytes))
+}
+
+/// The argument that the pairs of a word say, if it is pairs of hexadecimal digits. A short one takes no memory.
+pub fn argument_of(alloc: Global, word: &[u8]) -> Result<Option<Argument>, NoMemory>
+    ensures { IfOk result (λ read. MatchOption read (is_hex word.now ≡ false)
+        (λ argument. (is_hex word.now ≡ true) × (argument_bytes argument ≡ bytes_of word.now))) }
+{
+    if word.len() <= 2 * INLINE_BYTES {
+        return Ok(match few_bytes_of(word) {
+            Some(bytes) => Some(Argument::Inline(bytes)),
+            None => None,
+        });
+    }
+    Ok(match bytes_of(alloc, word)? {
+        Some(bytes) => Some(Argument::keep(alloc, bytes)?),
+        None => None,
+    })
 }
 
 /// The byte that a word of one pair says.
@@ -136,7 +180,8 @@ pub fn byte(word: &[u8]) -> Option<u8>
 
 /// The serial that a word says.
 pub fn serial(word: &[u8]) -> Option<Serial>
-    ensures { MatchOption result (is_serial word.now ≡ false) (λ serial. (is_serial word.now ≡ true) × (serial ≡ word.now)) }
+    ensures { MatchOption result (is_serial word.now ≡ false)
+        (λ serial. (is_serial word.now ≡ true) × (serial ≡ word.now)) }
 {
     if word.len() != 6 {
         return None;

@@ -18,7 +18,10 @@ use mss_base::{Bytes, Config, HostNo, NoMemory, Serial, VolumeNo};
 
 /// Puts a line: its keyword, and each word after one space.
 fn push_line(out: &mut Bytes, keyword: Keyword, words: &[&[u8]]) -> Result<(), NoMemory>
-    ensures { OnOk result (out.new.items ≡ out.old.items ++ (join_with_byte 32 (spelling keyword ∷ map (λ w. w.now) words.now) ++ 10 ∷ [])) }
+    ensures { OnOk result
+        (out.new.items
+        ≡ out.old.items
+        ++ (join_with_byte 32 (spelling keyword ∷ map (λ w. w.now) words.now) ++ 10 ∷ [])) }
 {
     out.append(spelling(keyword).as_bytes())?;
     for word in words {
@@ -91,7 +94,8 @@ fn push_ccw(out: &mut Bytes, code: u8, argument: &[u8]) -> Result<(), NoMemory>
 }
 
 fn push_word(out: &mut Bytes, word: &Ccw) -> Result<(), NoMemory>
-    ensures { OnOk result (out.new.items ≡ out.old.items ++ line_text (word_line (ccw_of word.now))) }
+    ensures { OnOk result
+        (out.new.items ≡ out.old.items ++ line_text (word_line (ccw_of word.now))) }
 {
     match word {
         Ccw::Device { code, argument } => push_ccw(out, *code, argument.as_slice()),
@@ -103,7 +107,9 @@ fn push_word(out: &mut Bytes, word: &Ccw) -> Result<(), NoMemory>
 }
 
 fn push_words(out: &mut Bytes, words: &[Ccw]) -> Result<(), NoMemory>
-    ensures { OnOk result (out.new.items ≡ out.old.items ++ flat_map line_text (map word_line (map ccw_of words.now))) }
+    ensures { OnOk result
+        (out.new.items
+        ≡ out.old.items ++ flat_map line_text (map word_line (map ccw_of words.now))) }
 {
     for word in words {
         push_word(out, word)?;
@@ -128,7 +134,8 @@ fn push_mounting(
     volume: VolumeNo,
     bind: bool,
 ) -> Result<(), NoMemory>
-    ensures { OnOk result (out.new.items ≡ out.old.items ++ line_text (mount (serial_of volumes.now volume) bind)) }
+    ensures { OnOk result
+        (out.new.items ≡ out.old.items ++ line_text (mount (serial_of volumes.now volume) bind)) }
 {
     match volume_with(volumes, volume.get()) {
         Some((_, serial, _)) => push_mount(out, serial.as_slice(), bind),
@@ -137,7 +144,9 @@ fn push_mounting(
 }
 
 fn push_program(out: &mut Bytes, program: &Program) -> Result<(), NoMemory>
-    ensures { OnOk result (out.new.items ≡ out.old.items ++ flat_map line_text (item_lines [] (running program.now))) }
+    ensures { OnOk result
+        (out.new.items
+        ≡ out.old.items ++ flat_map line_text (item_lines [] (running program.now))) }
 {
     push_line(out, Keyword::Program, &[])?;
     push_words(out, program.as_slice())?;
@@ -149,7 +158,9 @@ fn push_item(
     volumes: &[(VolumeNo, Serial, bool)],
     item: &Item,
 ) -> Result<(), NoMemory>
-    ensures { OnOk result (out.new.items ≡ out.old.items ++ flat_map line_text (item_lines volumes.now (item_of item.now))) }
+    ensures { OnOk result
+        (out.new.items
+        ≡ out.old.items ++ flat_map line_text (item_lines volumes.now (item_of item.now))) }
 {
     match item {
         Item::Mount { volume, bind } => push_mounting(out, volumes, *volume, *bind),
@@ -163,7 +174,10 @@ fn push_items(
     volumes: &[(VolumeNo, Serial, bool)],
     items: &[Item],
 ) -> Result<(), NoMemory>
-    ensures { OnOk result (out.new.items ≡ out.old.items ++ flat_map line_text (flat_map (item_lines volumes.now) (map item_of items.now))) }
+    ensures { OnOk result
+        (out.new.items
+        ≡ out.old.items
+        ++ flat_map line_text (flat_map (item_lines volumes.now) (map item_of items.now))) }
 {
     for item in items {
         push_item(out, volumes, item)?;
@@ -187,14 +201,19 @@ fn push_script(
     volumes: &[(VolumeNo, Serial, bool)],
     script: &HostScript,
 ) -> Result<(), NoMemory>
-    ensures { OnOk result (out.new.items ≡ out.old.items ++ flat_map line_text (script_lines volumes.now script.now)) }
+    ensures { OnOk result
+        (out.new.items
+        ≡ out.old.items ++ flat_map line_text (script_lines volumes.now script.now)) }
 {
     push_host(out, script.host)?;
     push_items(out, volumes, script.items.as_slice())
 }
 
 fn push_scripts(out: &mut Bytes, config: &Config, scripts: &[HostScript]) -> Result<(), NoMemory>
-    ensures { OnOk result (out.new.items ≡ out.old.items ++ flat_map line_text (flat_map (script_lines config.now.volumes) scripts.now)) }
+    ensures { OnOk result
+        (out.new.items
+        ≡ out.old.items
+        ++ flat_map line_text (flat_map (script_lines config.now.volumes) scripts.now)) }
 {
     let volumes = config.volumes.as_slice();
     for script in scripts {

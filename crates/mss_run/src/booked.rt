@@ -134,7 +134,8 @@ impl<N: Setup, S: Site, C: Choose> BookedCore<N, S, C> {
         call: &Call,
     ) -> (HostPass<N>, HostAnswer, bool)
         ensures answered { Answered (call_of call.now) pass (told_of result.1) result.0 }
-        ensures in_vain { result.2 ≡ true → IsSameButRead (is_some (asked_copy self.old.copier)) S.tells
+        ensures in_vain { result.2 ≡ true
+            → IsSameButRead (is_some (asked_copy self.old.copier)) S.tells
             (seen_core S.Site self.old.core) (seen_core S.Site self.new.core) }
         ensures copier { asked_copy self.new.copier ≡ asked_copy self.old.copier }
     {

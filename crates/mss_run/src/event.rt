@@ -41,7 +41,7 @@ pub(crate) fn entries_of<S: Site, C: Choose>(core: &Core<S, C>) -> usize
     core.history().as_slice().len()
 }
 
-/// The same of a core with a copier beside it.
+/// How many entries the history of a core with a copier beside it has, 4,096 at most. It is legal.
 pub(crate) fn entries_beside<S: Site, C: Choose>(copied: &CopiedCore<S, C>) -> usize
     ensures count { result ≡ length copied.now.core.history }
     ensures few { length copied.now.core.history ≤ ENTRY_LIMIT }
@@ -84,9 +84,11 @@ pub(crate) fn host_step<S: Site, C: Choose>(
 ) -> (HostAnswer, bool)
     ensures history { Happens host (call_of call.now) (told_of result.0)
         copied.old.core.history copied.new.core.history }
-    ensures in_vain { result.1 ≡ true → IsSameButRead (is_some (asked_copy copied.old.copier)) S.tells
+    ensures in_vain { result.1 ≡ true
+        → IsSameButRead (is_some (asked_copy copied.old.copier)) S.tells
         (seen_core S.Site copied.old.core) (seen_core S.Site copied.new.core) }
-    ensures later { IsLater S.tells (seen_core S.Site copied.old.core) (seen_core S.Site copied.new.core) }
+    ensures later { IsLater S.tells (seen_core S.Site copied.old.core)
+        (seen_core S.Site copied.new.core) }
     ensures sound { StaysSound S.never_fails_but copied.old.core.site copied.new.core.site }
     ensures only_reads_fail { (but : UnitNo → Bool) → S.never_fails_but copied.old.core.site but
         → copied.old.core.stopped ≡ None → copied.new.core.stopped ≡ None }
@@ -113,7 +115,8 @@ pub(crate) fn work_step<S: Site, C: Choose>(
     ensures history { copied.new.core.history ≡ copied.old.core.history }
     ensures idle { result ≡ Idle → IsSame S.tells (seen_core S.Site copied.old.core)
         (seen_core S.Site copied.new.core) }
-    ensures later { IsLater S.tells (seen_core S.Site copied.old.core) (seen_core S.Site copied.new.core) }
+    ensures later { IsLater S.tells (seen_core S.Site copied.old.core)
+        (seen_core S.Site copied.new.core) }
     ensures sound { StaysSound S.never_fails_but copied.old.core.site copied.new.core.site }
     ensures only_reads_fail { (but : UnitNo → Bool) → S.never_fails_but copied.old.core.site but
         → copied.old.core.stopped ≡ None → copied.new.core.stopped ≡ None }

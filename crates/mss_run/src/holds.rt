@@ -39,7 +39,7 @@ impl<N: Setup, S: Site, C: Choose> Shared<N, S, C> {
         drop(held);
     }
 
-    /// The same for a copier, whose copy hasn't begun.
+    /// Lets go of the lock and sleeps, until another actor wakes all. Only a copier may whose copy hasn't begun.
     fn sleep_copier<R: Wait>(&self, rt: &R, held: MutexGuard<'_, Held<N, S, C>>, turn: CopyTurn)
         requires { turn ≡ Waits }
     {

@@ -28,7 +28,7 @@ impl<N: Setup, S: Site, C: Choose, G: Gate, R: Wait> Run<'_, N, S, C, G, R> {
         ensures goes { WalksOn (map item_of items.now) result.0 place.new result.1 }
         ensures host { result.0.host ≡ running.host }
     {
-        let Ok(due) = due_call(self.alloc, items, place) else {
+        let Ok(due) = due_call(items, place) else {
             self.shared.end(self.rt);
             return (running, Some(false));
         };

@@ -13,7 +13,6 @@ use channel_commands::{BreakCause, Call, Reply};
 use channel_program::{Cursor, NextCall, Program, command_call, next};
 use job_text::Item;
 use mss_base::NoMemory;
-use std::alloc::Global;
 
 /// A place in a script: its item, what comes next in it, if it is a program, and the call that waits there.
 #[derive(Drop)]
@@ -80,7 +79,7 @@ pub fn passed(items: &[Item], place: &Place, reply: &Reply) -> Place
         → StandsAt script (left_by left.items left.at (reply_of reply.now)) result }
 {
     match items.get(place.item) {
-        Some(Item::Run(program)) => passed_in(items, program, place, reply),
+        Some(Item::Run(program)) => place_behind_call(items, program, place, reply),
         Some(Item::Mount { .. }) => entered(items, place.item + 1),
         Some(Item::Demount) => entered(items, place.item + 1),
         None => Place::at(place.item),
@@ -88,7 +87,7 @@ pub fn passed(items: &[Item], place: &Place, reply: &Reply) -> Place
 }
 
 /// The place within a program, or behind it, after the reply to its call.
-fn passed_in(items: &[Item], program: &Program, place: &Place, reply: &Reply) -> Place
+fn place_behind_call(items: &[Item], program: &Program, place: &Place, reply: &Reply) -> Place
     requires within { place.now.item < length items.now }
     ensures { (at : Standing) (more : List ItemData)
         → IsWithin (map item_of items.now) program.now at more place.now
@@ -96,7 +95,7 @@ fn passed_in(items: &[Item], program: &Program, place: &Place, reply: &Reply) ->
         (reply_of reply.now) result }
 {
     match place.next {
-        NextCall::Command { .. } => went_on(items, program, place, reply),
+        NextCall::Command { .. } => place_behind_command(items, program, place, reply),
         NextCall::ProgramCheck => entered(items, place.item + 1),
         NextCall::ChainLimit => entered(items, place.item + 1),
         NextCall::Ended => entered(items, place.item + 1),
@@ -104,7 +103,7 @@ fn passed_in(items: &[Item], program: &Program, place: &Place, reply: &Reply) ->
 }
 
 /// The place within a program, or behind it, after the reply to its command.
-fn went_on(items: &[Item], program: &Program, place: &Place, reply: &Reply) -> Place
+fn place_behind_command(items: &[Item], program: &Program, place: &Place, reply: &Reply) -> Place
     requires within { place.now.item < length items.now }
     ensures { (at : Standing) (more : List ItemData)
         → IsWithin (map item_of items.now) program.now at more place.now
@@ -125,14 +124,14 @@ fn went_on(items: &[Item], program: &Program, place: &Place, reply: &Reply) -> P
 }
 
 /// The call that comes next in a program.
-fn program_call(alloc: Global, program: &Program, next: NextCall) -> Result<Call, NoMemory>
+fn program_call(program: &Program, next: NextCall) -> Result<Call, NoMemory>
     requires some { next ≢ Ended }
     requires held { HoldsNext program.now next }
     ensures { (at : Standing) → Says program.now at next
         → IfOk result (λ call. next_call program.now at ≡ Some (call_of call)) }
 {
     match next {
-        NextCall::Command { word, chained } => command_call(alloc, program, word, chained),
+        NextCall::Command { word, chained } => command_call(program, word, chained),
         NextCall::ProgramCheck => Ok(Call::Break {
             cause: BreakCause::Program,
         }),
@@ -144,7 +143,7 @@ fn program_call(alloc: Global, program: &Program, next: NextCall) -> Result<Call
 }
 
 /// Makes the call that comes next in a script, if one does.
-fn next_call(alloc: Global, items: &[Item], place: &Place) -> Result<Option<Call>, NoMemory>
+fn next_call(items: &[Item], place: &Place) -> Result<Option<Call>, NoMemory>
     requires stands { IsPlace (map item_of items.now) place.now }
     ensures call { (left : Left) → StandsAt (map item_of items.now) left place.now
         → IfOk result (λ call. option_map call_of call ≡ next_of left.items left.at) }
@@ -157,14 +156,14 @@ fn next_call(alloc: Global, items: &[Item], place: &Place) -> Result<Option<Call
             bind: *bind,
         })),
         Some(Item::Demount) => Ok(Some(Call::Demount)),
-        Some(Item::Run(program)) => Ok(Some(program_call(alloc, program, place.next)?)),
+        Some(Item::Run(program)) => Ok(Some(program_call(program, place.next)?)),
         None => Ok(None),
     }
 }
 
 /// The call that comes next in a script, if one does: the one that waits at the place, or else one that is made. It
 /// waits there no longer.
-pub fn due_call(alloc: Global, items: &[Item], place: &mut Place) -> Result<Option<Call>, NoMemory>
+pub fn due_call(items: &[Item], place: &mut Place) -> Result<Option<Call>, NoMemory>
     requires stands { IsPlace (map item_of items.now) place.old }
     ensures call { (left : Left) → StandsAt (map item_of items.now) left place.old
         → IfOk result (λ call. option_map call_of call ≡ next_of left.items left.at) }
@@ -175,7 +174,7 @@ pub fn due_call(alloc: Global, items: &[Item], place: &mut Place) -> Result<Opti
 {
     match place.call.take() {
         Some(call) => Ok(Some(call)),
-        None => next_call(alloc, items, place),
+        None => next_call(items, place),
     }
 }
 

@@ -36,8 +36,6 @@ type Places = Vec<Place>;
 #[derive(Drop)]
 pub struct Drive<'a, S: Site, C: Choose> {
     session: CopiedCore<S, C>,
-    /// Whence copies of calls take their memory.
-    alloc: Global,
     scripts: &'a [HostScript],
     /// Where the host of each script stands.
     places: Places,
@@ -132,12 +130,10 @@ impl<'a, S: Site, C: Choose> Drive<'a, S, C> {
         ensures scripts { IfOk result (λ drive. drive.scripts ≡ job.now.hosts) }
         ensures memory { IfErr result (λ back. (back.0 ≡ core) × (back.1 ≡ copier)) }
     {
-        let alloc = core.alloc;
         let scripts = job.hosts.as_slice();
-        match places_of(alloc, scripts) {
+        match places_of(core.alloc, scripts) {
             Ok(places) => Ok(Drive {
                 session: CopiedCore::new(core, copier),
-                alloc,
                 scripts,
                 places,
             }),
@@ -162,7 +158,6 @@ impl<'a, S: Site, C: Choose> Drive<'a, S, C> {
     {
         let Drive {
             session,
-            alloc: _,
             scripts: _,
             places: _,
         } = self;
@@ -182,7 +177,7 @@ impl<'a, S: Site, C: Choose> Drive<'a, S, C> {
         self.session.look();
         let script = &self.scripts[number];
         let place = &mut self.places[number];
-        call_host(&mut self.session, self.alloc, script, place)
+        call_host(&mut self.session, script, place)
     }
 
     /// How many hosts the job has.

@@ -20,7 +20,6 @@ use host_events::{EVENT_ITEMS, HostAnswer, refused};
 use job_text::{HostScript, Item};
 use mss_base::{HostNo, Site};
 use script_places::{Place, due_call, passed};
-use std::alloc::Global;
 use victim_choice::Choose;
 use volume_copy::CopiedCore;
 
@@ -90,7 +89,8 @@ fn make_call<S: Site, C: Choose>(
 fn refuse<S: Site, C: Choose>(session: &CopiedCore<S, C>) -> DriveAnswer
     ensures event { (h : ℕ) (call : CallData)
         → HostTakes (terms_by S.Site C.may session.now.core.chooser session.now.copier)
-        h (Some call) (seen_core S.Site session.now.core) result (seen_core S.Site session.now.core) }
+        h (Some call) (seen_core S.Site session.now.core) result
+        (seen_core S.Site session.now.core) }
     ensures only_reads_fail { session.now.core.stopped ≡ None → IsUnstopped result }
 {
     answer_of(&refused(session.core()))
@@ -99,7 +99,6 @@ fn refuse<S: Site, C: Choose>(session: &CopiedCore<S, C>) -> DriveAnswer
 /// Tries a host's next call, if it has one, and behind its reply goes on in its script.
 pub fn call_host<S: Site, C: Choose>(
     session: &mut CopiedCore<S, C>,
-    alloc: Global,
     script: &HostScript,
     place: &mut Place,
 ) -> DriveAnswer
@@ -119,7 +118,7 @@ pub fn call_host<S: Site, C: Choose>(
         → session.old.core.stopped ≡ None → IsUnstopped result }
 {
     let items = script.items.as_slice();
-    match due_call(alloc, items, place) {
+    match due_call(items, place) {
         Ok(Some(call)) => make_call(session, script.host, call, items, place),
         Ok(None) => DriveAnswer::Done,
         Err(_) => refuse(session),

@@ -122,7 +122,7 @@ fn answers_on<S: Site + Drop, C: Choose + Drop>(
     }
 }
 
-/// The same on blank devices, of which these calls fail: the place of what is otherwise.
+/// The place of the first row that is answered otherwise on blank devices, of which these calls fail.
 pub fn other_by<C: Choose + Drop>(
     alloc: Global,
     failing: Failing,
@@ -137,7 +137,7 @@ pub fn other_by<C: Choose + Drop>(
     }
 }
 
-/// The same, where the least recently used page is the one that is replaced.
+/// The place of the first row that is answered otherwise, where the least recently used page is replaced.
 pub fn other_answer(alloc: Global, failing: Failing, course: &Course) -> Option<usize> {
     other_by(alloc, failing, Lru, course)
 }
@@ -154,7 +154,8 @@ fn other_on<S: Site + Drop>(
     }
 }
 
-/// The same of two sessions, one after the other, on devices of which no call fails.
+/// The place of the first row that is answered otherwise in two sessions, one after the other. No call of the
+/// devices fails.
 pub fn other_of_both(alloc: Global, first: &Course, second: &Course) -> Option<usize> {
     match failing_site(alloc, NONE_FAILS) {
         Some(site) => other_on(alloc, site, first, second),

@@ -118,7 +118,7 @@ fn run_named<N: Setup, S: Site + Drop, C: Choose + Drop, R: Wait>(
     (other, closed(alloc, session))
 }
 
-/// The same of a session for hosts 1 and 2.
+/// Runs a session for hosts 1 and 2 through these rows.
 fn run<S: Site + Drop, C: Choose + Drop, R: Wait>(
     rt: &R,
     alloc: Global,
@@ -134,7 +134,7 @@ fn run<S: Site + Drop, C: Choose + Drop, R: Wait>(
     Some(run_named::<Brand, S, C, R>(rt, alloc, blank, core, hosts, rows))
 }
 
-/// The same of a session on a job's volumes, on this site.
+/// Runs a session on a job's volumes, on this site, through these rows.
 fn run_on<S: Site + Drop, C: Choose + Drop, R: Wait>(
     rt: &R,
     alloc: Global,

@@ -1,8 +1,8 @@
 // A session, step by step, and what each step is answered.
-use channel_commands::{Call, DeviceCommand, Reply};
+use channel_commands::{Argument, Call, DeviceCommand, Reply};
 use core_state::{Waiting, WorkAnswer, WorkKind};
 use host_events::HostAnswer;
-use mss_base::{Bytes, HostNo, VolumeNo};
+use mss_base::{HostNo, VolumeNo};
 use std::alloc::Global;
 
 /// A session whose hosts make their calls one by one, and whose recorder 0 its events, by a runtime.
@@ -118,7 +118,7 @@ fn settled<R, E: Events<R>>(rt: &R, session: &mut E) -> Told {
 }
 
 fn command(alloc: Global, code: u8, argument: &[u8], chained: bool) -> Option<Call> {
-    let argument = Bytes::of(alloc, argument).ok()?;
+    let argument = Argument::of(alloc, argument).ok()?;
     Some(Call::Command(DeviceCommand {
         code,
         argument,

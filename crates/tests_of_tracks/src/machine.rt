@@ -2,8 +2,8 @@
 // `tests/test_programs.py` shows.
 use crate::commands::is_wanted;
 use crate::words::{byte_at, bytes_at};
-use channel_commands::{Call, DeviceCommand, Reply};
-use mss_base::{Bytes, HostNo, Serial, VolumeNo};
+use channel_commands::{Argument, Call, DeviceCommand, Reply};
+use mss_base::{HostNo, Serial, VolumeNo};
 use plain_machine::{PlainState, plain_step};
 use std::alloc::Global;
 
@@ -72,8 +72,8 @@ fn mount(alloc: Global, state: &mut PlainState, host: HostNo) -> Option<bool> {
 /// A command of a chain that goes on.
 fn call_of(alloc: Global, line: &str) -> Option<Call> {
     let code = byte_at(line, 0)?;
-    let argument = bytes_at(alloc, line, 1)?;
-    let argument = Bytes::of(alloc, &argument).ok()?;
+    let bytes = bytes_at(alloc, line, 1)?;
+    let argument = Argument::of(alloc, &bytes).ok()?;
     Some(Call::Command(DeviceCommand {
         code,
         argument,

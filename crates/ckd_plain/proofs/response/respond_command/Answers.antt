@@ -1,6 +1,7 @@
 -- The answer is what the checks say of the command.
 use Rattle.std.proofs.Common.{◌≡◌, [], sym, ap, ◌∙◌, Ok, Err}
 use Rattle.std.proofs.lemmas.Result.{IfOk-weaker}
+use Rattle.channel_commands.specs.Views.{argument_bytes}
 use Rattle.ckd_plain.specs.declared.host.HostState.{HostState}
 use Rattle.ckd_plain.specs.Checks.{admitted_command}
 use Rattle.ckd_plain.specs.Plain.{with_open_chain, refused_by}
@@ -20,7 +21,7 @@ returns-in-Ok-clause-answer c =
 pub returns-in-Err-clause-answer : goal.returns-in-Err-clause-answer
 returns-in-Err-clause-answer c =
     let asked = c.args.command.now in
-    let is : admitted_command (with_open_chain c.args.host.now) asked.code asked.argument.items ≡ Err c.in-Err.check =
+    let is : admitted_command (with_open_chain c.args.host.now) asked.code (argument_bytes asked.argument) ≡ Err c.in-Err.check =
     (λ i. admitted_command (sym c.opened-now.ensures i) asked.code (sym c.as_slice-argument.ensures i)) ∙ sym c.admitted.ensures.value ∙ c.in-Err.is in
-    command_responds c.args.host.now asked.code asked.argument.items asked.chained _ c.refused_by-reply.new.host c.refused_by-reply.result is
+    command_responds c.args.host.now asked.code (argument_bytes asked.argument) asked.chained _ c.refused_by-reply.new.host c.refused_by-reply.result is
     c.refused_by-reply.ensures.reply_ (c.refused_by-reply.ensures.host_ ∙ ap (λ (h : HostState). (refused_by c.in-Err.check h).host) c.opened-now.ensures)

@@ -6,7 +6,7 @@ use Rattle.script_places.proofs.place.passed.Goals as goal
 pub returns-in-Some-Run : goal.returns-in-Some-Run
 returns-in-Some-Run c = λ left stands.
     let is = found item_of c.args.items.now c.args.place.now.item _ _ c.in-Some-Run.ensures.lookup.0 c.in-Some-Run.ensures.lookup.1 c.in-Some-Run.field-0-is in
-    passed_program (map item_of c.args.items.now) c.args.place.now _ _ _ _ left is stands.items stands.knows c.passed_in.ensures
+    passed_program (map item_of c.args.items.now) c.args.place.now _ _ _ _ left is stands.items stands.knows c.place_behind_call.ensures
 
 pub returns-in-Some-Mount : goal.returns-in-Some-Mount
 returns-in-Some-Mount c = λ left stands.

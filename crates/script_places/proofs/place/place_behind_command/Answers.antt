@@ -1,7 +1,7 @@
 use Rattle.std.proofs.Common.{map}
 use Rattle.job_text.specs.Views.{item_of}
 use Rattle.script_places.proofs.PlaceFacts.{passed_end, ended_there}
-use Rattle.script_places.proofs.place.went_on.Goals as goal
+use Rattle.script_places.proofs.place.place_behind_command.Goals as goal
 use Rattle.channel_commands.specs.Views.{reply_of}
 
 pub returns-in-Ended : goal.returns-in-Ended

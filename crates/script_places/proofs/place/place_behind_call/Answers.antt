@@ -1,11 +1,11 @@
 use Rattle.std.proofs.Common.{map}
 use Rattle.job_text.specs.Views.{item_of}
 use Rattle.script_places.proofs.PlaceFacts.{passed_end, goes_where, ends_by_check, ends_by_limit}
-use Rattle.script_places.proofs.place.passed_in.Goals as goal
+use Rattle.script_places.proofs.place.place_behind_call.Goals as goal
 use Rattle.channel_commands.specs.Views.{reply_of}
 
 pub returns-in-Command : goal.returns-in-Command
-returns-in-Command c = λ at more within. c.went_on.ensures at more within (goes_where _ at c.args.place.now _ _ (c.in-Command.is) within.knows (reply_of c.args.reply.now))
+returns-in-Command c = λ at more within. c.place_behind_command.ensures at more within (goes_where _ at c.args.place.now _ _ (c.in-Command.is) within.knows (reply_of c.args.reply.now))
 
 pub returns-in-ProgramCheck : goal.returns-in-ProgramCheck
 returns-in-ProgramCheck c = λ at more within.
