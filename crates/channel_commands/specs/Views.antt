@@ -1,8 +1,9 @@
 -- What calls, replies and command words of the code stand for.
-use Rattle.std.specs.Prelude.{ℕ, Bool, List}
+use Rattle.std.specs.Prelude.{◌≤◌, ℕ, Bool, List, length}
 use Rattle.std.specs.Arc.{arc_value}
 use Rattle.channel_commands.specs.declared.argument.Argument.{Argument}
 use Rattle.channel_commands.specs.declared.argument.Argument.TheVariants as argument
+use Rattle.channel_commands.specs.declared.argument.TheConstants.{INLINE_BYTES}
 use Rattle.channel_commands.specs.declared.call.Call.{Call}
 use Rattle.channel_commands.specs.declared.call.Call.TheVariants as call
 use Rattle.channel_commands.specs.declared.call.DeviceCommand.{DeviceCommand}
@@ -16,6 +17,10 @@ use Rattle.channel_commands.specs.Data.{CallData, mount, demount, command, break
 abbrev pub argument_bytes : Argument → List ℕ
 argument_bytes (argument.Inline bytes) = bytes.items
 argument_bytes (argument.Shared bytes) = (arc_value bytes).items
+
+-- an argument of these bytes takes no memory
+abbrev pub IsShort : List ℕ → Type 0
+IsShort bytes = length bytes ≤ INLINE_BYTES
 
 -- a reply as plain data
 abbrev pub reply_of : Reply → ReplyData
@@ -46,6 +51,11 @@ call_of (call.Mount volume bind) = mount volume bind
 call_of call.Demount = demount
 call_of (call.Command c) = asked_of c
 call_of (call.Break cause) = break cause
+
+-- nor does that of a call
+abbrev pub HasShortArgument : CallData → Type 0
+HasShortArgument (command code argument chained) = IsShort argument
+HasShortArgument _ = Unit {0}
 
 -- a command word as plain data
 abbrev pub ccw_of : Ccw → CcwData

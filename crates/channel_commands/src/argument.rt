@@ -1,6 +1,6 @@
 //! The arguments of device commands.
-ghost use Rattle.std.specs.Prelude.{◌≡◌, ◌≤◌, [], length, IfOk};
-ghost use Rattle.channel_commands.specs.Views.{argument_bytes};
+ghost use Rattle.std.specs.Prelude.{◌≡◌, ◌≤◌, [], length, IsOk, IfOk};
+ghost use Rattle.channel_commands.specs.Views.{IsShort, argument_bytes};
 
 use arrayvec::ArrayVec;
 use mss_base::{Bytes, NoMemory};
@@ -42,7 +42,8 @@ impl Argument {
 
     /// A copy of these bytes. Of eight or fewer it takes no memory.
     pub fn of(alloc: Global, bytes: &[u8]) -> Result<Argument, NoMemory>
-        ensures { IfOk result (λ argument. argument_bytes argument ≡ bytes.now) }
+        ensures same { IfOk result (λ argument. argument_bytes argument ≡ bytes.now) }
+        ensures short { IsShort bytes.now → IsOk result }
     {
         if bytes.len() <= INLINE_BYTES {
             return Ok(Argument::short(bytes));
@@ -51,9 +52,10 @@ impl Argument {
         Ok(Argument::Shared(Arc::new(alloc, bytes)?))
     }
 
-    /// These bytes, which aren't copied where they are more than eight.
+    /// These bytes, which aren't copied where they are more than eight. Fewer take no memory.
     pub fn keep(alloc: Global, bytes: Bytes) -> Result<Argument, NoMemory>
-        ensures { IfOk result (λ argument. argument_bytes argument ≡ bytes.items) }
+        ensures same { IfOk result (λ argument. argument_bytes argument ≡ bytes.items) }
+        ensures short { IsShort bytes.items → IsOk result }
     {
         if bytes.as_slice().len() <= INLINE_BYTES {
             return Ok(Argument::short(bytes.as_slice()));
@@ -71,12 +73,17 @@ impl Argument {
         }
     }
 
-    /// The same bytes for another holder.
+    /// The same bytes for another holder. It takes no memory; of more than eight bytes it fails where they have as many
+    /// holders as can be counted.
     pub fn share(&self) -> Result<Argument, NoMemory>
-        ensures { IfOk result (λ argument. argument_bytes argument ≡ argument_bytes self.now) }
+        ensures same { IfOk result (λ argument. argument_bytes argument ≡ argument_bytes self.now) }
+        ensures short { IsShort (argument_bytes self.now) → IsOk result }
     {
         Ok(match self {
             Argument::Inline(bytes) => Argument::short(bytes.as_slice()),
+            Argument::Shared(bytes) if bytes.as_slice().len() <= INLINE_BYTES => {
+                Argument::short(bytes.as_slice())
+            }
             Argument::Shared(bytes) => Argument::Shared(Arc::try_clone(bytes)?),
         })
     }

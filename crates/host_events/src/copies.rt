@@ -1,6 +1,13 @@
 // Copies that an event takes before it changes anything.
 ghost use Rattle.std.specs.Prelude.{◌≡◌, ◌≤◌, ◌+◌, length, IfOk, IsOk};
-ghost use Rattle.channel_commands.specs.Views.{asked_of, call_of, reply_of};
+ghost use Rattle.channel_commands.specs.Views.{
+  HasShortArgument,
+  IsShort,
+  argument_bytes,
+  asked_of,
+  call_of,
+  reply_of,
+};
 ghost use Rattle.ckd_plain.specs.History.{count_of_host};
 ghost use Rattle.ckd_plain.specs.Laws.{HasNoBytes};
 ghost use Rattle.core_state.specs.Counted.{AreEntries};
@@ -12,7 +19,8 @@ use mss_base::{Bytes, HostNo, NoMemory};
 use std::alloc::Global;
 
 fn copy_of_command(command: &DeviceCommand) -> Result<DeviceCommand, NoMemory>
-    ensures { IfOk result (λ copy. asked_of copy ≡ asked_of command.now) }
+    ensures copy { IfOk result (λ copy. asked_of copy ≡ asked_of command.now) }
+    ensures short { IsShort (argument_bytes command.now.argument) → IsOk result }
 {
     Ok(DeviceCommand {
         code: command.code,
@@ -21,9 +29,11 @@ fn copy_of_command(command: &DeviceCommand) -> Result<DeviceCommand, NoMemory>
     })
 }
 
-/// A copy of a call, which shares the argument of a command. It takes no memory.
+/// A copy of a call, which shares the argument of a command. It takes no memory, and fails only where an argument of
+/// more than eight bytes has as many holders as can be counted.
 pub fn copy_of_call(call: &Call) -> Result<Call, NoMemory>
-    ensures { IfOk result (λ copy. call_of copy ≡ call_of call.now) }
+    ensures copy { IfOk result (λ copy. call_of copy ≡ call_of call.now) }
+    ensures short { HasShortArgument (call_of call.now) → IsOk result }
 {
     Ok(match call {
         Call::Mount { volume, bind } => Call::Mount {
