@@ -9,7 +9,7 @@ use Rattle.mss_base.proofs.Moments.{then_firm, weaker, ended_with}
 use Rattle.mss_base.specs.Configs.{serial_in}
 use Rattle.ckd_track.specs.Data.{Volumes}
 use Rattle.volume_table.specs.Row.{RowValue}
-use Rattle.table_pair.specs.Pair.{known}
+use Rattle.table_pair.specs.Pair.{known, row_of}
 use Rattle.table_pair.specs.Repairs.{HoldsToldRow}
 use Rattle.table_pair.specs.declared.copy.SlotsUsed.{SlotsUsed}
 use Rattle.shown_volumes.specs.Shown.{RowsOf, rows_of, volumes_shown}
@@ -17,8 +17,8 @@ use Rattle.shown_volumes.specs.Sound.{IsSound, SoundAs}
 use Rattle.shown_volumes.specs.Faults.{first_fault}
 use Rattle.shown_volumes.proofs.FaultFacts.{sound_from_none}
 use Rattle.volume_table.specs.Listed.{row_in_list}
-use Rattle.mss_restart.specs.Opening.{OpeningChange, volume_of, opened_by, opened_all, opening_changes, RowsAre, AreHeld, ShowsFront, OpensRows, AreOpened, IsOpened}
-use Rattle.mss_restart.specs.Creations.{RepairsOthers, AreTold, AreWritten, ChangesWhole}
+use Rattle.mss_restart.specs.Opening.{OpeningChange, volume_of, opened_by, opened_all, opening_changes, RowsAre, AreHeld, AreKnown, ShowsFront, OpensRows, AreOpened, IsOpened}
+use Rattle.mss_restart.specs.Creations.{AreEqual, RepairsOthers, AreTold, AreWritten, ChangesWhole}
 use Rattle.mss_restart.specs.declared.steps.OpeningStep.{OpeningStep}
 use Rattle.shown_volumes.specs.Changing.{with_row}
 use Rattle.shown_volumes.specs.declared.refused.Refused.{Refused}
@@ -40,11 +40,19 @@ no_front frames changes volumes s t w =
 
 module _ (rows : List (Option RowValue)) (s mid : SiteLog) (long : length rows ≡ 32) (are : RowsAre rows (content s)) where
   -- each row stands in both copies after the repair
-  pub rows_held : ((v : ℕ) → v < 32 → HoldsToldRow v (content s) (content mid)) → AreHeld (row_in_list rows) (content mid)
+  rows_held : ((v : ℕ) → v < 32 → HoldsToldRow v (content s) (content mid)) → AreHeld (row_in_list rows) (content mid)
   rows_held held v row at = elim (cases_lt v 32) [
     | inl low ↦ held v low row (are v low ∙ ap (λ (o : Option RowValue). known o false) at)
     | inr past ↦ (let e : ◌≡◌ {A = Option RowValue} None (Some row) = sym (get_or_past rows v None (omega (arith, long, past))) ∙ at in absurd cc)
   ]
+
+  -- and the rows are known then
+  pub rows_known : (used : List SlotsUsed) → ((v : ℕ) → row_of (content mid) v ≡ row_of (content s) v) → AreEqual used (content s) (content mid) → AreKnown rows used (content mid)
+  rows_known used same equal = record {
+    told = λ v low. same v ∙ are v low;
+    held = rows_held equal.held;
+    slots_ = equal.slots_;
+  }
 
 -- ---- one run after another
 

@@ -1,5 +1,5 @@
 -- What a whole opening leaves, from what its parts do.
-use Rattle.std.proofs.Common.{◌≡◌, inl, inr, ℕ, ◌≤◌, false, List, [], ◌∷◌, Option, None, Result, Ok, Err, refl, sym, ◌∙◌, subst, arith}
+use Rattle.std.proofs.Common.{◌≡◌, inl, inr, ℕ, zero, suc, ◌≤◌, Bool, false, List, [], ◌∷◌, Option, None, Result, Ok, Err, refl, sym, ◌∙◌, subst, arith}
 use Rattle.mss_base.specs.Configs.{ConfigData, serial_in}
 use Rattle.mss_base.specs.Content.{Content, SiteLog, content}
 use Rattle.volume_table.specs.Row.{RowValue}
@@ -13,18 +13,19 @@ use Rattle.volume_table.specs.Listed.{row_in_list}
 use Rattle.mss_restart.specs.Walks.{rest_fault}
 use Rattle.mss_restart.specs.Survey.{AreFaultless}
 use Rattle.mss_restart.specs.Opening.{OpeningChange, opening_changes, RowsAre}
-use Rattle.mss_restart.specs.Creations.{IsStop, AreRepaired, AreRewritten, IsFrontWritten, Account, AreTold, RepairsWhole, MigratesWhole, RewritesWhole, ChangesWhole, CompletesWhole}
+use Rattle.mss_restart.specs.Creations.{IsStop, AreRepaired, AreMigrated, AreRewritten, IsFrontWritten, Account, AreTold, RepairsWhole, MigratesWhole, RewritesWhole, ChangesWhole, CompletesWhole}
 use Rattle.mss_restart.specs.Answers.{RefusesAs, KeepsOpening, RefusalLeaves, account_from}
 use Rattle.mss_restart.specs.declared.steps.OpeningStep.{OpeningStep}
 use Rattle.mss_restart.proofs.ReadRows.{right_readings}
 use Rattle.mss_restart.proofs.Surveyed.{row_walk, is_rest, none_apart}
 use Rattle.mss_restart.proofs.Repaired.{none_repaired, none_migrated}
+use Rattle.mss_restart.proofs.MigratedFacts.{unmigrated}
 
 none_written : (changes : List OpeningChange) (rows : RowsOf) (s : SiteLog) → IsFrontWritten changes rows s s
 none_written changes rows s = record { done_ = []; later = changes; order = refl; steps = []; last = rows; each = (refl, refl) }
 
 -- want of memory within the repairs
-pub repairs_whole : (old new : SiteLog) (e : Refused) → RepairsWhole {T = Unit {0}} old new (Err e) → RewritesWhole {T = Unit {0}} old new (Err e)
+pub repairs_whole : (old new : SiteLog) (e : Refused) → RepairsWhole {T = Bool} old new (Err e) → RewritesWhole {T = Unit {0}} old new (Err e)
 repairs_whole old new Memory is = (is.0, (0, record { mid = new; repaired = is.1; migrated = none_migrated new }))
 repairs_whole old new _ is = tt
 
@@ -33,6 +34,15 @@ pub migrates_whole : (old mid new : SiteLog) (result : Result (Unit {0}) Refused
 migrates_whole old mid new (Ok value) repaired is = record { mid = mid; repaired = repaired; migrated = is }
 migrates_whole old mid new (Err Memory) repaired is = (32, (is.0, record { mid = mid; repaired = repaired; migrated = is.1 }))
 migrates_whole old mid new (Err _) repaired is = tt
+
+-- repairs behind which nothing was migrated, since all copies are of version 2
+unmigrated_all : (count : ℕ) (s : SiteLog) → AreMigrated count s s
+unfolding AreMigrated
+unmigrated_all zero s = refl
+unmigrated_all (suc count) s = (s, unmigrated_all count s, unmigrated count s s refl)
+
+pub repairs_alone : (old new : SiteLog) → AreRepaired 32 old new → AreRewritten 32 32 old new
+repairs_alone old new repaired = record { mid = new; repaired = repaired; migrated = unmigrated_all 32 new }
 
 -- want of memory within both
 pub rewrites_complete : (a : Account) (old new : SiteLog) (e : Refused) → RewritesWhole {T = Unit {0}} old new (Err e) → CompletesWhole a old new (Err e)

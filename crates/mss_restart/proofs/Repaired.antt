@@ -5,7 +5,9 @@ use Rattle.mss_base.specs.Content.{SiteLog, content, Settles, Writes}
 use Rattle.mss_base.specs.declared.place.UnitNo.TheVariants.{TableA, TableB}
 use Rattle.mss_base.proofs.Moments.{started, then_firm, ended_with}
 use Rattle.ckd_track.specs.Data.{Volumes}
+use Rattle.volume_table.specs.Grammar.{is_old}
 use Rattle.table_pair.specs.Copies.{copy_at}
+use Rattle.table_pair.specs.Migrating.{AreNew}
 use Rattle.table_pair.specs.Pair.{row_of, row_of_copies, ChangesRow, HoldsRow, IsOpenWith}
 use Rattle.table_pair.specs.Repairs.{KeepsRow, HoldsToldRow}
 use Rattle.table_pair.specs.declared.copy.SlotsUsed.{SlotsUsed}
@@ -14,7 +16,7 @@ use Rattle.mss_base.specs.Sites.{MayWrite}
 use Rattle.mss_base.specs.declared.site.Site.{Ghosts}
 use Rattle.shown_volumes.specs.declared.refused.Refused.{Refused}
 use Rattle.shown_volumes.specs.declared.refused.Refused.TheVariants.{Memory}
-use Rattle.mss_restart.specs.Creations.{IsStop, StopsAlone, StepsOn, WritesOn, IsRepair, AreRepaired, RepairsWhole, IsMigration, AreMigrated, MigratesWhole}
+use Rattle.mss_restart.specs.Creations.{AreRenewed, IsStop, StopsAlone, StepsOn, WritesOn, IsRepair, AreRepaired, RepairsWhole, IsMigration, AreMigrated, MigratesWhole}
 use Rattle.shown_volumes.specs.Shown.{volumes_shown}
 use Rattle.shown_volumes.specs.Sound.{IsSound, SoundAs}
 use Rattle.shown_volumes.proofs.MomentFacts.{repair_moments}
@@ -70,6 +72,18 @@ module _ (begun mid now : SiteLog) (volume : ℕ) (so_far : IsRepaired begun mid
         }
   ]
 
+  -- copies of version 2 still are
+  pub renewed_too : (n : ℕ) → AreRenewed n (content mid) → volume ≡ n → AreNew volume (content now) → AreRenewed (n + 1) (content now)
+  renewed_too n before here one_new v lt = elim (cases_Bool (volume == v)) [
+    | inl same ↦ subst (λ (x : ℕ). AreNew x (content now)) (eqb-true volume v same) one_new
+    | inr other ↦
+        let was = before v (before_last volume n v here lt other) in
+        record {
+          a = ap (λ (b : List ℕ). is_old (copy_at b).spelled) (change.others TableA v other) ∙ was.a;
+          b = ap (λ (b : List ℕ). is_old (copy_at b).spelled) (change.others TableB v other) ∙ was.b;
+        }
+  ]
+
   -- so many slots are in use, with those of this row
   pub slots_too : (n : ℕ) (before used : List SlotsUsed) (one_used : SlotsUsed) → n < length before → ((v : ℕ) → v < n → HasSlots (used_at before v) v (content mid)) → volume ≡ n → HasSlots one_used volume (content now) → used ≡ set before n one_used
       → (v : ℕ) → v < n + 1 → HasSlots (used_at used v) v (content now)
@@ -84,6 +98,11 @@ module _ (begun mid now : SiteLog) (volume : ℕ) (so_far : IsRepaired begun mid
 pub none_repaired : (s : SiteLog) → AreRepaired 0 s s
 unfolding AreRepaired
 none_repaired s = refl
+
+-- no repair was begun
+pub unbegun_repairs : (T : Type 0) (s : SiteLog) (e : Refused) → RepairsWhole {T = T} s s (Err e)
+unbegun_repairs T s Memory = (0, none_repaired s)
+unbegun_repairs T s _ = tt
 
 pub one_repaired : (n volume : ℕ) (begun mid now : SiteLog) → AreRepaired n begun mid → volume ≡ n → IsRepair volume mid now → AreRepaired (n + 1) begun now
 unfolding AreRepaired

@@ -18,6 +18,7 @@ use Rattle.mss_restart.specs.Opening.{IsOpened, ShowsFront, opening_changes}
 use Rattle.mss_restart.specs.Creations.{Account, AreTold, CompletesWhole, OpeningRun, RepairsOthers}
 use Rattle.mss_restart.specs.declared.steps.OpeningStep.{OpeningStep}
 use Rattle.mss_restart.specs.declared.opening.Opened.{Opened}
+use Rattle.mss_restart.specs.declared.opening.OpeningRoom.{OpeningRoom}
 
 -- nothing was written, or the content had no fault
 abbrev pub WritesIfFaultless : ConfigData → SiteLog → SiteLog → Type 0
@@ -84,6 +85,14 @@ pub record HasNoSteps (opened : Opened) (count : ℕ) : Type 0 where
   pub no_marks : opened.marks.items ≡ []
   pub creations_room : count ≤ opened.creations.spare
   pub marks_room : count ≤ opened.marks.spare
+
+-- room for so many creations and marks, and for the slots in use of each volume
+pub record IsRoom (room : OpeningRoom) (count : ℕ) : Type 0 where
+  pub no_creations : room.creations.items ≡ []
+  pub no_marks : room.marks.items ≡ []
+  pub creations_room : count ≤ room.creations.spare
+  pub marks_room : count ≤ room.marks.spare
+  pub places : length room.used.items ≡ 32
 
 -- the opening changes that lead from some rows to others
 abbrev pub run_of : List VolumeData → Opened → Opened → OpeningRun

@@ -62,6 +62,10 @@ pub record AreEqual (used : List SlotsUsed) (old new : Content) : Type 0 where
   pub held : (volume : ℕ) → volume < 32 → HoldsToldRow volume old new
   pub slots_ : AreUsed used new
 
+-- the copies of the first volumes are of version 2
+abbrev pub AreRenewed : ℕ → Content → Type 0
+AreRenewed count c = (volume : ℕ) → volume < count → AreNew volume c
+
 -- both copies of a volume's row are as they were
 pub record SameCopies (volume : ℕ) (old now : Content) : Type 0 where
   pub a : now TableA volume ≡ old TableA volume

@@ -21,6 +21,7 @@ ghost use Rattle.mss_restart.specs.Creations.{
 ghost use Rattle.mss_restart.specs.Answers.{
   AnswersOpening,
   HasNoSteps,
+  IsRoom,
   IsUsable,
   KeepsOpening,
   LeavesRows,
@@ -43,7 +44,7 @@ use crate::migrations::migrate_rows;
 use crate::repairs::repair_rows;
 use crate::steps::OpeningSteps;
 use crate::surveying::survey_rows;
-use mss_base::{Config, Serial, Site, VolumeNo};
+use mss_base::{Config, NoMemory, Serial, Site, VolumeNo};
 use shown_volumes::Refused;
 use std::alloc::Global;
 use table_pair::{SlotsUsed, SlotsUsedList};
@@ -59,6 +60,30 @@ pub struct Opened {
     pub creations: OpeningSteps,
     /// The marks that were changed behind that.
     pub marks: OpeningSteps,
+}
+
+/// What an opening tells, before it was begun: room for a creation and for a mark of each volume, and no slot in use.
+#[derive(Drop)]
+struct OpeningRoom {
+    used: SlotsUsedList,
+    creations: OpeningSteps,
+    marks: OpeningSteps,
+}
+
+impl OpeningRoom {
+    fn of(alloc: Global, volumes: usize) -> Result<OpeningRoom, NoMemory>
+        ensures { IfOk result (λ room. IsRoom room volumes) }
+    {
+        let mut creations = OpeningSteps::new(alloc);
+        creations.reserve(volumes)?;
+        let mut marks = OpeningSteps::new(alloc);
+        marks.reserve(volumes)?;
+        Ok(OpeningRoom {
+            used: SlotsUsedList::of(alloc, &[SlotsUsed::none(); 32])?,
+            creations,
+            marks,
+        })
+    }
 }
 
 /// Surveys a site whose rows have to be told by all that was read of both copies.
@@ -100,7 +125,9 @@ fn rewrite_rows<S: Site>(
     ensures site_ { StepsOn S.Site site.old site.new result }
 {
     rows.look();
-    repair_rows(alloc, site, used)?;
+    if !repair_rows(alloc, site, used)? {
+        return Ok(());
+    }
     migrate_rows(site, rows, used)
 }
 
@@ -184,14 +211,14 @@ fn open_lent<S: Site>(alloc: Global, site: &mut S, config: &Config) -> Result<Op
     ensures devices { WritesOn S.Site site.old site.new }
 {
     // The numbers of its volumes rise, which a body knows of a configuration that it looks into.
-    let count = config.volumes.as_slice().len();
-    let mut creations = OpeningSteps::new(alloc);
-    creations.reserve(count)?;
-    let mut marks = OpeningSteps::new(alloc);
-    marks.reserve(count)?;
-    let used = SlotsUsedList::of(alloc, &[SlotsUsed::none(); 32])?;
+    let room = OpeningRoom::of(alloc, config.volumes.as_slice().len())?;
     let rows = known_rows(alloc, site, config)?;
     rows.look();
+    let OpeningRoom {
+        used,
+        creations,
+        marks,
+    } = room;
     let mut opened = Opened {
         rows,
         used,

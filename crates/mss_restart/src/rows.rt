@@ -23,7 +23,7 @@ ghost use Rattle.mss_restart.specs.Survey.{
 };
 ghost use Rattle.mss_restart.specs.OneCopy.{ArePaired, IsPaired, LosesOneTable};
 
-use mss_base::{Serial, Site, VolumeNo, volume_at};
+use mss_base::{Block, Serial, Site, VolumeNo, volume_at};
 use shown_volumes::Refused;
 use std::alloc::Global;
 use table_pair::{RowRead, RowTrouble, read_row};
@@ -98,6 +98,7 @@ fn read_volume<S: Site>(
     site: &mut S,
     volume: VolumeNo,
     asked: Option<Serial>,
+    block: &mut Block,
 ) -> Result<RowRead, Refused>
     ensures read { S.tells → ReadsVolume (S.faults site.old) (S.faults site.new) volume asked
         (content (S.told site.old)) result }
@@ -108,7 +109,7 @@ fn read_volume<S: Site>(
         → IsPaired volume (content (S.told site.old)) → TellsNoFailure result }
     ensures devices { OnlyReads S.Site site.old site.new }
 {
-    match read_row(alloc, site, volume) {
+    match read_row(alloc, site, volume, block) {
         Ok(read) => match serial_fault(volume, &read.row, asked) {
             None => Ok(read),
             Some(fault) => Err(fault),
@@ -134,11 +135,12 @@ pub fn read_rows<S: Site>(
     ensures devices { OnlyReads S.Site site.old site.new }
 {
     let mut rows = Rows::none(alloc)?;
+    let mut block = Block::zeros(alloc)?;
     let mut unread = None;
     for number in 0..32 {
         let volume = volume_at(number);
         let asked = serial_asked(volumes, volume);
-        let read = read_volume(alloc, site, volume, asked)?;
+        let read = read_volume(alloc, site, volume, asked, &mut block)?;
         unread = unread.or(read.unread);
         rows.put(volume, read.row);
     }

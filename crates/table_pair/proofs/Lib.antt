@@ -6,6 +6,7 @@ pub mod PairFacts
 pub mod PairLemmas
 pub mod StayLemmas
 pub mod ChangingLemmas
+pub mod AlikeLemmas
 pub mod ChangeLemmas
 pub mod CreateLemmas
 pub mod MigrateLemmas

@@ -1,17 +1,19 @@
 -- The moments of a repair.
 use Rattle.std.proofs.Common.{◌≡◌, inl, inr, true, false, ℕ, List, length, Some, Result, Ok, Err, refl, sym, ◌∙◌, ap, subst}
 use Rattle.std.specs.Prelude.{IsOk}
+use Rattle.std.proofs.lemmas.Bool.{or_parts}
 use Rattle.mss_base.specs.Content.{SiteLog, content, Settles, Writes, ChangesBlock}
 use Rattle.mss_base.specs.declared.place.UnitNo.TheVariants.{TableA, TableB}
 use Rattle.mss_base.proofs.Moments.{started, weaker}
 use Rattle.mss_base.proofs.Settling.{settles_none}
 use Rattle.volume_table.specs.Row.{RowValue}
-use Rattle.volume_table.specs.Grammar.{decode}
+use Rattle.volume_table.specs.Grammar.{decode, is_old}
 use Rattle.table_pair.specs.declared.copy.TableCopy.{TableCopy}
 use Rattle.table_pair.specs.declared.copy.TableCopy.TheVariants as copy
 use Rattle.table_pair.specs.declared.repairs.Found.{Found}
 use Rattle.table_pair.specs.declared.write.Gates.{Gates}
 use Rattle.table_pair.specs.Places.{place_of}
+use Rattle.table_pair.specs.Migrating.{AreNew}
 use Rattle.table_pair.specs.Slots.{HasSlots}
 use Rattle.table_pair.specs.Copies.{CopyView, copy_at, copy_on, filled_copy, HasGates, IsRewriting, WritesCopy}
 use Rattle.table_pair.specs.Pair.{known, row_of_copies, HoldsRow, ChangesRow}
@@ -128,6 +130,12 @@ gates_on copy.B volume s gates has = has
 -- what was read of two copies is so of them
 pub found_on : (found : Found) (volume : ℕ) (s : SiteLog) (a b : List ℕ) → content s TableA volume ≡ a → content s TableB volume ≡ b → IsFound found (copy_at a) (copy_at b) → IsFoundOn found volume (content s)
 found_on found volume s a b is_a is_b is = subst (λ (p : List ℕ × List ℕ). IsFound found (copy_at p.0) (copy_at p.1)) (λ i. (sym is_a i, sym is_b i)) is
+
+-- and they are of version 2, if none was found to be old
+pub found_new : (found : Found) (volume : ℕ) (s r : SiteLog) → r ≡ s → IsFoundOn found volume (content s) → found.is_old ≡ false → AreNew volume (content r)
+found_new found volume s r same is none =
+    let neither = or_parts (is_old (copy_at (content s TableA volume)).spelled) (is_old (copy_at (content s TableB volume)).spelled) (sym is.age ∙ none) in
+    subst (λ (q : SiteLog). AreNew volume (content q)) (sym same) (record { a = neither.0; b = neither.1 })
 
 pub found_slots : (found : Found) (volume : ℕ) (s r : SiteLog) → r ≡ s → IsFoundOn found volume (content s) → HasSlots found.used volume (content r)
 found_slots found volume s r same is = subst (λ (q : SiteLog). HasSlots found.used volume (content q)) (sym same) (record { a = is.used_a; b = is.used_b })

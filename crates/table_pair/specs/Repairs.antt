@@ -1,8 +1,9 @@
 -- When copies need no repair, which one is to be rewritten, and what a failed repair keeps.
-use Rattle.std.specs.Prelude.{◌≡◌, ◌≢◌, ◌⊎◌, ◌≤◌, ℕ, false, length, Option, Some, None, Result, Ok, Err}
+use Rattle.std.specs.Prelude.{◌≡◌, ◌≢◌, ◌⊎◌, ◌≤◌, ℕ, false, ◌||◌, length, Option, Some, None, Result, Ok, Err}
 use Rattle.mss_base.specs.Content.{Content, SiteLog, Settles, content}
 use Rattle.mss_base.specs.declared.place.UnitNo.TheVariants.{TableA, TableB}
 use Rattle.volume_table.specs.Row.{RowValue}
+use Rattle.volume_table.specs.Grammar.{is_old}
 use Rattle.table_pair.specs.declared.copy.TableCopy.{TableCopy}
 use Rattle.table_pair.specs.declared.repairs.Stale.{Stale}
 use Rattle.table_pair.specs.declared.repairs.Found.{Found}
@@ -10,6 +11,8 @@ use Rattle.table_pair.specs.declared.copy.TableCopy.TheVariants as copy
 use Rattle.table_pair.specs.Copies.{CopyView, copy_at, HasGates}
 use Rattle.table_pair.specs.Pair.{row_of, row_of_copies, known, IsOpenWith, HoldsRow}
 use Rattle.table_pair.specs.declared.copy.SlotsUsed.{SlotsUsed}
+use Rattle.table_pair.specs.declared.copy.Repaired.{Repaired}
+use Rattle.table_pair.specs.Migrating.{AreNew}
 use Rattle.table_pair.specs.Slots.{HasSlots, without_slots}
 use Rattle.mss_base.specs.Counts.{IsFaultSince}
 use Rattle.mss_base.specs.Sound.{StaysSound}
@@ -24,6 +27,11 @@ HoldSame a b = (row : RowValue) × IsOpenWith row a × IsOpenWith row b
 -- there is no row to follow, or both copies hold it
 abbrev pub NeedNoRepair : CopyView → CopyView → Type 0
 NeedNoRepair a b = ((row : RowValue) → row_of_copies a b ≢ known (Some row) false) ⊎ HoldSame a b
+
+-- copies with the same body and the same slots in use
+pub record AreAlike (a b : CopyView) : Type 0 where
+  pub body : a.spelled ≡ b.spelled
+  pub slots_ : a.slots ≡ b.slots
 
 abbrev pub NeedsNoRepair : ℕ → Content → Type 0
 NeedsNoRepair volume c = NeedNoRepair (copy_at (c TableA volume)) (copy_at (c TableB volume))
@@ -55,11 +63,13 @@ MayBeStale (Some stale) a b = IsStale stale a b
 abbrev pub IsStaleOn : Stale → ℕ → Content → Type 0
 IsStaleOn stale volume c = IsStale stale (copy_at (c TableA volume)) (copy_at (c TableB volume))
 
--- what two copies are found to be: what is to be repaired, if anything, and how many of their slots are in use
+-- what two copies are found to be: what is to be repaired, if anything, how many of their slots are in use, and
+-- whether one of them is of version 1
 pub record IsFound (found : Found) (a b : CopyView) : Type 0 where
   pub stale : MayBeStale found.stale a b
   pub used_a : length a.slots ≡ found.used.a
   pub used_b : length b.slots ≡ found.used.b
+  pub age : found.is_old ≡ (is_old a.spelled || is_old b.spelled)
 
 abbrev pub IsFoundOn : Found → ℕ → Content → Type 0
 IsFoundOn found volume c = IsFound found (copy_at (c TableA volume)) (copy_at (c TableB volume))
@@ -82,10 +92,11 @@ abbrev pub HoldsToldRow : ℕ → Content → Content → Type 0
 HoldsToldRow volume old new = (row : RowValue) → row_of old volume ≡ known (Some row) false → HoldsRow row volume new
 
 -- what a repair leaves that was done: the row that was told, if any, stands in both copies, firm; so many of their slots
--- are in use, and they need no repair
-pub record RepairsCopies (used : SlotsUsed) (volume : ℕ) (old new : SiteLog) : Type 0 where
+-- are in use, they need no repair, and both are of version 2, unless one may not be
+pub record RepairsCopies (repaired : Repaired) (volume : ℕ) (old new : SiteLog) : Type 0 where
   pub held : HoldsToldRow volume (content old) (content new)
-  pub slots_ : HasSlots used volume (content new)
+  pub slots_ : HasSlots repaired.used volume (content new)
+  pub are_new : repaired.is_old ≡ false → AreNew volume (content new)
   pub settled : NeedsNoRepair volume (content new)
   pub firm : Settles old new
 

@@ -57,6 +57,15 @@ impl SlotsUsed {
 /// How many slots of the copies of each of the 32 volumes are in use, by number.
 pub type SlotsUsedList = Listed<SlotsUsed>;
 
+/// What a repair left of the two copies of a row.
+#[derive(Clone, Copy)]
+pub struct Repaired {
+    /// How many of their slots are in use.
+    pub used: SlotsUsed,
+    /// Whether the body of a copy may be of version 1.
+    pub is_old: bool,
+}
+
 /// A row, or none. Where one copy couldn't be read and the row is known all the same, `unread` is the site's count of
 /// faults after that read.
 #[derive(Drop)]

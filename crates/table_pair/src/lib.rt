@@ -23,7 +23,8 @@ mod write;
 
 pub use change::{CHANGE_ITEMS, change_row};
 pub use copy::{
-    CopyState, RepairFault, RowRead, RowTrouble, SlotsUsed, SlotsUsedList, TableCopy, place_of,
+    CopyState, RepairFault, Repaired, RowRead, RowTrouble, SlotsUsed, SlotsUsedList, TableCopy,
+    place_of,
 };
 pub use create::create_row;
 pub use migrations::migrate;

@@ -116,11 +116,13 @@ pub fn by_table(a: CopyState, b: CopyState) -> Result<RowRead, RowTrouble>
 
 /// Reads the row of a volume. Copy B is read where copy A can't be read or is closed.
 ///
-/// Nothing is written. The row is what the reading table tells of the two copies, each of which was read or failed.
+/// Nothing is written. The row is what the reading table tells of the two copies, each of which was read or failed. The
+/// copies are read into `block`.
 pub fn read_row<S: Site>(
     alloc: Global,
     site: &mut S,
     volume: VolumeNo,
+    block: &mut Block,
 ) -> Result<RowRead, RowTrouble>
     ensures row { S.tells → ReadsRow (IsReadable S.Site site.old)
         (S.faults site.old) (S.faults site.new) volume (content (S.told site.old)) result }
@@ -130,11 +132,10 @@ pub fn read_row<S: Site>(
         → ReadsBoth (S.faults site.old) (S.faults site.new) result }
     ensures devices { OnlyReads S.Site site.old site.new }
 {
-    let mut block = Block::zeros(alloc)?;
-    let a = read_copy(alloc, site, &place_of(TableCopy::A, volume), &mut block)?;
+    let a = read_copy(alloc, site, &place_of(TableCopy::A, volume), block)?;
     if is_open(&a) {
         return by_table(a, CopyState::Closed { made: false });
     }
-    let b = read_copy(alloc, site, &place_of(TableCopy::B, volume), &mut block)?;
+    let b = read_copy(alloc, site, &place_of(TableCopy::B, volume), block)?;
     by_table(a, b)
 }

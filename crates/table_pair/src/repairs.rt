@@ -1,22 +1,24 @@
 // Making two copies tell the same row.
-ghost use Rattle.std.specs.Prelude.{◌≡◌, ◌≤◌, ℕ, length, IfOk, OnOk, IsOk, IsTrue, ◌↔◌, Some, Err};
+ghost use Rattle.std.specs.Prelude.{◌≡◌, ◌≤◌, ℕ, true, length, IfOk, OnOk, IsOk, IsTrue, ◌↔◌, Some, Err};
 ghost use Rattle.mss_base.specs.Blocks.{block_of};
 ghost use Rattle.mss_base.specs.Content.{content, Settles, Writes};
 ghost use Rattle.mss_base.specs.Sites.{OnlyReads, MayWrite, WritesAtMost};
 ghost use Rattle.mss_base.specs.declared.place.UnitNo.TheVariants.{TableA, TableB};
 ghost use Rattle.table_pair.specs.Copies.{copy_at};
 ghost use Rattle.table_pair.specs.Pair.{ChangesRow};
+ghost use Rattle.volume_table.specs.Grammar.{body, is_old};
+ghost use Rattle.table_journal.specs.Slots.{slots};
 ghost use Rattle.table_pair.specs.Reads.{IsReadable};
-ghost use Rattle.table_pair.specs.Repairs.{NeedsNoRepair, TellsRow, MayBeStale, IsStaleOn, IsFound, IsFoundOn, KeepsRow, KeepsMarks, HoldsToldRow, LosesSlots, KeepsRepairFault, RepairsCopies, GotRoom, LeavesSite, FailsNever};
+ghost use Rattle.table_pair.specs.Repairs.{AreAlike, NeedNoRepair, NeedsNoRepair, TellsRow, MayBeStale, IsStaleOn, IsFound, IsFoundOn, KeepsRow, KeepsMarks, HoldsToldRow, LosesSlots, KeepsRepairFault, RepairsCopies, GotRoom, LeavesSite, FailsNever};
 ghost use Rattle.table_pair.specs.declared.copy.RepairFault.TheVariants.{Memory};
 
-use crate::copy::{CopyState, RepairFault, SlotsUsed, TableCopy, place_of};
+use crate::copy::{CopyState, RepairFault, Repaired, SlotsUsed, TableCopy, place_of};
 use crate::read::copy_state;
 use crate::write::{COPY_ITEMS, GATE, Gates, gates_of, rewrite_copy};
-use mss_base::{Block, BlockPlace, Failed, NoMemory, OPEN, Site, VolumeNo};
+use mss_base::{BLOCK_BYTES, Block, BlockPlace, Failed, NoMemory, OPEN, Site, VolumeNo};
 use std::alloc::Global;
-use table_journal::read_slots;
-use volume_table::{BODY, BODY_END, ROW_BYTES, VolumeRow, encode_row};
+use table_journal::{read_slots, slot};
+use volume_table::{BODY, BODY_END, ROW_BYTES, VolumeRow, encode_row, is_old};
 
 /// A copy that hasn't the row which the other one tells, its gates, and that row.
 #[derive(Drop)]
@@ -33,6 +35,8 @@ pub struct Found {
     pub stale: Option<Stale>,
     /// How many of their slots are in use.
     pub used: SlotsUsed,
+    /// Whether the body of one of them is of version 1.
+    pub is_old: bool,
 }
 
 fn is_open(block: &Block) -> bool
@@ -73,11 +77,65 @@ fn tells(told: &Option<VolumeRow>, row: &VolumeRow) -> bool
     }
 }
 
+/// Whether two copies have the same slots in use.
+fn has_same_slots(a: &[u8], b: &[u8]) -> bool
+    requires a { length a.now ≡ BLOCK_BYTES }
+    requires b { length b.now ≡ BLOCK_BYTES }
+    ensures { result ≡ true → slots a.now ≡ slots b.now }
+{
+    let count = read_slots(a);
+    if read_slots(b) != count {
+        return false;
+    }
+    for index in 0..count {
+        if slot(a, index) != slot(b, index) {
+            return false;
+        }
+    }
+    true
+}
+
+/// Whether two copies have the same body.
+fn has_same_body(a: &[u8], b: &[u8]) -> bool
+    requires a { length a.now ≡ BLOCK_BYTES }
+    requires b { length b.now ≡ BLOCK_BYTES }
+    ensures { result ≡ true → body a.now ≡ body b.now }
+{
+    a[BODY..BODY_END] == b[BODY..BODY_END]
+}
+
+/// Whether two copies have the same body and the same slots in use.
+fn are_alike(a: &Block, b: &Block) -> bool
+    ensures { result ≡ true → AreAlike (copy_at a.now) (copy_at b.now) }
+{
+    let (a, b) = (a.as_slice(), b.as_slice());
+    if !has_same_body(a, b) {
+        return false;
+    }
+    has_same_slots(a, b)
+}
+
+/// Whether two open copies are alike. So they tell the same row, or the same fault, and needn't be decoded.
+fn tell_the_same(a: &Block, b: &Block) -> bool
+    ensures { result ≡ true → NeedNoRepair (copy_at a.now) (copy_at b.now) }
+{
+    if !is_open(a) {
+        return false;
+    }
+    if !is_open(b) {
+        return false;
+    }
+    are_alike(a, b)
+}
+
 /// What has to be rewritten, if anything. Copy A is followed where it is open, else an open copy B; a copy that tells no
 /// row isn't followed.
 fn stale_copy(alloc: Global, a: &Block, b: &Block) -> Result<Option<Stale>, NoMemory>
     ensures { IfOk result (λ stale. MayBeStale stale (copy_at a.now) (copy_at b.now)) }
 {
+    if tell_the_same(a, b) {
+        return Ok(None);
+    }
     let by_b = told_row(alloc, b)?;
     if !is_open(a) {
         let Some(row) = by_b else {
@@ -102,6 +160,14 @@ fn stale_copy(alloc: Global, a: &Block, b: &Block) -> Result<Option<Stale>, NoMe
     }))
 }
 
+/// Whether the body of a copy is of version 1.
+#[tactic(auto, using(crate::proofs::CopyLemmas::spelled_of))]
+fn is_old_copy(block: &Block) -> bool
+    ensures { result ≡ is_old (copy_at block.now).spelled }
+{
+    is_old(block.as_slice())
+}
+
 /// What two blocks that were read are found to be.
 fn found_in(alloc: Global, a: &Block, b: &Block) -> Result<Found, NoMemory>
     ensures { IfOk result (λ found. IsFound found (copy_at a.now) (copy_at b.now)) }
@@ -111,7 +177,11 @@ fn found_in(alloc: Global, a: &Block, b: &Block) -> Result<Found, NoMemory>
         a: read_slots(a.as_slice()),
         b: read_slots(b.as_slice()),
     };
-    Ok(Found { stale, used })
+    Ok(Found {
+        stale,
+        used,
+        is_old: is_old_copy(a) | is_old_copy(b),
+    })
 }
 
 /// Rewrites a stale copy with the row of the other one.
@@ -154,8 +224,14 @@ fn read_block<S: Site>(site: &mut S, at: &BlockPlace, block: &mut Block) -> Resu
     }
 }
 
-/// Takes room for a rewriting, reads both copies, and finds what has to be rewritten, if anything.
-fn find_stale<S: Site>(alloc: Global, site: &mut S, volume: VolumeNo) -> Result<Found, RepairFault>
+/// Takes room for a rewriting, reads both copies into two blocks, and finds what has to be rewritten, if anything.
+fn find_stale<S: Site>(
+    alloc: Global,
+    site: &mut S,
+    volume: VolumeNo,
+    a: &mut Block,
+    b: &mut Block,
+) -> Result<Found, RepairFault>
     ensures found { S.tells → IfOk result (λ found.
         IsFoundOn found volume (content (S.told site.old))) }
     ensures room { OnOk result (COPY_ITEMS ≤ S.spare site.new) }
@@ -165,33 +241,34 @@ fn find_stale<S: Site>(alloc: Global, site: &mut S, volume: VolumeNo) -> Result<
         → IsReadable S.Site site.old TableB → FailsNever result }
 {
     site.reserve(COPY_ITEMS)?;
-    let mut a = Block::zeros(alloc)?;
-    let mut b = Block::zeros(alloc)?;
-    read_block(site, &place_of(TableCopy::A, volume), &mut a)?;
-    read_block(site, &place_of(TableCopy::B, volume), &mut b)?;
-    let found = found_in(alloc, &a, &b)?;
+    read_block(site, &place_of(TableCopy::A, volume), a)?;
+    read_block(site, &place_of(TableCopy::B, volume), b)?;
+    let found = found_in(alloc, a, b)?;
     Ok(found)
 }
 
 /// Makes the two copies of a volume's row tell the same, where one of them tells a row: the row that `read_row` tells
 /// stands in both after that, firm. Elsewhere, and where both hold it, nothing is written. Gives how many slots of the
-/// copies are in use then.
+/// copies are in use then, and whether one may be of version 1: where one was rewritten, that isn't looked at again.
 ///
 /// It makes at most four writes and three syncs, for which it takes the room itself. The row is the same at every
-/// moment, and so are the made marks. After want of memory the devices are as they were.
+/// moment, and so are the made marks. After want of memory the devices are as they were. The copies are read into `a`
+/// and `b`.
 pub fn repair<S: Site>(
     alloc: Global,
     site: &mut S,
     volume: VolumeNo,
-) -> Result<SlotsUsed, RepairFault>
+    a: &mut Block,
+    b: &mut Block,
+) -> Result<Repaired, RepairFault>
     ensures moments { S.tells → Writes
         (ChangesRow volume (KeepsRow volume (content (S.told site.old)))
         (content (S.told site.old)))
         (S.told site.old) (S.told site.new) }
     ensures marks { S.tells → Writes (KeepsMarks volume (content (S.told site.old)))
         (S.told site.old) (S.told site.new) }
-    ensures done { S.tells → IfOk result (λ used.
-        RepairsCopies used volume (S.told site.old) (S.told site.new)) }
+    ensures done { S.tells → IfOk result (λ repaired.
+        RepairsCopies repaired volume (S.told site.old) (S.told site.new)) }
     ensures untouched { S.tells → NeedsNoRepair volume (content (S.told site.old))
         → S.told site.new ≡ S.told site.old }
     ensures memory { result ≡ Err Memory → LeavesSite S.Site site.old site.new }
@@ -200,12 +277,19 @@ pub fn repair<S: Site>(
     ensures works { IsReadable S.Site site.old TableA
         → IsReadable S.Site site.old TableB → FailsNever result }
 {
-    let Found { stale, used } = find_stale(alloc, site, volume)?;
+    let Found {
+        stale,
+        used,
+        is_old,
+    } = find_stale(alloc, site, volume, a, b)?;
     let Some(stale) = stale else {
-        return Ok(used);
+        return Ok(Repaired { used, is_old });
     };
     match follow(site, volume, &stale) {
-        Ok(()) => Ok(used.without(stale.copy)),
+        Ok(()) => Ok(Repaired {
+            used: used.without(stale.copy),
+            is_old: true,
+        }),
         Err(Failed) => Err(RepairFault::Failed {
             fault: site.faults(),
         }),

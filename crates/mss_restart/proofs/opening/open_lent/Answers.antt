@@ -28,29 +28,9 @@ returns-clause-opens g c = λ tells.
     (c.in_ok-rows.ensures.known tells) (c.in_ok-rows.ensures.faultless tells) c.look-2.ensures.places
     (subst (λ (x : SiteLog). AreOpened changes (content x) now before after used) (c.known_rows.ensures.devices.log tells) (c.in_ok-complete_rows.ensures.told tells).opened)
 
-pub returns-in_err-reserve-clause-leaves : goal.returns-in_err-reserve-clause-leaves
-returns-in_err-reserve-clause-leaves g c = λ tells.
+pub returns-in_err-room-clause-leaves : goal.returns-in_err-room-clause-leaves
+returns-in_err-room-clause-leaves g c = λ tells.
     let p = err_from_is_err_and c.from_residual.result c.from_residual.ensures.1 in
-    let s = g.S.Site.told c.args.site.now in
-    record {
-      moments = λ frames sound. none_shown frames (opening_changes (rows_of (content s)) c.args.config.now.volumes) _ _ refl sound;
-      others = nothing_else (opening_changes (rows_of (content s)) c.args.config.now.volumes) s s refl;
-      complete = subst (λ (r : Result Opened Refused). OpensWhole c.args.config.now s s r) (sym p.1) (none_complete (account_from c.args.config.now s s []) s s p.0 refl);
-    }
-
-pub returns-in_err-reserve-2-clause-leaves : goal.returns-in_err-reserve-2-clause-leaves
-returns-in_err-reserve-2-clause-leaves g c = λ tells.
-    let p = err_from_is_err_and c.from_residual-in_err-reserve-2.result c.from_residual-in_err-reserve-2.ensures.1 in
-    let s = g.S.Site.told c.args.site.now in
-    record {
-      moments = λ frames sound. none_shown frames (opening_changes (rows_of (content s)) c.args.config.now.volumes) _ _ refl sound;
-      others = nothing_else (opening_changes (rows_of (content s)) c.args.config.now.volumes) s s refl;
-      complete = subst (λ (r : Result Opened Refused). OpensWhole c.args.config.now s s r) (sym p.1) (none_complete (account_from c.args.config.now s s []) s s p.0 refl);
-    }
-
-pub returns-in_err-used-clause-leaves : goal.returns-in_err-used-clause-leaves
-returns-in_err-used-clause-leaves g c = λ tells.
-    let p = err_from_is_err_and c.from_residual-in_err-used.result c.from_residual-in_err-used.ensures.1 in
     let s = g.S.Site.told c.args.site.now in
     record {
       moments = λ frames sound. none_shown frames (opening_changes (rows_of (content s)) c.args.config.now.volumes) _ _ refl sound;

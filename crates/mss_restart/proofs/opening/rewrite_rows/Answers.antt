@@ -2,8 +2,8 @@ use Rattle.std.proofs.Common.{◌∙◌, [], sym, ap, subst, Result, Err}
 use Rattle.std.proofs.lemmas.Result.{err_from_is_err_and}
 use Rattle.shown_volumes.specs.declared.refused.Refused.{Refused}
 use Rattle.mss_restart.specs.Creations.{RewritesRows}
-use Rattle.mss_restart.proofs.Completed.{rows_held}
-use Rattle.mss_restart.proofs.Finishing.{repairs_whole, migrates_whole}
+use Rattle.mss_restart.proofs.Completed.{rows_known}
+use Rattle.mss_restart.proofs.Finishing.{repairs_alone, repairs_whole, migrates_whole}
 use Rattle.mss_restart.proofs.MigratedFacts.{shows_then}
 use Rattle.mss_restart.proofs.OtherRows.{others_then}
 use Rattle.mss_restart.proofs.Settling.{repaired_firm}
@@ -22,11 +22,22 @@ returns-in_err-repair_rows-clause-rewrites g c = λ tells.
     })
 
 pub migrate_rows-requires-clause-known : goal.migrate_rows-requires-clause-known
-migrate_rows-requires-clause-known g c = λ tells. record {
-  told = λ volume low. c.repair_rows.ensures.rows tells volume ∙ c.requires.told tells volume low;
-  held = rows_held c.args.rows.now (g.S.Site.told c.args.site.now) (g.S.Site.told c.repair_rows.new.site) c.look.ensures.places (c.requires.told tells) (c.in_ok-repair_rows.ensures.equal tells).held;
-  slots_ = (c.in_ok-repair_rows.ensures.equal tells).slots_;
-}
+migrate_rows-requires-clause-known g c = λ tells.
+    rows_known c.args.rows.now (g.S.Site.told c.args.site.now) (g.S.Site.told c.repair_rows.new.site) c.look.ensures.places (c.requires.told tells) c.repair_rows.new.used.items (c.repair_rows.ensures.rows tells)
+    (c.in_ok-repair_rows.ensures.equal tells)
+
+pub returns-then-not-branch-clause-rewrites : goal.returns-then-not-branch-clause-rewrites
+returns-then-not-branch-clause-rewrites g c = λ tells.
+    let s = g.S.Site.told c.args.site.now in
+    let t = g.S.Site.told c.repair_rows.new.site in
+    record {
+      moments = c.repair_rows.ensures.moments tells;
+      others = c.repair_rows.ensures.others tells;
+      known_ =
+          rows_known c.args.rows.now s t c.look.ensures.places (c.requires.told tells) c.repair_rows.new.used.items (c.repair_rows.ensures.rows tells)
+          (c.in_ok-repair_rows.ensures.equal tells);
+      complete = repairs_alone s t (c.in_ok-repair_rows.ensures.complete tells);
+    }
 
 pub returns-clause-rewrites : goal.returns-clause-rewrites
 returns-clause-rewrites g c = λ tells.

@@ -9,14 +9,9 @@ use Rattle.table_pair.proofs.ReadLemmas.{memory_row, memory_later, open_row, bot
 use Rattle.table_pair.proofs.SiteLemmas.{readable_on, reads_then}
 use Rattle.table_pair.proofs.read.read_row.Goals as goal
 
-pub returns-in_err-block-clause-row : goal.returns-in_err-block-clause-row
-returns-in_err-block-clause-row g c = λ tells.
-    let p = err_from_is_err_and c.from_residual.result c.from_residual.ensures.1 in
-    memory_row _ _ _ c.args.volume (content (g.S.Site.told c.args.site.now)) _ refl (p.1 ∙ (λ i. Err (p.2 i)))
-
 pub returns-in_err-a-clause-row : goal.returns-in_err-a-clause-row
 returns-in_err-a-clause-row g c = λ tells.
-    let p = err_from_is_err_and c.from_residual-in_err-a.result c.from_residual-in_err-a.ensures.1 in
+    let p = err_from_is_err_and c.from_residual.result c.from_residual.ensures.1 in
     memory_row _ _ _ c.args.volume (content (g.S.Site.told c.args.site.now)) _ c.in_err-a.ensures.kept (p.1 ∙ (λ i. Err (p.2 i)))
 
 pub returns-then-is_open-clause-row : goal.returns-then-is_open-clause-row

@@ -49,16 +49,6 @@ returns-in_err-reserve-clause-reads g c =
     let r0 = got_room g.S.Site c.args.site.now c.reserve.new.self c.reserve.ensures.told c.reserve.ensures.spare c.reserve.ensures.writes c.reserve.ensures.faults c.reserve.ensures.sound in
     r0
 
-pub returns-in_err-a-clause-reads : goal.returns-in_err-a-clause-reads
-returns-in_err-a-clause-reads g c =
-    let r0 = got_room g.S.Site c.args.site.now c.reserve.new.self c.reserve.ensures.told c.reserve.ensures.spare c.reserve.ensures.writes c.reserve.ensures.faults c.reserve.ensures.sound in
-    r0
-
-pub returns-in_err-b-clause-reads : goal.returns-in_err-b-clause-reads
-returns-in_err-b-clause-reads g c =
-    let r0 = got_room g.S.Site c.args.site.now c.reserve.new.self c.reserve.ensures.told c.reserve.ensures.spare c.reserve.ensures.writes c.reserve.ensures.faults c.reserve.ensures.sound in
-    r0
-
 pub returns-in_err-read_block-clause-reads : goal.returns-in_err-read_block-clause-reads
 returns-in_err-read_block-clause-reads g c =
     let r0 = got_room g.S.Site c.args.site.now c.reserve.new.self c.reserve.ensures.told c.reserve.ensures.spare c.reserve.ensures.writes c.reserve.ensures.faults c.reserve.ensures.sound in

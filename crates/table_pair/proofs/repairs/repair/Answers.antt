@@ -1,15 +1,16 @@
-use Rattle.std.proofs.Common.{◌≡◌, ◌∙◌, ℕ, sym, ap, subst, Option, Err}
+use Rattle.std.proofs.Common.{◌≡◌, ◌∙◌, ℕ, true, false, sym, ap, subst, Option, Err}
 use Rattle.std.proofs.lemmas.Result.{err_from_is_err_and}
 use Rattle.mss_base.specs.Counts.{Rises}
 use Rattle.mss_base.specs.Content.{SiteLog, content}
 use Rattle.table_pair.specs.Pair.{row_of}
 use Rattle.table_pair.specs.declared.repairs.Stale.{Stale}
+use Rattle.table_pair.specs.declared.copy.Repaired.{Repaired}
 use Rattle.table_pair.specs.declared.copy.SlotsUsed.{SlotsUsed}
 use Rattle.table_pair.specs.Slots.{HasSlots}
 use Rattle.table_pair.specs.Repairs.{NeedsNoRepair, IsStaleOn, MayBeStale}
 use Rattle.table_pair.proofs.PairLemmas.{copy_a, copy_b}
 use Rattle.table_pair.proofs.SiteLemmas.{room_may, room_leaves, room_write}
-use Rattle.table_pair.proofs.RepairLemmas.{found_slots, unwritten, no_marks, none_firm, none_settled, equal_hold, since, marks_since, firm_since, memory_count, never_err}
+use Rattle.table_pair.proofs.RepairLemmas.{found_new, found_slots, unwritten, no_marks, none_firm, none_settled, equal_hold, since, marks_since, firm_since, memory_count, never_err}
 use Rattle.table_pair.proofs.repairs.repair.Goals as goal
 
 pub returns-in_err-stale-clause-moments : goal.returns-in_err-stale-clause-moments
@@ -48,7 +49,7 @@ pub returns-in_err-stale-clause-memory : goal.returns-in_err-stale-clause-memory
 returns-in_err-stale-clause-memory g c = λ is.
     let p = err_from_is_err_and c.from_residual.result c.from_residual.ensures.1 in
     let told : c.from_residual.result ≡ Err c.in_err-stale.field-0.0 = p.1 ∙ (λ i. Err (p.2 i)) in
-    room_leaves g.S.Site c.args.site.now c.find_stale.new.site c.find_stale.ensures.reads (memory_count {T = SlotsUsed} _ _ (Err c.in_err-stale.field-0.0) (sym told ∙ is) c.in_err-stale.ensures.kept)
+    room_leaves g.S.Site c.args.site.now c.find_stale.new.site c.find_stale.ensures.reads (memory_count {T = Repaired} _ _ (Err c.in_err-stale.field-0.0) (sym told ∙ is) c.in_err-stale.ensures.kept)
 
 pub returns-in_default-clause-done : goal.returns-in_default-clause-done
 returns-in_default-clause-done g c = λ tells.
@@ -59,6 +60,7 @@ returns-in_default-clause-done g c = λ tells.
     record {
       held = equal_hold c.args.volume _ _ none log;
       slots_ = found_slots _ c.args.volume _ _ log found;
+      are_new = found_new _ c.args.volume _ _ log found;
       settled = none_settled c.args.volume _ _ none log;
       firm = none_firm c.args.volume _ _ log;
     }
@@ -114,6 +116,7 @@ returns-in-Ok-clause-done g c = λ tells.
     record {
       held = λ row told. c.in-Ok.ensures.done tells row (ap (λ (q : SiteLog). row_of (content q) c.args.volume) r ∙ told);
       slots_ = subst (λ (u : SlotsUsed). HasSlots u c.args.volume (content (g.S.Site.told c.follow.new.site))) (sym c.without.ensures) (c.in-Ok.ensures.emptied tells _ slots);
+      are_new = λ none. let e : true ≡ false = none in cc;
       settled = c.in-Ok.ensures.settled tells;
       firm = firm_since (g.S.Site.told c.args.site.now) _ _ r (c.in-Ok.ensures.firm tells);
     }
