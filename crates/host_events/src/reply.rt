@@ -1,5 +1,5 @@
 // How a call is replied.
-ghost use Rattle.std.specs.Prelude.{◌≡◌, ◌≤◌, ◌<◌, length};
+ghost use Rattle.std.specs.Prelude.{◌≡◌, ◌≤◌, ◌<◌, length, IfOk, OnOk};
 ghost use Rattle.channel_commands.specs.Views.{call_of, reply_of};
 ghost use Rattle.core_state.specs.CoreValue.{seen_core};
 ghost use Rattle.core_state.specs.Counted.{AreEntries};
@@ -13,7 +13,8 @@ use crate::copies::{copy_of_call, copy_of_reply, next_number};
 use channel_commands::{Call, Reply};
 use ckd_plain::{Entry, HostState};
 use core_state::{Core, Event, Session};
-use mss_base::{HostNo, Site};
+use mss_base::{HostNo, NoMemory, Site};
+use std::alloc::Global;
 use victim_choice::Choose;
 
 /// What the entry of a call tells: its reply, the count of faults where a call of the site failed, and how many writes
@@ -47,6 +48,27 @@ pub fn enter(session: &mut Session, host: HostNo, call: Call, told: Told)
     session.note(Event::Host(host));
 }
 
+/// A copy of a call for its entry, and one of its reply for the host, with room for what the event tells. After want of
+/// memory all but the room is as it was.
+fn copy_both(
+    alloc: Global,
+    session: &mut Session,
+    call: &Call,
+    reply: &Reply,
+) -> Result<(Call, Reply), NoMemory>
+    ensures call { IfOk result (λ copies. call_of copies.0 ≡ call_of call.now) }
+    ensures reply { IfOk result (λ copies. reply_of copies.1 ≡ reply_of reply.now) }
+    ensures session { session_data session.new ≡ session_data session.old }
+    ensures room { OnOk result (1 ≤ session.new.history.spare) }
+    ensures room_marks { OnOk result (1 ≤ session.new.marks.spare) }
+    ensures room_events { OnOk result (1 ≤ session.new.events.spare) }
+{
+    let call = copy_of_call(call)?;
+    let told = copy_of_reply(alloc, reply)?;
+    session.reserve()?;
+    Ok((call, told))
+}
+
 /// Replies a call, for which the devices aren't asked: its entry is put last, the host is now this
 /// one, and its request ends. After want of memory all is as it was.
 pub fn reply<S: Site, C: Choose>(
@@ -67,15 +89,9 @@ pub fn reply<S: Site, C: Choose>(
     ensures chooser { core.new.chooser ≡ core.old.chooser }
     ensures site { core.new.site ≡ core.old.site }
 {
-    let Ok(call) = copy_of_call(call) else {
+    let Ok((call, told)) = copy_both(core.alloc, &mut core.session, call, &reply) else {
         return HostAnswer::Memory;
     };
-    let Ok(told) = copy_of_reply(core.alloc, &reply) else {
-        return HostAnswer::Memory;
-    };
-    if core.session.reserve().is_err() {
-        return HostAnswer::Memory;
-    }
     let index = core.session.history.as_slice().len() as u64;
     let mark = core.site.writes();
     let entry = Told { reply, fault, mark };
