@@ -383,13 +383,11 @@ class FailedCalls(FaultTest):
 
 
 # A job on the site of the first one reads copy A of 32 rows, and copy B where A is closed, as that of all but the first
-# row. It reads the tracks of the cylinder that isn't blank, and for repairs both copies of each row; and those of the
-# first row, which is there, to see whether they are of version 1. A copy of the first row takes two reads, since its
-# file ends in it. Then the report reads the tracks.
+# row. It reads the tracks of the cylinder that isn't blank, and for repairs both copies of each row, none of which is of
+# version 1. A copy of the first row takes two reads, since its file ends in it. Then the report reads the tracks.
 SURVEY = 2 + 31 * len(COPIES)
 REPAIRS = (2 + 31) * len(COPIES)
-MIGRATION = 2 * len(COPIES)
-READS_OF_START = SURVEY + HEADS + REPAIRS + MIGRATION
+READS_OF_START = SURVEY + HEADS + REPAIRS
 LATER_READS = [
     *(READS_OF_START * [REFUSED]),
     *(4 * [TITLE + CUT_BEFORE_THE_TRACK]),
