@@ -1,5 +1,5 @@
 // The devices: blocks of 16,384 bytes.
-ghost use Rattle.std.specs.Prelude.{◌≡◌, ℕ, ◌+◌, ◌≤◌, ◌++◌, [], ◌∷◌, List, length, Bool, false, IsOk, OnOk, OnErr};
+ghost use Rattle.std.specs.Prelude.{◌≡◌, ℕ, ◌+◌, ◌≤◌, ◌++◌, [], ◌∷◌, List, length, take, Bool, false, IsOk, OnOk, OnErr};
 ghost use Rattle.mss_base.specs.Sound.{StaysSound};
 ghost use Rattle.mss_base.specs.Content.{SiteLog, content, AddsBytes, Got, synced, synced_all, unsynced};
 ghost use Rattle.mss_base.specs.Counts.{HasCause, HasCounted};
@@ -45,10 +45,12 @@ pub trait Site {
         ensures faults { faults self.new ≡ faults self.old }
         ensures sound { StaysSound never_fails_but self.old self.new };
 
-    /// Reads a block. After a failure the buffer may hold anything.
+    /// Reads the front of a block: as many bytes as the buffer has, 16,384 at most. After a failure the buffer may hold
+    /// anything.
     fn read(&mut self, unit: UnitNo, block: u32, into: &mut [u8]) -> Result<(), Failed>
-        requires { length into.old ≡ BLOCK_BYTES }
-        ensures block { tells → OnOk result (into.new ≡ content (told self.old) unit block) }
+        requires { length into.old ≤ BLOCK_BYTES }
+        ensures block { tells → OnOk result
+            (into.new ≡ take (length into.old) (content (told self.old) unit block)) }
         ensures told { tells → told self.new ≡ told self.old }
         ensures spare { spare self.new ≡ spare self.old }
         ensures writes { writes self.new ≡ writes self.old }
