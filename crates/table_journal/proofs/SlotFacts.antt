@@ -6,7 +6,7 @@ use Rattle.mss_base.specs.Content.{splice}
 use Rattle.mss_base.proofs.ContentLemmas.{get_or-splice_in}
 use Rattle.table_journal.specs.Slots.{is_slot_open, slot_body, slots_from, slots}
 use Rattle.table_journal.proofs.WalkLemmas.{open_step, shut_step, none_left, same_gate}
-use Rattle.table_journal.proofs.SlotLemmas.{gate_is_shut}
+use Rattle.table_journal.proofs.SlotLemmas.{gate_is_shut, slots_stay}
 
 -- no slot is in use where the first gate is closed, and the first gate is closed where none is
 pub no_slots : (b : List ℕ) → is_slot_open 0 b ≡ false → slots b ≡ []
@@ -19,6 +19,13 @@ first_is_shut b none = gate_is_shut 0 b (ap (λ (xs : List (List ℕ)). length x
 -- as of a block with a zero there
 pub zero_opens_none : (b : List ℕ) → get_or b 512 0 ≡ 0 → slots b ≡ []
 zero_opens_none b is_zero = no_slots b (ap (λ (x : ℕ). x == 193) is_zero)
+
+-- two blocks with the same front have the same slots in use, where these and the closed gate behind them stand in it
+pub same_front_slots : (n : ℕ) (a b : List ℕ) → length b ≡ length a → take n b ≡ take n a → length (slots a) < 1984 → 512 + 8 * length (slots a) < n → slots b ≡ slots a
+same_front_slots n a b long same few within =
+    let used : ℕ = length (slots a) in
+    let each : (i : ℕ) → i < n → get_or b i 0 ≡ get_or a i 0 = λ i low. sym (get_or-take n b i 0 low) ∙ ap (λ (l : List ℕ). get_or l i 0) same ∙ get_or-take n a i 0 low in
+    slots_stay used a refl b long (λ i from to. each i (omega arith)) (inr (same_gate used a b (each (512 + 8 * used) within) ∙ gate_is_shut used a refl few))
 
 -- the bodies of so many slots, whatever their gates are
 abbrev pub bodies : ℕ → ℕ → List ℕ → List (List ℕ)

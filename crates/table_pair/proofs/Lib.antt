@@ -1,6 +1,7 @@
 pub mod SiteLemmas
 pub mod SlotLemmas
 pub mod CopyLemmas
+pub mod FrontLemmas
 pub mod WriteLemmas
 pub mod PairFacts
 pub mod PairLemmas

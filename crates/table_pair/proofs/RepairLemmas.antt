@@ -128,8 +128,8 @@ gates_on copy.A volume s gates has = has
 gates_on copy.B volume s gates has = has
 
 -- what was read of two copies is so of them
-pub found_on : (found : Found) (volume : ℕ) (s : SiteLog) (a b : List ℕ) → content s TableA volume ≡ a → content s TableB volume ≡ b → IsFound found (copy_at a) (copy_at b) → IsFoundOn found volume (content s)
-found_on found volume s a b is_a is_b is = subst (λ (p : List ℕ × List ℕ). IsFound found (copy_at p.0) (copy_at p.1)) (λ i. (sym is_a i, sym is_b i)) is
+pub found_on : (found : Found) (volume : ℕ) (s : SiteLog) (a b : CopyView) → a ≡ copy_a volume s → b ≡ copy_b volume s → IsFound found a b → IsFoundOn found volume (content s)
+found_on found volume s a b is_a is_b is = subst (λ (p : CopyView × CopyView). IsFound found p.0 p.1) (λ i. (is_a i, is_b i)) is
 
 -- and they are of version 2, if none was found to be old
 pub found_new : (found : Found) (volume : ℕ) (s r : SiteLog) → r ≡ s → IsFoundOn found volume (content s) → found.is_old ≡ false → AreNew volume (content r)

@@ -15,6 +15,7 @@
 mod change;
 mod copy;
 mod create;
+mod front;
 pub mod law;
 mod migrations;
 mod read;

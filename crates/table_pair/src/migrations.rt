@@ -16,7 +16,7 @@ ghost use Rattle.table_pair.specs.Slots.{HasSlots};
 use crate::change::CHANGE_ITEMS;
 use crate::copy::{SlotsUsed, TableCopy, place_of};
 use crate::write::{COPY_ITEMS, gates_of, rewrite_copy};
-use mss_base::{BLOCK_BYTES, BlockPlace, Failed, Site, VolumeNo};
+use mss_base::{BLOCK_BYTES, BlockPlace, Failed, Site, VolumeNo, read_whole};
 use volume_table::{BODY, BODY_END, ROW_BYTES, VolumeRow, encode_row, is_old};
 
 /// Rewrites a copy with the row that it tells, without slots, where its body is of version 1. Gives how many slots
@@ -37,7 +37,7 @@ fn migrate_copy<S: Site>(
         → but at.now.unit ≡ false → IsOk result }
 {
     let mut block = [0; BLOCK_BYTES];
-    site.read(at.unit, at.block, &mut block)?;
+    read_whole(site, at, &mut block)?;
     if !is_old(&block) {
         return Ok(used);
     }

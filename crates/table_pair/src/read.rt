@@ -10,6 +10,7 @@ ghost use Rattle.table_pair.specs.Copies.{copy_at};
 ghost use Rattle.table_pair.specs.Reads.{read_of_copy, is_opened, IsReadable, IsReadOf, MissingKeeps, CopyKeeps, KeepBoth, KeepsCount, Tells, MissesNone, ReadsBoth, ReadsRow};
 
 use crate::copy::{CopyState, RowRead, RowTrouble, TableCopy, place_of};
+use crate::front::read_copy_block;
 use crate::write::{GATE, MADE};
 use mss_base::{Block, BlockPlace, Failed, NoMemory, OPEN, Site, VolumeNo};
 use std::alloc::Global;
@@ -48,7 +49,7 @@ fn read_copy<S: Site>(
         → IfOk result (λ c. read_of_copy c ≢ unread) }
     ensures devices { OnlyReads S.Site site.old site.new }
 {
-    match block.read(site, at) {
+    match read_copy_block(site, at, block) {
         Ok(()) => copy_state(alloc, block),
         Err(Failed) => Ok(CopyState::Unread {
             fault: site.faults(),

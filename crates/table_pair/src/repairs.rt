@@ -13,6 +13,7 @@ ghost use Rattle.table_pair.specs.Repairs.{AreAlike, NeedNoRepair, NeedsNoRepair
 ghost use Rattle.table_pair.specs.declared.copy.RepairFault.TheVariants.{Memory};
 
 use crate::copy::{CopyState, RepairFault, Repaired, SlotsUsed, TableCopy, place_of};
+use crate::front::read_copy_block;
 use crate::read::copy_state;
 use crate::write::{COPY_ITEMS, GATE, Gates, gates_of, rewrite_copy};
 use mss_base::{BLOCK_BYTES, Block, BlockPlace, Failed, NoMemory, OPEN, Site, VolumeNo};
@@ -209,14 +210,15 @@ fn follow<S: Site>(site: &mut S, volume: VolumeNo, stale: &Stale) -> Result<(), 
     rewrite_copy(site, &at, stale.gates, &bytes[BODY..BODY_END])
 }
 
-/// Reads a block, or tells the count of faults after the read.
+/// Reads the block of a copy, as far as it counts, or tells the count of faults after the read.
 fn read_block<S: Site>(site: &mut S, at: &BlockPlace, block: &mut Block) -> Result<(), RepairFault>
-    ensures block { S.tells → OnOk result (block.new ≡ block_of (S.told site.old) at.now) }
+    ensures copy { S.tells → OnOk result
+        (copy_at block.new ≡ copy_at (block_of (S.told site.old) at.now)) }
     ensures devices { OnlyReads S.Site site.old site.new }
     ensures kept { KeepsRepairFault (S.faults site.old) (S.faults site.new) result }
     ensures works { IsReadable S.Site site.old at.now.unit → IsOk result }
 {
-    match block.read(site, at) {
+    match read_copy_block(site, at, block) {
         Ok(()) => Ok(()),
         Err(Failed) => Err(RepairFault::Failed {
             fault: site.faults(),

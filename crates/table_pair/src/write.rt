@@ -6,7 +6,7 @@ ghost use Rattle.mss_base.specs.Sites.{MayWrite, WritesAtMost};
 ghost use Rattle.mss_base.specs.declared.place.UnitNo.{UnitNo};
 ghost use Rattle.table_pair.specs.Copies.{byte_on, copy_at, copy_on, shut_copy, marked_copy, emptied_copy, filled_copy, HasGates, IsFilling, IsRewriting, WritesCopy};
 
-use mss_base::{BLOCK_BYTES, BlockPlace, FIRM_ITEMS, Failed, OPEN, Site, write_firm};
+use mss_base::{BLOCK_BYTES, BlockPlace, FIRM_ITEMS, Failed, OPEN, Site, read_whole, write_firm};
 use table_journal::read_slots;
 use volume_table::{BODY, BODY_BYTES, BODY_END, ROW_BYTES};
 
@@ -184,7 +184,7 @@ pub fn mark_copy<S: Site>(site: &mut S, at: &BlockPlace) -> Result<bool, Failed>
         → but at.now.unit ≡ false → IsOk result }
 {
     let mut block = [0; BLOCK_BYTES];
-    site.read(at.unit, at.block, &mut block)?;
+    read_whole(site, at, &mut block)?;
     let has_slots = read_slots(&block) > 0;
     if block[MADE as usize] != 0 {
         return Ok(has_slots);

@@ -1,10 +1,12 @@
-use Rattle.std.proofs.Common.{◌≡◌, ◌∙◌, sym, ap, subst, Err}
+use Rattle.std.proofs.Common.{◌≡◌, ◌∙◌, sym, subst, Err}
 use Rattle.std.proofs.lemmas.Result.{err_from_is_err_and}
-use Rattle.mss_base.specs.Content.{SiteLog, content}
 use Rattle.mss_base.specs.declared.place.BlockPlace.{BlockPlace}
 use Rattle.mss_base.specs.declared.place.UnitNo.TheVariants.{TableA, TableB}
+use Rattle.table_pair.specs.Copies.{copy_at, copy_on}
+use Rattle.table_pair.specs.Places.{place_of}
 use Rattle.table_pair.specs.Reads.{IsReadable}
 use Rattle.table_pair.specs.Repairs.{KeepsRepairFault}
+use Rattle.table_pair.specs.declared.copy.TableCopy.TheVariants as copy
 use Rattle.table_pair.proofs.SiteLemmas.{got_room, room_read, readable_on}
 use Rattle.table_pair.proofs.RepairLemmas.{found_on, kept_since, never_err}
 use Rattle.table_pair.proofs.repairs.find_stale.Goals as goal
@@ -12,13 +14,12 @@ use Rattle.table_pair.proofs.repairs.find_stale.Goals as goal
 pub returns-clause-found : goal.returns-clause-found
 returns-clause-found g c = λ tells.
     let s = g.S.Site.told c.args.site.now in
+    let volume = c.args.volume in
     let r0 : g.S.Site.told c.reserve.new.self ≡ s = c.reserve.ensures.told tells in
     let r1 : g.S.Site.told c.read_block.new.site ≡ s = c.read_block.ensures.devices.log tells ∙ r0 in
-    let read_a : c.read_block.new.block ≡ content (g.S.Site.told c.reserve.new.self) c.place_of.result.unit c.place_of.result.block = c.in_ok-read_block.ensures.block tells in
-    let read_b : c.read_block-2.new.block ≡ content (g.S.Site.told c.read_block.new.site) c.place_of-2.result.unit c.place_of-2.result.block = c.in_ok-read_block-2.ensures.block tells in
-    let is_a = ap (λ (q : SiteLog). content q TableA c.args.volume) (sym r0) ∙ sym (read_a ∙ ap (λ (at : BlockPlace). content (g.S.Site.told c.reserve.new.self) at.unit at.block) c.place_of.ensures) in
-    let is_b = ap (λ (q : SiteLog). content q TableB c.args.volume) (sym r1) ∙ sym (read_b ∙ ap (λ (at : BlockPlace). content (g.S.Site.told c.read_block.new.site) at.unit at.block) c.place_of-2.ensures) in
-    found_on _ c.args.volume s _ _ is_a is_b c.in_ok-found.ensures
+    let is_a : copy_at c.read_block.new.block ≡ copy_on s (place_of copy.A volume) = c.in_ok-read_block.ensures.copy tells ∙ (λ i. copy_on (r0 i) (c.place_of.ensures i)) in
+    let is_b : copy_at c.read_block-2.new.block ≡ copy_on s (place_of copy.B volume) = c.in_ok-read_block-2.ensures.copy tells ∙ (λ i. copy_on (r1 i) (c.place_of-2.ensures i)) in
+    found_on _ volume s _ _ is_a is_b c.in_ok-found.ensures
 
 pub returns-in_err-read_block-2-clause-kept : goal.returns-in_err-read_block-2-clause-kept
 returns-in_err-read_block-2-clause-kept g c =

@@ -27,64 +27,64 @@ pub returns-in_err-write_firm-clause-moments : goal.returns-in_err-write_firm-cl
 returns-in_err-write_firm-clause-moments g c = λ tells.
     let at = c.args.at.now in
     let s = g.S.Site.told c.args.site.now in
-    let block : c.read.new.into ≡ content s at.unit at.block = c.in_ok-read.ensures.block tells in
+    let block : c.read_whole.new.into ≡ content s at.unit at.block = c.in_ok-read_whole.ensures.block tells in
     let w = c.write_firm.ensures.logged tells in
-    let adds = subst (λ (r : SiteLog). Adds (write_at at 511 w.0) r (g.S.Site.told c.write_firm.new.site)) (c.read.ensures.told tells) w.2 in
-    marking at s _ (g.met.S.Site.whole c.args.site.now at.unit at.block tells) w.0 w.1 (unmade at s c.read.new.into block c.if-block-ne0.false) adds
+    let adds = subst (λ (r : SiteLog). Adds (write_at at 511 w.0) r (g.S.Site.told c.write_firm.new.site)) (c.read_whole.ensures.devices.log tells) w.2 in
+    marking at s _ (g.met.S.Site.whole c.args.site.now at.unit at.block tells) w.0 w.1 (unmade at s c.read_whole.new.into block c.if-block-ne0.false) adds
 
 pub returns-clause-moments : goal.returns-clause-moments
 returns-clause-moments g c = λ tells.
     let at = c.args.at.now in
     let s = g.S.Site.told c.args.site.now in
-    let block : c.read.new.into ≡ content s at.unit at.block = c.in_ok-read.ensures.block tells in
+    let block : c.read_whole.new.into ≡ content s at.unit at.block = c.in_ok-read_whole.ensures.block tells in
     let w = c.write_firm.ensures.logged tells in
-    let adds = subst (λ (r : SiteLog). Adds (write_at at 511 w.0) r (g.S.Site.told c.write_firm.new.site)) (c.read.ensures.told tells) w.2 in
-    marking at s _ (g.met.S.Site.whole c.args.site.now at.unit at.block tells) w.0 w.1 (unmade at s c.read.new.into block c.if-block-ne0.false) adds
+    let adds = subst (λ (r : SiteLog). Adds (write_at at 511 w.0) r (g.S.Site.told c.write_firm.new.site)) (c.read_whole.ensures.devices.log tells) w.2 in
+    marking at s _ (g.met.S.Site.whole c.args.site.now at.unit at.block tells) w.0 w.1 (unmade at s c.read_whole.new.into block c.if-block-ne0.false) adds
 
 pub returns-clause-done : goal.returns-clause-done
 returns-clause-done g c = λ tells.
     let at = c.args.at.now in
     let s = g.S.Site.told c.args.site.now in
-    let adds = subst (λ (r : SiteLog). Adds (write_at at 511 (77 ∷ [])) r (g.S.Site.told c.write_firm.new.site)) (c.read.ensures.told tells) (c.in_ok-write_firm.ensures.ok tells) in
+    let adds = subst (λ (r : SiteLog). Adds (write_at at 511 (77 ∷ [])) r (g.S.Site.told c.write_firm.new.site)) (c.read_whole.ensures.devices.log tells) (c.in_ok-write_firm.ensures.ok tells) in
     mark_set at s _ (g.met.S.Site.whole c.args.site.now at.unit at.block tells) adds
 
 pub returns-then-block-ne0-clause-done : goal.returns-then-block-ne0-clause-done
 returns-then-block-ne0-clause-done g c = λ tells.
     let at = c.args.at.now in
     let s = g.S.Site.told c.args.site.now in
-    let block : c.read.new.into ≡ content s at.unit at.block = c.in_ok-read.ensures.block tells in
-    ap (λ (r : SiteLog). copy_on r at) (c.read.ensures.told tells) ∙ made at s c.read.new.into block c.if-block-ne0.true
+    let block : c.read_whole.new.into ≡ content s at.unit at.block = c.in_ok-read_whole.ensures.block tells in
+    ap (λ (r : SiteLog). copy_on r at) (c.read_whole.ensures.devices.log tells) ∙ made at s c.read_whole.new.into block c.if-block-ne0.true
 
 pub returns-clause-mark : goal.returns-clause-mark
 returns-clause-mark g c = λ tells _.
     let at = c.args.at.now in
     let s = g.S.Site.told c.args.site.now in
     let whole : length (content s at.unit at.block) ≡ 16384 = (g.met.S.Site.whole c.args.site.now at.unit at.block tells) in
-    let adds = subst (λ (r : SiteLog). Adds (write_at at 511 (77 ∷ [])) r (g.S.Site.told c.write_firm.new.site)) (c.read.ensures.told tells) (c.in_ok-write_firm.ensures.ok tells) in
+    let adds = subst (λ (r : SiteLog). Adds (write_at at 511 (77 ∷ [])) r (g.S.Site.told c.write_firm.new.site)) (c.read_whole.ensures.devices.log tells) (c.in_ok-write_firm.ensures.ok tells) in
     byte_put at 511 77 s _ (omega arith) adds
 
 pub returns-then-block-ne0-clause-none : goal.returns-then-block-ne0-clause-none
 returns-then-block-ne0-clause-none g c = λ tells.
     let at = c.args.at.now in
     let s = g.S.Site.told c.args.site.now in
-    let block : c.read.new.into ≡ content s at.unit at.block = c.in_ok-read.ensures.block tells in
-    λ none. uncounted at s c.read.new.into _ block c.read_slots-has_slots.ensures.count none
+    let block : c.read_whole.new.into ≡ content s at.unit at.block = c.in_ok-read_whole.ensures.block tells in
+    λ none. uncounted at s c.read_whole.new.into _ block c.read_slots-has_slots.ensures.count none
 
 pub returns-clause-none : goal.returns-clause-none
 returns-clause-none g c = λ tells.
     let at = c.args.at.now in
     let s = g.S.Site.told c.args.site.now in
-    let block : c.read.new.into ≡ content s at.unit at.block = c.in_ok-read.ensures.block tells in
-    λ none. uncounted at s c.read.new.into _ block c.read_slots-has_slots.ensures.count none
+    let block : c.read_whole.new.into ≡ content s at.unit at.block = c.in_ok-read_whole.ensures.block tells in
+    λ none. uncounted at s c.read_whole.new.into _ block c.read_slots-has_slots.ensures.count none
 
-pub returns-in_err-read-clause-moments : goal.returns-in_err-read-clause-moments
-returns-in_err-read-clause-moments g c = λ tells.
+pub returns-in_err-read_whole-clause-moments : goal.returns-in_err-read_whole-clause-moments
+returns-in_err-read_whole-clause-moments g c = λ tells.
     let at = c.args.at.now in
     let copy = copy_on (g.S.Site.told c.args.site.now) at in
-    nothing_written at (λ now. (now ≡ copy) ⊎ (now ≡ marked_copy copy)) _ _ (c.read.ensures.told tells) (inl refl)
+    nothing_written at (λ now. (now ≡ copy) ⊎ (now ≡ marked_copy copy)) _ _ (c.read_whole.ensures.devices.log tells) (inl refl)
 
 pub returns-then-block-ne0-clause-moments : goal.returns-then-block-ne0-clause-moments
 returns-then-block-ne0-clause-moments g c = λ tells.
     let at = c.args.at.now in
     let copy = copy_on (g.S.Site.told c.args.site.now) at in
-    nothing_written at (λ now. (now ≡ copy) ⊎ (now ≡ marked_copy copy)) _ _ (c.read.ensures.told tells) (inl refl)
+    nothing_written at (λ now. (now ≡ copy) ⊎ (now ≡ marked_copy copy)) _ _ (c.read_whole.ensures.devices.log tells) (inl refl)
