@@ -1,5 +1,5 @@
 // The blocks of a site in memory.
-ghost use Rattle.std.specs.Prelude.{◌≡◌, ℕ, ◌≤◌, ◌+◌, ◌++◌, [], ◌∷◌, length, vec_len, false, if◌then◌else◌, OnOk};
+ghost use Rattle.std.specs.Prelude.{◌≡◌, ℕ, ◌≤◌, ◌+◌, ◌++◌, [], ◌∷◌, length, take, vec_len, false, if◌then◌else◌, OnOk};
 ghost use Rattle.indexmap.specs.IndexMap.{spare as map_spare};
 ghost use Rattle.mss_base.specs.Content.{with_write, write_at};
 ghost use Rattle.memory_devices.specs.Memory.{content_in, same_place};
@@ -7,27 +7,25 @@ ghost use Rattle.mss_base.specs.Zeros.{zeros};
 ghost use Rattle.mss_base.specs.declared.place.UnitNo.{UnitNo};
 
 use indexmap::IndexMap;
-use mss_base::{Block, BlockPlace, NoMemory, clear_block};
+use mss_base::{Block, BlockPlace, NoMemory};
 use std::alloc::Global;
 
 /// Blocks that were written. The others are zeros.
 pub type Blocks = IndexMap<BlockPlace, Block>;
 
-/// The bytes of a block.
-pub fn read_block(blocks: &Blocks, place: &BlockPlace, into: &mut [u8])
-    requires { length into.old ≡ 16384 }
-    ensures { into.new ≡ content_in blocks.now place.now.unit place.now.block }
+/// The front of a block: as many bytes as the buffer has.
+pub fn read_front(block: &[u8], into: &mut [u8])
+    requires { length into.old ≤ length block.now }
+    ensures { into.new ≡ take (length into.old) block.now }
 {
-    match blocks.get(place) {
-        Some(block) => into.copy_from_slice(block.as_slice()),
-        None => clear_block(into),
-    }
+    into.copy_from_slice(&block[..into.len()]);
 }
 
 /// The block at a place; where none was written, the blank one, which is zeros.
 pub fn block_of<'a>(blocks: &'a Blocks, place: &BlockPlace, blank: &'a Block) -> &'a [u8]
     requires { blank.now ≡ zeros }
-    ensures { result.now ≡ content_in blocks.now place.now.unit place.now.block }
+    ensures bytes { result.now ≡ content_in blocks.now place.now.unit place.now.block }
+    ensures whole { length result.now ≡ 16384 }
 {
     match blocks.get(place) {
         Some(block) => block.as_slice(),

@@ -1,12 +1,12 @@
 // A site in memory.
-ghost use Rattle.std.specs.Prelude.{◌≡◌, ℕ, ◌≤◌, ◌<◌, ◌+◌, ◌++◌, [], ◌∷◌, length, option_map, vec_len, IsTrue, OnOk, OnErr, IfOk, IfErr, ◌↔◌};
+ghost use Rattle.std.specs.Prelude.{◌≡◌, ℕ, ◌≤◌, ◌<◌, ◌+◌, ◌++◌, [], ◌∷◌, length, take, option_map, vec_len, IsTrue, OnOk, OnErr, IfOk, IfErr, ◌↔◌};
 ghost use Rattle.memory_devices.specs.Memory.{content_in};
 ghost use Rattle.memory_devices.specs.Tears.{left_by_stop, tear_in};
 ghost use Rattle.mss_base.specs.Zeros.{zeros};
 ghost use Rattle.mss_base.specs.Content.{after, content, image};
 ghost use Rattle.mss_base.specs.declared.place.UnitNo.{UnitNo};
 
-use crate::memory::{Blocks, block_of, read_block, reserve_blocks, write_block};
+use crate::memory::{Blocks, block_of, read_front, reserve_blocks, write_block};
 use crate::tearing::Tear;
 use crate::write_log::{SyncKind, WriteLog};
 use indexmap::IndexMap;
@@ -238,8 +238,9 @@ impl Site for MemorySite {
 
     /// Fails exactly where a failure strikes it.
     fn read(&mut self, unit: UnitNo, block: u32, into: &mut [u8]) -> Result<(), Failed>
-        requires { length into.old ≡ BLOCK_BYTES }
-        ensures block { OnOk result (into.new ≡ content (told_of self.old) unit block) }
+        requires { length into.old ≤ BLOCK_BYTES }
+        ensures block { OnOk result
+            (into.new ≡ take (length into.old) (content (told_of self.old) unit block)) }
         ensures told { told_of self.new ≡ told_of self.old }
         ensures spare { room_of self.new ≡ room_of self.old }
         ensures cause { HasCause (faults_of self.old) (faults_of self.new) result }
@@ -253,7 +254,7 @@ impl Site for MemorySite {
         if self.fails(Some(place.unit)) {
             return Err(Failed);
         }
-        read_block(&self.blocks, &place, into);
+        read_front(block_of(&self.blocks, &place, &self.blank), into);
         Ok(())
     }
 
