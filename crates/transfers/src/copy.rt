@@ -8,7 +8,7 @@ ghost use Rattle.mss_base.specs.declared.place.UnitNo.{UnitNo};
 ghost use Rattle.transfers.specs.Copies.{source, source_place, copy_of, moved_on, AddsAtMost, CopiesTrack};
 
 use crate::transfer::Transfer;
-use mss_base::{BLOCK_BYTES, BlockPlace, Failed, HEADS, Head, Site, clear_block};
+use mss_base::{BLOCK_BYTES, BlockPlace, Failed, HEADS, Head, Site, clear_block, read_whole};
 
 /// Puts into the buffer what the track of a head is copied from.
 fn read_source<S: Site>(
@@ -28,7 +28,7 @@ fn read_source<S: Site>(
         → IsOk result }
 {
     match transfer.source(head) {
-        Some(from) => site.read(from.unit, from.block, buffer),
+        Some(from) => read_whole(site, &from, buffer),
         None => {
             clear_block(buffer);
             Ok(())
