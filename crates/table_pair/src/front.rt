@@ -10,7 +10,7 @@ use mss_base::{Block, BlockPlace, Failed, Site};
 use table_journal::{SLOT_BYTES, read_slots};
 use volume_table::ROW_BYTES;
 
-/// How many slots stand in the front of a copy's block, behind its row. Few copies ever have as many in use.
+/// How many slots stand in the front of a copy's block, behind its row.
 const FRONT_SLOTS: u16 = 64;
 
 /// How many bytes the front of a copy's block has.
