@@ -16,8 +16,8 @@ const FRONT_SLOTS: u16 = 64;
 /// How many bytes the front of a copy's block has.
 const FRONT_BYTES: usize = ROW_BYTES + SLOT_BYTES * FRONT_SLOTS as usize;
 
-/// Reads the block of a copy, as far as it counts: its front, and all of it only where each slot in the front is in use,
-/// since more may follow then. What stands in `block` behind that means nothing, but the copy in it is the site's.
+/// Reads the block of a copy, as far as it counts: its front, and all of it only where each slot in the front is in
+/// use, since more may follow then. What stands in `block` behind that means nothing, but the copy in it is the site's.
 pub fn read_copy_block<S: Site>(
     site: &mut S,
     at: &BlockPlace,

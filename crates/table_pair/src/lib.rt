@@ -9,8 +9,8 @@
 //! `repair` and `migrate`, over every site, on `law`, and on the lemmas of `proofs/PairFacts.antt` and
 //! `proofs/SiteLemmas.antt`.
 //!
-//! A copy's block is read by its front, and whole only where more slots may follow (`read_copy_block`), so what was read
-//! is known by the copy in it (`copy_at` of `specs/Copies.antt`).
+//! A copy's block is read by its front, and whole only where more slots may follow (`read_copy_block`), so what was
+//! read is known by the copy in it (`copy_at` of `specs/Copies.antt`).
 //!
 //! Layers above cite lemmas of `proofs/`: the moments of a repair (`RepairLemmas`).
 #![tactic(auto)]
