@@ -1,7 +1,8 @@
 -- Blocks that are kept go on being what the files hold.
 use Rattle.std.proofs.Common.{◌≡◌, ℕ, zero, suc, ◌+◌, ◌-◌, ◌≤◌, ◌<◌, ◌⊎◌, inl, inr, true, ◌&&◌, ◌==◌, List, [], ◌∷◌, ◌++◌, length, take, drop, refl, sym, ◌∙◌, ap, ap₂, subst, arith}
-use Rattle.std.proofs.Common.{Option, None, Some, Result, Ok, Err, OnOk, OnErr, slice_index_or, slice_set, get_or-set_other}
+use Rattle.std.proofs.Common.{Option, None, Some, replicate, Result, Ok, Err, OnOk, OnErr, slice_index_or, slice_set, get_or-set_other}
 use Rattle.std.proofs.Math.Seq.{take-append_seam, drop-append_seam}
+use Rattle.std.proofs.lemmas.List.{get_or-replicate}
 use Rattle.std.proofs.lemmas.Bool.{eq-eqb, eqb-true, and_from, and_parts, cases_Bool, cases_lt}
 use Rattle.mss_base.proofs.ContentLemmas.{same_unit-refl, same_unit-true}
 use Rattle.mss_base.specs.Content.{same_unit}
@@ -31,6 +32,12 @@ take-bytes_at : (f : ℕ → ℕ) (at m n : ℕ) → take m (bytes_at f at (m + 
 take-bytes_at f at m n =
     ap (take m) (bytes_at-more f at m n)
     ∙ subst (λ (k : ℕ). take k (bytes_at f at m ++ bytes_at f (at + m) n) ≡ bytes_at f at m) (length-bytes_at f at m) (take-append_seam (bytes_at f at m) (bytes_at f (at + m) n))
+
+-- the front of a block that is held
+pub front_of : (f : ℕ → ℕ) (at n : ℕ) (block : List ℕ) → n ≤ 16384 → block ≡ bytes_at f at 16384 → take n block ≡ bytes_at f at n
+front_of f at n block inside is =
+    let whole : n + (16384 - n) ≡ 16384 = omega (arith, inside) in
+    ap (take n) (is ∙ ap (bytes_at f at) (sym whole)) ∙ take-bytes_at f at n (16384 - n)
 
 drop-bytes_at : (f : ℕ → ℕ) (at m n : ℕ) → drop m (bytes_at f at (m + n)) ≡ bytes_at f (at + m) n
 drop-bytes_at f at m n =
@@ -145,7 +152,7 @@ slots_apart a b = elim (cases_lt (slot_of a) (slot_of b)) [
 -- one slot has one block
 one_stands : (kept : KeptBlocks) (a b : BlockPlace) → slot_of a ≡ slot_of b → Stands kept a → Stands kept b → a ≡ b
 one_stands kept a b one first second =
-    let e : Some a ≡ Some b = sym first ∙ ap (λ (n : ℕ). slice_index_or kept.places n None) one ∙ second in
+    let e : Some a ≡ Some b = sym first ∙ ap (λ (n : ℕ). slice_index_or kept.places.items n None) one ∙ second in
     cc
 
 -- what was noted for a slot
@@ -153,6 +160,14 @@ noted : (xs : List (Option BlockPlace)) (i : ℕ) (a b : BlockPlace) → slice_i
 noted [] i a b e = absurd (let f : None ≡ Some b = e in cc)
 noted (x ∷ xs) zero a b e = cc
 noted (x ∷ xs) (suc i) a b e = noted xs i a b e
+
+-- where no block is noted none stands
+pub none_stands : (places : List (Option BlockPlace)) → places ≡ replicate 323 None
+    → (place : BlockPlace) → slice_index_or places (slot_of place) None ≡ Some place → ⊥
+none_stands places blank place stands =
+    let seen : slice_index_or (replicate 323 None) (slot_of place) None ≡ Some place =
+    ap (λ (l : List (Option BlockPlace)). slice_index_or l (slot_of place) None) (sym blank) ∙ stands in
+    absurd (let f : None ≡ Some place = sym (get_or-replicate 323 (slot_of place) None None (omega arith)) ∙ seen in cc)
 
 none_noted : (xs : List (Option BlockPlace)) (i : ℕ) → slice_index_or (slice_set xs i None) i None ≡ None
 none_noted [] i = refl
@@ -171,7 +186,7 @@ pub held_behind : (f g : FileBytes) (place : BlockPlace) (offset at : ℕ) (byte
     → ChangesBlock (slot_start place) old.bytes.items new.bytes.items
     → IsHeld f old → IsHeld g new
 held_behind f g place offset at bytes old new inside from changed put places patch apart changes held = λ other stands.
-    let was : Stands old other = ap (λ (l : List (Option BlockPlace)). slice_index_or l (slot_of other) None) (sym places) ∙ stands in
+    let was : Stands old other = ap (λ (l : List (Option BlockPlace)). slice_index_or l (slot_of other) None) (sym (λ i. (places i).items)) ∙ stands in
     let has = held other was in
     record {
       inside = omega (arith, has.inside, changes.long);
@@ -237,11 +252,11 @@ brought_elsewhere (Err _) place other old mid new differ cleared ok err =
 
 -- behind a block that was brought, or couldn't be
 pub held_brought : {T E : Type 0} (result : Result T E) (f g : FileBytes) (place : BlockPlace) (old mid new : KeptBlocks)
-    → mid.places ≡ slice_set old.places (slot_of place) None
+    → mid.places.items ≡ slice_set old.places.items (slot_of place) None
     → slot_start place + 16384 ≤ length mid.bytes.items
     → ChangesBlock (slot_start place) old.bytes.items mid.bytes.items
-    → OnOk result (new.places ≡ slice_set mid.places (slot_of place) (Some place))
-    → OnErr result (new.places ≡ mid.places)
+    → OnOk result (new.places.items ≡ slice_set mid.places.items (slot_of place) (Some place))
+    → OnErr result (new.places.items ≡ mid.places.items)
     → ChangesBlock (slot_start place) mid.bytes.items new.bytes.items
     → OnOk result (block_from (slot_start place) new.bytes.items ≡ bytes_at (f place.unit) (file_place place.block 0) 16384)
     → g ≡ f
@@ -249,13 +264,13 @@ pub held_brought : {T E : Type 0} (result : Result T E) (f g : FileBytes) (place
 held_brought result f g place old mid new cleared room first ok err next block same held = λ other stands.
     subst (λ (h : FileBytes). HasBytes new.bytes.items (h other.unit) other) (sym same)
     (elim (slots_apart other place) [
-      | inl one ↦ brought_there result f place other old.places mid.places new.places new.bytes.items one cleared (omega (arith, room, next.long)) ok err block stands
+      | inl one ↦ brought_there result f place other old.places.items mid.places.items new.places.items new.bytes.items one cleared (omega (arith, room, next.long)) ok err block stands
       | inr two ↦
           let differ : slot_of other ≡ slot_of place → ⊥ = λ e. elim two [
             | inl low ↦ absurd (omega (arith, low, e))
             | inr high ↦ absurd (omega (arith, high, e))
           ] in
-          let was : Stands old other = sym (brought_elsewhere result place other old.places mid.places new.places differ cleared ok err) ∙ stands in
+          let was : Stands old other = sym (brought_elsewhere result place other old.places.items mid.places.items new.places.items differ cleared ok err) ∙ stands in
           let has = held other was in
           record {
             inside = omega (arith, has.inside, first.long, next.long);

@@ -7,15 +7,15 @@ use Rattle.mss_files.specs.declared.kept_blocks.KeptBlocks.{KeptBlocks}
 
 -- the slot of a block: those of one cylinder have one each
 abbrev pub slot_of : BlockPlace → ℕ
-slot_of place = place.block % 19
+slot_of place = place.block % 323
 
 -- where the bytes of its slot begin
 abbrev pub slot_start : BlockPlace → ℕ
-slot_start place = place.block % 19 * 16384
+slot_start place = place.block % 323 * 16384
 
 -- this block is the one that is noted for its slot
 abbrev pub Stands : KeptBlocks → BlockPlace → Type 0
-Stands kept place = slice_index_or kept.places (slot_of place) None ≡ Some place
+Stands kept place = slice_index_or kept.places.items (slot_of place) None ≡ Some place
 
 -- this block is kept
 pub record Keeps (kept : KeptBlocks) (place : BlockPlace) : Type 0 where

@@ -19,10 +19,10 @@ use std::rt::Files;
 /// A site in files, one for each unit. Block n begins at byte 16,384 n; behind a file's end are
 /// zeros.
 ///
-/// What is written is firm once its unit, or all, is synced. As many blocks as a cylinder has are
-/// kept, those that were brought last of their numbers by 19, and are brought again without a call
-/// of the files. Clauses on bytes speak of files that tell; to the layers above no site in files
-/// tells.
+/// What is written is firm once its unit, or all, is synced. As many blocks as 17 cylinders have
+/// are kept, those that were brought last of their numbers by 323, and are brought again without a
+/// call of the files. Clauses on bytes speak of files that tell; to the layers above no site in
+/// files tells.
 #[derive(Drop)]
 pub struct FileSite<F: UnitFiles> {
     files: F,
@@ -125,10 +125,10 @@ impl<F: UnitFiles> Site for FileSite<F> {
         Ok(())
     }
 
-    /// Reads a block, as far as the file reaches; the rest is zeros. It fails where a call of the
-    /// files fails. A block that is kept is read without one.
+    /// Reads the front of a block, as much as the buffer takes. What the file doesn't reach is zeros.
+    /// It fails where a call of the files fails. A block that is kept is read without one.
     fn read(&mut self, unit: UnitNo, block: u32, into: &mut [u8]) -> Result<(), Failed>
-        requires { length into.old ≡ BLOCK_BYTES }
+        requires { length into.old ≤ BLOCK_BYTES }
         ensures bytes { F.tells → OnOk result (into.new
             ≡ bytes_at (F.byte self.old.files unit) (file_place block 0) (length into.old)) }
         ensures at_once { Keeps self.old.kept (record { unit = unit; block = block })

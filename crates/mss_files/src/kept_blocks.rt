@@ -11,20 +11,27 @@ use mss_base::{BLOCK_BYTES, BlockPlace, HEADS, NoMemory};
 use std::alloc::Global;
 use std::io;
 
-/// How many blocks are kept: as many as a cylinder has.
-const SLOTS: usize = 19;
-
-/// Room for as many blocks as a cylinder has, and the places whose blocks stand there.
+/// As many blocks are kept as so many cylinders have.
 ///
-/// The blocks of a cylinder follow one another, so each has a slot of its own: its number by 19.
-/// The room is taken at once, but no byte of it is touched before its slot, or one behind it, is
-/// used.
+/// It has no factor in common with 8, the cylinders of a page. So cylinders that stand at one place
+/// of up to 17 neighbouring frames don't meet in a slot.
+const CYLINDERS_KEPT: usize = 17;
+
+/// How many blocks are kept: 323.
+const SLOTS: usize = CYLINDERS_KEPT * HEADS as usize;
+
+/// Room for as many blocks as 17 cylinders have, and the places whose blocks stand there.
+///
+/// The blocks of a cylinder follow one another, and begin at a multiple of 19, so each has a slot
+/// of its own: its number by 323. The room is taken at once, but no byte of it is touched before
+/// its slot, or one behind it, is used.
 #[derive(Drop)]
 pub struct KeptBlocks {
-    places: [Option<BlockPlace>; 19],
+    places: Vec<Option<BlockPlace>>,
     bytes: Vec<u8>,
     from: usize,
-    ghost room: { 311296 ≤ vec_capacity bytes },
+    ghost slots: { length places.items ≡ 323 },
+    ghost room: { 5292032 ≤ vec_capacity bytes },
     ghost inside: { from + 16384 ≤ length bytes.items },
     ghost whole: { length (block_from from bytes.items) ≡ 16384 },
 }
@@ -38,10 +45,10 @@ fn file_place(block: u32, offset: u16) -> u64
 
 /// The slot of a block.
 fn slot_of(place: &BlockPlace) -> usize
-    ensures number { result ≡ place.now.block % 19 }
-    ensures below { result < 19 }
+    ensures number { result ≡ place.now.block % 323 }
+    ensures below { result < 323 }
 {
-    (place.block % u32::from(HEADS)) as usize
+    (place.block % SLOTS as u32) as usize
 }
 
 /// The block that begins here.
@@ -103,10 +110,11 @@ impl KeptBlocks {
     pub fn new(alloc: Global) -> Result<Self, NoMemory>
         ensures { IfOk result (λ kept. (place : BlockPlace) → Stands kept place → ⊥) }
     {
+        let places = Vec::from_slice(alloc, &[None; SLOTS])?;
         let mut bytes = Vec::with_capacity(alloc, SLOTS * BLOCK_BYTES)?;
         bytes.resize(BLOCK_BYTES, 0)?;
         Ok(KeptBlocks {
-            places: [None; SLOTS],
+            places,
             bytes,
             from: 0,
         })
@@ -159,8 +167,8 @@ impl KeptBlocks {
 
     /// Notes no block for the slot of this one any more, and makes it whole.
     fn clear_slot(&mut self, place: &BlockPlace)
-        ensures places { self.new.places
-            ≡ slice_set self.old.places (slot_of place.now) None }
+        ensures places { self.new.places.items
+            ≡ slice_set self.old.places.items (slot_of place.now) None }
         ensures inside { slot_start place.now + 16384 ≤ length self.new.bytes.items }
         ensures others { ChangesBlock (slot_start place.now)
             self.old.bytes.items self.new.bytes.items }
@@ -173,7 +181,7 @@ impl KeptBlocks {
     /// Uses so many bytes of the room at least.
     #[tactic(auto, using(crate::proofs::BlockFacts::whole_block))]
     fn reach(&mut self, count: usize)
-        requires { count ≤ 311296 }
+        requires { count ≤ 5292032 }
         ensures places { self.new.places ≡ self.old.places }
         ensures reached { count ≤ length self.new.bytes.items }
         ensures long { length self.old.bytes.items ≤ length self.new.bytes.items }
@@ -188,9 +196,9 @@ impl KeptBlocks {
     /// Reads a block from the files to its slot.
     fn fetch<F: UnitFiles>(&mut self, files: &mut F, place: &BlockPlace) -> io::Result<()>
         requires inside { slot_start place.now + 16384 ≤ length self.old.bytes.items }
-        ensures ok { OnOk result (self.new.places
-            ≡ slice_set self.old.places (slot_of place.now) (Some place.now)) }
-        ensures err { OnErr result (self.new.places ≡ self.old.places) }
+        ensures ok { OnOk result (self.new.places.items
+            ≡ slice_set self.old.places.items (slot_of place.now) (Some place.now)) }
+        ensures err { OnErr result (self.new.places.items ≡ self.old.places.items) }
         ensures from { OnOk result (self.new.from ≡ slot_start place.now) }
         ensures block { F.tells → OnOk result
             (block_from (slot_start place.now) self.new.bytes.items
@@ -201,36 +209,50 @@ impl KeptBlocks {
         ensures works { F.never_fails files.old → IsOk result }
         ensures sound { F.never_fails files.old → F.never_fails files.new }
     {
-        let slot = slot_of(place);
-        let from = slot * BLOCK_BYTES;
+        let from = slot_of(place) * BLOCK_BYTES;
         match read_to(&mut self.bytes, from, files, place) {
             Ok(()) => {
-                self.places[slot] = Some(*place);
-                self.from = from;
+                self.note(place);
                 Ok(())
             }
             Err(error) => Err(error),
         }
     }
 
-    /// Reads a block into a buffer: the one that is here, or else from the files.
+    /// Notes a block for its slot, as the one that was brought last.
+    fn note(&mut self, place: &BlockPlace)
+        requires inside { slot_start place.now + 16384 ≤ length self.old.bytes.items }
+        ensures places { self.new.places.items
+            ≡ slice_set self.old.places.items (slot_of place.now) (Some place.now) }
+        ensures from { self.new.from ≡ slot_start place.now }
+        ensures bytes { self.new.bytes.items ≡ self.old.bytes.items }
+    {
+        let slot = slot_of(place);
+        self.places[slot] = Some(*place);
+        self.from = slot * BLOCK_BYTES;
+    }
+
+    /// Reads the front of a block, as much as the buffer takes: of the one that is here, or else
+    /// from the files.
     pub fn read<F: UnitFiles>(
         &self,
         files: &mut F,
         place: &BlockPlace,
         into: &mut [u8],
     ) -> io::Result<()>
-        requires whole { length into.old ≡ BLOCK_BYTES }
+        requires inside { length into.old ≤ BLOCK_BYTES }
         requires held { F.tells → IsHeld (F.byte files.old) self.now }
         ensures bytes { F.tells → OnOk result (into.new
-            ≡ bytes_at (F.byte files.old place.now.unit) (file_place place.now.block 0) 16384) }
+            ≡ bytes_at (F.byte files.old place.now.unit) (file_place place.now.block 0)
+            (length into.old)) }
         ensures at_once { Keeps self.now place.now → IsOk result × (files.new ≡ files.old) }
         ensures kept { F.tells → F.byte files.new ≡ F.byte files.old }
         ensures works { F.never_fails files.old → IsOk result }
         ensures sound { F.never_fails files.old → F.never_fails files.new }
     {
         if self.keeps(place) {
-            into.copy_from_slice(block_from(&self.bytes, slot_of(place) * BLOCK_BYTES));
+            let block = block_from(&self.bytes, slot_of(place) * BLOCK_BYTES);
+            into.copy_from_slice(&block[..into.len()]);
             return Ok(());
         }
         read_all(files, &place.unit, file_place(place.block, 0), into)

@@ -53,7 +53,7 @@ impl UnitFiles for FewReads {
     }
 }
 
-/// A call: `b` brings a block and `r` reads it, which then begins with these bytes, or fails where there are none;
+/// A call: `b` brings a block, `r` reads it and `h` its front, which then begins with these bytes, or fails where there are none;
 /// `w` writes them, behind as many bytes as stand there, or fails where the letter is `f`; `s` syncs the unit,
 /// which fails where the letter is `t`; any other letter is a sync of all, which fails. The unit is a copy of the
 /// table, or the first staging disk.
@@ -71,6 +71,13 @@ fn reads(alloc: Global, site: &mut SevensSite, unit: UnitNo, block: u32, due: &[
         return false;
     };
     site.read(unit, block, &mut bytes).is_ok() && bytes.as_slice().starts_with(due)
+}
+
+fn begins(alloc: Global, site: &mut SevensSite, unit: UnitNo, block: u32, due: &[u8]) -> bool {
+    let Ok(mut front) = vec![in alloc; 0u8; 4] else {
+        return false;
+    };
+    site.read(unit, block, &mut front).is_ok() && front.as_slice().starts_with(due)
 }
 
 fn takes(site: &mut SevensSite, unit: UnitNo, block: u32, offset: u16, bytes: &[u8]) -> bool {
@@ -91,6 +98,7 @@ fn is_done(alloc: Global, site: &mut SevensSite, step: &Step) -> bool {
     match letter {
         b'b' => brings(site, unit, block, bytes),
         b'r' => reads(alloc, site, unit, block, bytes),
+        b'h' => begins(alloc, site, unit, block, bytes),
         b'w' => takes(site, unit, block, offset, bytes),
         b'f' => !takes(site, unit, block, offset, bytes),
         b's' => site.sync(unit).is_ok(),
@@ -144,11 +152,27 @@ const SIDE_BY_SIDE: [Step; 5] = [
     (b'b', b'A', 4, 0, SEVENS),
 ];
 
-/// A block that can't be brought is not kept, nor is the one 19 before it, whose place it takes.
+/// So are blocks of several cylinders, as far as 323 blocks reach.
+const SEVERAL: [Step; 4] = [
+    (b'b', b'0', 0, 0, SEVENS),
+    (b'b', b'0', 152, 0, SEVENS),
+    (b'b', b'0', 322, 0, SEVENS),
+    (b'b', b'0', 0, 0, SEVENS),
+];
+
+/// The front of a block is read, of one that is kept and of one that isn't.
+const FRONTS: [Step; 4] = [
+    (b'b', b'A', 3, 0, SEVENS),
+    (b'w', b'A', 3, 1, b"row"),
+    (b'h', b'A', 3, 0, b"\x07row"),
+    (b'h', b'A', 4, 0, SEVENS),
+];
+
+/// A block that can't be brought is not kept, nor is the one 323 before it, whose place it takes.
 const UNREAD: [Step; 4] = [
     (b'b', b'A', 3, 0, SEVENS),
-    (b'b', b'A', 22, 0, &[]),
-    (b'b', b'A', 22, 0, &[]),
+    (b'b', b'A', 326, 0, &[]),
+    (b'b', b'A', 326, 0, &[]),
     (b'b', b'A', 3, 0, &[]),
 ];
 
@@ -171,10 +195,12 @@ const SYNCED: [Step; 5] = [
 ];
 
 /// Calls, how many reads succeed, and how many faults there are then, and writes and syncs.
-const CALLS: [(&[Step], u8, u64, u64); 6] = [
+const CALLS: [(&[Step], u8, u64, u64); 8] = [
     (&AGAIN, 1, 0, 0),
     (&WRITTEN, 1, 0, 3),
     (&SIDE_BY_SIDE, 2, 0, 1),
+    (&SEVERAL, 3, 0, 0),
+    (&FRONTS, 2, 0, 1),
     (&UNREAD, 1, 3, 0),
     (&UNWRITTEN, 1, 3, 2),
     (&SYNCED, 1, 2, 3),

@@ -1,4 +1,4 @@
-use Rattle.std.proofs.Common.{◌≡◌, ◌+◌, ◌*◌, ◌≤◌, length, rules}
+use Rattle.std.proofs.Common.{◌≡◌, ◌+◌, ◌≤◌, length, rules}
 use Rattle.mss_files.proofs.BlockFacts.{inside_in, whole_in}
 use Rattle.mss_files.proofs.kept_blocks.KeptBlocks.fetch.Goals as goal
 
@@ -13,9 +13,3 @@ invariant_of-self-clause-whole g c =
     let long : length c.read_to.new.bytes ≡ c.args.self.now.bytes.len = search rules in
     let inside : c.args.self.now.from + 16384 ≤ c.args.self.now.bytes.len = search rules in
     whole_in c.args.self.now.from _ _ _ long inside
-
-pub invariant_of-self-in-Ok-clause-whole : goal.invariant_of-self-in-Ok-clause-whole
-invariant_of-self-in-Ok-clause-whole g c =
-    let long : length c.read_to.new.bytes ≡ c.args.self.now.bytes.len = search rules in
-    let inside : c.slot_of-slot.result * 16384 + 16384 ≤ c.args.self.now.bytes.len = search rules in
-    whole_in (c.slot_of-slot.result * 16384) _ _ _ long inside
