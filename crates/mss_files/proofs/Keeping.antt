@@ -1,5 +1,5 @@
 -- Blocks that are kept go on being what the files hold.
-use Rattle.std.proofs.Common.{◌≡◌, ℕ, zero, suc, ◌+◌, ◌-◌, ◌≤◌, ◌<◌, ◌⊎◌, inl, inr, true, ◌&&◌, ◌==◌, List, [], ◌∷◌, ◌++◌, length, take, drop, refl, sym, ◌∙◌, ap, ap₂, subst, arith}
+use Rattle.std.proofs.Common.{◌≡◌, ◌≢◌, ℕ, zero, suc, ◌+◌, ◌*◌, ◌-◌, ◌≤◌, ◌<◌, ◌⊎◌, inl, inr, true, ◌&&◌, ◌==◌, List, [], ◌∷◌, ◌++◌, length, take, drop, refl, sym, ◌∙◌, ap, ap₂, subst, arith}
 use Rattle.std.proofs.Common.{Option, None, Some, replicate, Result, Ok, Err, OnOk, OnErr, slice_index_or, slice_set, get_or-set_other}
 use Rattle.std.proofs.Math.Seq.{take-append_seam, drop-append_seam}
 use Rattle.std.proofs.lemmas.List.{get_or-replicate}
@@ -8,8 +8,9 @@ use Rattle.mss_base.proofs.ContentLemmas.{same_unit-refl, same_unit-true}
 use Rattle.mss_base.specs.Content.{same_unit}
 use Rattle.mss_base.specs.declared.place.UnitNo.{UnitNo}
 use Rattle.mss_base.specs.declared.place.BlockPlace.{BlockPlace}
+use Rattle.mss_files.specs.Allotted.{piece_of}
 use Rattle.mss_files.specs.Blocks.{block_from, ChangesBlock}
-use Rattle.mss_files.specs.KeptBlocks.{slot_of, slot_start, Stands, Keeps, HasBytes, IsHeld}
+use Rattle.mss_files.specs.KeptBlocks.{slot_of, slot_start, Stands, Keeps, HasBytes, IsHeld, KeepsStarts}
 use Rattle.mss_files.specs.declared.kept_blocks.KeptBlocks.{KeptBlocks}
 use Rattle.mss_files.specs.Files.{FileBytes, bytes_at, file_place, ChangesOnly}
 use Rattle.mss_files.proofs.Transfers.{length-bytes_at, bytes_at-more, bytes_at-same}
@@ -140,14 +141,30 @@ held_apart f g place kept offset at n old new inside from changed differ same is
 -- ---- all blocks that are kept
 
 -- two slots are one, or one lies wholly before the other
-slots_apart : (a b : BlockPlace) → (slot_of a ≡ slot_of b) ⊎ ((slot_start a + 16384 ≤ slot_start b) ⊎ (slot_start b + 16384 ≤ slot_start a))
-slots_apart a b = elim (cases_lt (slot_of a) (slot_of b)) [
-  | inl below ↦ inr (inl (omega (arith, below)))
-  | inr from ↦ elim (cases_lt (slot_of b) (slot_of a)) [
-    | inl above ↦ inr (inr (omega (arith, above)))
-    | inr upto ↦ inl (omega (arith, from, upto))
-  ]
-]
+slots_apart : (kept : KeptBlocks) (a b : BlockPlace) → (slot_of a ≡ slot_of b) ⊎ ((slot_start kept a + 16384 ≤ slot_start kept b) ⊎ (slot_start kept b + 16384 ≤ slot_start kept a))
+slots_apart kept a b =
+    let first = piece_of kept.pieces.of_slots.items (slot_of a) in
+    let second = piece_of kept.pieces.of_slots.items (slot_of b) in
+    elim (cases_lt first second) [
+      | inl below ↦ inr (inl (omega (arith, below)))
+      | inr from ↦ elim (cases_lt second first) [
+        | inl above ↦ inr (inr (omega (arith, above)))
+        | inr upto ↦ inl (kept.pieces.apart (slot_of a) (slot_of b) (omega arith) (omega arith) (omega (arith, from, upto)))
+      ]
+    ]
+
+-- bytes that don't meet are of two slots
+start_apart : (kept : KeptBlocks) (a b : BlockPlace) → (slot_start kept a + 16384 ≤ slot_start kept b) ⊎ (slot_start kept b + 16384 ≤ slot_start kept a) → slot_of a ≡ slot_of b → ⊥
+start_apart kept a b apart one =
+    let same : slot_start kept a ≡ slot_start kept b = ap (λ (slot : ℕ). piece_of kept.pieces.of_slots.items slot * 16384) one in
+    elim apart [
+      | inl low ↦ absurd (omega (arith, low, same))
+      | inr high ↦ absurd (omega (arith, high, same))
+    ]
+
+-- where the pieces stay, a slot stays where it is
+same_start : (old new : KeptBlocks) (place : BlockPlace) → new.pieces ≡ old.pieces → slot_start new place ≡ slot_start old place
+same_start old new place same = λ i. piece_of (same i).of_slots.items (slot_of place) * 16384
 
 -- one slot has one block
 one_stands : (kept : KeptBlocks) (a b : BlockPlace) → slot_of a ≡ slot_of b → Stands kept a → Stands kept b → a ≡ b
@@ -180,25 +197,26 @@ pub held_behind : (f g : FileBytes) (place : BlockPlace) (offset at : ℕ) (byte
     → ChangesOnly place.unit at (length bytes) f g
     → bytes_at (g place.unit) at (length bytes) ≡ bytes
     → new.places ≡ old.places
-    → (Keeps old place → block_from (slot_start place) new.bytes.items
-    ≡ take offset (block_from (slot_start place) old.bytes.items) ++ (bytes ++ drop (offset + length bytes) (block_from (slot_start place) old.bytes.items)))
+    → new.pieces ≡ old.pieces
+    → (Keeps old place → block_from (slot_start old place) new.bytes.items
+    ≡ take offset (block_from (slot_start old place) old.bytes.items) ++ (bytes ++ drop (offset + length bytes) (block_from (slot_start old place) old.bytes.items)))
     → ((Keeps old place → ⊥) → new.bytes.items ≡ old.bytes.items)
-    → ChangesBlock (slot_start place) old.bytes.items new.bytes.items
+    → ChangesBlock (slot_start old place) old.bytes.items new.bytes.items
     → IsHeld f old → IsHeld g new
-held_behind f g place offset at bytes old new inside from changed put places patch apart changes held = λ other stands.
+held_behind f g place offset at bytes old new inside from changed put places pieces patch apart changes held = λ other stands.
     let was : Stands old other = ap (λ (l : List (Option BlockPlace)). slice_index_or l (slot_of other) None) (sym (λ i. (places i).items)) ∙ stands in
     let has = held other was in
-    record {
+    subst (λ (start : ℕ). HasBytes start new.bytes.items (g other.unit) other) (sym (same_start old new other pieces)) (record {
       inside = omega (arith, has.inside, changes.long);
-      bytes = still_held f g place other offset at bytes (block_from (slot_start other) old.bytes.items) (block_from (slot_start other) new.bytes.items) inside from changed put
-          (λ e. subst (λ (p : BlockPlace). block_from (slot_start p) new.bytes.items ≡ take offset (block_from (slot_start p) old.bytes.items) ++ (bytes ++ drop (offset + length bytes) (block_from (slot_start p) old.bytes.items))) (sym e)
-          (patch (record { stands = subst (Stands old) e was; inside = subst (λ (p : BlockPlace). slot_start p + 16384 ≤ length old.bytes.items) e has.inside })))
-          (λ differ. elim (slots_apart other place) [
-            | inl one ↦ ap (block_from (slot_start other)) (apart (λ keeps. differ (one_stands old other place one was keeps.stands)))
-            | inr two ↦ changes.others (slot_start other) has.inside two
+      bytes = still_held f g place other offset at bytes (block_from (slot_start old other) old.bytes.items) (block_from (slot_start old other) new.bytes.items) inside from changed put
+          (λ e. subst (λ (p : BlockPlace). block_from (slot_start old p) new.bytes.items ≡ take offset (block_from (slot_start old p) old.bytes.items) ++ (bytes ++ drop (offset + length bytes) (block_from (slot_start old p) old.bytes.items))) (sym e)
+          (patch (record { stands = subst (Stands old) e was; inside = subst (λ (p : BlockPlace). slot_start old p + 16384 ≤ length old.bytes.items) e has.inside })))
+          (λ differ. elim (slots_apart old other place) [
+            | inl one ↦ ap (block_from (slot_start old other)) (apart (λ keeps. differ (one_stands old other place one was keeps.stands)))
+            | inr two ↦ changes.others (slot_start old other) has.inside two
           ])
           has.bytes;
-    }
+    })
 
 -- behind a write that failed
 pub held_failed : (f g : FileBytes) (place : BlockPlace) (offset at n : ℕ) (old new : KeptBlocks) → offset + n ≤ 16384
@@ -206,31 +224,32 @@ pub held_failed : (f g : FileBytes) (place : BlockPlace) (offset at n : ℕ) (ol
     → ChangesOnly place.unit at n f g
     → (Stands new place → ⊥)
     → ((other : BlockPlace) → Stands new other → Stands old other)
+    → new.pieces ≡ old.pieces
     → new.bytes.items ≡ old.bytes.items
     → IsHeld f old → IsHeld g new
-held_failed f g place offset at n old new inside from changed gone others same held = λ other stands.
+held_failed f g place offset at n old new inside from changed gone others pieces same held = λ other stands.
     let has = held other (others other stands) in
-    record {
-      inside = subst (λ (l : List ℕ). slot_start other + 16384 ≤ length l) (sym same) has.inside;
-      bytes = held_apart f g place other offset at n (block_from (slot_start other) old.bytes.items) (block_from (slot_start other) new.bytes.items) inside from changed
-          (λ e. gone (subst (Stands new) (sym e) stands)) (ap (block_from (slot_start other)) same) has.bytes;
-    }
+    subst (λ (start : ℕ). HasBytes start new.bytes.items (g other.unit) other) (sym (same_start old new other pieces)) (record {
+      inside = subst (λ (l : List ℕ). slot_start old other + 16384 ≤ length l) (sym same) has.inside;
+      bytes = held_apart f g place other offset at n (block_from (slot_start old other) old.bytes.items) (block_from (slot_start old other) new.bytes.items) inside from changed
+          (λ e. gone (subst (Stands new) (sym e) stands)) (ap (block_from (slot_start old other)) same) has.bytes;
+    })
 
 -- the slot of a block that was brought, or couldn't be
-brought_there : {T E : Type 0} (result : Result T E) (f : FileBytes) (place other : BlockPlace) (old mid new : List (Option BlockPlace)) (room : List ℕ)
+brought_there : {T E : Type 0} (result : Result T E) (f : FileBytes) (place other : BlockPlace) (old mid new : List (Option BlockPlace)) (start : ℕ) (room : List ℕ)
     → slot_of other ≡ slot_of place
     → mid ≡ slice_set old (slot_of place) None
-    → slot_start place + 16384 ≤ length room
+    → start + 16384 ≤ length room
     → OnOk result (new ≡ slice_set mid (slot_of place) (Some place))
     → OnErr result (new ≡ mid)
-    → OnOk result (block_from (slot_start place) room ≡ bytes_at (f place.unit) (file_place place.block 0) 16384)
+    → OnOk result (block_from start room ≡ bytes_at (f place.unit) (file_place place.block 0) 16384)
     → slice_index_or new (slot_of other) None ≡ Some other
-    → HasBytes room (f other.unit) other
-brought_there (Ok _) f place other old mid new room one cleared inside ok err block stands =
+    → HasBytes start room (f other.unit) other
+brought_there (Ok _) f place other old mid new start room one cleared inside ok err block stands =
     let seen : slice_index_or (slice_set mid (slot_of place) (Some place)) (slot_of place) None ≡ Some other =
     ap (λ (l : List (Option BlockPlace)). slice_index_or l (slot_of place) None) (sym ok) ∙ ap (λ (n : ℕ). slice_index_or new n None) (sym one) ∙ stands in
-    subst (λ (p : BlockPlace). HasBytes room (f p.unit) p) (noted mid (slot_of place) place other seen) (record { inside = inside; bytes = block })
-brought_there (Err _) f place other old mid new room one cleared inside ok err block stands =
+    subst (λ (p : BlockPlace). HasBytes start room (f p.unit) p) (noted mid (slot_of place) place other seen) (record { inside = inside; bytes = block })
+brought_there (Err _) f place other old mid new start room one cleared inside ok err block stands =
     let seen : slice_index_or (slice_set old (slot_of place) None) (slot_of place) None ≡ Some other =
     ap (λ (l : List (Option BlockPlace)). slice_index_or l (slot_of place) None) (sym (err ∙ cleared)) ∙ ap (λ (n : ℕ). slice_index_or new n None) (sym one) ∙ stands in
     absurd (let f : None ≡ Some other = sym (none_noted old (slot_of place)) ∙ seen in cc)
@@ -253,27 +272,49 @@ brought_elsewhere (Err _) place other old mid new differ cleared ok err =
 -- behind a block that was brought, or couldn't be
 pub held_brought : {T E : Type 0} (result : Result T E) (f g : FileBytes) (place : BlockPlace) (old mid new : KeptBlocks)
     → mid.places.items ≡ slice_set old.places.items (slot_of place) None
-    → slot_start place + 16384 ≤ length mid.bytes.items
-    → ChangesBlock (slot_start place) old.bytes.items mid.bytes.items
+    → slot_start mid place + 16384 ≤ length mid.bytes.items
+    → KeepsStarts place old mid
+    → length old.bytes.items ≤ length mid.bytes.items
+    → ((at : ℕ) → at + 16384 ≤ length old.bytes.items → block_from at mid.bytes.items ≡ block_from at old.bytes.items)
     → OnOk result (new.places.items ≡ slice_set mid.places.items (slot_of place) (Some place))
     → OnErr result (new.places.items ≡ mid.places.items)
-    → ChangesBlock (slot_start place) mid.bytes.items new.bytes.items
-    → OnOk result (block_from (slot_start place) new.bytes.items ≡ bytes_at (f place.unit) (file_place place.block 0) 16384)
+    → new.pieces ≡ mid.pieces
+    → ChangesBlock (slot_start mid place) mid.bytes.items new.bytes.items
+    → OnOk result (block_from (slot_start mid place) new.bytes.items ≡ bytes_at (f place.unit) (file_place place.block 0) 16384)
     → g ≡ f
     → IsHeld f old → IsHeld g new
-held_brought result f g place old mid new cleared room first ok err next block same held = λ other stands.
-    subst (λ (h : FileBytes). HasBytes new.bytes.items (h other.unit) other) (sym same)
-    (elim (slots_apart other place) [
-      | inl one ↦ brought_there result f place other old.places.items mid.places.items new.places.items new.bytes.items one cleared (omega (arith, room, next.long)) ok err block stands
+held_brought result f g place old mid new cleared room starts long blocks ok err pieces next block same held = λ other stands.
+    subst (λ (h : FileBytes). HasBytes (slot_start new other) new.bytes.items (h other.unit) other) (sym same)
+    (subst (λ (start : ℕ). HasBytes start new.bytes.items (f other.unit) other) (sym (same_start mid new other pieces))
+    (elim (slots_apart mid other place) [
+      | inl one ↦
+          subst (λ (slot : ℕ). HasBytes (piece_of mid.pieces.of_slots.items slot * 16384) new.bytes.items (f other.unit) other) (sym one)
+          (brought_there result f place other old.places.items mid.places.items new.places.items (slot_start mid place) new.bytes.items one cleared (omega (arith, room, next.long)) ok err block stands)
       | inr two ↦
-          let differ : slot_of other ≡ slot_of place → ⊥ = λ e. elim two [
-            | inl low ↦ absurd (omega (arith, low, e))
-            | inr high ↦ absurd (omega (arith, high, e))
-          ] in
+          let differ : slot_of other ≡ slot_of place → ⊥ = λ e. start_apart mid other place two e in
           let was : Stands old other = sym (brought_elsewhere result place other old.places.items mid.places.items new.places.items differ cleared ok err) ∙ stands in
           let has = held other was in
+          let start : slot_start mid other ≡ slot_start old other = starts other differ has.inside in
+          let inside : slot_start mid other + 16384 ≤ length mid.bytes.items = omega (arith, start, has.inside, long) in
           record {
-            inside = omega (arith, has.inside, first.long, next.long);
-            bytes = next.others (slot_start other) (omega (arith, has.inside, first.long)) two ∙ first.others (slot_start other) has.inside two ∙ has.bytes;
+            inside = omega (arith, inside, next.long);
+            bytes = next.others (slot_start mid other) inside two ∙ ap (λ (at : ℕ). block_from at mid.bytes.items) start ∙ blocks (slot_start old other) has.inside ∙ has.bytes;
           }
-    ])
+    ]))
+
+-- another block is kept still
+pub keeps_on : {T E : Type 0} (result : Result T E) (place other : BlockPlace) (old mid new : KeptBlocks)
+    → mid.places.items ≡ slice_set old.places.items (slot_of place) None
+    → KeepsStarts place old mid
+    → length old.bytes.items ≤ length mid.bytes.items
+    → OnOk result (new.places.items ≡ slice_set mid.places.items (slot_of place) (Some place))
+    → OnErr result (new.places.items ≡ mid.places.items)
+    → new.pieces ≡ mid.pieces
+    → length mid.bytes.items ≤ length new.bytes.items
+    → slot_of other ≢ slot_of place → Keeps old other → Keeps new other
+keeps_on result place other old mid new cleared starts long ok err pieces longer differ keeps =
+    let start : slot_start new other ≡ slot_start old other = same_start mid new other pieces ∙ starts other differ keeps.inside in
+    record {
+      stands = brought_elsewhere result place other old.places.items mid.places.items new.places.items differ cleared ok err ∙ keeps.stands;
+      inside = omega (arith, start, keeps.inside, long, longer);
+    }

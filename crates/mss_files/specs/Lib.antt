@@ -1,3 +1,4 @@
+pub mod Allotted
 pub mod Blocks
 pub mod Files
 pub mod KeptBlocks

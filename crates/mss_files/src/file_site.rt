@@ -157,9 +157,11 @@ impl<F: UnitFiles> Site for FileSite<F> {
         ensures at_once { Keeps self.old.kept (record { unit = unit; block = block })
             → IsOk result × (self.new.files ≡ self.old.files)
             × (self.new.kept.places ≡ self.old.kept.places)
+            × (self.new.kept.pieces ≡ self.old.kept.pieces)
             × (self.new.kept.bytes.items ≡ self.old.kept.bytes.items) }
         ensures here { OnOk result (Keeps self.new.kept (record { unit = unit; block = block })
-            × (self.new.kept.from ≡ slot_start (record { unit = unit; block = block }))) }
+            × (self.new.kept.from
+            ≡ slot_start self.new.kept (record { unit = unit; block = block }))) }
         ensures lost { OnErr result
             (Stands self.new.kept (record { unit = unit; block = block }) → ⊥) }
         ensures others { (other : BlockPlace)
@@ -193,6 +195,7 @@ impl<F: UnitFiles> Site for FileSite<F> {
         ensures only { F.tells → ChangesOnly unit (file_place block offset) (length bytes.now)
             (F.byte self.old.files) (F.byte self.new.files) }
         ensures stays { OnOk result (self.new.kept.places ≡ self.old.kept.places) }
+        ensures pieces { self.new.kept.pieces ≡ self.old.kept.pieces }
         ensures from { self.new.kept.from ≡ self.old.kept.from }
         ensures writes { self.new.writes ≡ next_count self.old.writes }
         ensures kept { self.old.writes ≤ self.new.writes }

@@ -6,28 +6,21 @@ ghost use Rattle.mss_files.specs.Blocks.{block_from, ChangesBlock};
 ghost use Rattle.mss_files.specs.Files.{file_place, bytes_at, ChangesOnly};
 
 use crate::UnitFiles;
+use crate::pieces::{Pieces, SLOTS};
 use crate::transfer::{read_all, write_all};
-use mss_base::{BLOCK_BYTES, BlockPlace, HEADS, NoMemory};
+use mss_base::{BLOCK_BYTES, BlockPlace, NoMemory};
 use std::alloc::Global;
 use std::io;
-
-/// As many blocks are kept as so many cylinders have.
-///
-/// It has no factor in common with 8, the cylinders of a page. So cylinders that stand at one place
-/// of up to 17 neighbouring frames don't meet in a slot.
-const CYLINDERS_KEPT: usize = 17;
-
-/// How many blocks are kept: 323.
-const SLOTS: usize = CYLINDERS_KEPT * HEADS as usize;
 
 /// Room for as many blocks as 17 cylinders have, and the places whose blocks stand there.
 ///
 /// The blocks of a cylinder follow one another, and begin at a multiple of 19, so each has a slot
-/// of its own: its number by 323. The room is taken at once, but no byte of it is touched before
-/// its slot, or one behind it, is used.
+/// of its own: its number by 323. The room is taken at once. A slot is given the next piece of it
+/// when it is first used, so no more of it is touched than blocks come.
 #[derive(Drop)]
 pub struct KeptBlocks {
     places: Vec<Option<BlockPlace>>,
+    pieces: Pieces,
     bytes: Vec<u8>,
     from: usize,
     ghost slots: { length places.items ≡ 323 },
@@ -102,7 +95,7 @@ fn overwrite_from(bytes: &mut [u8], from: usize, offset: u16, new: &[u8])
 }
 
 impl KeptBlocks {
-    ghost use Rattle.mss_files.specs.KeptBlocks.{slot_of, slot_start, Stands, Keeps, IsHeld};
+    ghost use Rattle.mss_files.specs.KeptBlocks.{slot_of, slot_start, Stands, Keeps, IsHeld, KeepsStarts};
     ghost use Rattle.mss_base.specs.declared.place.BlockPlace.{BlockPlace};
 
     /// The room, in which no block stands yet.
@@ -111,10 +104,12 @@ impl KeptBlocks {
         ensures { IfOk result (λ kept. (place : BlockPlace) → Stands kept place → ⊥) }
     {
         let places = Vec::from_slice(alloc, &[None; SLOTS])?;
+        let pieces = Pieces::new(alloc)?;
         let mut bytes = Vec::with_capacity(alloc, SLOTS * BLOCK_BYTES)?;
         bytes.resize(BLOCK_BYTES, 0)?;
         Ok(KeptBlocks {
             places,
+            pieces,
             bytes,
             from: 0,
         })
@@ -132,11 +127,18 @@ impl KeptBlocks {
         ensures there { result ≡ true → Keeps self.now place.now }
         ensures elsewhere { result ≡ false → Keeps self.now place.now → ⊥ }
     {
-        let slot = slot_of(place);
-        if self.places[slot] != Some(*place) {
+        if self.places[slot_of(place)] != Some(*place) {
             return false;
         }
-        (slot + 1) * BLOCK_BYTES <= self.bytes.len()
+        self.start_of(place) + BLOCK_BYTES <= self.bytes.len()
+    }
+
+    /// Where the bytes of its slot begin.
+    fn start_of(&self, place: &BlockPlace) -> usize
+        ensures value { result ≡ slot_start self.now place.now }
+        ensures inside { result + 16384 ≤ 5292032 }
+    {
+        self.pieces.of(slot_of(place)) * BLOCK_BYTES
     }
 
     /// Brings a block here. One that is here already isn't read again. Where a read fails, it isn't
@@ -147,9 +149,10 @@ impl KeptBlocks {
         ensures held { F.tells → IsHeld (F.byte files.new) self.new }
         ensures at_once { Keeps self.old place.now → IsOk result × (files.new ≡ files.old)
             × (self.new.places ≡ self.old.places)
+            × (self.new.pieces ≡ self.old.pieces)
             × (self.new.bytes.items ≡ self.old.bytes.items) }
         ensures here { OnOk result
-            (Keeps self.new place.now × (self.new.from ≡ slot_start place.now)) }
+            (Keeps self.new place.now × (self.new.from ≡ slot_start self.new place.now)) }
         ensures lost { OnErr result (Stands self.new place.now → ⊥) }
         ensures others { (other : BlockPlace) → slot_of other ≢ slot_of place.now
             → Keeps self.old other → Keeps self.new other }
@@ -158,24 +161,38 @@ impl KeptBlocks {
         ensures sound { F.never_fails files.old → F.never_fails files.new }
     {
         if self.keeps(place) {
-            self.from = slot_of(place) * BLOCK_BYTES;
+            self.from = self.start_of(place);
             return Ok(());
         }
         self.clear_slot(place);
         self.fetch(files, place)
     }
 
-    /// Notes no block for the slot of this one any more, and makes it whole.
+    /// Notes no block for the slot of this one any more, and makes its piece whole.
     fn clear_slot(&mut self, place: &BlockPlace)
         ensures places { self.new.places.items
             ≡ slice_set self.old.places.items (slot_of place.now) None }
-        ensures inside { slot_start place.now + 16384 ≤ length self.new.bytes.items }
-        ensures others { ChangesBlock (slot_start place.now)
-            self.old.bytes.items self.new.bytes.items }
+        ensures inside { slot_start self.new place.now + 16384 ≤ length self.new.bytes.items }
+        ensures starts { KeepsStarts place.now self.old self.new }
+        ensures long { length self.old.bytes.items ≤ length self.new.bytes.items }
+        ensures blocks { (other : ℕ) → other + 16384 ≤ length self.old.bytes.items
+            → block_from other self.new.bytes.items ≡ block_from other self.old.bytes.items }
     {
-        let slot = slot_of(place);
-        self.places[slot] = None;
-        self.reach((slot + 1) * BLOCK_BYTES);
+        self.places[slot_of(place)] = None;
+        self.find_piece(place);
+        self.reach(self.start_of(place) + BLOCK_BYTES);
+    }
+
+    /// Gives its slot a piece that is in use, or else the next one.
+    fn find_piece(&mut self, place: &BlockPlace)
+        ensures places { self.new.places ≡ self.old.places }
+        ensures bytes { self.new.bytes.items ≡ self.old.bytes.items }
+        ensures starts { KeepsStarts place.now self.old self.new }
+    {
+        if self.start_of(place) >= self.bytes.len() {
+            let next = self.bytes.len() / BLOCK_BYTES;
+            self.pieces.exchange(slot_of(place), next);
+        }
     }
 
     /// Uses so many bytes of the room at least.
@@ -183,6 +200,7 @@ impl KeptBlocks {
     fn reach(&mut self, count: usize)
         requires { count ≤ 5292032 }
         ensures places { self.new.places ≡ self.old.places }
+        ensures pieces { self.new.pieces ≡ self.old.pieces }
         ensures reached { count ≤ length self.new.bytes.items }
         ensures long { length self.old.bytes.items ≤ length self.new.bytes.items }
         ensures blocks { (other : ℕ) → other + 16384 ≤ length self.old.bytes.items
@@ -193,23 +211,24 @@ impl KeptBlocks {
         }
     }
 
-    /// Reads a block from the files to its slot.
+    /// Reads a block from the files to the piece of its slot.
     fn fetch<F: UnitFiles>(&mut self, files: &mut F, place: &BlockPlace) -> io::Result<()>
-        requires inside { slot_start place.now + 16384 ≤ length self.old.bytes.items }
+        requires inside { slot_start self.old place.now + 16384 ≤ length self.old.bytes.items }
         ensures ok { OnOk result (self.new.places.items
             ≡ slice_set self.old.places.items (slot_of place.now) (Some place.now)) }
         ensures err { OnErr result (self.new.places.items ≡ self.old.places.items) }
-        ensures from { OnOk result (self.new.from ≡ slot_start place.now) }
+        ensures pieces { self.new.pieces ≡ self.old.pieces }
+        ensures from { OnOk result (self.new.from ≡ slot_start self.old place.now) }
         ensures block { F.tells → OnOk result
-            (block_from (slot_start place.now) self.new.bytes.items
+            (block_from (slot_start self.old place.now) self.new.bytes.items
             ≡ bytes_at (F.byte files.old place.now.unit) (file_place place.now.block 0) 16384) }
-        ensures others { ChangesBlock (slot_start place.now)
+        ensures others { ChangesBlock (slot_start self.old place.now)
             self.old.bytes.items self.new.bytes.items }
         ensures files { F.tells → F.byte files.new ≡ F.byte files.old }
         ensures works { F.never_fails files.old → IsOk result }
         ensures sound { F.never_fails files.old → F.never_fails files.new }
     {
-        let from = slot_of(place) * BLOCK_BYTES;
+        let from = self.start_of(place);
         match read_to(&mut self.bytes, from, files, place) {
             Ok(()) => {
                 self.note(place);
@@ -221,15 +240,16 @@ impl KeptBlocks {
 
     /// Notes a block for its slot, as the one that was brought last.
     fn note(&mut self, place: &BlockPlace)
-        requires inside { slot_start place.now + 16384 ≤ length self.old.bytes.items }
+        requires inside { slot_start self.old place.now + 16384 ≤ length self.old.bytes.items }
         ensures places { self.new.places.items
             ≡ slice_set self.old.places.items (slot_of place.now) (Some place.now) }
-        ensures from { self.new.from ≡ slot_start place.now }
+        ensures pieces { self.new.pieces ≡ self.old.pieces }
+        ensures from { self.new.from ≡ slot_start self.old place.now }
         ensures bytes { self.new.bytes.items ≡ self.old.bytes.items }
     {
-        let slot = slot_of(place);
-        self.places[slot] = Some(*place);
-        self.from = slot * BLOCK_BYTES;
+        let from = self.start_of(place);
+        self.places[slot_of(place)] = Some(*place);
+        self.from = from;
     }
 
     /// Reads the front of a block, as much as the buffer takes: of the one that is here, or else
@@ -251,7 +271,7 @@ impl KeptBlocks {
         ensures sound { F.never_fails files.old → F.never_fails files.new }
     {
         if self.keeps(place) {
-            let block = block_from(&self.bytes, slot_of(place) * BLOCK_BYTES);
+            let block = block_from(&self.bytes, self.start_of(place));
             into.copy_from_slice(&block[..into.len()]);
             return Ok(());
         }
@@ -275,6 +295,7 @@ impl KeptBlocks {
         ensures only { F.tells → ChangesOnly place.now.unit (file_place place.now.block offset)
             (length bytes.now) (F.byte files.old) (F.byte files.new) }
         ensures stays { OnOk result (self.new.places ≡ self.old.places) }
+        ensures pieces { self.new.pieces ≡ self.old.pieces }
         ensures from { self.new.from ≡ self.old.from }
         ensures long { length self.old.bytes.items ≤ length self.new.bytes.items }
         ensures works { F.never_fails files.old → IsOk result }
@@ -297,19 +318,21 @@ impl KeptBlocks {
     fn patch(&mut self, place: &BlockPlace, offset: u16, bytes: &[u8])
         requires { offset + length bytes.now ≤ BLOCK_BYTES }
         ensures places { self.new.places ≡ self.old.places }
+        ensures pieces { self.new.pieces ≡ self.old.pieces }
         ensures from { self.new.from ≡ self.old.from }
         ensures here { Keeps self.old place.now
-            → block_from (slot_start place.now) self.new.bytes.items
-            ≡ take offset (block_from (slot_start place.now) self.old.bytes.items) ++ (bytes.now
+            → block_from (slot_start self.old place.now) self.new.bytes.items
+            ≡ take offset (block_from (slot_start self.old place.now) self.old.bytes.items) ++ (bytes.now
             ++ drop (offset + length bytes.now)
-            (block_from (slot_start place.now) self.old.bytes.items)) }
+            (block_from (slot_start self.old place.now) self.old.bytes.items)) }
         ensures elsewhere { (Keeps self.old place.now → ⊥)
             → self.new.bytes.items ≡ self.old.bytes.items }
-        ensures others { ChangesBlock (slot_start place.now)
+        ensures others { ChangesBlock (slot_start self.old place.now)
             self.old.bytes.items self.new.bytes.items }
     {
         if self.keeps(place) {
-            overwrite_from(&mut self.bytes, slot_of(place) * BLOCK_BYTES, offset, bytes);
+            let from = self.start_of(place);
+            overwrite_from(&mut self.bytes, from, offset, bytes);
         }
     }
 
@@ -317,6 +340,7 @@ impl KeptBlocks {
     fn forget(&mut self, place: &BlockPlace)
         ensures here { Stands self.new place.now → ⊥ }
         ensures others { (other : BlockPlace) → Stands self.new other → Stands self.old other }
+        ensures pieces { self.new.pieces ≡ self.old.pieces }
         ensures bytes { self.new.bytes.items ≡ self.old.bytes.items }
         ensures from { self.new.from ≡ self.old.from }
     {

@@ -4,7 +4,7 @@
 //! nothing but `Site`'s counts. Below that its work is proved over any files (`UnitFiles`): it
 //! fails only where a call of the files fails, and where they tell what they hold
 //! (`specs/Files.antt`), it reads and writes the right bytes, and a sync makes them last. The blocks
-//! of the cylinder that it brought last are kept, and go on being what the files hold
+//! that it brought last are kept, as many as 17 cylinders have, and go on being what the files hold
 //! (`specs/KeptBlocks.antt`).
 //! That real files (`Folder`) are such files is trusted. All memory is taken when the site is made,
 //! so no call fails for want of it. `StdSource` and `StdSink` are a reader and a writer as a source
@@ -17,6 +17,7 @@ mod folder;
 mod kept_blocks;
 mod names;
 mod paths;
+mod pieces;
 mod site_file;
 mod spoiled;
 mod std_sink;

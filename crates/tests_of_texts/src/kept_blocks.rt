@@ -53,10 +53,10 @@ impl UnitFiles for FewReads {
     }
 }
 
-/// A call: `b` brings a block, `r` reads it and `h` its front, which then begins with these bytes, or fails where there are none;
-/// `w` writes them, behind as many bytes as stand there, or fails where the letter is `f`; `s` syncs the unit,
-/// which fails where the letter is `t`; any other letter is a sync of all, which fails. The unit is a copy of the
-/// table, or the first staging disk.
+/// A call: `b` brings a block, `r` reads it and `h` its front, which then begins with these bytes, or fails where
+/// there are none; `w` writes them, behind as many bytes as stand there, or fails where the letter is `f`; `s`
+/// syncs the unit, which fails where the letter is `t`; any other letter is a sync of all, which fails. The unit is
+/// a copy of the table, or the first staging disk.
 type Step = (u8, u8, u32, u16, &'static [u8]);
 
 const SEVENS: &[u8] = &[7, 7, 7];
