@@ -166,8 +166,8 @@ FIRST_STEPS = [
     (reads(FRAMES, FIVE)[4:], FIRST.ends(8, "", 4, CUT_BEHIND_THE_TRACK), RECORD),
 ]
 
-# One frame for two pages: a record on cylinder 0, one on cylinder 9, and the first is read back. Both lie on head 0, so
-# that of the two only the one is kept that was looked at last.
+# One frame for two pages: a record on cylinder 0, one on cylinder 9, and the first is read back. Both tracks are kept,
+# and what is staged goes into the kept track too, so the last search reads none.
 
 REPLACEMENT = Job(
     f"""{HEAD}host 1
@@ -357,7 +357,6 @@ REPLACEMENT_STEPS = [
         BOTH_LEFT,
     ),
     (changed(0), REPLACEMENT.ends(8, "", 12, STOPPED), BOTH_LEFT),
-    ([(READ, *FIRST_STAGED)], REPLACEMENT.ends(8, NO_LAST_SEARCH, 13, BOTH_LEFT), BOTH_LEFT),
     # Both cylinders are on their cartridge, where the report reads them.
     (reads(*FIRST_ON_CARTRIDGE)[:1], REPLACEMENT.ends(11, "", 13, CUT_BEFORE_THE_TRACK), BOTH_LEFT),
     (
@@ -539,20 +538,21 @@ done
 
 
 def on_one_head(text):
-    """The same job with each track on head 1, so that of all of them only the one is kept that was looked at last."""
-    return text.replace("00020002", "00020001").replace("00030003", "00030001")
+    """The same job with each track on head 1, and that of the third host on cylinder 2. It then stands 17 cylinders
+    behind that of the first host, so that of these two only the one is kept that was looked at last."""
+    return text.replace("00020002", "00020001").replace("00030003", "00020001").replace("cylinder 3", "cylinder 2")
 
 
 HOSTS_TOLD = (CASES / "three_hosts.report").read_text().splitlines(True)
 HOSTS = Job(
     on_one_head((CASES / "three_hosts.job").read_text()),
     "".join(line for line in HOSTS_TOLD if line.startswith("entry ")),
-    "".join(line for line in HOSTS_TOLD if line.startswith("change ")),
+    on_one_head("".join(line for line in HOSTS_TOLD if line.startswith("change "))),
 )
 VOLUMES = [
     ("volume 0 VOL001\n", "track 1 1\nrecord 0001000101 - 484F535431\n"),
     ("volume 1 VOL002\n", "track 2 1\nrecord 0002000101 - 484F535432\n"),
-    ("volume 2 VOL003\n", "track 3 1\nrecord 0003000101 - 484F535433\n"),
+    ("volume 2 VOL003\n", "track 2 1\nrecord 0002000101 - 484F535433\n"),
     ("volume 3 VOL004\n", "track 1 1\nrecord 0001000101 - 484F535431\n"),
 ]
 
@@ -660,7 +660,7 @@ STOPPED 2
 """,
 )
 
-FIRST_FRAME, SECOND_FRAME, THIRD_FRAME = block_of(0, 1), block_of(1, 2), block_of(2, 3)
+FIRST_FRAME, SECOND_FRAME, THIRD_FRAME = block_of(0, 1), block_of(1, 2), block_of(2, 2)
 FOURTH_FRAME = block_of(3, 1)
 TRACKS = [(READ, FRAMES, first + 1) for first in (FIRST_FRAME, SECOND_FRAME, THIRD_FRAME)]
 
@@ -693,8 +693,9 @@ def cut_reads(volume, first, kept=None):
 
 
 # Four rows are created. Two recorders assign and stage side by side, and then one of them does for the third host. In
-# one round each host has its changed cylinder told, and in the next each reads its track and writes its record. Each
-# track is then read three times, in turns. The first host does all that once more, alone, so that its track is kept.
+# one round each host has its changed cylinder told, and in the next each writes its record. Each track is then looked
+# at three times, in turns. For the write and each look the first host and the third one read their tracks, which take
+# turns at being kept. The first host does all that once more, alone, so that its track is kept.
 HOST_STEPS = [
     *((created(volume), REFUSED, shown()) for volume in range(4)),
     (changed(0), *stops(12, 4)),
@@ -717,14 +718,13 @@ HOST_STEPS = [
     *((changed(host - 1), *stops_in_write(15, host, 9 + host)) for host in (1, 2, 3)),
     (TRACKS[:1], *beside(1, NO_WRITE, NOT_FOUND)),
     *stopped_writes(15, 1, 13, (), FIRST_FRAME + 1),
-    (TRACKS[1:2], *beside(2, NO_WRITE, NOT_FOUND)),
     *stopped_writes(16, 2, 13, (0,), SECOND_FRAME + 1),
     (TRACKS[2:], *beside(3, NO_WRITE, NOT_FOUND)),
     *stopped_writes(17, 3, 13, (0, 1), THIRD_FRAME + 1),
     *(
         ([track], *beside(host, WRITTEN, found))
         for found in (NO_SEARCH, NO_SECOND, NO_READ)
-        for host, track in enumerate(TRACKS, 1)
+        for host, track in ((1, TRACKS[0]), (3, TRACKS[2]))
     ),
     (changed(3), *stops(41, 13, (0, 1, 2))),
     ([*writes(FRAMES, FOURTH_FRAME), synced(FRAMES)], *beside(1, last=NO_SEARCH)),
@@ -733,8 +733,8 @@ HOST_STEPS = [
     (changed(3), *stops_in_write(42, 1, 15, (0, 1, 2))),
     *stopped_writes(42, 1, 16, (0, 1, 2), FOURTH_FRAME + 1),
     *cut_reads(0, FIRST_FRAME),
-    *cut_reads(1, SECOND_FRAME),
-    *cut_reads(2, THIRD_FRAME),
+    *cut_reads(1, SECOND_FRAME, kept=1),
+    *cut_reads(2, THIRD_FRAME, kept=1),
     *cut_reads(3, FOURTH_FRAME, kept=1),
 ]
 

@@ -1,8 +1,8 @@
 """The calls on files that jobs make on blank devices, step by step, as a person worked them out.
 
 Copy A of a row stands in `table_a`, copy B in `table_b`, each page of these jobs in `staging_0`. A file is made at
-its first write, and the names in the folder are synced before that write. The tracks that a host looked at are kept, of
-each head one, and are read again without a call.
+its first write, and the names in the folder are synced before that write. The tracks that a host looked at are kept, as
+many as 17 cylinders have, and are read again without a call.
 """
 
 READ, WRITE, SYNC, NAMES = "pread64", "pwrite64", "fdatasync", "fsync"
