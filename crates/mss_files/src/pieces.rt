@@ -1,5 +1,5 @@
 // The slots of blocks that are kept, and the pieces of a room that they have.
-ghost use Rattle.std.specs.Prelude.{◌≡◌, ◌≢◌, ℕ, ◌<◌, length, IfSome, IfNone};
+ghost use Rattle.std.specs.Prelude.{◌≡◌, ◌≢◌, ℕ, ◌<◌, length, IfOk, IfSome, IfNone};
 ghost use Rattle.mss_files.specs.Allotted.{piece_of, AreInRoom, AreApart};
 
 use mss_base::{HEADS, NoMemory};
@@ -25,7 +25,10 @@ pub struct Pieces {
 
 impl Pieces {
     /// Each slot has the piece of its number.
-    pub fn new(alloc: Global) -> Result<Self, NoMemory> {
+    pub fn new(alloc: Global) -> Result<Self, NoMemory>
+        ensures { IfOk result
+            (λ pieces. (slot : ℕ) → slot < 323 → piece_of pieces.of_slots.items slot ≡ slot) }
+    {
         let mut of_slots = Vec::with_capacity(alloc, SLOTS)?;
         for slot in 0..SLOTS {
             of_slots.push(slot)?;
