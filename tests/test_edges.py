@@ -9,7 +9,8 @@ from fixtures import CRATE, SiteTest, remove_site, tests_of, told_by
 JOB = CRATE / "stdin"
 REPORT = CRATE / "stdout"
 NOT_LOADED = 127  # the loader's status, where it has too little memory to begin the program
-KILOBYTES = [100, 150, 200, 250, 300, 350, 400, 500, 600, 800, 1000, 2000, 4000, 8000, 16000, 64000]
+# The room for the blocks that a site keeps takes 5,168 of them, whether it is used or not.
+KILOBYTES = [100, 200, 300, 400, 800, 2000, 4000, 5150, 5200, 5250, 5300, 5350, 5400, 5500, 5600, 5800, 6000, 8000, 64000]
 REFUSED = "words refused\nstatus 1"
 
 
