@@ -28,6 +28,8 @@ pub enum Prior {
 /// The state of one host.
 #[derive(Clone, Copy, Debug, PartialEq, Eq)]
 pub struct HostState {
+    // At the head, where it is copied by whole words.
+    pub sense: [u8; 24],
     /// The volume, and whether its pages are bound while it is mounted.
     pub mounted: Option<(VolumeNo, bool)>,
     /// Whether that volume is read-only. It stays as it was after a demount.
@@ -41,7 +43,6 @@ pub struct HostState {
     /// How often the chain passed the index without multi-track.
     pub passes: u8,
     pub prior: Prior,
-    pub sense: [u8; 24],
 }
 
 impl Prior {
