@@ -227,6 +227,11 @@ is_data (command.Read _ _) = true
 is_data (command.Write _) = true
 is_data _ = false
 
+-- the bytes that a control command or a sense gives
+abbrev pub data_given : Command → HostState → List ℕ
+data_given command.Sense host = host.sense
+data_given _ host = []
+
 -- left: what the command before left for a write
 unfoldable pub effect : Tracks → HostState → Prior → Command → List ℕ → Outcome
 effect tracks host left command.NoOp argument = Ok (effect_with DONE [] host)

@@ -1,6 +1,7 @@
 // The steps round every command: what opens it, and what makes its reply.
-ghost use Rattle.std.specs.Prelude.{◌≡◌};
+ghost use Rattle.std.specs.Prelude.{◌≡◌, true};
 ghost use Rattle.channel_commands.specs.Views.{reply_of};
+ghost use Rattle.ckd_plain.specs.Effects.{effect_with, is_ending};
 ghost use Rattle.ckd_plain.specs.Plain.{sense_of, with_open_chain, keeps_sense, host_for_command, keeps_passes, refusal_answer, refused_by, effect_answer, KeepsChain};
 ghost use Rattle.ckd_plain.specs.Views.{effect_of};
 
@@ -30,21 +31,27 @@ pub fn sense_of(check: UnitCheck) -> [u8; 24]
     ]
 }
 
+/// Opens a chain, where none is open.
+pub fn open(host: &mut HostState)
+    ensures { host.new ≡ with_open_chain host.old }
+{
+    if host.chain_open {
+        return;
+    }
+    host.chain_open = true;
+    host.mask = 0;
+    host.position = Position::Start;
+    host.passes = 0;
+    host.prior = Prior::Nothing;
+}
+
 /// The host with a chain open: a new one, where none is.
 pub fn opened(host: &HostState) -> HostState
     ensures { result ≡ with_open_chain host.now }
 {
-    if host.chain_open {
-        return *host;
-    }
-    HostState {
-        chain_open: true,
-        mask: 0,
-        position: Position::Start,
-        passes: 0,
-        prior: Prior::Nothing,
-        ..*host
-    }
+    let mut now = *host;
+    open(&mut now);
+    now
 }
 
 fn keeps_sense(command: Command) -> bool
@@ -53,19 +60,24 @@ fn keeps_sense(command: Command) -> bool
     matches!(command, Command::NoOp | Command::Sense)
 }
 
+/// Clears what an admitted command doesn't find: the prior, and the sense but for no-op and sense.
+pub fn clear(command: Command, host: &mut HostState)
+    ensures { host.new ≡ host_for_command command host.old }
+{
+    host.prior = Prior::Nothing;
+    if keeps_sense(command) {
+        return;
+    }
+    host.sense = [0; 24];
+}
+
 /// The host as an admitted command finds it: no prior, and no sense but for no-op and sense.
 pub fn cleared(command: Command, host: &HostState) -> HostState
     ensures { result ≡ host_for_command command host.now }
 {
-    HostState {
-        prior: Prior::Nothing,
-        sense: if keeps_sense(command) {
-            host.sense
-        } else {
-            [0; 24]
-        },
-        ..*host
-    }
+    let mut ready = *host;
+    clear(command, &mut ready);
+    ready
 }
 
 fn keeps_passes(command: Command) -> bool
@@ -109,25 +121,36 @@ pub fn refused_by(alloc: Global, check: UnitCheck, host: &mut HostState) -> Repl
     refused(alloc, host, &refusal)
 }
 
-fn finish(host: &mut HostState, command: Command, chained: bool, done: DoneCommand) -> Reply
-    ensures reply_ { reply_of result ≡ (effect_answer command chained (effect_of done)).reply }
-    ensures host_ { host.new ≡ (effect_answer command chained (effect_of done)).host }
+fn end(host: &mut HostState, command: Command, chained: bool, status: u8, bytes: Bytes) -> Reply
+    ensures reply_ { reply_of result
+        ≡ (effect_answer command chained (effect_with status bytes.items host.old)).reply }
+    ensures host_ { host.new
+        ≡ (effect_answer command chained (effect_with status bytes.items host.old)).host }
 {
-    let DoneCommand {
-        status,
-        bytes,
-        host: there,
-    } = done;
-    *host = HostState {
-        chain_open: chained && status != END_OF_FILE,
-        passes: if keeps_passes(command) {
-            there.passes
-        } else {
-            0
-        },
-        ..there
-    };
+    host.chain_open = chained && status != END_OF_FILE;
+    if !keeps_passes(command) {
+        host.passes = 0;
+    }
     Reply::Done { status, bytes }
+}
+
+/// Ends a command without unit check, on the host as the command left it: its reply. The host's chain goes on where it
+/// is chained and met no end of file.
+pub fn finish(
+    host: &mut HostState,
+    command: Command,
+    chained: bool,
+    status: u8,
+    bytes: Bytes,
+) -> Reply
+    requires { is_ending status ≡ true }
+    ensures reply_ { reply_of result
+        ≡ (effect_answer command chained (effect_with status bytes.items host.old)).reply }
+    ensures host_ { host.new
+        ≡ (effect_answer command chained (effect_with status bytes.items host.old)).host }
+    ensures chain { KeepsChain chained (reply_of result) host.new }
+{
+    end(host, command, chained, status, bytes)
 }
 
 /// The reply of a command that ended without unit check; the host's chain goes on where it is chained and met no end
@@ -137,5 +160,11 @@ pub fn finished(host: &mut HostState, command: Command, chained: bool, done: Don
     ensures host_ { host.new ≡ (effect_answer command chained (effect_of done)).host }
     ensures chain { KeepsChain chained (reply_of result) host.new }
 {
-    finish(host, command, chained, done)
+    let DoneCommand {
+        status,
+        bytes,
+        host: there,
+    } = done;
+    *host = there;
+    finish(host, command, chained, status, bytes)
 }

@@ -4,13 +4,13 @@ ghost use Rattle.channel_commands.specs.Codes.{least};
 ghost use Rattle.channel_commands.specs.Views.{reply_of};
 ghost use Rattle.ckd_plain.specs.declared.host.Prior.{Prior};
 ghost use Rattle.ckd_plain.specs.Checks.{is_address, Passes};
-ghost use Rattle.ckd_plain.specs.Effects.{is_data, effect, seek_done};
+ghost use Rattle.ckd_plain.specs.Effects.{is_data, data_given, effect, effect_with, seek_done};
 ghost use Rattle.ckd_plain.specs.Index.{Tracks};
 ghost use Rattle.ckd_plain.specs.Plain.{with_open_chain, command_answer, IsDone, KeepsChain};
 ghost use Rattle.ckd_plain.specs.Views.{Responds};
 ghost use Rattle.ckd_plain.specs.Views.{effect_of};
 
-use crate::answer::{cleared, finished, opened};
+use crate::answer::{clear, finish, open};
 use crate::checks::number_at;
 use crate::done::{DONE, DoneCommand};
 use crate::host::{HostState, Position};
@@ -28,35 +28,57 @@ pub fn is_data(command: Command) -> bool
     )
 }
 
-/// The host at the start of the track that a seek names.
-pub fn seek_done(kind: SeekKind, host: &HostState, argument: &[u8]) -> HostState
+/// Moves the host to the start of the track that a seek names.
+fn seek(kind: SeekKind, host: &mut HostState, argument: &[u8])
     requires long { 6 ≤ length argument.now }
     requires address { IsTrue (is_address (Command.Seek kind) argument.now) }
-    ensures { result ≡ seek_done kind host.now argument.now }
+    ensures { host.new ≡ seek_done kind host.old argument.now }
 {
     let Some(head) = Head::of(number_at(argument, 4) as u8) else {
         unreachable!()
     };
+    host.head = head;
+    host.position = Position::Start;
     if kind == SeekKind::Head {
-        return HostState {
-            head,
-            position: Position::Start,
-            ..*host
-        };
+        return;
     }
     let Some(cylinder) = Cylinder::of(number_at(argument, 2)) else {
         unreachable!()
     };
-    HostState {
-        cylinder,
-        head,
-        position: Position::Start,
-        ..*host
+    host.cylinder = cylinder;
+}
+
+/// The bytes that a control command or a sense gives.
+fn data_given(alloc: Global, command: Command, host: &HostState) -> Result<Bytes, NoMemory>
+    ensures { IfOk result (λ bytes. bytes.items ≡ data_given command host.now) }
+{
+    match command {
+        Command::Sense => Bytes::of(alloc, &host.sense),
+        _ => Ok(Bytes::new(alloc)),
+    }
+}
+
+/// Changes the host as a control command or a sense does.
+#[tactic(auto, unfolding(crate::specs::Effects::effect))]
+fn change(host: &mut HostState, command: Command, argument: &[u8])
+    requires long { least command ≤ length argument.now }
+    requires address { IsTrue (is_address command argument.now) }
+    requires no_track { is_data command ≡ false }
+    ensures effect_ { (tracks : Tracks) (left : Prior)
+        → effect tracks host.old left command argument.now
+        ≡ Ok (effect_with DONE (data_given command host.old) host.new) }
+    ensures mounted { host.new.mounted ≡ host.old.mounted }
+{
+    match command {
+        Command::SetMask => host.mask = argument[0],
+        Command::Seek(kind) => seek(kind, host, argument),
+        Command::Recalibrate => host.recalibrate(),
+        _ => {}
     }
 }
 
 /// A control command or a sense: one that needs no track.
-#[tactic(auto, unfolding(crate::specs::Effects::effect, crate::specs::Effects::is_ending))]
+#[tactic(auto, unfolding(crate::specs::Effects::is_ending))]
 pub fn control(
     alloc: Global,
     host: &HostState,
@@ -70,25 +92,12 @@ pub fn control(
         → effect tracks host.now left command argument.now ≡ Ok (effect_of done)) }
     ensures mounted { IfOk result (λ done. done.host.mounted ≡ host.now.mounted) }
 {
-    let there = match command {
-        Command::Sense => {
-            return Ok(DoneCommand {
-                status: DONE,
-                bytes: Bytes::of(alloc, &host.sense)?,
-                host: *host,
-            });
-        }
-        Command::SetMask => HostState {
-            mask: argument[0],
-            ..*host
-        },
-        Command::Seek(kind) => seek_done(kind, host, argument),
-        Command::Recalibrate => host.recalibrated(),
-        _ => *host,
-    };
+    let bytes = data_given(alloc, command, host)?;
+    let mut there = *host;
+    change(&mut there, command, argument);
     Ok(DoneCommand {
         status: DONE,
-        bytes: Bytes::new(alloc),
+        bytes,
         host: there,
     })
 }
@@ -96,7 +105,7 @@ pub fn control(
 /// A control command or a sense that passed its checks, with its reply.
 ///
 /// After want of memory the host is as it was.
-#[tactic(auto, unfolding(crate::specs::Plain::command_answer))]
+#[tactic(auto, unfolding(crate::specs::Plain::command_answer, crate::specs::Effects::is_ending))]
 pub fn run_control(
     alloc: Global,
     command: Command,
@@ -118,8 +127,10 @@ pub fn run_control(
     ensures mounted { host.new.mounted ≡ host.old.mounted }
     ensures host_stays { OnErr result (host.new ≡ host.old) }
 {
-    let now = opened(host);
-    let ready = cleared(command, &now);
-    let done = control(alloc, &ready, command, argument)?;
-    Ok(finished(host, command, chained, done))
+    // What takes memory comes first, while the host is as it was; what follows changes it in place.
+    let bytes = data_given(alloc, command, host)?;
+    open(host);
+    clear(command, host);
+    change(host, command, argument);
+    Ok(finish(host, command, chained, DONE, bytes))
 }

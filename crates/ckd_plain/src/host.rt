@@ -101,16 +101,13 @@ impl HostState {
         }
     }
 
-    /// The host at the start of its volume's first track.
-    pub fn recalibrated(&self) -> HostState
-        ensures { result ≡ at_cylinder_zero self.now }
+    /// Moves the host to the start of its volume's first track.
+    pub fn recalibrate(&mut self)
+        ensures { self.new ≡ at_cylinder_zero self.old }
     {
         let (cylinder, head) = origin();
-        HostState {
-            cylinder,
-            head,
-            position: Position::Start,
-            ..*self
-        }
+        self.cylinder = cylinder;
+        self.head = head;
+        self.position = Position::Start;
     }
 }

@@ -2,7 +2,7 @@
 //! its name, whatever holds the records.
 pub use crate::answer::{cleared, finished, opened, refused, refused_by, sense_of};
 pub use crate::checks::number_at;
-pub use crate::control::{control, is_data, run_control, seek_done};
+pub use crate::control::{control, is_data, run_control};
 pub use crate::done::{DONE, DoneCommand, END_OF_FILE, MET, UNIT_CHECK};
 pub use crate::found::FoundRecord;
 pub use crate::index::{candidate, pass_index, to_home};
