@@ -1,10 +1,12 @@
 // The steps round every command: what opens it, and what makes its reply.
-ghost use Rattle.std.specs.Prelude.{◌≡◌, true};
+ghost use Rattle.std.specs.Prelude.{◌≡◌, true, IfOk};
 ghost use Rattle.channel_commands.specs.Views.{reply_of};
+ghost use Rattle.ckd_plain.specs.Checks.{admitted_command, Passes};
 ghost use Rattle.ckd_plain.specs.Effects.{effect_with, is_ending};
 ghost use Rattle.ckd_plain.specs.Plain.{sense_of, with_open_chain, keeps_sense, host_for_command, keeps_passes, refusal_answer, refused_by, effect_answer, KeepsChain};
 ghost use Rattle.ckd_plain.specs.Views.{effect_of};
 
+use crate::checks::admitted;
 use crate::done::{DoneCommand, END_OF_FILE, UNIT_CHECK};
 use crate::host::{HostState, Position, Prior};
 use crate::unit_check::{Refusal, UnitCheck};
@@ -52,6 +54,19 @@ pub fn opened(host: &HostState) -> HostState
     let mut now = *host;
     open(&mut now);
     now
+}
+
+/// The command of a code, where it passes the checks for a host with a chain open, a new one where none is; else what
+/// the first check that fails gives.
+pub fn admitted_in_chain(host: &HostState, code: u8, argument: &[u8]) -> Result<Command, UnitCheck>
+    ensures value { result ≡ admitted_command (with_open_chain host.now) code argument.now }
+    ensures passes { IfOk result (λ command. Passes (with_open_chain host.now) command
+        argument.now) }
+{
+    if host.chain_open {
+        return admitted(host, code, argument);
+    }
+    admitted(&opened(host), code, argument)
 }
 
 fn keeps_sense(command: Command) -> bool

@@ -4,8 +4,7 @@ ghost use Rattle.channel_commands.specs.Data.{mount, demount, is_command};
 ghost use Rattle.channel_commands.specs.Views.{asked_of, call_of, reply_of};
 ghost use Rattle.ckd_plain.specs.Plain.{NeedsNoTrack, response_to, break_reply, host_after_check};
 
-use crate::answer::{opened, refused_by, sense_of};
-use crate::checks::admitted;
+use crate::answer::{admitted_in_chain, open, refused_by, sense_of};
 use crate::control::run_control;
 use crate::host::{HostState, Prior};
 use crate::unit_check::UnitCheck;
@@ -102,14 +101,12 @@ pub fn respond_command(
         ≡ response_to host.old mark (asked_of command.now)) }
     ensures host_stays { OnErr result (host.new ≡ host.old) }
 {
-    let mut now = opened(host);
     let argument = command.argument.as_slice();
-    match admitted(&now, command.code, argument) {
+    match admitted_in_chain(host, command.code, argument) {
         Ok(kind) => run_control(alloc, kind, argument, command.chained, host),
         Err(check) => {
-            let reply = refused_by(alloc, check, &mut now);
-            *host = now;
-            Ok(reply)
+            open(host);
+            Ok(refused_by(alloc, check, host))
         }
     }
 }

@@ -1,6 +1,8 @@
 //! The steps of a command, for an engine that keeps its tracks elsewhere: each is the step of the definition that has
 //! its name, whatever holds the records.
-pub use crate::answer::{cleared, finished, opened, refused, refused_by, sense_of};
+pub use crate::answer::{
+    admitted_in_chain, cleared, finished, opened, refused, refused_by, sense_of,
+};
 pub use crate::checks::number_at;
 pub use crate::control::{control, is_data, run_control};
 pub use crate::done::{DONE, DoneCommand, END_OF_FILE, MET, UNIT_CHECK};

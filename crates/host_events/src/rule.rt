@@ -29,8 +29,8 @@ ghost use Rattle.host_events.specs.Asking.{IsAlone, IsAsked};
 
 use crate::requests::request_of;
 use channel_commands::{Call, Command};
-use ckd_plain::steps::{is_data, opened};
-use ckd_plain::{HostState, admitted};
+use ckd_plain::HostState;
+use ckd_plain::steps::{admitted_in_chain, is_data};
 use core_state::looks::{are_all_bound, host_at, is_on, owner_of, state_in};
 use core_state::{Core, ENTRY_LIMIT, HostRule, Task};
 use fault_queue::{Request, RequestState};
@@ -63,7 +63,7 @@ fn data_command(host: &HostState, call: &Call) -> Option<Command>
     let Call::Command(command) = call else {
         return None;
     };
-    match admitted(&opened(host), command.code, command.argument.as_slice()) {
+    match admitted_in_chain(host, command.code, command.argument.as_slice()) {
         Ok(kind) if is_data(kind) => Some(kind),
         _ => None,
     }
