@@ -32,24 +32,24 @@ fn mark_of(rows: &Rows, call: &Call) -> Option<bool>
     }
 }
 
-/// The reply to a call that needs no track, and the host then; `mark` says whether the volume that
-/// the call asks for is read-only, where it is there.
+/// The reply to a call that needs no track, by which the host becomes what it is then; `mark` says
+/// whether the volume that the call asks for is read-only, where it is there.
 fn response(
     alloc: Global,
-    host: &HostState,
+    host: &mut HostState,
     mark: Option<bool>,
     call: &Call,
-) -> Result<(Reply, HostState), NoMemory>
-    requires { NeedsNoTrack host.now (call_of call.now) }
-    ensures { IfOk result (λ answer. (reply_of answer.0, answer.1)
-        ≡ response_to host.now mark (call_of call.now)) }
+) -> Result<Reply, NoMemory>
+    requires { NeedsNoTrack host.old (call_of call.now) }
+    ensures { IfOk result (λ reply. (reply_of reply, host.new)
+        ≡ response_to host.old mark (call_of call.now)) }
 {
-    let Call::Command(command) = call else {
-        return Ok(respond(host, mark, call));
-    };
-    let mut now = *host;
-    let reply = respond_command(alloc, command, &mut now)?;
-    Ok((reply, now))
+    if let Call::Command(command) = call {
+        return respond_command(alloc, command, host);
+    }
+    let (reply, now) = respond(host, mark, call);
+    *host = now;
+    Ok(reply)
 }
 
 /// Replies a call that meets no other rule, without a look at the tracks. The host's request ends,
@@ -64,9 +64,9 @@ pub fn reply_plainly<S: Site, C: Choose>(
     ensures chooser { core.new.chooser ≡ core.old.chooser }
     ensures site { core.new.site ≡ core.old.site }
 {
-    let state = host_at(core.hosts.as_slice(), host);
+    let mut now = host_at(core.hosts.as_slice(), host);
     let mark = mark_of(&core.rows, call);
-    let Ok((told, now)) = response(core.alloc, &state, mark, call) else {
+    let Ok(told) = response(core.alloc, &mut now, mark, call) else {
         return HostAnswer::Memory;
     };
     reply(core, host, call, told, None, &now)

@@ -17,8 +17,8 @@ pub response-requires : goal.response-requires
 response-requires g c =
     let now = c.args.core.now in
     let is = upheld_of g.S.Site _ now c.core.view_is c.core.invariant in
-    let state : c.host_at-state.result ≡ host_at now.hosts c.args.host =
-    c.host_at-state.ensures ∙ ap (λ (l : List HostState). host_at l c.args.host) (c.as_slice.ensures ∙ ap (λ (x : CoreValue g.row.S.Denot g.row.C.Denot). x.hosts) c.core.view_is) in
+    let state : c.host_at-now.result ≡ host_at now.hosts c.args.host =
+    c.host_at-now.ensures ∙ ap (λ (l : List HostState). host_at l c.args.host) (c.as_slice.ensures ∙ ap (λ (x : CoreValue g.row.S.Denot g.row.C.Denot). x.hosts) c.core.view_is) in
     subst (λ (x : HostState). NeedsNoTrack x (call_of c.args.call.now)) (sym state)
     (needs_none (host_at now.hosts c.args.host) (call_of c.args.call.now) (rule_responds now c.args.host (call_of c.args.call.now) is.whole.kept c.requires.rule).none)
 
@@ -34,11 +34,11 @@ reply-requires-clause-upheld g c =
     let is = upheld_of g.S.Site _ now c.core.view_is c.core.invariant in
     let low : (1 ≤ c.args.host) × (c.args.host ≤ 8) = search rules in
     let call = call_of c.args.call.now in
-    let state : c.host_at-state.result ≡ host_at now.hosts c.args.host =
-    c.host_at-state.ensures ∙ ap (λ (l : List HostState). host_at l c.args.host) (c.as_slice.ensures ∙ ap (λ (x : CoreValue g.row.S.Denot g.row.C.Denot). x.hosts) c.core.view_is) in
+    let state : c.host_at-now.result ≡ host_at now.hosts c.args.host =
+    c.host_at-now.ensures ∙ ap (λ (l : List HostState). host_at l c.args.host) (c.as_slice.ensures ∙ ap (λ (x : CoreValue g.row.S.Denot g.row.C.Denot). x.hosts) c.core.view_is) in
     let mark : c.mark_of-mark.result ≡ mark_in now.rows call =
     c.mark_of-mark.ensures ∙ ap (λ (l : List (Option RowValue)). mark_in l call) (ap (λ (x : CoreValue g.row.S.Denot g.row.C.Denot). x.rows) c.core.view_is) in
-    let answer : ◌≡◌ {A = ReplyData × HostState} (reply_of c.in-Ok.told, c.in-Ok.now) (response_to (host_at now.hosts c.args.host) (mark_in now.rows call) call) =
+    let answer : ◌≡◌ {A = ReplyData × HostState} (reply_of c.in-Ok.told, c.response.new.host) (response_to (host_at now.hosts c.args.host) (mark_in now.rows call) call) =
     c.in-Ok.ensures ∙ (λ i. response_to (state i) (mark i) call) in
     subst (λ (x : ReplyData × HostState). IsUpheld g.S.Site.tells (g.S.Site.told now.site) (g.S.Site.writes now.site) (g.S.Site.faults now.site)
     (after_answer now (g.S.Site.writes now.site) c.args.host call None x)) (sym answer)
