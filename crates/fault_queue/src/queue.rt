@@ -85,6 +85,10 @@ impl Queue {
     pub fn end(&mut self, host: HostNo)
         ensures { self.new ≡ without_request host self.old }
     {
+        // Mostly there is none, and then no host needs to be looked up.
+        if self.requests.is_empty() {
+            return;
+        }
         self.requests.shift_remove(&host);
     }
 

@@ -50,6 +50,7 @@ pub fn enter(session: &mut Session, host: HostNo, call: Call, told: Told)
 
 /// A copy of a call for its entry, and one of its reply for the host, with room for what the event tells. After want of
 /// memory all but the room is as it was.
+#[inline(always)]
 fn copy_both(
     alloc: Global,
     session: &mut Session,

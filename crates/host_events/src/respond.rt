@@ -34,6 +34,7 @@ fn mark_of(rows: &Rows, call: &Call) -> Option<bool>
 
 /// The reply to a call that needs no track, by which the host becomes what it is then; `mark` says
 /// whether the volume that the call asks for is read-only, where it is there.
+#[inline(always)]
 fn response(
     alloc: Global,
     host: &mut HostState,

@@ -73,6 +73,7 @@ fn begun(program: &Program, item: usize) -> Place
 }
 
 /// The place behind the reply to the call that came next.
+#[inline(always)]
 pub fn passed(items: &[Item], place: &Place, reply: &Reply) -> Place
     ensures { let script = map item_of items.now in
         (left : Left) → StandsAt script left place.now
@@ -163,6 +164,7 @@ fn next_call(items: &[Item], place: &Place) -> Result<Option<Call>, NoMemory>
 
 /// The call that comes next in a script, if one does: the one that waits at the place, or else one that is made. It
 /// waits there no longer.
+#[inline(always)]
 pub fn due_call(items: &[Item], place: &mut Place) -> Result<Option<Call>, NoMemory>
     requires stands { IsPlace (map item_of items.now) place.old }
     ensures call { (left : Left) → StandsAt (map item_of items.now) left place.old

@@ -38,6 +38,7 @@ fn answer_of(told: &HostAnswer) -> DriveAnswer
 }
 
 /// Moves a place behind the entry with a number. Where there is none, its call waits there.
+#[inline(always)]
 fn move_on(items: &[Item], place: &mut Place, call: Call, history: &[Entry], number: usize)
     ensures { (left : Left) → StandsAt (map item_of items.now) left place.old
         → next_of left.items left.at ≡ Some (call_of call)

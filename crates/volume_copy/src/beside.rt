@@ -159,6 +159,7 @@ impl<S: Site, C: Choose> CopiedCore<S, C> {
     /// An event of a host. If it may write on the volume that is copied, the track under it is taken before.
     ///
     /// Memory for the copy comes first: where it is wanting, the answer is that of an event without memory.
+    #[inline(always)]
     pub fn host_event(&mut self, host: HostNo, call: &Call) -> HostAnswer
         ensures event { HostEventBeside S.Site
             (is_some (asked_copy self.old.copier)) self.old.core host
@@ -177,6 +178,7 @@ impl<S: Site, C: Choose> CopiedCore<S, C> {
     }
 
     /// An event of a recorder.
+    #[inline(always)]
     pub fn work_event(&mut self, recorder: RecorderNo) -> WorkAnswer
         requires recorder { recorder < self.old.core.config.recorders }
         ensures event { WorkEvent S.tells (C.may self.old.core.chooser)
