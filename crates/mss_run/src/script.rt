@@ -11,7 +11,7 @@ use crate::host::Running;
 use crate::setup::Setup;
 use job_text::Item;
 use mss_base::Site;
-use script_places::{Place, due_call, entered, passed};
+use script_places::{Place, due_call, entered, pass};
 use std::sync::Wait;
 use victim_choice::Choose;
 
@@ -39,7 +39,7 @@ impl<N: Setup, S: Site, C: Choose, G: Gate, R: Wait> Run<'_, N, S, C, G, R> {
         let Some(reply) = reply else {
             return (now, Some(false));
         };
-        *place = passed(items, place, &reply);
+        pass(items, place, &reply);
         (now, None)
     }
 

@@ -72,56 +72,80 @@ fn begun(program: &Program, item: usize) -> Place
     }
 }
 
-/// The place behind the reply to the call that came next.
+/// Moves a place to the start of an item, or behind the last one.
+fn enter(items: &[Item], item: usize, place: &mut Place)
+    requires within { item ≤ length items.now }
+    ensures { StandsAt (map item_of items.now) (not_begun (drop item (map item_of items.now)))
+        place.new }
+{
+    *place = entered(items, item);
+}
+
+/// Lets go of the call that waits at a place. Mostly none does, and then nothing is written.
 #[inline(always)]
-pub fn passed(items: &[Item], place: &Place, reply: &Reply) -> Place
+fn forget_call(place: &mut Place)
+    ensures { place.new ≡ record place.old { call = None } }
+{
+    if place.call.is_some() {
+        place.call = None;
+    }
+}
+
+/// Moves a place behind the reply to the call that came next. Within a program it changes in place.
+#[inline(always)]
+pub fn pass(items: &[Item], place: &mut Place, reply: &Reply)
     ensures { let script = map item_of items.now in
-        (left : Left) → StandsAt script left place.now
-        → StandsAt script (left_by left.items left.at (reply_of reply.now)) result }
+        (left : Left) → StandsAt script left place.old
+        → StandsAt script (left_by left.items left.at (reply_of reply.now)) place.new }
 {
     match items.get(place.item) {
-        Some(Item::Run(program)) => place_behind_call(items, program, place, reply),
-        Some(Item::Mount { .. }) => entered(items, place.item + 1),
-        Some(Item::Demount) => entered(items, place.item + 1),
-        None => Place::at(place.item),
+        Some(Item::Run(program)) => pass_call(items, program, place, reply),
+        Some(Item::Mount { .. }) => enter(items, place.item + 1, place),
+        Some(Item::Demount) => enter(items, place.item + 1, place),
+        None => forget_call(place),
     }
 }
 
-/// The place within a program, or behind it, after the reply to its call.
-fn place_behind_call(items: &[Item], program: &Program, place: &Place, reply: &Reply) -> Place
-    requires within { place.now.item < length items.now }
+/// Moves a place on within a program, or behind it, after the reply to its call.
+#[inline(always)]
+fn pass_call(items: &[Item], program: &Program, place: &mut Place, reply: &Reply)
+    requires within { place.old.item < length items.now }
     ensures { (at : Standing) (more : List ItemData)
-        → IsWithin (map item_of items.now) program.now at more place.now
+        → IsWithin (map item_of items.now) program.now at more place.old
         → IsPassed (map item_of items.now) program.now at more
-        (reply_of reply.now) result }
+        (reply_of reply.now) place.new }
 {
     match place.next {
-        NextCall::Command { .. } => place_behind_command(items, program, place, reply),
-        NextCall::ProgramCheck => entered(items, place.item + 1),
-        NextCall::ChainLimit => entered(items, place.item + 1),
-        NextCall::Ended => entered(items, place.item + 1),
+        NextCall::Command { .. } => pass_command(items, program, place, reply),
+        NextCall::ProgramCheck => enter(items, place.item + 1, place),
+        NextCall::ChainLimit => enter(items, place.item + 1, place),
+        NextCall::Ended => enter(items, place.item + 1, place),
     }
 }
 
-/// The place within a program, or behind it, after the reply to its command.
-fn place_behind_command(items: &[Item], program: &Program, place: &Place, reply: &Reply) -> Place
-    requires within { place.now.item < length items.now }
+/// Moves a place on within a program, or behind it, after the reply to its command.
+#[inline(always)]
+fn pass_command(items: &[Item], program: &Program, place: &mut Place, reply: &Reply)
+    requires within { place.old.item < length items.now }
     ensures { (at : Standing) (more : List ItemData)
-        → IsWithin (map item_of items.now) program.now at more place.now
-        → IsAt program.now at place.now.cursor (reply_of reply.now)
+        → IsWithin (map item_of items.now) program.now at more place.old
+        → IsAt program.now at place.old.cursor (reply_of reply.now)
         → IsPassed (map item_of items.now) program.now at more
-        (reply_of reply.now) result }
+        (reply_of reply.now) place.new }
 {
-    let mut cursor = place.cursor;
-    match next(program, &mut cursor, Some(reply)) {
-        NextCall::Ended => entered(items, place.item + 1),
-        next => Place {
-            item: place.item,
-            next,
-            cursor,
-            call: None,
-        },
+    match next(program, &mut place.cursor, Some(reply)) {
+        NextCall::Ended => enter(items, place.item + 1, place),
+        next => go_on(place, next),
     }
+}
+
+/// Moves a place on to the next call of its program.
+#[inline(always)]
+fn go_on(place: &mut Place, next: NextCall)
+    ensures { place.new ≡ record place.old { next = next; call = None } }
+{
+    place.next = next;
+    forget_call(place);
 }
 
 /// The call that comes next in a program.
@@ -174,10 +198,10 @@ pub fn due_call(items: &[Item], place: &mut Place) -> Result<Option<Call>, NoMem
     ensures stays { (left : Left) → StandsAt (map item_of items.now) left place.old
         → StandsAt (map item_of items.now) left place.new }
 {
-    match place.call.take() {
-        Some(call) => Ok(Some(call)),
-        None => next_call(items, place),
+    if place.call.is_some() {
+        return Ok(place.call.take());
     }
+    next_call(items, place)
 }
 
 /// Whether a call is left in a script.

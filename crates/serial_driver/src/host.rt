@@ -19,7 +19,7 @@ use ckd_plain::Entry;
 use host_events::{EVENT_ITEMS, HostAnswer, refused};
 use job_text::{HostScript, Item};
 use mss_base::{HostNo, Site};
-use script_places::{Place, due_call, passed};
+use script_places::{Place, due_call, pass};
 use victim_choice::Choose;
 use volume_copy::CopiedCore;
 
@@ -49,7 +49,7 @@ fn move_on(items: &[Item], place: &mut Place, call: Call, history: &[Entry], num
         place.call = Some(call);
         return;
     };
-    *place = passed(items, place, &entry.reply);
+    pass(items, place, &entry.reply);
 }
 
 /// Makes a call. Behind a reply the place in the script goes on, and else the call waits there.

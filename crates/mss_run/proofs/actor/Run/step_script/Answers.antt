@@ -43,5 +43,5 @@ returns-clause-goes g c =
     let here : Left = left items (exchanges_by c.args.running) in
     let next_ : option_map call_of c.in-Ok.due ≡ next items (exchanges_by c.args.running) = c.in-Ok.ensures.call here walked.stands in
     let made : Makes call c.args.running (Some reply) c.make_call-now.result.0 = subst (λ (o : Option Reply). Makes call c.args.running o c.make_call-now.result.0) c.in-Some-reply.is c.make_call-now.ensures in
-    walk_goes_on items c.args.running c.args.place.now walked c.make_call-now.result.0 c.passed.result call (reply_of reply) (sym (ap (option_map call_of) c.in-Some.is) ∙ next_) made
-    (c.passed.ensures here (c.due_call.ensures.stays here walked.stands))
+    walk_goes_on items c.args.running c.args.place.now walked c.make_call-now.result.0 c.pass.new.place call (reply_of reply) (sym (ap (option_map call_of) c.in-Some.is) ∙ next_) made
+    (c.pass.ensures here (c.due_call.ensures.stays here walked.stands))
