@@ -11,6 +11,7 @@ use channel_commands::{Call, DeviceCommand};
 use mss_base::NoMemory;
 
 /// The command at a word, as a call, which shares its argument. Where that has eight bytes or fewer it doesn't fail.
+#[inline(always)]
 pub fn command_call(program: &Program, word: u8, chained: bool) -> Result<Call, NoMemory>
     requires { HoldsCommand program.now word }
     ensures call { (at : Standing) → IsNextCommand program.now at word chained

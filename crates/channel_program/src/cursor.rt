@@ -111,6 +111,7 @@ fn standing(words: &[Ccw], cursor: &Cursor, last: Option<&Reply>) -> (Option<usi
 /// last word. Else it goes on one word further, or two after status modifier, and over a transfer to its target. It
 /// breaks off with `ProgramCheck` where that word is outside, where a transfer leads to a transfer or outside, and where
 /// word 0 is a transfer; with `ChainLimit` where 2,048 commands were run.
+#[inline(always)]
 pub fn next(program: &Program, cursor: &mut Cursor, last: Option<&Reply>) -> NextCall
     ensures call { let reply = option_map (λ reply. reply_of reply.now) last.entry in
         Says program.now (standing_of program.now cursor.old reply) result }
@@ -140,6 +141,7 @@ pub fn next(program: &Program, cursor: &mut Cursor, last: Option<&Reply>) -> Nex
 }
 
 /// The code and the argument of a word that is a command, as each word is that `next` gives.
+#[inline(always)]
 pub fn command_at(program: &Program, word: u8) -> (u8, &Argument)
     requires { HoldsCommand program.now word }
     ensures word { slice_get program.now word

@@ -72,7 +72,9 @@ fn begun(program: &Program, item: usize) -> Place
     }
 }
 
-/// Moves a place to the start of an item, or behind the last one.
+/// Moves a place to the start of an item, or behind the last one. It stands apart, so that the way within a program
+/// stays short.
+#[inline(never)]
 fn enter(items: &[Item], item: usize, place: &mut Place)
     requires within { item ≤ length items.now }
     ensures { StandsAt (map item_of items.now) (not_begun (drop item (map item_of items.now)))
@@ -149,6 +151,7 @@ fn go_on(place: &mut Place, next: NextCall)
 }
 
 /// The call that comes next in a program.
+#[inline(always)]
 fn program_call(program: &Program, next: NextCall) -> Result<Call, NoMemory>
     requires some { next ≢ Ended }
     requires held { HoldsNext program.now next }
@@ -168,6 +171,7 @@ fn program_call(program: &Program, next: NextCall) -> Result<Call, NoMemory>
 }
 
 /// Makes the call that comes next in a script, if one does.
+#[inline(always)]
 fn next_call(items: &[Item], place: &Place) -> Result<Option<Call>, NoMemory>
     requires stands { IsPlace (map item_of items.now) place.now }
     ensures call { (left : Left) → StandsAt (map item_of items.now) left place.now
