@@ -75,7 +75,7 @@ fn make_call<S: Site, C: Choose>(
         → session.old.core.stopped ≡ None → IsUnstopped result }
 {
     let number = session.core().history().as_slice().len();
-    let told = session.host_event(host, &call);
+    let answer = answer_of(&session.host_event(host, &call));
     move_on(
         items,
         place,
@@ -83,7 +83,7 @@ fn make_call<S: Site, C: Choose>(
         session.core().history().as_slice(),
         number,
     );
-    answer_of(&told)
+    answer
 }
 
 /// What the call of a host is answered for which memory is wanting.
