@@ -37,3 +37,7 @@ module _ (c : Content) (volume : ℕ) (r : RowValue) (cylinder : ℕ) (blank : s
   -- so none of its heads has a fault
   pub blank_cylinder : row_cylinder_fault c volume r cylinder ≡ None
   blank_cylinder = all_none 19 (λ h. row_track_fault c volume cylinder h r) (λ h _. blank_track h)
+
+-- nor has any track of a row of which each cylinder is so
+pub blank_row : (c : Content) (volume : ℕ) (r : RowValue) → ((cylinder : ℕ) → state_of r cylinder ≡ 0) → row_tracks_fault c volume r ≡ None
+blank_row c volume r blank = all_none 404 (row_cylinder_fault c volume r) (λ y _. blank_cylinder c volume r y (blank y))

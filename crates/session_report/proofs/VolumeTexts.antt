@@ -76,6 +76,10 @@ blank_in_row c r cylinder blank head =
     elim (or_cases (state_of r cylinder == 0) (state_of r cylinder == 2) (sym blank)) [ inl none ↦ inl (eqb-true _ 0 none) | inr staged ↦ inr (eqb-true _ 2 staged) ] in
     ap (track_at c) (source_blank r cylinder head state)
 
+-- of a row that is blank throughout each track is
+pub blank_throughout : (c : Content) (r : RowValue) → ((cylinder : ℕ) → state_of r cylinder ≡ 0) → (cylinder head : ℕ) → row_tracks c (Some r) cylinder head ≡ []
+blank_throughout c r blank cylinder head = ap (track_at c) (source_blank r cylinder head (inl (blank cylinder)))
+
 -- a cylinder whose tracks are blank has no text
 module _ (track : Tracks) (cylinder : ℕ) (blank : (head : ℕ) → track cylinder head ≡ []) where
   blank_heads : (k : ℕ) → k ≤ 19 → tracks_text track (cylinder * 19 + k) ≡ tracks_text track (cylinder * 19)

@@ -86,7 +86,8 @@ fn put_tracks<S: Site, O: Sink>(
     Ok(())
 }
 
-/// Puts the tracks of a volume, by its row. Without a row each is blank.
+/// Puts the tracks of a volume, by its row. Without a row each is blank, and of a row that is blank throughout it looks
+/// at no cylinder.
 fn put_row<S: Site, O: Sink>(
     site: &mut S,
     output: &mut O,
@@ -107,6 +108,9 @@ fn put_row<S: Site, O: Sink>(
     let Some(row) = row else {
         return Ok(());
     };
+    if row.is_blank_throughout() {
+        return Ok(());
+    }
     put_tracks(site, output, row, block, line)
 }
 

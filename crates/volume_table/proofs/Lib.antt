@@ -6,3 +6,4 @@ pub mod GrammarLemmas
 pub mod SpellingLemmas
 pub mod OneSpelling
 pub mod SlotFacts
+mod BlankFacts

@@ -8,7 +8,7 @@ use crate::layout::{
     BODY, BODY_BYTES, BODY_END, FIRST_AT, MARK_AT, OLD_VERSION, PAGES, PAGES_AT, ROW_BYTES,
     SECOND_AT, SERIAL_AT, SPARES, SPARES_AT, STATES, STATES_AT, VERSION, VERSION_AT,
 };
-use crate::lists::{pages_of, states_of};
+use crate::lists::{are_zeros, pages_of, states_of};
 use crate::row::VolumeRow;
 use mss_base::{CartridgeNo, NoMemory, Serial, is_serial_byte};
 use std::alloc::Global;
@@ -68,6 +68,10 @@ fn check_states(pages: &[u8], bytes: &[u8]) -> Result<(), RowFault>
     requires states { length bytes.now ≡ STATES }
     ensures { Finds result (first_in (state_fault pages.now) 0 bytes.now) }
 {
+    // Most volumes are blank, and a blank cylinder may stand in any page.
+    if are_zeros(bytes) {
+        return Ok(());
+    }
     for (cylinder, byte) in bytes.iter().enumerate() {
         let good = is_state(pages[cylinder / 8] < 200, *byte);
         check(good, RowField::State(cylinder as u16), *byte as u16)?;

@@ -5,8 +5,13 @@ use Rattle.table_pair.proofs.SiteLemmas.{reads_none, reads_then}
 use Rattle.mss_restart.proofs.TrackReads.{row_on}
 use Rattle.mss_restart.specs.Walks.{row_cylinder_fault}
 use Rattle.mss_base.proofs.FirstFacts.{none_yet}
+use Rattle.mss_restart.proofs.ListedFacts.{blank_row}
 use Rattle.mss_restart.proofs.Going.{goes_on, ends_at}
 use Rattle.mss_restart.proofs.tracks.check_row.Goals as goal
+
+pub returns-then-is_blank_throughout-clause-finds : goal.returns-then-is_blank_throughout-clause-finds
+returns-then-is_blank_throughout-clause-finds g c = λ tells.
+    blank_row (content (g.S.Site.told c.args.site.now)) c.args.volume c.args.row.now (c.is_blank_throughout.ensures.0 c.if-is_blank_throughout.true)
 
 pub loop-number-init : goal.loop-number-init
 loop-number-init g c = record {

@@ -1,16 +1,12 @@
-use Rattle.std.proofs.Common.{◌≡◌, ◌≤◌, ◌<◌, ℕ, List, replicate, length, get_or, arith}
-use Rattle.std.proofs.lemmas.List.{get_or-replicate, length-replicate}
+use Rattle.std.proofs.Common.{◌≡◌, ℕ, zero, suc, ◌∷◌, map, replicate, refl, ◌∙◌, ap}
+use Rattle.std.proofs.lemmas.Result.{IfOk-weaker}
+use Rattle.volume_table.specs.declared.state.CylinderState.TheVariants.{Blank}
+use Rattle.volume_table.specs.States.{state_number}
 use Rattle.volume_table.proofs.lists.blank_states.Goals as goal
 
-zeros : ℕ → List ℕ
-zeros n = replicate n 0
+numbers : (n : ℕ) → map state_number (replicate n Blank) ≡ replicate n 0
+numbers zero = refl
+numbers (suc n) = ap (λ l. 0 ∷ l) (numbers n)
 
-small : (n place : ℕ) → place < length (zeros n) → get_or (zeros n) place 0 ≤ 4
-unfolding zeros
-small n place lt =
-    let is : get_or (zeros n) place 0 ≡ 0 = get_or-replicate n place 0 0 (omega (arith, length-replicate {A = ℕ} n 0)) in
-    omega (arith, is)
-
-pub states_of-requires : goal.states_of-requires
-unfolding zeros
-states_of-requires c = small 404
+pub returns : goal.returns
+returns c = IfOk-weaker c.of.result _ _ (λ states same. ap (map state_number) same ∙ numbers 404) c.of.ensures.items
