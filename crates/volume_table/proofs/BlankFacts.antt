@@ -1,16 +1,6 @@
--- Lists of one item throughout: what a comparison with such a list tells.
+-- What a comparison with items of the number 0 tells.
 use Rattle.std.proofs.Common.{◌≡◌, ℕ, zero, suc, Bool, true, false, ◌&&◌, List, [], ◌∷◌, length, get_or, map, replicate, refl, sym, ◌∙◌, ap, arith}
-use Rattle.std.specs.Cmp.Lexicographic.{pointwise, same_text}
-use Rattle.std.proofs.lemmas.Cmp.{nat_list_eq_equiv}
-use Rattle.std.specs.Prelude.{nat_eq}
-
--- bytes that are compared with zeros
-module _ (n : ℕ) (xs ys : List ℕ) (equal : Bool) (zeros : ys ≡ replicate n 0) (is : equal ≡ pointwise nat_eq xs ys) where
-  pub are_zeros : equal ≡ true → xs ≡ replicate n 0
-  are_zeros so = same_text xs ys (sym so ∙ is) ∙ zeros
-
-  pub zeros_are : xs ≡ replicate n 0 → equal ≡ true
-  zeros_are same = is ∙ (λ i. pointwise nat_eq ((same ∙ sym zeros) i) ys) ∙ nat_list_eq_equiv.refl ys
+use Rattle.std.specs.Cmp.Lexicographic.{pointwise}
 
 first_true : (a b : Bool) → (a && b) ≡ true → a ≡ true
 first_true true b both = refl
@@ -20,7 +10,6 @@ second_true : (a b : Bool) → (a && b) ≡ true → b ≡ true
 second_true true b both = both
 second_true false b both = absurd cc
 
--- items that are compared with the one whose number is 0
 module _ {A : Type 0} (E : A → A → Bool) (number : A → ℕ) (item : A) (tells : (x : A) → (E x item ≡ true → number x ≡ 0) × (number x ≡ 0 → E x item ≡ true)) where
   each_zero : (n : ℕ) (xs : List A) → pointwise E xs (replicate n item) ≡ true → (k : ℕ) → get_or (map number xs) k 0 ≡ 0
   each_zero n [] equal k = refl
@@ -28,19 +17,20 @@ module _ {A : Type 0} (E : A → A → Bool) (number : A → ℕ) (item : A) (te
   each_zero (suc n) (x ∷ xs) equal zero = (tells x).0 (first_true (E x item) (pointwise E xs (replicate n item)) equal)
   each_zero (suc n) (x ∷ xs) equal (suc k) = each_zero n xs (second_true (E x item) (pointwise E xs (replicate n item)) equal) k
 
-  all_equal : (n : ℕ) (xs : List A) → length xs ≡ n → ((k : ℕ) → get_or (map number xs) k 0 ≡ 0) → pointwise E xs (replicate n item) ≡ true
+  all_equal : (n : ℕ) (xs : List A) → length (map number xs) ≡ n → ((k : ℕ) → get_or (map number xs) k 0 ≡ 0) → pointwise E xs (replicate n item) ≡ true
   all_equal zero [] long each = refl
   all_equal zero (x ∷ xs) long each = absurd (omega (arith, long))
   all_equal (suc n) [] long each = absurd (omega (arith, long))
   all_equal (suc n) (x ∷ xs) long each =
       ap (λ b. b && pointwise E xs (replicate n item)) ((tells x).1 (each zero)) ∙ all_equal n xs (omega (arith, long)) (λ k. each (suc k))
 
-  module _ (n : ℕ) (xs ys : List A) (equal : Bool) (items : ys ≡ replicate n item) (is : equal ≡ pointwise E xs ys) where
+  -- of a list with the numbers of these items
+  module _ (n : ℕ) (xs items : List A) (numbers : List ℕ) (equal : Bool) (same : map number xs ≡ numbers) (are : items ≡ replicate n item) (is : equal ≡ pointwise E xs items) where
     with_items : equal ≡ pointwise E xs (replicate n item)
-    with_items = is ∙ ap (pointwise E xs) items
+    with_items = is ∙ ap (pointwise E xs) are
 
-    pub each_is_zero : equal ≡ true → (k : ℕ) → get_or (map number xs) k 0 ≡ 0
-    each_is_zero so = each_zero n xs (sym with_items ∙ so)
+    pub each_is_zero : equal ≡ true → (k : ℕ) → get_or numbers k 0 ≡ 0
+    each_is_zero so k = ap (λ l. get_or l k 0) (sym same) ∙ each_zero n xs (sym with_items ∙ so) k
 
-    pub zeros_are_equal : length xs ≡ n → ((k : ℕ) → get_or (map number xs) k 0 ≡ 0) → equal ≡ true
-    zeros_are_equal long each = with_items ∙ all_equal n xs long each
+    pub zeros_are_equal : length numbers ≡ n → ((k : ℕ) → get_or numbers k 0 ≡ 0) → equal ≡ true
+    zeros_are_equal long each = with_items ∙ all_equal n xs (ap length same ∙ long) (λ k. ap (λ l. get_or l k 0) same ∙ each k)

@@ -8,7 +8,7 @@ use crate::layout::{
     BODY, BODY_BYTES, BODY_END, FIRST_AT, MARK_AT, OLD_VERSION, PAGES, PAGES_AT, ROW_BYTES,
     SECOND_AT, SERIAL_AT, SPARES, SPARES_AT, STATES, STATES_AT, VERSION, VERSION_AT,
 };
-use crate::lists::{are_zeros, pages_of, states_of};
+use crate::lists::{pages_of, states_of};
 use crate::row::VolumeRow;
 use mss_base::{CartridgeNo, NoMemory, Serial, is_serial_byte};
 use std::alloc::Global;
@@ -47,6 +47,10 @@ fn check_pages(bytes: &[u8]) -> Result<(), RowFault>
     requires { length bytes.now ≡ PAGES }
     ensures { Finds result (first_in page_fault 0 bytes.now) }
 {
+    // Of many volumes no page has a frame. One comparison tells it.
+    if bytes == [255; PAGES].as_slice() {
+        return Ok(());
+    }
     for (page, byte) in bytes.iter().enumerate() {
         check(
             is_page_byte(*byte),
@@ -68,8 +72,8 @@ fn check_states(pages: &[u8], bytes: &[u8]) -> Result<(), RowFault>
     requires states { length bytes.now ≡ STATES }
     ensures { Finds result (first_in (state_fault pages.now) 0 bytes.now) }
 {
-    // Most volumes are blank, and a blank cylinder may stand in any page.
-    if are_zeros(bytes) {
+    // Many volumes are blank throughout, and a blank cylinder needs no frame.
+    if bytes == [0; STATES].as_slice() {
         return Ok(());
     }
     for (cylinder, byte) in bytes.iter().enumerate() {
@@ -83,6 +87,10 @@ fn check_spares(bytes: &[u8]) -> Result<(), RowFault>
     requires { length bytes.now ≡ SPARES }
     ensures { Finds result (first_in spare_fault 1 bytes.now) }
 {
+    // One comparison tells that all are 0. The loop finds the first that isn't.
+    if bytes == [0; SPARES].as_slice() {
+        return Ok(());
+    }
     for (i, byte) in bytes.iter().enumerate() {
         check(*byte == 0, RowField::Spare(i as u8 + 1), *byte as u16)?;
     }

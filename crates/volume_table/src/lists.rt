@@ -1,5 +1,5 @@
 // The lists of a row.
-ghost use Rattle.std.specs.Prelude.{◌≡◌, ◌≤◌, ◌↔◌, ◌+◌, ◌<◌, ℕ, None, IfOk, IsTrue, length, map, replicate, slice_index};
+ghost use Rattle.std.specs.Prelude.{◌≡◌, ◌≤◌, ◌+◌, ◌<◌, ℕ, None, IfOk, length, map, replicate, slice_index};
 ghost use Rattle.volume_table.specs.Grammar.{page_of};
 ghost use Rattle.volume_table.specs.States.{state_number};
 
@@ -18,7 +18,7 @@ pub type StateList = Listed<CylinderState>;
 pub fn blank_pages(alloc: Global) -> Result<PageList, NoMemory>
     ensures { IfOk result (λ pages. pages.items ≡ replicate PAGES None) }
 {
-    pages_of(alloc, &[255; PAGES])
+    PageList::of(alloc, &[None; PAGES])
 }
 
 /// All 404 cylinders blank.
@@ -28,27 +28,13 @@ pub fn blank_states(alloc: Global) -> Result<StateList, NoMemory>
     StateList::of(alloc, &[CylinderState::Blank; STATES])
 }
 
-/// Whether all 404 cylinders are blank. It is one comparison, which is faster than a look at each.
-pub fn are_blank(states: &[CylinderState]) -> bool
-    requires { length states.now ≡ STATES }
-    ensures { IsTrue result
-        ↔ ((cylinder : ℕ) → slice_index (map state_number states.now) cylinder ≡ 0) }
-{
-    states == [CylinderState::Blank; STATES].as_slice()
-}
-
-/// Whether all 404 states are 0, that of a blank cylinder.
-pub fn are_zeros(bytes: &[u8]) -> bool
-    requires { length bytes.now ≡ STATES }
-    ensures { IsTrue result ↔ (bytes.now ≡ replicate STATES 0) }
-{
-    bytes == [0; STATES].as_slice()
-}
-
 /// The frames that the bytes of pages name.
 pub fn pages_of(alloc: Global, bytes: &[u8]) -> Result<PageList, NoMemory>
     ensures { IfOk result (λ pages. pages.items ≡ map page_of bytes.now) }
 {
+    if bytes == [255; PAGES].as_slice() {
+        return blank_pages(alloc);
+    }
     let mut pages = PageList::new(alloc);
     pages.reserve(bytes.len())?;
     for byte in bytes {
@@ -59,11 +45,10 @@ pub fn pages_of(alloc: Global, bytes: &[u8]) -> Result<PageList, NoMemory>
 
 /// The states with these numbers.
 pub fn states_of(alloc: Global, bytes: &[u8]) -> Result<StateList, NoMemory>
-    requires long { length bytes.now ≡ STATES }
-    requires numbers { (place : ℕ) → place < length bytes.now → slice_index bytes.now place ≤ 4 }
+    requires { (place : ℕ) → place < length bytes.now → slice_index bytes.now place ≤ 4 }
     ensures { IfOk result (λ states. map state_number states.items ≡ bytes.now) }
 {
-    if are_zeros(bytes) {
+    if bytes == [0; STATES].as_slice() {
         return blank_states(alloc);
     }
     let mut states = StateList::new(alloc);

@@ -1,5 +1,6 @@
 // The row of a volume.
-use crate::lists::{PageList, StateList, are_blank, blank_pages, blank_states};
+use crate::layout::STATES;
+use crate::lists::{PageList, StateList, blank_pages, blank_states};
 use crate::state::CylinderState;
 use mss_base::{CYLINDERS, CartridgeNo, Cylinder, FrameNo, NoMemory, Page, Serial};
 use std::alloc::Global;
@@ -88,6 +89,6 @@ impl VolumeRow {
     pub fn is_blank_throughout(&self) -> bool
         ensures { IsTrue result ↔ ((cylinder : ℕ) → state_of self.now cylinder ≡ 0) }
     {
-        are_blank(self.states.as_slice())
+        self.states.as_slice() == [CylinderState::Blank; STATES].as_slice()
     }
 }

@@ -34,5 +34,5 @@ returns c = λ i. record {
 pub invariant_of-result : goal.invariant_of-result
 invariant_of-result c = subst IsRow (sym (returns c)) (row_good c.args.body.now c.requires.long c.requires.good)
 
-pub states_of-requires-clause-numbers : goal.states_of-requires-clause-numbers
-states_of-requires-clause-numbers c = λ place lt. (row_good c.args.body.now c.requires.long c.requires.good).numbers place
+pub states_of-requires : goal.states_of-requires
+states_of-requires c = λ place lt. (row_good c.args.body.now c.requires.long c.requires.good).numbers place
