@@ -33,6 +33,10 @@ impl Argument {
         requires { length bytes.now ≤ INLINE_BYTES }
         ensures { argument_bytes result ≡ bytes.now }
     {
+        // Most commands have no argument.
+        if bytes.is_empty() {
+            return Argument::empty();
+        }
         let mut short = ArrayVec::new();
         if short.try_extend_from_slice(bytes).is_err() {
             unreachable!()
