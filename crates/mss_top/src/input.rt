@@ -5,8 +5,8 @@ ghost use Rattle.mss_top.specs.Inputs.{HasInputCause};
 use mss_base::{Bytes, NoMemory, Source};
 use std::alloc::{AllocError, Global};
 
-/// How many bytes one call asks for.
-const PIECE: usize = 65_536;
+/// How many bytes one call asks for. The room for them is filled with zeros first, so a short job wants it small.
+const PIECE: usize = 16_384;
 
 /// Why the input wasn't read.
 #[derive(Clone, Copy)]

@@ -22,7 +22,7 @@ loop-bytes-preserved g c =
     let measured : length c.as_slice.result.now ≡ length c.loop-bytes.bytes.items = ap length c.as_slice.ensures in
     record {
       parts = λ told. c.loop-bytes.invariant.parts told ∙ c.in-Ok.ensures.moved told;
-      few = kept c.args.most (length c.loop-bytes.bytes.items) 65536 c.min-room.result c.in-Ok.taken _ (omega (arith, c.min-room.ensures, measured)) c.loop-bytes.invariant.few c.in-Ok.ensures.within c.in-Ok.ensures.longer;
+      few = kept c.args.most (length c.loop-bytes.bytes.items) 16384 c.min-room.result c.in-Ok.taken _ (omega (arith, c.min-room.ensures, measured)) c.loop-bytes.invariant.few c.in-Ok.ensures.within c.in-Ok.ensures.longer;
       piece = c.loop-bytes.invariant.piece;
       same = c.in-Ok.ensures.cause.same ∙ c.loop-bytes.invariant.same;
     }

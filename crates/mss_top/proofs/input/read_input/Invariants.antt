@@ -5,7 +5,7 @@ use Rattle.mss_top.proofs.input.read_input.Given as goal
 pub record Kept (tells : Type 0) (all bytes left : List ℕ) (most count faults_then faults_now : ℕ) : Type 0 where
   pub parts : tells → all ≡ bytes ++ left
   pub few : length bytes ≤ most
-  pub piece : count ≡ 65536
+  pub piece : count ≡ 16384
   pub same : faults_now ≡ faults_then
 
 abbrev pub invariant-loop-bytes : goal.invariant-loop-bytes
