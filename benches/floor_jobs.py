@@ -1,5 +1,6 @@
 """The texts of the jobs that benches/floors times beside those of this folder."""
 
+from staged_jobs import main as staged_job
 from staged_jobs import visit
 
 ARGUMENT_LIMIT, ARGUMENTS_LIMIT = 65_798, 268_435_456  # bytes: of one argument, and of those of a job
@@ -19,6 +20,19 @@ def programs(word, count):
         lines += ["program", *[word] * length, "end"]
         count -= length
     return text(*lines)
+
+
+def no_operations():
+    """One host with 4,095 commands that do nothing, in programs of 256, on a volume of its own."""
+    lines = ["mss 1 frames 24 recorders 2", "volume 0 VOL000", "host 1", "mount VOL000"]
+    for length in [256] * 15 + [255]:
+        lines += ["program", *["ccw 03"] * length, "end"]
+    return text(*lines)
+
+
+def four_hosts():
+    """Four hosts on a volume each, over four pages each, all of which have frames: 1,000 programs of four entries."""
+    return staged_job("four", 4000).replace("frames 8", "frames 24")
 
 
 def short_words():
