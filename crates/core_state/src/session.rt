@@ -56,6 +56,17 @@ pub struct Session {
     pub stopped: Option<u64>,
 }
 
+/// How many entries get room behind so many: all that a history may have, at the first one. Room that isn't used costs
+/// nothing, while a list that grows is copied each time.
+fn room_behind(entries: usize) -> usize
+    ensures { 1 ≤ result }
+{
+    if entries == 0 {
+        return ENTRY_LIMIT;
+    }
+    1
+}
+
 impl Session {
     ghost use Rattle.core_state.specs.SessionData.{new_session, with_last_entry, with_last_event};
     ghost use Rattle.core_state.specs.SessionData.{with_last_message};
@@ -78,12 +89,14 @@ impl Session {
     }
 
     /// Makes room for what one event tells. After want of memory all but the room is as it was.
+    #[inline(always)]
     pub fn reserve(&mut self) -> Result<(), NoMemory>
         ensures same { TellsTheSame self.old self.new }
         ensures room { OnOk result (HasRoom self.new) }
     {
-        self.history.reserve(1)?;
-        self.marks.reserve(1)?;
+        let room = room_behind(self.history.as_slice().len());
+        self.history.reserve(room)?;
+        self.marks.reserve(room)?;
         self.console.reserve(1)?;
         self.events.reserve(1)?;
         Ok(())
