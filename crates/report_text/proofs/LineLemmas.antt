@@ -9,6 +9,7 @@ use Rattle.ckd_track.specs.Data.{RecordData}
 use Rattle.mss_base.specs.Puts.{PutsFront, Puts}
 use Rattle.mss_base.proofs.Putting.{Part, part_ends, part_goes_on, part_stops}
 use Rattle.report_text.specs.Texts.{numbered_lines, track_text}
+use Rattle.report_text.specs.Waiting.{PutsWaiting}
 
 -- a call that failed has put a front
 pub puts_failed : {T E : Type 0} (r : Result T E) (Q : E → Type 0) (old new text : List ℕ) → IsErrAnd r Q → PutsFront old new text → Puts r old new text
@@ -32,6 +33,37 @@ pub lines_stop : {A : Type 0} (text : ℕ → A → List ℕ) (old now new : Lis
     → Part old now (numbered_lines text n (drop i xs)) whole → PutsFront now new (text n x) → PutsFront old new whole
 lines_stop text old now new n i xs x whole lt is part front =
     part_stops old now new (text n x) (numbered_lines text (n + 1) (drop (i + 1) xs)) whole (subst (λ r. Part old now r whole) (next_line text n i xs x lt is) part) front
+
+-- ---- lines that wait
+
+-- nothing more is put
+pub waiting_left : (old now rest whole : List ℕ) → Part old now rest whole → PutsFront old now whole
+waiting_left old now rest whole part = record { front = part.done; rest = rest; split = part.split; put = part.put }
+
+-- the line of the next item waits behind the others
+pub line_waits : {A : Type 0} (text : ℕ → A → List ℕ) (old now waiting more : List ℕ) (n i : ℕ) (xs : List A) (x : A) (whole : List ℕ) → i < length xs → x ≡ get_or xs i x
+    → Part old now (waiting ++ numbered_lines text n (drop i xs)) whole → more ≡ waiting ++ text n x
+    → Part old now (more ++ numbered_lines text (n + 1) (drop (i + 1) xs)) whole
+line_waits text old now waiting more n i xs x whole lt is part grown =
+    let rest : List ℕ = numbered_lines text (n + 1) (drop (i + 1) xs) in
+    let same : waiting ++ numbered_lines text n (drop i xs) ≡ more ++ rest =
+    ap (λ l. waiting ++ l) (next_line text n i xs x lt is) ∙ sym (append_assoc waiting (text n x) rest) ∙ ap (λ l. l ++ rest) (sym grown) in
+    subst (λ r. Part old now r whole) same part
+
+-- a front of what waited was put
+pub waiting_put : (old now waiting new left rest whole : List ℕ) → Part old now (waiting ++ rest) whole → PutsWaiting now waiting new left
+    → Part old new (left ++ rest) whole
+waiting_put old now waiting new left rest whole part moved =
+    let same : waiting ++ rest ≡ moved.front ++ (left ++ rest) = ap (λ l. l ++ rest) moved.split ∙ append_assoc moved.front left rest in
+    part_goes_on old now new moved.front (left ++ rest) whole (subst (λ r. Part old now r whole) same part) moved.put
+
+-- all that waits is put, and no line is left
+pub waiting_ends : {A T E : Type 0} (text : ℕ → A → List ℕ) (r : Result T E) (old now waiting new : List ℕ) (n i : ℕ) (xs : List A) (whole : List ℕ)
+    → length xs ≤ i → Part old now (waiting ++ numbered_lines text n (drop i xs)) whole → Puts r now new waiting → Puts r old new whole
+waiting_ends text (Ok _) old now waiting new n i xs whole all part put =
+    let none : numbered_lines text n (drop i xs) ≡ [] = ap (numbered_lines text n) (drop_of_length-le xs {i = i} all) in
+    part_ends old new whole (part_goes_on old now new waiting [] whole (subst (λ l. Part old now (waiting ++ l) whole) none part) put)
+waiting_ends text (Err _) old now waiting new n i xs whole all part put = part_stops old now new waiting (numbered_lines text n (drop i xs)) whole part put
 
 -- of pieces put one behind the other a front of this one was put
 pub pieces_stop : {X : Type 0} (text : X → List ℕ) (old now new : List ℕ) (i : ℕ) (pieces : List X) (other : X)

@@ -1,4 +1,5 @@
 pub mod Texts
 pub mod OneLines
 pub mod Causes
+pub mod Waiting
 pub mod Refusals

@@ -1,9 +1,10 @@
 // The parts of a report, each put into a sink.
-ghost use Rattle.std.specs.Prelude.{◌≡◌, ◌≢◌, [], IsOk, IsErrOf, IsOkUnless};
+ghost use Rattle.std.specs.Prelude.{◌≡◌, ◌≢◌, [], IsOk, IsErrOf, IsOkUnless, OnOk, OnErr};
 ghost use Rattle.mss_base.specs.Counts.{HasCause};
-ghost use Rattle.mss_base.specs.Puts.{Puts};
+ghost use Rattle.mss_base.specs.Puts.{Puts, PutsFront};
 ghost use Rattle.ckd_track.specs.Track.{reading};
 ghost use Rattle.report_text.specs.Causes.{HasOutputCause};
+ghost use Rattle.report_text.specs.Waiting.{PutsWaiting};
 ghost use Rattle.report_text.specs.Texts.{
   numbered_lines,
   entry_text,
@@ -56,6 +57,9 @@ impl From<NoMemory> for ReportFault {
     }
 }
 
+/// So many bytes of lines are enough for a call of the sink: as many as std's buffers hold, which let them through.
+const ENOUGH: usize = 8192;
+
 /// Puts bytes that stand ready.
 fn put_bytes<O: Sink>(output: &mut O, bytes: &[u8]) -> Result<(), ReportFault>
     ensures bytes { O.tells → Puts result (O.told output.old) (O.told output.new) bytes.now }
@@ -66,19 +70,20 @@ fn put_bytes<O: Sink>(output: &mut O, bytes: &[u8]) -> Result<(), ReportFault>
     Ok(())
 }
 
-fn put_entry<O: Sink>(
-    output: &mut O,
-    buffer: &mut Bytes,
-    number: u64,
-    entry: &Entry,
-) -> Result<(), ReportFault>
-    ensures bytes { O.tells → Puts result (O.told output.old) (O.told output.new)
-        (entry_text number entry.now) }
+/// Puts the lines that wait in the buffer, where they are enough for a call.
+fn put_waiting<O: Sink>(output: &mut O, buffer: &mut Bytes) -> Result<(), ReportFault>
+    ensures put { O.tells → OnOk result
+        (PutsWaiting (O.told output.old) buffer.old.items (O.told output.new) buffer.new.items) }
+    ensures front { O.tells → OnErr result
+        (PutsFront (O.told output.old) (O.told output.new) buffer.old.items) }
     ensures cause { HasOutputCause (O.faults output.old) (O.faults output.new) result }
 {
+    if buffer.as_slice().len() < ENOUGH {
+        return Ok(());
+    }
+    put_bytes(output, buffer.as_slice())?;
     buffer.truncate(0);
-    push_entry(buffer, number, entry)?;
-    put_bytes(output, buffer.as_slice())
+    Ok(())
 }
 
 fn put_entries<O: Sink>(
@@ -91,14 +96,16 @@ fn put_entries<O: Sink>(
     ensures cause { HasOutputCause (O.faults output.old) (O.faults output.new) result }
 {
     let mut number = 1;
+    buffer.truncate(0);
     for entry in entries {
-        put_entry(output, buffer, number, entry)?;
+        push_entry(buffer, number, entry)?;
+        put_waiting(output, buffer)?;
         number += 1;
     }
-    Ok(())
+    put_bytes(output, buffer.as_slice())
 }
 
-/// Puts the first line of a report and the lines of its entries, each by a call of its own.
+/// Puts the first line of a report by one call, and then the lines of its entries, some thousands of bytes by each.
 ///
 /// The first line wants no memory. The content of the buffer means nothing afterwards.
 pub fn put_history<O: Sink>(

@@ -1,5 +1,5 @@
 // The lines of a report, each put at the end of a buffer.
-ghost use Rattle.std.specs.Prelude.{◌≡◌, ◌++◌, ◌∷◌, OnOk, decimal};
+ghost use Rattle.std.specs.Prelude.{◌≡◌, ◌++◌, ◌∷◌, OnOk, codes, decimal};
 ghost use Rattle.std.specs.List.{flat_map};
 ghost use Rattle.channel_commands.specs.Views.{call_of, reply_of};
 ghost use Rattle.report_text.specs.Texts.{
@@ -19,7 +19,7 @@ use channel_commands::{Call, Reply};
 use ckd_plain::Entry;
 use ckd_track::{StoredRecord, StoredRecords};
 use job_text::{push_hex, push_hex_byte};
-use mss_base::{Bytes, Cylinder, Head, NoMemory, Serial, VolumeNo};
+use mss_base::{Bytes, Cylinder, Head, HostNo, NoMemory, Serial, VolumeNo};
 
 pub fn push_text(out: &mut Bytes, text: &str) -> Result<(), NoMemory>
     ensures { OnOk result (out.new.items ≡ out.old.items ++ text.now) }
@@ -113,6 +113,24 @@ fn push_reply(out: &mut Bytes, reply: &Reply, fault: Option<u64>) -> Result<(), 
     }
 }
 
+/// What stands between the number of an entry and its call. A host's number has one digit, so the piece is a text that is
+/// there already.
+fn host_text(host: HostNo) -> &'static str
+    ensures { result.now ≡ codes " host " ++ decimal host ++ codes " " }
+{
+    match host.get() {
+        1 => " host 1 ",
+        2 => " host 2 ",
+        3 => " host 3 ",
+        4 => " host 4 ",
+        5 => " host 5 ",
+        6 => " host 6 ",
+        7 => " host 7 ",
+        8 => " host 8 ",
+        _ => unreachable!(),
+    }
+}
+
 /// The line of the entry at this place of the history.
 #[tactic(auto, unfolding(crate::specs::Texts::entry_text))]
 pub fn push_entry(out: &mut Bytes, number: u64, entry: &Entry) -> Result<(), NoMemory>
@@ -120,9 +138,7 @@ pub fn push_entry(out: &mut Bytes, number: u64, entry: &Entry) -> Result<(), NoM
 {
     push_text(out, "entry ")?;
     push_number(out, number)?;
-    push_text(out, " host ")?;
-    push_number(out, u64::from(entry.host.get()))?;
-    push_text(out, " ")?;
+    push_text(out, host_text(entry.host))?;
     push_call(out, &entry.call)?;
     push_text(out, " ")?;
     push_reply(out, &entry.reply, entry.fault)?;
