@@ -37,6 +37,15 @@ use Rattle.host_events.specs.Causes.{HasNoSpaceFor}
 
 -- ---- a search, read or write
 
+if_none : (r : Result Command UnitCheck) → ((c : Command) → r ≡ Ok c → is_data c ≡ false) → if_data r ≡ None
+if_none (Ok c) none = ap (λ b. where_so b c) (none c refl)
+if_none (Err check) none = refl
+
+-- the command of its code is none of them
+pub named_none : (host : HostState) (code : ℕ) (argument : List ℕ) → ((c : Command) → command_of code ≡ Some c → is_data c ≡ false)
+    → None ≡ if_data (admitted_command host code argument)
+named_none host code argument none = sym (if_none (admitted_command host code argument) (λ c is. none c (admitted_is host code argument c is).known_))
+
 -- the call is a command that passes the checks, and looks at a track
 pub record IsData (host : HostState) (call : CallData) (c : Command) : Type 0 where
   pub code : ℕ

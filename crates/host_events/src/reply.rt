@@ -10,6 +10,7 @@ ghost use Rattle.host_events.specs.Replies.{with_reply, after_answer, IsUpheld, 
 
 use crate::answer::HostAnswer;
 use crate::copies::{copy_of_call, copy_of_reply, next_number};
+use crate::requests::end_request;
 use channel_commands::{Call, Reply};
 use ckd_plain::{Entry, HostState};
 use core_state::{Core, Event, Session};
@@ -98,6 +99,6 @@ pub fn reply<S: Site, C: Choose>(
     let entry = Told { reply, fault, mark };
     enter(&mut core.session, host, call, entry);
     core.hosts.set(usize::from(host.get()) - 1, *now);
-    core.requests.end(host);
+    end_request(&mut core.requests, host);
     HostAnswer::Replied { index, reply: told }
 }

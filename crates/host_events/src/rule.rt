@@ -1,8 +1,11 @@
 // Which rule a host's call meets.
-ghost use Rattle.std.specs.Prelude.{◌≡◌, length, true};
+ghost use Rattle.std.specs.Prelude.{◌≡◌, length, true, false, Some};
 ghost use Rattle.std.specs.Option.{option_and_then};
+ghost use Rattle.channel_commands.specs.Codes.{command_of};
+ghost use Rattle.channel_commands.specs.declared.command.Command.{Command};
 ghost use Rattle.channel_commands.specs.Data.{is_command};
 ghost use Rattle.channel_commands.specs.Views.{call_of};
+ghost use Rattle.ckd_plain.specs.Effects.{is_data};
 ghost use Rattle.core_state.specs.Pins.{are_all_bound};
 ghost use Rattle.core_state.specs.HostRules.{
   busy_rule,
@@ -28,7 +31,7 @@ ghost use Rattle.core_state.specs.HostRules.{
 ghost use Rattle.host_events.specs.Asking.{IsAlone, IsAsked};
 
 use crate::requests::request_of;
-use channel_commands::{Call, Command};
+use channel_commands::{Call, Command, command_of};
 use ckd_plain::HostState;
 use ckd_plain::steps::{admitted_in_chain, is_data};
 use core_state::looks::{are_all_bound, host_at, is_on, owner_of, state_in};
@@ -56,13 +59,28 @@ fn is_command(call: &Call) -> bool
     matches!(call, Call::Command(_))
 }
 
-/// The search, read or write that a call is, where it passes the checks.
+/// Whether a code is that of a search, read or write.
+fn names_data(code: u8) -> bool
+    ensures { result ≡ false → (c : Command) → command_of code ≡ Some c → is_data c ≡ false }
+{
+    match command_of(code) {
+        Ok(command) => is_data(command),
+        Err(_) => false,
+    }
+}
+
+/// The search, read or write that a call is, where it passes the checks. Of other commands the code tells that they are
+/// none, so that they are checked once, when they are replied.
+#[tactic(auto, using(crate::proofs::RuleParts::named_none))]
 fn data_command(host: &HostState, call: &Call) -> Option<Command>
     ensures { result ≡ data_command host.now (call_of call.now) }
 {
     let Call::Command(command) = call else {
         return None;
     };
+    if !names_data(command.code) {
+        return None;
+    }
     match admitted_in_chain(host, command.code, command.argument.as_slice()) {
         Ok(kind) if is_data(kind) => Some(kind),
         _ => None,
