@@ -1,5 +1,5 @@
 -- Blocks that are kept go on being what the files hold.
-use Rattle.std.proofs.Common.{◌≡◌, ◌≢◌, ℕ, zero, suc, ◌+◌, ◌*◌, ◌-◌, ◌≤◌, ◌<◌, ◌⊎◌, inl, inr, true, ◌&&◌, ◌==◌, List, [], ◌∷◌, ◌++◌, length, take, drop, refl, sym, ◌∙◌, ap, ap₂, subst, arith}
+use Rattle.std.proofs.Common.{◌≡◌, ◌≢◌, ℕ, zero, suc, ◌+◌, ◌-◌, ◌≤◌, ◌<◌, ◌⊎◌, inl, inr, true, ◌&&◌, ◌==◌, List, [], ◌∷◌, ◌++◌, length, take, drop, refl, sym, ◌∙◌, ap, ap₂, subst, arith}
 use Rattle.std.proofs.Common.{Option, None, Some, replicate, Result, Ok, Err, OnOk, OnErr, slice_index_or, slice_set, get_or-set_other}
 use Rattle.std.proofs.Math.Seq.{take-append_seam, drop-append_seam}
 use Rattle.std.proofs.lemmas.List.{get_or-replicate}
@@ -8,15 +8,18 @@ use Rattle.mss_base.proofs.ContentLemmas.{same_unit-refl, same_unit-true}
 use Rattle.mss_base.specs.Content.{same_unit}
 use Rattle.mss_base.specs.declared.place.UnitNo.{UnitNo}
 use Rattle.mss_base.specs.declared.place.BlockPlace.{BlockPlace}
-use Rattle.mss_files.specs.Allotted.{piece_of}
+use Rattle.mss_files.specs.Allotted.{start_in}
 use Rattle.mss_files.specs.Blocks.{block_from, ChangesBlock}
-use Rattle.mss_files.specs.KeptBlocks.{slot_of, slot_start, Stands, Keeps, HasBytes, IsHeld, KeepsStarts}
+use Rattle.mss_files.specs.Noted.{slot_of}
+use Rattle.mss_files.specs.KeptBlocks.{slot_start, Stands, Keeps, HasBytes, IsHeld, KeepsStarts}
 use Rattle.mss_files.specs.declared.kept_blocks.KeptBlocks.{KeptBlocks}
-use Rattle.mss_files.specs.Files.{FileBytes, bytes_at, file_place, ChangesOnly}
+use Rattle.mss_files.specs.declared.pieces.Pieces.{Pieces}
+use Rattle.mss_files.specs.Files.{FileBytes, bytes_at, file_place, ChangesOnly, GotBytes}
+use Rattle.mss_files.proofs.Starts.{starts_apart}
 use Rattle.mss_files.proofs.Transfers.{length-bytes_at, bytes_at-more, bytes_at-same}
 
 -- two places are one, or they are not
-place_cases : (a b : BlockPlace) → (a ≡ b) ⊎ (a ≡ b → ⊥)
+pub place_cases : (a b : BlockPlace) → (a ≡ b) ⊎ (a ≡ b → ⊥)
 place_cases a b = elim (cases_Bool (same_unit a.unit b.unit && (a.block == b.block))) [
   | inl same ↦
       let parts = and_parts (same_unit a.unit b.unit) (a.block == b.block) same in
@@ -35,12 +38,12 @@ take-bytes_at f at m n =
     ∙ subst (λ (k : ℕ). take k (bytes_at f at m ++ bytes_at f (at + m) n) ≡ bytes_at f at m) (length-bytes_at f at m) (take-append_seam (bytes_at f at m) (bytes_at f (at + m) n))
 
 -- the front of a block that is held
-pub front_of : (f : ℕ → ℕ) (at n : ℕ) (block : List ℕ) → n ≤ 16384 → block ≡ bytes_at f at 16384 → take n block ≡ bytes_at f at n
-front_of f at n block inside is =
-    let whole : n + (16384 - n) ≡ 16384 = omega (arith, inside) in
-    ap (take n) (is ∙ ap (bytes_at f at) (sym whole)) ∙ take-bytes_at f at n (16384 - n)
+pub front_of : (f : ℕ → ℕ) (at size n : ℕ) (block : List ℕ) → n ≤ size → block ≡ bytes_at f at size → take n block ≡ bytes_at f at n
+front_of f at size n block inside is =
+    let whole : n + (size - n) ≡ size = omega (arith, inside) in
+    ap (take n) (is ∙ ap (bytes_at f at) (sym whole)) ∙ take-bytes_at f at n (size - n)
 
-drop-bytes_at : (f : ℕ → ℕ) (at m n : ℕ) → drop m (bytes_at f at (m + n)) ≡ bytes_at f (at + m) n
+pub drop-bytes_at : (f : ℕ → ℕ) (at m n : ℕ) → drop m (bytes_at f at (m + n)) ≡ bytes_at f (at + m) n
 drop-bytes_at f at m n =
     ap (drop m) (bytes_at-more f at m n)
     ∙ subst (λ (k : ℕ). drop k (bytes_at f at m ++ bytes_at f (at + m) n) ≡ bytes_at f (at + m) n) (length-bytes_at f at m) (drop-append_seam (bytes_at f at m) (bytes_at f (at + m) n))
@@ -66,40 +69,40 @@ patched f g at offset bytes rest before behind put =
     ∙ ap (λ (l : List ℕ). bytes_at g at offset ++ l) (sym (bytes_at-more g (at + offset) n rest))
     ∙ sym (bytes_at-more g at offset (n + rest))
 
--- a write into another block of the same unit
-other_block : (f g : ℕ → ℕ) (block offset n kept : ℕ) → offset + n ≤ 16384 → (block ≡ kept → ⊥)
+-- a write into another block of the same unit: `count` bytes of the kept one, from `start` on
+other_block : (f g : ℕ → ℕ) (block offset n kept start count : ℕ) → offset + n ≤ 16384 → start + count ≤ 16384 → (block ≡ kept → ⊥)
     → ((place : ℕ) → place < file_place block offset → g place ≡ f place)
     → ((place : ℕ) → file_place block offset + n ≤ place → g place ≡ f place)
-    → bytes_at g (file_place kept 0) 16384 ≡ bytes_at f (file_place kept 0) 16384
-other_block f g block offset n kept inside differ before behind = elim (cases_lt kept block) [
-  | inl below ↦ bytes_at-same f g (file_place kept 0) 16384 (λ place low high. before place (omega (arith, below, high)))
+    → bytes_at g (file_place kept start) count ≡ bytes_at f (file_place kept start) count
+other_block f g block offset n kept start count inside within differ before behind = elim (cases_lt kept block) [
+  | inl below ↦ bytes_at-same f g (file_place kept start) count (λ place low high. before place (omega (arith, below, high, within)))
   | inr from ↦ elim (cases_lt block kept) [
-    | inl above ↦ bytes_at-same f g (file_place kept 0) 16384 (λ place low high. behind place (omega (arith, above, low, inside)))
+    | inl above ↦ bytes_at-same f g (file_place kept start) count (λ place low high. behind place (omega (arith, above, low, inside)))
     | inr upto ↦ absurd (differ (omega (arith, from, upto)))
   ]
 ]
 
 -- a write into another block
-elsewhere : (f g : FileBytes) (place kept : BlockPlace) (offset n : ℕ) → offset + n ≤ 16384 → (place ≡ kept → ⊥)
+pub elsewhere : (f g : FileBytes) (place kept : BlockPlace) (offset n start count : ℕ) → offset + n ≤ 16384 → start + count ≤ 16384 → (place ≡ kept → ⊥)
     → ChangesOnly place.unit (file_place place.block offset) n f g
-    → bytes_at (g kept.unit) (file_place kept.block 0) 16384 ≡ bytes_at (f kept.unit) (file_place kept.block 0) 16384
-elsewhere f g place kept offset n inside differ changed = elim (cases_Bool (same_unit place.unit kept.unit)) [
-  | inr other ↦ ap (λ (h : ℕ → ℕ). bytes_at h (file_place kept.block 0) 16384) (changed.others kept.unit other)
+    → bytes_at (g kept.unit) (file_place kept.block start) count ≡ bytes_at (f kept.unit) (file_place kept.block start) count
+elsewhere f g place kept offset n start count inside within differ changed = elim (cases_Bool (same_unit place.unit kept.unit)) [
+  | inr other ↦ ap (λ (h : ℕ → ℕ). bytes_at h (file_place kept.block start) count) (changed.others kept.unit other)
   | inl same ↦
       let unit_is : place.unit ≡ kept.unit = same_unit-true place.unit kept.unit same in
-      subst (λ (u : UnitNo). bytes_at (g u) (file_place kept.block 0) 16384 ≡ bytes_at (f u) (file_place kept.block 0) 16384) unit_is
-      (other_block (f place.unit) (g place.unit) place.block offset n kept.block inside (λ e. differ (λ i. record { unit = unit_is i; block = e i })) changed.before changed.behind)
+      subst (λ (u : UnitNo). bytes_at (g u) (file_place kept.block start) count ≡ bytes_at (f u) (file_place kept.block start) count) unit_is
+      (other_block (f place.unit) (g place.unit) place.block offset n kept.block start count inside within (λ e. differ (λ i. record { unit = unit_is i; block = e i })) changed.before changed.behind)
 ]
 
--- a write into the block
-here : (f g : FileBytes) (place : BlockPlace) (offset : ℕ) (bytes block : List ℕ) → offset + length bytes ≤ 16384
+-- a write into the front of so many bytes of the block
+here : (f g : FileBytes) (place : BlockPlace) (size offset : ℕ) (bytes block : List ℕ) → offset + length bytes ≤ size
     → ChangesOnly place.unit (file_place place.block offset) (length bytes) f g
     → bytes_at (g place.unit) (file_place place.block offset) (length bytes) ≡ bytes
-    → block ≡ bytes_at (f place.unit) (file_place place.block 0) 16384
-    → take offset block ++ (bytes ++ drop (offset + length bytes) block) ≡ bytes_at (g place.unit) (file_place place.block 0) 16384
-here f g place offset bytes block inside changed put is =
-    let rest : ℕ = 16384 - (offset + length bytes) in
-    let whole : offset + (length bytes + rest) ≡ 16384 = omega (arith, inside) in
+    → block ≡ bytes_at (f place.unit) (file_place place.block 0) size
+    → take offset block ++ (bytes ++ drop (offset + length bytes) block) ≡ bytes_at (g place.unit) (file_place place.block 0) size
+here f g place size offset bytes block inside changed put is =
+    let rest : ℕ = size - (offset + length bytes) in
+    let whole : offset + (length bytes + rest) ≡ size = omega (arith, inside) in
     let first : file_place place.block 0 + offset ≡ file_place place.block offset = omega arith in
     ap (λ (l : List ℕ). take offset l ++ (bytes ++ drop (offset + length bytes) l)) is
     ∙ subst (λ (n : ℕ). take offset (bytes_at (f place.unit) (file_place place.block 0) n) ++ (bytes ++ drop (offset + length bytes) (bytes_at (f place.unit) (file_place place.block 0) n)) ≡ bytes_at (g place.unit) (file_place place.block 0) n) whole
@@ -109,67 +112,60 @@ here f g place offset bytes block inside changed put is =
     (ap (λ (k : ℕ). bytes_at (g place.unit) k (length bytes)) first ∙ put))
 
 -- what was kept, behind a write that is made
-still_held : (f g : FileBytes) (place kept : BlockPlace) (offset at : ℕ) (bytes old new : List ℕ) → offset + length bytes ≤ 16384
-    → at ≡ file_place place.block offset
-    → ChangesOnly place.unit at (length bytes) f g
-    → bytes_at (g place.unit) at (length bytes) ≡ bytes
+pub still_held : (f g : FileBytes) (place kept : BlockPlace) (size offset : ℕ) (bytes old new : List ℕ) → offset + length bytes ≤ size → size ≤ 16384
+    → GotBytes place offset bytes f g
     → (kept ≡ place → new ≡ take offset old ++ (bytes ++ drop (offset + length bytes) old))
     → ((kept ≡ place → ⊥) → new ≡ old)
-    → old ≡ bytes_at (f kept.unit) (file_place kept.block 0) 16384
-    → new ≡ bytes_at (g kept.unit) (file_place kept.block 0) 16384
-still_held f g place kept offset at bytes old new inside from changed put same apart is =
-    let changes = subst (λ (k : ℕ). ChangesOnly place.unit k (length bytes) f g) from changed in
-    let puts = subst (λ (k : ℕ). bytes_at (g place.unit) k (length bytes) ≡ bytes) from put in
+    → old ≡ bytes_at (f kept.unit) (file_place kept.block 0) size
+    → new ≡ bytes_at (g kept.unit) (file_place kept.block 0) size
+still_held f g place kept size offset bytes old new inside few got same apart is =
     elim (place_cases kept place) [
       | inl e ↦
-          same e ∙ subst (λ (p : BlockPlace). take offset old ++ (bytes ++ drop (offset + length bytes) old) ≡ bytes_at (g p.unit) (file_place p.block 0) 16384) (sym e)
-          (here f g place offset bytes old inside changes puts (is ∙ ap (λ (p : BlockPlace). bytes_at (f p.unit) (file_place p.block 0) 16384) e))
-      | inr differ ↦ apart differ ∙ is ∙ sym (elsewhere f g place kept offset (length bytes) inside (λ e. differ (sym e)) changes)
+          same e ∙ subst (λ (p : BlockPlace). take offset old ++ (bytes ++ drop (offset + length bytes) old) ≡ bytes_at (g p.unit) (file_place p.block 0) size) (sym e)
+          (here f g place size offset bytes old inside got.only got.put (is ∙ ap (λ (p : BlockPlace). bytes_at (f p.unit) (file_place p.block 0) size) e))
+      | inr differ ↦ apart differ ∙ is ∙ sym (elsewhere f g place kept offset (length bytes) 0 size (omega (arith, inside, few)) (omega (arith, few)) (λ e. differ (sym e)) got.only)
     ]
 
 -- what was kept of another block, behind a write that failed
-held_apart : (f g : FileBytes) (place kept : BlockPlace) (offset at n : ℕ) (old new : List ℕ) → offset + n ≤ 16384
-    → at ≡ file_place place.block offset
-    → ChangesOnly place.unit at n f g
+pub held_apart : (f g : FileBytes) (place kept : BlockPlace) (size offset n : ℕ) (old new : List ℕ) → offset + n ≤ 16384 → size ≤ 16384
+    → ChangesOnly place.unit (file_place place.block offset) n f g
     → (place ≡ kept → ⊥)
     → new ≡ old
-    → old ≡ bytes_at (f kept.unit) (file_place kept.block 0) 16384
-    → new ≡ bytes_at (g kept.unit) (file_place kept.block 0) 16384
-held_apart f g place kept offset at n old new inside from changed differ same is =
-    same ∙ is ∙ sym (elsewhere f g place kept offset n inside differ (subst (λ (k : ℕ). ChangesOnly place.unit k n f g) from changed))
+    → old ≡ bytes_at (f kept.unit) (file_place kept.block 0) size
+    → new ≡ bytes_at (g kept.unit) (file_place kept.block 0) size
+held_apart f g place kept size offset n old new inside few changed differ same is =
+    same ∙ is ∙ sym (elsewhere f g place kept offset n 0 size inside (omega (arith, few)) differ changed)
 
 -- ---- all blocks that are kept
 
 -- two slots are one, or one lies wholly before the other
-slots_apart : (kept : KeptBlocks) (a b : BlockPlace) → (slot_of a ≡ slot_of b) ⊎ ((slot_start kept a + 16384 ≤ slot_start kept b) ⊎ (slot_start kept b + 16384 ≤ slot_start kept a))
-slots_apart kept a b =
-    let first = piece_of kept.pieces.of_slots.items (slot_of a) in
-    let second = piece_of kept.pieces.of_slots.items (slot_of b) in
-    elim (cases_lt first second) [
-      | inl below ↦ inr (inl (omega (arith, below)))
-      | inr from ↦ elim (cases_lt second first) [
-        | inl above ↦ inr (inr (omega (arith, above)))
-        | inr upto ↦ inl (kept.pieces.apart (slot_of a) (slot_of b) (omega arith) (omega arith) (omega (arith, from, upto)))
-      ]
-    ]
+slots_apart : (kept : KeptBlocks) (a b : BlockPlace)
+    → (slot_of a ≡ slot_of b) ⊎ ((slot_start kept a + kept.pieces.size ≤ slot_start kept b) ⊎ (slot_start kept b + kept.pieces.size ≤ slot_start kept a))
+slots_apart kept a b = starts_apart kept.pieces.size kept.pieces.of_slots.items (slot_of a) (slot_of b) (omega arith) (omega arith) kept.pieces.apart
 
 -- bytes that don't meet are of two slots
-start_apart : (kept : KeptBlocks) (a b : BlockPlace) → (slot_start kept a + 16384 ≤ slot_start kept b) ⊎ (slot_start kept b + 16384 ≤ slot_start kept a) → slot_of a ≡ slot_of b → ⊥
+start_apart : (kept : KeptBlocks) (a b : BlockPlace) → (slot_start kept a + kept.pieces.size ≤ slot_start kept b) ⊎ (slot_start kept b + kept.pieces.size ≤ slot_start kept a) → slot_of a ≡ slot_of b → ⊥
 start_apart kept a b apart one =
-    let same : slot_start kept a ≡ slot_start kept b = ap (λ (slot : ℕ). piece_of kept.pieces.of_slots.items slot * 16384) one in
+    let same : slot_start kept a ≡ slot_start kept b = ap (start_in kept.pieces.size kept.pieces.of_slots.items) one in
+    let some : 1 ≤ kept.pieces.size = kept.pieces.some in
     elim apart [
-      | inl low ↦ absurd (omega (arith, low, same))
-      | inr high ↦ absurd (omega (arith, high, same))
+      | inl low ↦ absurd (omega (arith, low, same, some))
+      | inr high ↦ absurd (omega (arith, high, same, some))
     ]
 
 -- where the pieces stay, a slot stays where it is
 same_start : (old new : KeptBlocks) (place : BlockPlace) → new.pieces ≡ old.pieces → slot_start new place ≡ slot_start old place
-same_start old new place same = λ i. piece_of (same i).of_slots.items (slot_of place) * 16384
+same_start old new place same = λ i. start_in (same i).size (same i).of_slots.items (slot_of place)
+
+-- so its bytes are where they were
+same_place : (old new : KeptBlocks) (place : BlockPlace) (room : List ℕ) (file : ℕ → ℕ) → new.pieces ≡ old.pieces
+    → HasBytes old.pieces.size (slot_start old place) room file place → HasBytes new.pieces.size (slot_start new place) room file place
+same_place old new place room file same has = subst (λ (p : Pieces). HasBytes p.size (start_in p.size p.of_slots.items (slot_of place)) room file place) (sym same) has
 
 -- one slot has one block
 one_stands : (kept : KeptBlocks) (a b : BlockPlace) → slot_of a ≡ slot_of b → Stands kept a → Stands kept b → a ≡ b
 one_stands kept a b one first second =
-    let e : Some a ≡ Some b = sym first ∙ ap (λ (n : ℕ). slice_index_or kept.places.items n None) one ∙ second in
+    let e : Some a ≡ Some b = sym first ∙ ap (λ (n : ℕ). slice_index_or kept.places.of_slots.items n None) one ∙ second in
     cc
 
 -- what was noted for a slot
@@ -192,64 +188,63 @@ none_noted (x ∷ xs) zero = refl
 none_noted (x ∷ xs) (suc i) = none_noted xs i
 
 -- behind a write that is made
-pub held_behind : (f g : FileBytes) (place : BlockPlace) (offset at : ℕ) (bytes : List ℕ) (old new : KeptBlocks) → offset + length bytes ≤ 16384
-    → at ≡ file_place place.block offset
-    → ChangesOnly place.unit at (length bytes) f g
-    → bytes_at (g place.unit) at (length bytes) ≡ bytes
+pub held_behind : (f g : FileBytes) (place : BlockPlace) (offset : ℕ) (bytes : List ℕ) (old new : KeptBlocks) → offset + length bytes ≤ old.pieces.size
+    → GotBytes place offset bytes f g
     → new.places ≡ old.places
     → new.pieces ≡ old.pieces
-    → (Keeps old place → block_from (slot_start old place) new.bytes.items
-    ≡ take offset (block_from (slot_start old place) old.bytes.items) ++ (bytes ++ drop (offset + length bytes) (block_from (slot_start old place) old.bytes.items)))
+    → (Keeps old place → block_from old.pieces.size (slot_start old place) new.bytes.items
+    ≡ take offset (block_from old.pieces.size (slot_start old place) old.bytes.items) ++ (bytes ++ drop (offset + length bytes) (block_from old.pieces.size (slot_start old place) old.bytes.items)))
     → ((Keeps old place → ⊥) → new.bytes.items ≡ old.bytes.items)
-    → ChangesBlock (slot_start old place) old.bytes.items new.bytes.items
+    → ChangesBlock old.pieces.size (slot_start old place) old.bytes.items new.bytes.items
     → IsHeld f old → IsHeld g new
-held_behind f g place offset at bytes old new inside from changed put places pieces patch apart changes held = λ other stands.
-    let was : Stands old other = ap (λ (l : List (Option BlockPlace)). slice_index_or l (slot_of other) None) (sym (λ i. (places i).items)) ∙ stands in
+held_behind f g place offset bytes old new inside got places pieces patch apart changes held = λ other stands.
+    let size = old.pieces.size in
+    let was : Stands old other = ap (λ (l : List (Option BlockPlace)). slice_index_or l (slot_of other) None) (sym (λ i. (places i).of_slots.items)) ∙ stands in
     let has = held other was in
-    subst (λ (start : ℕ). HasBytes start new.bytes.items (g other.unit) other) (sym (same_start old new other pieces)) (record {
+    same_place old new other new.bytes.items (g other.unit) pieces (record {
       inside = omega (arith, has.inside, changes.long);
-      bytes = still_held f g place other offset at bytes (block_from (slot_start old other) old.bytes.items) (block_from (slot_start old other) new.bytes.items) inside from changed put
-          (λ e. subst (λ (p : BlockPlace). block_from (slot_start old p) new.bytes.items ≡ take offset (block_from (slot_start old p) old.bytes.items) ++ (bytes ++ drop (offset + length bytes) (block_from (slot_start old p) old.bytes.items))) (sym e)
-          (patch (record { stands = subst (Stands old) e was; inside = subst (λ (p : BlockPlace). slot_start old p + 16384 ≤ length old.bytes.items) e has.inside })))
+      bytes = still_held f g place other size offset bytes (block_from size (slot_start old other) old.bytes.items) (block_from size (slot_start old other) new.bytes.items) inside old.pieces.few got
+          (λ e. subst (λ (p : BlockPlace). block_from size (slot_start old p) new.bytes.items ≡ take offset (block_from size (slot_start old p) old.bytes.items) ++ (bytes ++ drop (offset + length bytes) (block_from size (slot_start old p) old.bytes.items))) (sym e)
+          (patch (record { stands = subst (Stands old) e was; inside = subst (λ (p : BlockPlace). slot_start old p + size ≤ length old.bytes.items) e has.inside })))
           (λ differ. elim (slots_apart old other place) [
-            | inl one ↦ ap (block_from (slot_start old other)) (apart (λ keeps. differ (one_stands old other place one was keeps.stands)))
+            | inl one ↦ ap (block_from size (slot_start old other)) (apart (λ keeps. differ (one_stands old other place one was keeps.stands)))
             | inr two ↦ changes.others (slot_start old other) has.inside two
           ])
           has.bytes;
     })
 
--- behind a write that failed
-pub held_failed : (f g : FileBytes) (place : BlockPlace) (offset at n : ℕ) (old new : KeptBlocks) → offset + n ≤ 16384
-    → at ≡ file_place place.block offset
-    → ChangesOnly place.unit at n f g
+-- behind a write into a block that is kept no more
+pub held_failed : (f g : FileBytes) (place : BlockPlace) (offset n : ℕ) (old new : KeptBlocks) → offset + n ≤ 16384
+    → ChangesOnly place.unit (file_place place.block offset) n f g
     → (Stands new place → ⊥)
     → ((other : BlockPlace) → Stands new other → Stands old other)
     → new.pieces ≡ old.pieces
     → new.bytes.items ≡ old.bytes.items
     → IsHeld f old → IsHeld g new
-held_failed f g place offset at n old new inside from changed gone others pieces same held = λ other stands.
+held_failed f g place offset n old new inside changed gone others pieces same held = λ other stands.
+    let size = old.pieces.size in
     let has = held other (others other stands) in
-    subst (λ (start : ℕ). HasBytes start new.bytes.items (g other.unit) other) (sym (same_start old new other pieces)) (record {
-      inside = subst (λ (l : List ℕ). slot_start old other + 16384 ≤ length l) (sym same) has.inside;
-      bytes = held_apart f g place other offset at n (block_from (slot_start old other) old.bytes.items) (block_from (slot_start old other) new.bytes.items) inside from changed
-          (λ e. gone (subst (Stands new) (sym e) stands)) (ap (block_from (slot_start old other)) same) has.bytes;
+    same_place old new other new.bytes.items (g other.unit) pieces (record {
+      inside = subst (λ (l : List ℕ). slot_start old other + size ≤ length l) (sym same) has.inside;
+      bytes = held_apart f g place other size offset n (block_from size (slot_start old other) old.bytes.items) (block_from size (slot_start old other) new.bytes.items) inside old.pieces.few changed
+          (λ e. gone (subst (Stands new) (sym e) stands)) (ap (block_from size (slot_start old other)) same) has.bytes;
     })
 
 -- the slot of a block that was brought, or couldn't be
-brought_there : {T E : Type 0} (result : Result T E) (f : FileBytes) (place other : BlockPlace) (old mid new : List (Option BlockPlace)) (start : ℕ) (room : List ℕ)
+brought_there : {T E : Type 0} (result : Result T E) (f : FileBytes) (place other : BlockPlace) (old mid new : List (Option BlockPlace)) (size start : ℕ) (room : List ℕ)
     → slot_of other ≡ slot_of place
     → mid ≡ slice_set old (slot_of place) None
-    → start + 16384 ≤ length room
+    → start + size ≤ length room
     → OnOk result (new ≡ slice_set mid (slot_of place) (Some place))
     → OnErr result (new ≡ mid)
-    → OnOk result (block_from start room ≡ bytes_at (f place.unit) (file_place place.block 0) 16384)
+    → OnOk result (block_from size start room ≡ bytes_at (f place.unit) (file_place place.block 0) size)
     → slice_index_or new (slot_of other) None ≡ Some other
-    → HasBytes start room (f other.unit) other
-brought_there (Ok _) f place other old mid new start room one cleared inside ok err block stands =
+    → HasBytes size start room (f other.unit) other
+brought_there (Ok _) f place other old mid new size start room one cleared inside ok err block stands =
     let seen : slice_index_or (slice_set mid (slot_of place) (Some place)) (slot_of place) None ≡ Some other =
     ap (λ (l : List (Option BlockPlace)). slice_index_or l (slot_of place) None) (sym ok) ∙ ap (λ (n : ℕ). slice_index_or new n None) (sym one) ∙ stands in
-    subst (λ (p : BlockPlace). HasBytes start room (f p.unit) p) (noted mid (slot_of place) place other seen) (record { inside = inside; bytes = block })
-brought_there (Err _) f place other old mid new start room one cleared inside ok err block stands =
+    subst (λ (p : BlockPlace). HasBytes size start room (f p.unit) p) (noted mid (slot_of place) place other seen) (record { inside = inside; bytes = block })
+brought_there (Err _) f place other old mid new size start room one cleared inside ok err block stands =
     let seen : slice_index_or (slice_set old (slot_of place) None) (slot_of place) None ≡ Some other =
     ap (λ (l : List (Option BlockPlace)). slice_index_or l (slot_of place) None) (sym (err ∙ cleared)) ∙ ap (λ (n : ℕ). slice_index_or new n None) (sym one) ∙ stands in
     absurd (let f : None ≡ Some other = sym (none_noted old (slot_of place)) ∙ seen in cc)
@@ -271,50 +266,56 @@ brought_elsewhere (Err _) place other old mid new differ cleared ok err =
 
 -- behind a block that was brought, or couldn't be
 pub held_brought : {T E : Type 0} (result : Result T E) (f g : FileBytes) (place : BlockPlace) (old mid new : KeptBlocks)
-    → mid.places.items ≡ slice_set old.places.items (slot_of place) None
-    → slot_start mid place + 16384 ≤ length mid.bytes.items
+    → mid.places.of_slots.items ≡ slice_set old.places.of_slots.items (slot_of place) None
+    → slot_start mid place + mid.pieces.size ≤ length mid.bytes.items
     → KeepsStarts place old mid
+    → mid.pieces.size ≡ old.pieces.size
     → length old.bytes.items ≤ length mid.bytes.items
-    → ((at : ℕ) → at + 16384 ≤ length old.bytes.items → block_from at mid.bytes.items ≡ block_from at old.bytes.items)
-    → OnOk result (new.places.items ≡ slice_set mid.places.items (slot_of place) (Some place))
-    → OnErr result (new.places.items ≡ mid.places.items)
+    → ((at : ℕ) → at + old.pieces.size ≤ length old.bytes.items → block_from old.pieces.size at mid.bytes.items ≡ block_from old.pieces.size at old.bytes.items)
+    → OnOk result (new.places.of_slots.items ≡ slice_set mid.places.of_slots.items (slot_of place) (Some place))
+    → OnErr result (new.places.of_slots.items ≡ mid.places.of_slots.items)
     → new.pieces ≡ mid.pieces
-    → ChangesBlock (slot_start mid place) mid.bytes.items new.bytes.items
-    → OnOk result (block_from (slot_start mid place) new.bytes.items ≡ bytes_at (f place.unit) (file_place place.block 0) 16384)
+    → ChangesBlock mid.pieces.size (slot_start mid place) mid.bytes.items new.bytes.items
+    → OnOk result (block_from mid.pieces.size (slot_start mid place) new.bytes.items ≡ bytes_at (f place.unit) (file_place place.block 0) mid.pieces.size)
     → g ≡ f
     → IsHeld f old → IsHeld g new
-held_brought result f g place old mid new cleared room starts long blocks ok err pieces next block same held = λ other stands.
-    subst (λ (h : FileBytes). HasBytes (slot_start new other) new.bytes.items (h other.unit) other) (sym same)
-    (subst (λ (start : ℕ). HasBytes start new.bytes.items (f other.unit) other) (sym (same_start mid new other pieces))
+held_brought result f g place old mid new cleared room starts size long blocks ok err pieces next block same held = λ other stands.
+    subst (λ (h : FileBytes). HasBytes new.pieces.size (slot_start new other) new.bytes.items (h other.unit) other) (sym same)
+    (same_place mid new other new.bytes.items (f other.unit) pieces
     (elim (slots_apart mid other place) [
       | inl one ↦
-          subst (λ (slot : ℕ). HasBytes (piece_of mid.pieces.of_slots.items slot * 16384) new.bytes.items (f other.unit) other) (sym one)
-          (brought_there result f place other old.places.items mid.places.items new.places.items (slot_start mid place) new.bytes.items one cleared (omega (arith, room, next.long)) ok err block stands)
+          subst (λ (slot : ℕ). HasBytes mid.pieces.size (start_in mid.pieces.size mid.pieces.of_slots.items slot) new.bytes.items (f other.unit) other) (sym one)
+          (brought_there result f place other old.places.of_slots.items mid.places.of_slots.items new.places.of_slots.items mid.pieces.size (slot_start mid place) new.bytes.items one cleared (omega (arith, room, next.long)) ok err block stands)
       | inr two ↦
           let differ : slot_of other ≡ slot_of place → ⊥ = λ e. start_apart mid other place two e in
-          let was : Stands old other = sym (brought_elsewhere result place other old.places.items mid.places.items new.places.items differ cleared ok err) ∙ stands in
+          let was : Stands old other = sym (brought_elsewhere result place other old.places.of_slots.items mid.places.of_slots.items new.places.of_slots.items differ cleared ok err) ∙ stands in
           let has = held other was in
           let start : slot_start mid other ≡ slot_start old other = starts other differ has.inside in
-          let inside : slot_start mid other + 16384 ≤ length mid.bytes.items = omega (arith, start, has.inside, long) in
+          let inside : slot_start mid other + mid.pieces.size ≤ length mid.bytes.items = omega (arith, start, size, has.inside, long) in
           record {
             inside = omega (arith, inside, next.long);
-            bytes = next.others (slot_start mid other) inside two ∙ ap (λ (at : ℕ). block_from at mid.bytes.items) start ∙ blocks (slot_start old other) has.inside ∙ has.bytes;
+            bytes = next.others (slot_start mid other) inside two
+                ∙ ap₂ (λ (n at : ℕ). block_from n at mid.bytes.items) size start
+                ∙ blocks (slot_start old other) has.inside ∙ has.bytes
+                ∙ ap (bytes_at (f other.unit) (file_place other.block 0)) (sym size);
           }
     ]))
 
 -- another block is kept still
 pub keeps_on : {T E : Type 0} (result : Result T E) (place other : BlockPlace) (old mid new : KeptBlocks)
-    → mid.places.items ≡ slice_set old.places.items (slot_of place) None
+    → mid.places.of_slots.items ≡ slice_set old.places.of_slots.items (slot_of place) None
     → KeepsStarts place old mid
+    → mid.pieces.size ≡ old.pieces.size
     → length old.bytes.items ≤ length mid.bytes.items
-    → OnOk result (new.places.items ≡ slice_set mid.places.items (slot_of place) (Some place))
-    → OnErr result (new.places.items ≡ mid.places.items)
+    → OnOk result (new.places.of_slots.items ≡ slice_set mid.places.of_slots.items (slot_of place) (Some place))
+    → OnErr result (new.places.of_slots.items ≡ mid.places.of_slots.items)
     → new.pieces ≡ mid.pieces
     → length mid.bytes.items ≤ length new.bytes.items
     → slot_of other ≢ slot_of place → Keeps old other → Keeps new other
-keeps_on result place other old mid new cleared starts long ok err pieces longer differ keeps =
+keeps_on result place other old mid new cleared starts size long ok err pieces longer differ keeps =
     let start : slot_start new other ≡ slot_start old other = same_start mid new other pieces ∙ starts other differ keeps.inside in
+    let width : new.pieces.size ≡ old.pieces.size = (λ i. (pieces i).size) ∙ size in
     record {
-      stands = brought_elsewhere result place other old.places.items mid.places.items new.places.items differ cleared ok err ∙ keeps.stands;
-      inside = omega (arith, start, keeps.inside, long, longer);
+      stands = brought_elsewhere result place other old.places.of_slots.items mid.places.of_slots.items new.places.of_slots.items differ cleared ok err ∙ keeps.stands;
+      inside = omega (arith, start, width, keeps.inside, long, longer);
     }

@@ -1,6 +1,8 @@
 pub mod Transfers
 pub mod BlockFacts
+pub mod Starts
 pub mod Keeping
+pub mod ShortFacts
 pub mod Appending
 pub mod Known
 pub mod Places

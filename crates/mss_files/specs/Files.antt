@@ -1,6 +1,7 @@
 -- What the files of a site hold.
-use Rattle.std.specs.Prelude.{◌≡◌, ℕ, zero, suc, ◌+◌, ◌*◌, ◌<◌, ◌≤◌, List, [], ◌∷◌, false}
+use Rattle.std.specs.Prelude.{◌≡◌, ℕ, zero, suc, ◌+◌, ◌*◌, ◌<◌, ◌≤◌, List, [], ◌∷◌, length, false}
 use Rattle.mss_base.specs.Content.{same_unit}
+use Rattle.mss_base.specs.declared.place.BlockPlace.{BlockPlace}
 use Rattle.mss_base.specs.declared.place.UnitNo.{UnitNo}
 
 -- the byte at each place of each unit's file
@@ -25,3 +26,8 @@ pub record ChangesOnly (unit : UnitNo) (at n : ℕ) (old new : FileBytes) : Type
 -- where a byte of a block stands in its unit's file
 abbrev pub file_place : ℕ → ℕ → ℕ
 file_place block offset = block * 16384 + offset
+
+-- these bytes were written into a block, and nothing else of the files changed
+pub record GotBytes (place : BlockPlace) (offset : ℕ) (bytes : List ℕ) (old new : FileBytes) : Type 0 where
+  pub put : bytes_at (new place.unit) (file_place place.block offset) (length bytes) ≡ bytes
+  pub only : ChangesOnly place.unit (file_place place.block offset) (length bytes) old new

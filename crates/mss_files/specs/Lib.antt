@@ -1,7 +1,10 @@
 pub mod Allotted
 pub mod Blocks
 pub mod Files
+pub mod Noted
 pub mod KeptBlocks
+pub mod ShortBlocks
+pub mod SiteBlocks
 pub mod FileSites
 pub mod Paths
 pub mod Slots

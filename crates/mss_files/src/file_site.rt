@@ -2,12 +2,13 @@
 ghost use Rattle.std.specs.Prelude.{◌≡◌, ◌≢◌, ◌+◌, ◌≤◌, true, length, is_err};
 ghost use Rattle.std.specs.Prelude.{IfOk, OnOk, OnErr, string_bytes};
 ghost use Rattle.mss_base.specs.Counts.{HasCause, next_count, count_after};
-ghost use Rattle.mss_files.specs.Blocks.{block_from};
 ghost use Rattle.mss_files.specs.Files.{file_place, bytes_at, ChangesOnly};
-ghost use Rattle.mss_files.specs.KeptBlocks.{slot_of, slot_start, Stands, Keeps};
+ghost use Rattle.mss_files.specs.Noted.{slot_of};
+ghost use Rattle.mss_files.specs.ShortBlocks.{AreShort};
+ghost use Rattle.mss_files.specs.SiteBlocks.{KeepsBlock, IsKnownShort, SameKept, Shows, lent};
 ghost use Rattle.mss_base.specs.declared.place.BlockPlace.{BlockPlace};
 
-use crate::kept_blocks::KeptBlocks;
+use crate::site_blocks::SiteBlocks;
 use crate::transfer::{sync_unit, sync_units};
 use crate::{Folder, UnitFiles};
 use mss_base::{BLOCK_BYTES, BlockPlace, Failed, NoMemory, Site, UnitNo};
@@ -21,19 +22,19 @@ use std::rt::Files;
 ///
 /// What is written is firm once its unit, or all, is synced. As many blocks as 17 cylinders have
 /// are kept, those that were brought last of their numbers by 323, and are brought again without a
-/// call of the files. Clauses on bytes speak of files that tell; to the layers above no site in
-/// files tells.
+/// call of the files. Of a block that is known to end in zeros only the front is read and kept.
+/// Clauses on bytes speak of files that tell; to the layers above no site in files tells.
 #[derive(Drop)]
 pub struct FileSite<F: UnitFiles> {
     files: F,
-    kept: KeptBlocks,
+    kept: SiteBlocks,
     writes: u64,
     faults: u64,
 }
 
 impl<F: UnitFiles> Model for FileSite<F> {
     ghost use Rattle.mss_files.specs.FileSites.{FileSiteValue};
-    ghost use Rattle.mss_files.specs.KeptBlocks.{IsHeld};
+    ghost use Rattle.mss_files.specs.SiteBlocks.{AreHeld};
 
     ghost Value = { FileSiteValue F };
 
@@ -44,7 +45,7 @@ impl<F: UnitFiles> Model for FileSite<F> {
       faults = s.faults;
     } };
 
-    ghost invariant = { λ s. F.tells → IsHeld (F.byte s.files) s.kept };
+    ghost invariant = { λ s. F.tells → AreHeld (F.byte s.files) s.kept };
 }
 
 impl<R: Files<File = File> + AllocGlobal + Drop> FileSite<Folder<R>> {
@@ -53,7 +54,7 @@ impl<R: Files<File = File> + AllocGlobal + Drop> FileSite<Folder<R>> {
         ensures path { IfOk result
             (λ site. string_bytes site.files.paths.folder ≡ folder.now) }
         ensures kept { IfOk result (λ site.
-            (place : BlockPlace) → Stands site.kept place → ⊥) }
+            (place : BlockPlace) → KeepsBlock site.kept place → ⊥) }
         ensures unwritten { IfOk result (λ site. site.writes ≡ 0) }
         ensures unfailed { IfOk result (λ site. site.faults ≡ 0) }
     {
@@ -67,11 +68,11 @@ impl<F: UnitFiles + Drop> FileSite<F> {
     pub fn over(alloc: Global, files: F) -> Result<Self, NoMemory>
         ensures files { IfOk result (λ site. site.files ≡ files) }
         ensures kept { IfOk result (λ site.
-            (place : BlockPlace) → Stands site.kept place → ⊥) }
+            (place : BlockPlace) → KeepsBlock site.kept place → ⊥) }
         ensures unwritten { IfOk result (λ site. site.writes ≡ 0) }
         ensures unfailed { IfOk result (λ site. site.faults ≡ 0) }
     {
-        let kept = KeptBlocks::new(alloc)?;
+        let kept = SiteBlocks::new(alloc)?;
         Ok(FileSite {
             files,
             kept,
@@ -94,6 +95,7 @@ impl<F: UnitFiles> FileSite<F> {
 impl<F: UnitFiles> Site for FileSite<F> {
     ghost use Rattle.std.specs.Prelude.{[], IsOk, Bool, ◌≡◌, false};
     ghost use Rattle.mss_base.specs.declared.place.UnitNo.{UnitNo};
+    ghost use Rattle.mss_files.specs.SiteBlocks.{length-lent};
 
     ghost tells = { ⊥ };
 
@@ -107,11 +109,11 @@ impl<F: UnitFiles> Site for FileSite<F> {
 
     ghost never_fails_but = { λ s _. F.never_fails s.files };
 
-    ghost brought = { λ s. block_from s.kept.from s.kept.bytes.items };
+    ghost brought = { λ s. lent s.kept };
 
     ghost whole = { λ _ _ _ none. absurd none };
 
-    ghost full = { λ s. s.kept.whole };
+    ghost full = { λ s. length-lent s.kept };
 
     ghost counted = { λ _ none. absurd none };
 
@@ -131,7 +133,7 @@ impl<F: UnitFiles> Site for FileSite<F> {
         requires { length into.old ≤ BLOCK_BYTES }
         ensures bytes { F.tells → OnOk result (into.new
             ≡ bytes_at (F.byte self.old.files unit) (file_place block 0) (length into.old)) }
-        ensures at_once { Keeps self.old.kept (record { unit = unit; block = block })
+        ensures at_once { KeepsBlock self.old.kept (record { unit = unit; block = block })
             → IsOk result × (self.new ≡ self.old) }
         ensures stays { self.new.kept ≡ self.old.kept }
         ensures kept { F.tells → F.byte self.new.files ≡ F.byte self.old.files }
@@ -152,21 +154,20 @@ impl<F: UnitFiles> Site for FileSite<F> {
     /// files fails, and then this block isn't kept. A block that is kept is brought without one.
     fn bring(&mut self, unit: UnitNo, block: u32) -> Result<(), Failed>
         ensures bytes { F.tells → OnOk result
-            (block_from self.new.kept.from self.new.kept.bytes.items
+            (lent self.new.kept
             ≡ bytes_at (F.byte self.old.files unit) (file_place block 0) 16384) }
-        ensures at_once { Keeps self.old.kept (record { unit = unit; block = block })
+        ensures at_once { KeepsBlock self.old.kept (record { unit = unit; block = block })
             → IsOk result × (self.new.files ≡ self.old.files)
-            × (self.new.kept.places ≡ self.old.kept.places)
-            × (self.new.kept.pieces ≡ self.old.kept.pieces)
-            × (self.new.kept.bytes.items ≡ self.old.kept.bytes.items) }
-        ensures here { OnOk result (Keeps self.new.kept (record { unit = unit; block = block })
-            × (self.new.kept.from
-            ≡ slot_start self.new.kept (record { unit = unit; block = block }))) }
+            × SameKept self.old.kept self.new.kept }
+        ensures here { OnOk result
+            (KeepsBlock self.new.kept (record { unit = unit; block = block })) }
+        ensures shown { OnOk result
+            (Shows self.new.kept (record { unit = unit; block = block })) }
         ensures lost { OnErr result
-            (Stands self.new.kept (record { unit = unit; block = block }) → ⊥) }
+            (KeepsBlock self.new.kept (record { unit = unit; block = block }) → ⊥) }
         ensures others { (other : BlockPlace)
             → slot_of other ≢ slot_of (record { unit = unit; block = block })
-            → Keeps self.old.kept other → Keeps self.new.kept other }
+            → KeepsBlock self.old.kept other → KeepsBlock self.new.kept other }
         ensures kept { F.tells → F.byte self.new.files ≡ F.byte self.old.files }
         ensures writes { self.new.writes ≡ self.old.writes }
         ensures counted { self.new.faults ≡ count_after (is_err result) self.old.faults }
@@ -194,9 +195,19 @@ impl<F: UnitFiles> Site for FileSite<F> {
             (file_place block offset) (length bytes.now) ≡ bytes.now) }
         ensures only { F.tells → ChangesOnly unit (file_place block offset) (length bytes.now)
             (F.byte self.old.files) (F.byte self.new.files) }
-        ensures stays { OnOk result (self.new.kept.places ≡ self.old.kept.places) }
-        ensures pieces { self.new.kept.pieces ≡ self.old.kept.pieces }
-        ensures from { self.new.kept.from ≡ self.old.kept.from }
+        ensures stays { OnOk result (self.new.kept.whole.places ≡ self.old.kept.whole.places) }
+        ensures fronts { OnOk result (offset + length bytes.now ≤ 4096
+            → (self.new.kept.fronts.places ≡ self.old.kept.fronts.places)
+            × (self.new.kept.short ≡ self.old.kept.short)) }
+        ensures learned { OnOk result (AreShort bytes.now
+            → IsKnownShort self.new.kept (record { unit = unit; block = block })) }
+        ensures others { (other : BlockPlace)
+            → slot_of other ≢ slot_of (record { unit = unit; block = block })
+            → KeepsBlock self.old.kept other → KeepsBlock self.new.kept other }
+        ensures pieces { self.new.kept.whole.pieces ≡ self.old.kept.whole.pieces }
+        ensures lent { OnOk result (self.new.kept.lent ≡ self.old.kept.lent) }
+        ensures lost { OnErr result
+            (KeepsBlock self.new.kept (record { unit = unit; block = block }) → ⊥) }
         ensures writes { self.new.writes ≡ next_count self.old.writes }
         ensures kept { self.old.writes ≤ self.new.writes }
         ensures counted { self.new.faults ≡ count_after (is_err result) self.old.faults }

@@ -5,7 +5,7 @@
 //! fails only where a call of the files fails, and where they tell what they hold
 //! (`specs/Files.antt`), it reads and writes the right bytes, and a sync makes them last. The blocks
 //! that it brought last are kept, as many as 17 cylinders have, and go on being what the files hold
-//! (`specs/KeptBlocks.antt`).
+//! (`specs/KeptBlocks.antt`, `specs/SiteBlocks.antt`). Of one that ends in zeros its front is kept.
 //! That real files (`Folder`) are such files is trusted. All memory is taken when the site is made,
 //! so no call fails for want of it. `StdSource` and `StdSink` are a reader and a writer as a source
 //! and a sink, which tell where the reader and the writer do. What lies in the folder:
@@ -16,8 +16,11 @@ mod file_site;
 mod folder;
 mod kept_blocks;
 mod names;
+mod noted_places;
 mod paths;
 mod pieces;
+mod short_blocks;
+mod site_blocks;
 mod site_file;
 mod spoiled;
 mod std_sink;

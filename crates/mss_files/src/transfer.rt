@@ -37,7 +37,7 @@ fn read_once<F: UnitFiles>(
 }
 
 /// Makes all bytes zero.
-fn blank(bytes: &mut [u8])
+pub fn blank(bytes: &mut [u8])
     ensures { bytes.new ≡ replicate (length bytes.old) 0 }
 {
     bytes.fill(0);

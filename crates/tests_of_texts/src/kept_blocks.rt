@@ -54,9 +54,10 @@ impl UnitFiles for FewReads {
 }
 
 /// A call: `b` brings a block, `r` reads it and `h` its front, which then begins with these bytes, or fails where
-/// there are none; `w` writes them, behind as many bytes as stand there, or fails where the letter is `f`; `s`
-/// syncs the unit, which fails where the letter is `t`; any other letter is a sync of all, which fails. The unit is
-/// a copy of the table, or the first staging disk.
+/// there are none; `z` is as `b` of a block that ends in zeros; `w` writes them, behind as many bytes as stand
+/// there, or fails where the letter is `f`; `e` writes them at the end, and `n` a whole block that is zeros behind a
+/// seven; `s` syncs the unit, which fails where the letter is `t`; any other letter is a sync of all, which fails.
+/// The unit is a copy of the table, or the first staging disk.
 type Step = (u8, u8, u32, u16, &'static [u8]);
 
 const SEVENS: &[u8] = &[7, 7, 7];
@@ -64,6 +65,10 @@ const SEVENS: &[u8] = &[7, 7, 7];
 fn brings(site: &mut SevensSite, unit: UnitNo, block: u32, due: &[u8]) -> bool {
     let is_brought = site.bring(unit, block).is_ok();
     is_brought != due.is_empty() && (!is_brought || site.brought().starts_with(due))
+}
+
+fn brings_zeros(site: &mut SevensSite, unit: UnitNo, block: u32, due: &[u8]) -> bool {
+    brings(site, unit, block, due) && site.brought().ends_with(&[0, 0, 0])
 }
 
 fn reads(alloc: Global, site: &mut SevensSite, unit: UnitNo, block: u32, due: &[u8]) -> bool {
@@ -84,6 +89,18 @@ fn takes(site: &mut SevensSite, unit: UnitNo, block: u32, offset: u16, bytes: &[
     offset <= 1 && bytes.len() <= 100 && site.write(unit, block, offset, bytes).is_ok()
 }
 
+fn ends(site: &mut SevensSite, unit: UnitNo, block: u32, bytes: &[u8]) -> bool {
+    bytes.len() <= 100 && site.write(unit, block, 16_284, bytes).is_ok()
+}
+
+fn is_new(alloc: Global, site: &mut SevensSite, unit: UnitNo, block: u32) -> bool {
+    let Ok(mut bytes) = vec![in alloc; 0u8; 16384] else {
+        return false;
+    };
+    bytes[0] = 7;
+    site.write(unit, block, 0, &bytes).is_ok()
+}
+
 fn unit_of(letter: u8) -> UnitNo {
     match letter {
         b'A' => UnitNo::TableA,
@@ -101,6 +118,9 @@ fn is_done(alloc: Global, site: &mut SevensSite, step: &Step) -> bool {
         b'h' => begins(alloc, site, unit, block, bytes),
         b'w' => takes(site, unit, block, offset, bytes),
         b'f' => !takes(site, unit, block, offset, bytes),
+        b'z' => brings_zeros(site, unit, block, bytes),
+        b'e' => ends(site, unit, block, bytes),
+        b'n' => is_new(alloc, site, unit, block),
         b's' => site.sync(unit).is_ok(),
         b't' => site.sync(unit).is_err(),
         _ => site.sync_all().is_err(),
@@ -194,8 +214,23 @@ const SYNCED: [Step; 5] = [
     (b'b', b'B', 0, 0, SEVENS),
 ];
 
+/// Of a block that was written as a whole, and is zeros behind its front, the front alone is read, and kept with
+/// what is written into it. Behind a write at its end all of it is read.
+const SHORT: [Step; 10] = [
+    (b'n', b'A', 3, 0, &[]),
+    (b'z', b'A', 3, 0, SEVENS),
+    (b'z', b'A', 3, 0, SEVENS),
+    (b'w', b'A', 3, 1, b"row"),
+    (b'z', b'A', 3, 0, b"\x07row\x07"),
+    (b'r', b'A', 3, 0, b"\x07row\x07"),
+    (b'h', b'A', 3, 0, b"\x07row"),
+    (b'e', b'A', 3, 0, b"end"),
+    (b'b', b'A', 3, 0, SEVENS),
+    (b'b', b'A', 3, 0, SEVENS),
+];
+
 /// Calls, how many reads succeed, and how many faults there are then, and writes and syncs.
-const CALLS: [(&[Step], u8, u64, u64); 8] = [
+const CALLS: [(&[Step], u8, u64, u64); 9] = [
     (&AGAIN, 1, 0, 0),
     (&WRITTEN, 1, 0, 3),
     (&SIDE_BY_SIDE, 2, 0, 1),
@@ -204,6 +239,7 @@ const CALLS: [(&[Step], u8, u64, u64); 8] = [
     (&UNREAD, 1, 3, 0),
     (&UNWRITTEN, 1, 3, 2),
     (&SYNCED, 1, 2, 3),
+    (&SHORT, 2, 0, 3),
 ];
 
 #[test]

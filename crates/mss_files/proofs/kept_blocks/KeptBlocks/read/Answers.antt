@@ -1,11 +1,9 @@
-use Rattle.std.proofs.Common.{◌∙◌, ap₂}
-use Rattle.mss_files.specs.Blocks.{block_from}
+use Rattle.std.proofs.Common.{◌∙◌}
 use Rattle.mss_files.proofs.Keeping.{front_of}
 use Rattle.mss_files.proofs.kept_blocks.KeptBlocks.read.Goals as goal
 
 pub returns-then-keeps-clause-bytes : goal.returns-then-keeps-clause-bytes
 returns-then-keeps-clause-bytes g c = λ told.
     let keeps = c.keeps.ensures.there c.if-keeps.true in
-    let block = ap₂ block_from c.start_of.ensures.value c.deref.ensures.value in
     c.copy_from_slice.ensures.after
-    ∙ front_of _ _ _ _ c.requires.inside (c.block_from-block.ensures.bytes ∙ block ∙ (c.requires.held told _ keeps.stands).bytes)
+    ∙ front_of _ _ _ _ _ c.requires.inside (c.block-block.ensures.bytes ∙ (c.requires.held told _ keeps.stands).bytes)
