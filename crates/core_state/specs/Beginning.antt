@@ -1,5 +1,5 @@
 -- What every later moment of a session keeps: its beginning, and the writes before.
-use Rattle.std.specs.Prelude.{◌≡◌, ℕ, List}
+use Rattle.std.specs.Prelude.{◌≡◌, List}
 use Rattle.mss_base.specs.Content.{SiteLog, Item, Got}
 use Rattle.shown_volumes.specs.Shown.{RowsOf}
 use Rattle.core_state.specs.Agrees.{handed_rows}

@@ -1,5 +1,5 @@
 -- What a host's event answers, and the core that it leaves.
-use Rattle.std.specs.Prelude.{◌≡◌, ℕ, Bool, false, if◌then◌else◌, List, length, Option, Some, None}
+use Rattle.std.specs.Prelude.{◌≡◌, ℕ, Bool, if◌then◌else◌, List, length, Option, Some, None}
 use Rattle.std.specs.Prelude.{is_some}
 use Rattle.std.specs.Option.{ForSome, option_map}
 use Rattle.channel_commands.specs.declared.command.Command.{Command}

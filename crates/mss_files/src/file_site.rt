@@ -4,7 +4,7 @@ ghost use Rattle.std.specs.Prelude.{IfOk, OnOk, OnErr, string_bytes};
 ghost use Rattle.mss_base.specs.Counts.{HasCause, next_count, count_after};
 ghost use Rattle.mss_files.specs.Files.{file_place, bytes_at, ChangesOnly};
 ghost use Rattle.mss_files.specs.Noted.{slot_of};
-ghost use Rattle.mss_files.specs.ShortBlocks.{AreShort};
+ghost use Rattle.mss_files.specs.ShortBlocks.{AreShort, is_staging};
 ghost use Rattle.mss_files.specs.SiteBlocks.{KeepsBlock, IsKnownShort, SameKept, Shows, lent};
 ghost use Rattle.mss_base.specs.declared.place.BlockPlace.{BlockPlace};
 
@@ -196,10 +196,10 @@ impl<F: UnitFiles> Site for FileSite<F> {
         ensures only { F.tells → ChangesOnly unit (file_place block offset) (length bytes.now)
             (F.byte self.old.files) (F.byte self.new.files) }
         ensures stays { OnOk result (self.new.kept.whole.places ≡ self.old.kept.whole.places) }
-        ensures fronts { OnOk result (offset + length bytes.now ≤ 4096
+        ensures fronts { OnOk result (offset + length bytes.now ≤ 1024
             → (self.new.kept.fronts.places ≡ self.old.kept.fronts.places)
             × (self.new.kept.short ≡ self.old.kept.short)) }
-        ensures learned { OnOk result (AreShort bytes.now
+        ensures learned { OnOk result (is_staging unit ≡ true → AreShort bytes.now
             → IsKnownShort self.new.kept (record { unit = unit; block = block })) }
         ensures others { (other : BlockPlace)
             → slot_of other ≢ slot_of (record { unit = unit; block = block })

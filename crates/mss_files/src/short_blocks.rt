@@ -8,7 +8,7 @@ use mss_base::{BLOCK_BYTES, BlockPlace, NoMemory};
 use std::alloc::Global;
 
 /// How many bytes the front of a block has. A track of few records ends within them.
-pub const FRONT_BYTES: usize = 4_096;
+pub const FRONT_BYTES: usize = 1_024;
 
 /// A short block as a whole: its front, and the zeros behind it.
 #[derive(Drop)]
@@ -16,7 +16,7 @@ pub struct ShownBlock {
     place: Option<BlockPlace>,
     bytes: Vec<u8>,
     ghost whole: { length bytes.items ≡ 16384 },
-    ghost zeros: { drop 4096 bytes.items ≡ zeros_behind },
+    ghost zeros: { drop 1024 bytes.items ≡ zeros_behind },
 }
 
 fn zero_bytes(alloc: Global, count: usize) -> Result<Vec<u8>, NoMemory>
@@ -27,22 +27,35 @@ fn zero_bytes(alloc: Global, count: usize) -> Result<Vec<u8>, NoMemory>
 
 /// Puts the front of a block over the one that is here.
 fn put_front(block: &mut [u8], front: &[u8])
-    requires front { length front.now ≡ 4096 }
-    requires block { 4096 ≤ length block.old }
-    ensures { block.new ≡ front.now ++ drop 4096 block.old }
+    requires front { length front.now ≡ 1024 }
+    requires block { 1024 ≤ length block.old }
+    ensures { block.new ≡ front.now ++ drop 1024 block.old }
 {
     overwrite(block, 0, front);
 }
 
-/// Whether two blocks have the same bytes behind their fronts.
-fn is_same_behind(block: &[u8], other: &[u8]) -> bool
-    requires block { length block.now ≡ BLOCK_BYTES }
-    requires other { length other.now ≡ BLOCK_BYTES }
-    ensures { result ≡ true ↔ drop 4096 block.now ≡ drop 4096 other.now }
+/// Whether all bytes are zeros. The greatest of many bytes is found faster than the first that isn't zero.
+fn are_zeros(bytes: &[u8]) -> bool
+    ensures { result ≡ true ↔ bytes.now ≡ replicate (length bytes.now) 0 }
 {
-    let (_, behind) = block.split_at(FRONT_BYTES);
-    let (_, other_behind) = other.split_at(FRONT_BYTES);
-    behind == other_behind
+    let mut greatest = 0u8;
+    for byte in bytes {
+        if *byte > greatest {
+            greatest = *byte;
+        }
+    }
+    greatest == 0
+}
+
+/// Whether these are the bytes of a whole block that is short.
+pub fn is_short(bytes: &[u8]) -> bool
+    ensures { result ≡ true ↔ AreShort bytes.now }
+{
+    if bytes.len() != BLOCK_BYTES {
+        return false;
+    }
+    let (_, behind) = bytes.split_at(FRONT_BYTES);
+    are_zeros(behind)
 }
 
 impl ShownBlock {
@@ -72,7 +85,7 @@ impl ShownBlock {
 
     /// Shows the block of this place, of which this is the front.
     pub fn show(&mut self, place: &BlockPlace, front: &[u8])
-        requires { length front.now ≡ 4096 }
+        requires { length front.now ≡ 1024 }
         ensures place { self.new.place ≡ Some place.now }
         ensures bytes { (self.old.place ≡ Some place.now → ⊥)
             → self.new.bytes.items ≡ front.now ++ zeros_behind }
@@ -99,7 +112,7 @@ impl ShownBlock {
 
     /// Writes bytes into the front that is shown, if it is that of this place.
     pub fn patch(&mut self, place: &BlockPlace, offset: u16, bytes: &[u8])
-        requires { offset + length bytes.now ≤ 4096 }
+        requires { offset + length bytes.now ≤ 1024 }
         ensures place { self.new.place ≡ self.old.place }
         ensures here { self.old.place ≡ Some place.now
             → self.new.bytes.items ≡ take offset self.old.bytes.items
@@ -110,12 +123,5 @@ impl ShownBlock {
         if self.has(place) {
             overwrite(&mut self.bytes, offset, bytes);
         }
-    }
-
-    /// Whether these are the bytes of a whole block that is short.
-    pub fn is_short(&self, bytes: &[u8]) -> bool
-        ensures { result ≡ true ↔ AreShort bytes.now }
-    {
-        bytes.len() == BLOCK_BYTES && is_same_behind(bytes, &self.bytes)
     }
 }

@@ -4,16 +4,16 @@ ghost use Rattle.std.specs.Prelude.{None, Some, true, false};
 ghost use Rattle.std.specs.Prelude.{IsOk, IfOk, OnOk, OnErr};
 ghost use Rattle.mss_files.specs.Files.{file_place, bytes_at, FileBytes, ChangesOnly, GotBytes};
 ghost use Rattle.mss_files.specs.Noted.{slot_of};
-ghost use Rattle.mss_files.specs.ShortBlocks.{AreShort, zeros_behind};
+ghost use Rattle.mss_files.specs.ShortBlocks.{AreShort, is_staging, zeros_behind};
 ghost use Rattle.mss_files.specs.KeptBlocks.{Keeps};
 ghost use Rattle.mss_base.specs.declared.place.BlockPlace.{BlockPlace};
 
 use crate::UnitFiles;
 use crate::kept_blocks::{KeptBlocks, file_place};
 use crate::noted_places::NotedPlaces;
-use crate::short_blocks::{FRONT_BYTES, ShownBlock};
+use crate::short_blocks::{FRONT_BYTES, ShownBlock, is_short};
 use crate::transfer::{blank, write_all};
-use mss_base::{BLOCK_BYTES, BlockPlace, NoMemory};
+use mss_base::{BLOCK_BYTES, BlockPlace, NoMemory, UnitNo};
 use std::alloc::Global;
 use std::io;
 
@@ -21,7 +21,7 @@ use std::io;
 /// zeros behind it.
 ///
 /// A block is known to be short once it was written as a whole, as one is that is staged. Its front
-/// has a quarter of the bytes, so it is brought in a quarter of the pages.
+/// has a sixteenth of the bytes, so four of them are brought in a page.
 #[derive(Drop)]
 pub struct SiteBlocks {
     whole: KeptBlocks,
@@ -30,13 +30,20 @@ pub struct SiteBlocks {
     shown: ShownBlock,
     lent: Option<BlockPlace>,
     ghost whole_size: { whole.pieces.size ≡ 16384 },
-    ghost front_size: { fronts.pieces.size ≡ 4096 },
+    ghost front_size: { fronts.pieces.size ≡ 1024 },
     ghost stays: { (place : BlockPlace) → lent ≡ Some place → Keeps whole place },
+}
+
+/// Whether a unit is a staging disk. Hosts' commands bring blocks of these alone.
+fn is_staging(unit: &UnitNo) -> bool
+    ensures { result ≡ is_staging unit.now }
+{
+    matches!(unit, UnitNo::Staging(_))
 }
 
 /// Reads the front of a short block, as much as the buffer takes, and the zeros behind it.
 fn read_front(front: &[u8], into: &mut [u8])
-    requires front { length front.now ≡ 4096 }
+    requires front { length front.now ≡ 1024 }
     requires into { length into.old ≤ BLOCK_BYTES }
     ensures { into.new ≡ take (length into.old) (front.now ++ zeros_behind) }
 {
@@ -204,10 +211,11 @@ impl SiteBlocks {
         ensures only { F.tells → ChangesOnly place.now.unit (file_place place.now.block offset)
             (length bytes.now) (F.byte files.old) (F.byte files.new) }
         ensures stays { OnOk result (self.new.whole.places ≡ self.old.whole.places) }
-        ensures fronts { OnOk result (offset + length bytes.now ≤ 4096
+        ensures fronts { OnOk result (offset + length bytes.now ≤ 1024
             → (self.new.fronts.places ≡ self.old.fronts.places)
             × (self.new.short ≡ self.old.short)) }
-        ensures learned { OnOk result (AreShort bytes.now → IsKnownShort self.new place.now) }
+        ensures learned { OnOk result (is_staging place.now.unit ≡ true
+            → AreShort bytes.now → IsKnownShort self.new place.now) }
         ensures others { (other : BlockPlace) → slot_of other ≢ slot_of place.now
             → KeepsBlock self.old other → KeepsBlock self.new other }
         ensures pieces { self.new.whole.pieces ≡ self.old.whole.pieces }
@@ -236,10 +244,11 @@ impl SiteBlocks {
         ensures held { (old new : FileBytes) → GotBytes place.now offset bytes.now old new
             → AreHeld old self.old → AreHeld new self.new }
         ensures stays { self.new.whole.places ≡ self.old.whole.places }
-        ensures fronts { offset + length bytes.now ≤ 4096
+        ensures fronts { offset + length bytes.now ≤ 1024
             → (self.new.fronts.places ≡ self.old.fronts.places)
             × (self.new.short ≡ self.old.short) }
-        ensures learned { AreShort bytes.now → IsKnownShort self.new place.now }
+        ensures learned { is_staging place.now.unit ≡ true
+            → AreShort bytes.now → IsKnownShort self.new place.now }
         ensures others { (other : BlockPlace) → slot_of other ≢ slot_of place.now
             → KeepsBlock self.old other → KeepsBlock self.new other }
         ensures pieces { self.new.whole.pieces ≡ self.old.whole.pieces }
@@ -258,7 +267,8 @@ impl SiteBlocks {
 
     /// Notes whether a block is short that got these bytes, not in its front alone.
     fn learn(&mut self, place: &BlockPlace, bytes: &[u8])
-        ensures learned { AreShort bytes.now → IsKnownShort self.new place.now }
+        ensures learned { is_staging place.now.unit ≡ true
+            → AreShort bytes.now → IsKnownShort self.new place.now }
         ensures known { IsKnownShort self.new place.now → AreShort bytes.now }
         ensures others { (other : BlockPlace) → IsKnownShort self.new other
             → (place.now ≡ other → ⊥) → IsKnownShort self.old other }
@@ -269,7 +279,7 @@ impl SiteBlocks {
         ensures shown { self.new.shown ≡ self.old.shown }
         ensures lent { self.new.lent ≡ self.old.lent }
     {
-        if self.shown.is_short(bytes) {
+        if is_staging(&place.unit) && is_short(bytes) {
             self.short.note(place);
             return;
         }

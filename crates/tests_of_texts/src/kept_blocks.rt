@@ -217,16 +217,16 @@ const SYNCED: [Step; 5] = [
 /// Of a block that was written as a whole, and is zeros behind its front, the front alone is read, and kept with
 /// what is written into it. Behind a write at its end all of it is read.
 const SHORT: [Step; 10] = [
-    (b'n', b'A', 3, 0, &[]),
-    (b'z', b'A', 3, 0, SEVENS),
-    (b'z', b'A', 3, 0, SEVENS),
-    (b'w', b'A', 3, 1, b"row"),
-    (b'z', b'A', 3, 0, b"\x07row\x07"),
-    (b'r', b'A', 3, 0, b"\x07row\x07"),
-    (b'h', b'A', 3, 0, b"\x07row"),
-    (b'e', b'A', 3, 0, b"end"),
-    (b'b', b'A', 3, 0, SEVENS),
-    (b'b', b'A', 3, 0, SEVENS),
+    (b'n', b'S', 3, 0, &[]),
+    (b'z', b'S', 3, 0, SEVENS),
+    (b'z', b'S', 3, 0, SEVENS),
+    (b'w', b'S', 3, 1, b"row"),
+    (b'z', b'S', 3, 0, b"\x07row\x07"),
+    (b'r', b'S', 3, 0, b"\x07row\x07"),
+    (b'h', b'S', 3, 0, b"\x07row"),
+    (b'e', b'S', 3, 0, b"end"),
+    (b'b', b'S', 3, 0, SEVENS),
+    (b'b', b'S', 3, 0, SEVENS),
 ];
 
 /// Calls, how many reads succeed, and how many faults there are then, and writes and syncs.

@@ -1,4 +1,4 @@
-use Rattle.std.proofs.Common.{◌∙◌, ◌+◌, ◌++◌, arith, drop}
+use Rattle.std.proofs.Common.{◌∙◌, ◌+◌, arith, drop}
 use Rattle.report_text.specs.Texts.{numbered_lines, entry_text}
 use Rattle.report_text.proofs.LineLemmas.{puts_failed, line_waits, waiting_put}
 use Rattle.mss_base.proofs.Putting.{part_stops}

@@ -1,4 +1,4 @@
-use Rattle.std.proofs.Common.{◌≡◌, ◌++◌, ℕ, codes, decimal, sym, ◌∙◌, ap}
+use Rattle.std.proofs.Common.{◌++◌, ℕ, codes, decimal, sym, ◌∙◌, ap}
 use Rattle.std.specs.Fmt.{digits}
 use Rattle.report_text.proofs.text.host_text.Goals as goal
 

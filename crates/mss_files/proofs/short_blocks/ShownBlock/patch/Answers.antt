@@ -8,6 +8,6 @@ invariant_of-self-clause-zeros c =
     let block = c.deref_mut.result.now in
     let same = c.deref_mut.ensures.value in
     let long : length c.overwrite.new.block ≡ c.args.self.now.bytes.len = search rules in
-    let whole : 4096 ≤ length block = omega (arith, ap length same, c.args.self.now.whole) in
-    ap (drop 4096) (take_at c.overwrite.new.block _ _ long ∙ c.overwrite.ensures)
-    ∙ behind_stays 4096 c.args.offset block c.args.bytes.now c.requires whole ∙ ap (drop 4096) same ∙ c.args.self.now.zeros
+    let whole : 1024 ≤ length block = omega (arith, ap length same, c.args.self.now.whole) in
+    ap (drop 1024) (take_at c.overwrite.new.block _ _ long ∙ c.overwrite.ensures)
+    ∙ behind_stays 1024 c.args.offset block c.args.bytes.now c.requires whole ∙ ap (drop 1024) same ∙ c.args.self.now.zeros

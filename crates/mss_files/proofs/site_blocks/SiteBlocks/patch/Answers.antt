@@ -10,7 +10,7 @@ pub returns-then-offset-bytes-le-FRONT_BYTES-clause-held : goal.returns-then-off
 returns-then-offset-bytes-le-FRONT_BYTES-clause-held c = λ old new got held.
     let place = c.args.place.now in
     let kept = c.args.self.now in
-    let inside : c.args.offset + length c.args.bytes.now ≤ 4096 = c.if-offset-bytes-le-FRONT_BYTES.true in
+    let inside : c.args.offset + length c.args.bytes.now ≤ 1024 = c.if-offset-bytes-le-FRONT_BYTES.true in
     let fits : c.args.offset + length c.args.bytes.now ≤ kept.whole.pieces.size = omega (arith, kept.whole_size, c.requires) in
     let fits_front : c.args.offset + length c.args.bytes.now ≤ kept.fronts.pieces.size = omega (arith, kept.front_size, inside) in
     let whole = c.patch.ensures in
