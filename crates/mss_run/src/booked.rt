@@ -55,6 +55,13 @@ fn entry_at(history: &[Entry], place: usize) -> &Entry
     &history[place]
 }
 
+/// Whether no request is queued and no task is under way.
+fn is_at_rest<S: Site, C: Choose>(core: &Core<S, C>) -> bool {
+    let is_asked = core.requests.nth(0).is_some();
+    let is_taken = core.tasks.as_slice().iter().any(|task| task.is_some());
+    !is_asked && !is_taken
+}
+
 /// Tells book and pass of an event that was answered so. The history is the one after the event, and `before` its length
 /// before.
 fn told<N: Name>(
@@ -123,6 +130,12 @@ impl<N: Setup, S: Site, C: Choose> BookedCore<N, S, C> {
         ensures { result ≡ self.now.core.config.recorders }
     {
         self.copied.core().recorder_count()
+    }
+
+    /// Whether no request is queued and no task is under way. What a recorder finds to do then is its own cartridge at
+    /// most, which no host's reply gives it.
+    pub fn is_at_rest(&self) -> bool {
+        is_at_rest(self.copied.core())
     }
 
     /// One event of the pass's host, of which the book and the pass are told; and whether it is a wait that changed

@@ -37,6 +37,8 @@ use volume_copy::{Copier, CopyState};
 pub(crate) struct Held<N: Setup, S: Site, C: Choose> {
     session: BookedCore<N, S, C>,
     present: Presence,
+    /// How many hosts sleep.
+    asleep: u8,
 }
 
 /// What a copier does next, by what came of its hold.
@@ -66,6 +68,7 @@ impl<N: Setup, S: Site, C: Choose> Held<N, S, C> {
         Held {
             session: BookedCore::new(core, copier, book),
             present: Presence::nobody(),
+            asleep: 0,
         }
     }
 
@@ -128,6 +131,29 @@ impl<N: Setup, S: Site, C: Choose> Held<N, S, C> {
             return (pass, Some(answer), Some(helped));
         }
         (pass, Some(answer), None)
+    }
+
+    /// Whether what a host was answered may give another host or a recorder something to do. A reply gives none, where no
+    /// host sleeps, no request is queued and no task is under way.
+    pub fn may_stir(&self, answer: &Option<HostAnswer>) -> bool {
+        match answer {
+            Some(HostAnswer::Replied { .. }) => self.asleep > 0 || !self.session.is_at_rest(),
+            _ => true,
+        }
+    }
+
+    /// Counts a host that falls asleep.
+    pub fn lie_down(&mut self)
+        ensures { self.new ≡ record self.old { asleep = self.new.asleep } }
+    {
+        self.asleep = self.asleep.saturating_add(1);
+    }
+
+    /// Counts out a host that woke.
+    pub fn get_up(&mut self)
+        ensures { self.new ≡ record self.old { asleep = self.new.asleep } }
+    {
+        self.asleep = self.asleep.saturating_sub(1);
     }
 
     /// One event of the first recorder that has one and whose own worker isn't in.

@@ -2,7 +2,9 @@
 //
 // What an actor finds to do is a function of what the lock keeps. One that finds nothing sleeps from that very hold on,
 // and each hold that may give another something to do wakes all: an event, the leave of a host, the end of the run. So
-// nobody sleeps who would find something. Who comes in wakes nobody, since a host that is in only keeps workers from
+// nobody sleeps who would find something. One kind of event may not, and wakes nobody, since a call of the system for
+// each reply cost as much as a third of the event: a reply behind which no host sleeps, no request is queued and no task
+// is under way. A recorder then finds nothing but to give back its own cartridge, which a reply neither gives nor takes. Who comes in wakes nobody, since a host that is in only keeps workers from
 // leaving, and a worker takes over what hosts that wait would do. `command` and `work` wake nobody either: no actor
 // shares a core with their callers.
 //
@@ -39,6 +41,23 @@ impl<N: Setup, S: Site, C: Choose> Shared<N, S, C> {
         drop(held);
     }
 
+    /// The same of a host, which is counted while it sleeps.
+    fn sleep_host<R: Wait>(
+        &self,
+        rt: &R,
+        mut held: MutexGuard<'_, Held<N, S, C>>,
+        found: Option<WorkAnswer>,
+    )
+        requires { found ≡ Some Idle }
+    {
+        // The clause speaks of it; no code does.
+        let _ = found;
+        held.lie_down();
+        let mut held = self.changed.wait(rt, held);
+        held.get_up();
+        drop(held);
+    }
+
     /// Lets go of the lock and sleeps, until another actor wakes all. Only a copier may whose copy hasn't begun.
     fn sleep_copier<R: Wait>(&self, rt: &R, held: MutexGuard<'_, Held<N, S, C>>, turn: CopyTurn)
         requires { turn ≡ Waits }
@@ -55,6 +74,15 @@ impl<N: Setup, S: Site, C: Choose> Shared<N, S, C> {
         self.changed.notify_all();
     }
 
+    /// Lets go of the lock, and wakes all that sleep where it may give them something to do, or a copy is asked for.
+    fn wake_where(&self, may_stir: bool, held: MutexGuard<'_, Held<N, S, C>>) {
+        if may_stir || self.copies() {
+            self.wake(held);
+        } else {
+            drop(held);
+        }
+    }
+
     /// A host that found nothing to do, for itself or for a recorder, has slept.
     pub(crate) fn step<R: Wait>(
         &self,
@@ -67,8 +95,8 @@ impl<N: Setup, S: Site, C: Choose> Shared<N, S, C> {
         let mut held = self.held.lock(rt);
         let (pass, answer, helped) = held.step(&self.word, pass, call);
         match helped {
-            Some(WorkAnswer::Idle) => self.sleep(rt, held, helped),
-            _ => self.wake(held),
+            Some(WorkAnswer::Idle) => self.sleep_host(rt, held, helped),
+            _ => self.wake_where(held.may_stir(&answer), held),
         }
         (pass, answer, helped)
     }
