@@ -357,6 +357,8 @@ REPLACEMENT_STEPS = [
         BOTH_LEFT,
     ),
     (changed(0), REPLACEMENT.ends(8, "", 12, STOPPED), BOTH_LEFT),
+    # The front of its track was kept, and isn't any more behind a write of the whole block.
+    ([(READ, *FIRST_STAGED)], REPLACEMENT.ends(8, NO_LAST_SEARCH, 13, BOTH_LEFT), BOTH_LEFT),
     # Both cylinders are on their cartridge, where the report reads them.
     (reads(*FIRST_ON_CARTRIDGE)[:1], REPLACEMENT.ends(11, "", 13, CUT_BEFORE_THE_TRACK), BOTH_LEFT),
     (
@@ -572,10 +574,7 @@ def cut(volume, *record):
 SOUGHT = ["ccw 1F status 0C", "ccw 07 status 0C", "ccw 23 status 0C"]
 WRITTEN = ["ccw 31 status 4C", "ccw 1D status 0C"]
 NO_SEARCH = ["ccw 31 equipment check fault 1"]
-NO_WRITE = ["ccw 31 status 4C", "ccw 1D equipment check fault 1"]
 NOT_FOUND = ["ccw 31 status 0C", "ccw 31 status 0C", "ccw 31 status 0E"]
-NO_SECOND = ["ccw 31 status 0C", "ccw 31 equipment check fault 1"]
-NO_READ = ["ccw 31 status 0C", "ccw 31 status 4C", "ccw 06 equipment check fault 1"]
 
 
 def answers(host, written, found, last):
@@ -694,8 +693,9 @@ def cut_reads(volume, first, kept=None):
 
 # Four rows are created. Two recorders assign and stage side by side, and then one of them does for the third host. In
 # one round each host has its changed cylinder told, and in the next each writes its record. Each track is then looked
-# at three times, in turns. For the write and each look the first host and the third one read their tracks, which take
-# turns at being kept. The first host does all that once more, alone, so that its track is kept.
+# at three times, in turns. The tracks of the first host and the third one have one number by 323. They are kept side by
+# side all the same, since of the third one alone, which was staged last, it is known that it is short: the one is kept
+# whole, and of the other the front. The first host does all that once more, alone.
 HOST_STEPS = [
     *((created(volume), REFUSED, shown()) for volume in range(4)),
     (changed(0), *stops(12, 4)),
@@ -716,23 +716,16 @@ HOST_STEPS = [
     (changed(2), *stops(12, 9)),
     *(([track], *beside(host, NO_SEARCH, NOT_FOUND)) for host, track in enumerate(TRACKS, 1)),
     *((changed(host - 1), *stops_in_write(15, host, 9 + host)) for host in (1, 2, 3)),
-    (TRACKS[:1], *beside(1, NO_WRITE, NOT_FOUND)),
     *stopped_writes(15, 1, 13, (), FIRST_FRAME + 1),
     *stopped_writes(16, 2, 13, (0,), SECOND_FRAME + 1),
-    (TRACKS[2:], *beside(3, NO_WRITE, NOT_FOUND)),
     *stopped_writes(17, 3, 13, (0, 1), THIRD_FRAME + 1),
-    *(
-        ([track], *beside(host, WRITTEN, found))
-        for found in (NO_SEARCH, NO_SECOND, NO_READ)
-        for host, track in ((1, TRACKS[0]), (3, TRACKS[2]))
-    ),
     (changed(3), *stops(41, 13, (0, 1, 2))),
     ([*writes(FRAMES, FOURTH_FRAME), synced(FRAMES)], *beside(1, last=NO_SEARCH)),
     (changed(3), *stops(41, 14, (0, 1, 2))),
     ([(READ, FRAMES, FOURTH_FRAME + 1)], *beside(1, last=NO_SEARCH)),
     (changed(3), *stops_in_write(42, 1, 15, (0, 1, 2))),
     *stopped_writes(42, 1, 16, (0, 1, 2), FOURTH_FRAME + 1),
-    *cut_reads(0, FIRST_FRAME),
+    *cut_reads(0, FIRST_FRAME, kept=1),
     *cut_reads(1, SECOND_FRAME, kept=1),
     *cut_reads(2, THIRD_FRAME, kept=1),
     *cut_reads(3, FOURTH_FRAME, kept=1),
