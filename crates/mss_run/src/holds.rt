@@ -2,9 +2,9 @@
 //
 // What an actor finds to do is a function of what the lock keeps. One that finds nothing sleeps from that very hold on,
 // and each hold that may give another something to do wakes all: an event, the leave of a host, the end of the run. So
-// nobody sleeps who would find something. One kind of event may not, and wakes nobody, since a call of the system for
-// each reply cost as much as a third of the event: a reply behind which no host sleeps, no request is queued and no task
-// is under way. A recorder then finds nothing but to give back its own cartridge, which a reply neither gives nor takes. Who comes in wakes nobody, since a host that is in only keeps workers from
+// nobody sleeps who would find something. A reply wakes nobody where no host sleeps, no request is queued and no task is
+// under way: a recorder then finds nothing but to give back its own cartridge, which a reply neither gives nor takes. Who
+// comes in wakes nobody either, since a host that is in only keeps workers from
 // leaving, and a worker takes over what hosts that wait would do. `command` and `work` wake nobody either: no actor
 // shares a core with their callers.
 //
