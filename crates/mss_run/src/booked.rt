@@ -55,6 +55,12 @@ fn entry_at(history: &[Entry], place: usize) -> &Entry
     &history[place]
 }
 
+/// Whether a recorder has a task under way.
+fn has_task<S: Site, C: Choose>(core: &Core<S, C>, recorder: RecorderNo) -> bool {
+    let task = core.tasks.as_slice().get(usize::from(recorder.get()));
+    matches!(task, Some(Some(_)))
+}
+
 /// Whether no request is queued and no task is under way.
 fn is_at_rest<S: Site, C: Choose>(core: &Core<S, C>) -> bool {
     let is_asked = core.requests.nth(0).is_some();
@@ -136,6 +142,11 @@ impl<N: Setup, S: Site, C: Choose> BookedCore<N, S, C> {
     /// most, which no host's reply gives it.
     pub fn is_at_rest(&self) -> bool {
         is_at_rest(self.copied.core())
+    }
+
+    /// Whether a recorder has a task under way.
+    pub fn has_task(&self, recorder: RecorderNo) -> bool {
+        has_task(self.copied.core(), recorder)
     }
 
     /// One event of the pass's host, of which the book and the pass are told; and whether it is a wait that changed

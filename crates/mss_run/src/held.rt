@@ -1,4 +1,4 @@
-// What the lock keeps, and what an actor does in one hold of it.
+// What the lock keeps, and what an actor does at a time with it.
 ghost use Rattle.std.specs.Prelude.{◌≡◌, IfSome, None, Some, false, is_some, true};
 ghost use Rattle.std.specs.Option.{option_map};
 ghost use Rattle.channel_commands.specs.Views.{call_of};
@@ -25,7 +25,7 @@ use crate::booked::BookedCore;
 use crate::present::Presence;
 use crate::setup::Setup;
 use channel_commands::Call;
-use core_state::{Core, WorkAnswer};
+use core_state::{Core, WorkAnswer, WorkKind};
 use host_events::HostAnswer;
 use mss_base::{HostNo, RecorderNo, Site};
 use seen_book::{Book, HostPass, Word};
@@ -37,11 +37,11 @@ use volume_copy::{Copier, CopyState};
 pub(crate) struct Held<N: Setup, S: Site, C: Choose> {
     session: BookedCore<N, S, C>,
     present: Presence,
-    /// How many hosts sleep.
-    asleep: u8,
+    /// Whether a host sleeps that nobody has woken since.
+    sleeps: bool,
 }
 
-/// What a copier does next, by what came of its hold.
+/// What a copier does next, by what came of its take.
 #[derive(Clone, Copy)]
 pub(crate) enum CopyTurn {
     /// It took a track, and others are left.
@@ -54,7 +54,7 @@ pub(crate) enum CopyTurn {
     Lacks,
 }
 
-/// What one hold of an actor does: an event, or it counts, or it ends the run.
+/// What an actor does at a time with the lock held: an event, or it counts, or it ends the run.
 impl<N: Setup, S: Site, C: Choose> Held<N, S, C> {
     /// Before any actor is in.
     pub fn new(core: Core<S, C>, copier: Option<Copier>, book: Book<N>) -> Self
@@ -68,7 +68,7 @@ impl<N: Setup, S: Site, C: Choose> Held<N, S, C> {
         Held {
             session: BookedCore::new(core, copier, book),
             present: Presence::nobody(),
-            asleep: 0,
+            sleeps: false,
         }
     }
 
@@ -107,7 +107,7 @@ impl<N: Setup, S: Site, C: Choose> Held<N, S, C> {
 
     /// One event of the pass's host, unless the run has ended. Where that is a wait that changed nothing, one of a
     /// recorder whose own worker isn't in follows, and is answered too: idle, where no such recorder has work. So one
-    /// hold does one event at most that changes anything, and where it is idle none.
+    /// step does one event at most that changes anything, and where it is idle none.
     pub fn step(
         &mut self,
         word: &Word<N>,
@@ -133,27 +133,39 @@ impl<N: Setup, S: Site, C: Choose> Held<N, S, C> {
         (pass, Some(answer), None)
     }
 
-    /// Whether what a host was answered may give another host or a recorder something to do. A reply gives none, where no
-    /// host sleeps, no request is queued and no task is under way.
+    /// Whether what a host was answered may give another host or a recorder something to do. A reply gives none, where
+    /// no host sleeps, no request is queued and no task is under way.
     pub fn may_stir(&self, answer: &Option<HostAnswer>) -> bool {
         match answer {
-            Some(HostAnswer::Replied { .. }) => self.asleep > 0 || !self.session.is_at_rest(),
+            Some(HostAnswer::Replied { .. }) => self.sleeps || !self.session.is_at_rest(),
             _ => true,
         }
     }
 
-    /// Counts a host that falls asleep.
-    pub fn lie_down(&mut self)
-        ensures { self.new ≡ record self.old { asleep = self.new.asleep } }
-    {
-        self.asleep = self.asleep.saturating_add(1);
+    /// Whether what a recorder's turn came to may give another actor something to do. Where its task goes on, a request
+    /// that it picked, a cartridge that it fetched and a track that it copied give none: each only takes from what others
+    /// find. A frame that it assigned may be the last that isn't bound, which refuses space to a host that waits.
+    pub fn turn_may_stir(&self, recorder: RecorderNo, answer: &Option<WorkAnswer>) -> bool {
+        match answer {
+            Some(WorkAnswer::Did(WorkKind::Pick | WorkKind::Fetch | WorkKind::Copy)) => {
+                !self.session.has_task(recorder)
+            }
+            _ => true,
+        }
     }
 
-    /// Counts out a host that woke.
-    pub fn get_up(&mut self)
-        ensures { self.new ≡ record self.old { asleep = self.new.asleep } }
+    /// Notes that a host sleeps from here on.
+    pub fn lie_down(&mut self)
+        ensures { self.new ≡ record self.old { sleeps = true } }
     {
-        self.asleep = self.asleep.saturating_sub(1);
+        self.sleeps = true;
+    }
+
+    /// Notes that all hosts that sleep are being woken.
+    pub fn get_up(&mut self)
+        ensures { self.new ≡ record self.old { sleeps = false } }
+    {
+        self.sleeps = false;
     }
 
     /// One event of the first recorder that has one and whose own worker isn't in.

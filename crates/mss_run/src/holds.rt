@@ -1,16 +1,22 @@
-// The holds of actors: `Held` says what each does.
+// The events of actors, in their holds of the lock: `Held` says what each does.
 //
 // What an actor finds to do is a function of what the lock keeps. One that finds nothing sleeps from that very hold on,
-// and each hold that may give another something to do wakes all: an event, the leave of a host, the end of the run. So
-// nobody sleeps who would find something. A reply wakes nobody where no host sleeps, no request is queued and no task is
-// under way: a recorder then finds nothing but to give back its own cartridge, which a reply neither gives nor takes. Who
-// comes in wakes nobody either, since a host that is in only keeps workers from
-// leaving, and a worker takes over what hosts that wait would do. `command` and `work` wake nobody either: no actor
-// shares a core with their callers.
+// and what may give another something to do wakes all: an event, the leave of a host, the end of the run. So nobody
+// sleeps who would find something. Behind an event the lock may be kept for the actor's next one, since events are
+// short, and to hand the lock to another thread takes as long as some of them: who is woken comes when it is free.
+//
+// Two kinds of events wake nobody, since they give nobody anything to do. One is a reply, where no host sleeps, no
+// request is queued and no task is under way: a recorder then finds nothing but to give back its own cartridge, which a
+// reply neither gives nor takes. The other is what a recorder does towards a staging that goes on: a request that it
+// picks, a cartridge that it fetches and a track that it copies are its own from then on, and no other actor's rule asks
+// for more of them.
+//
+// Who comes in wakes nobody either, since a host that is in only keeps workers from leaving, and a worker takes over
+// what hosts that wait would do. Nor do `command` and `work`: no actor shares a core with their callers.
 //
 // A copier finds something as soon as its copy has begun, and has to leave when the last host does, or when the run
-// ends. A copy begins behind an entry, and each hold that adds one is an event, so each of these holds wakes it. Its
-// own takes wake nobody: a read of the devices gives no host and no worker anything to do. A host that waits may have
+// ends. A copy begins behind an entry, so where a copy is asked for each event of a host wakes all. The copier's own
+// takes wake nobody: a read of the devices gives no host and no worker anything to do. A host that waits may have
 // had a track taken before its call, and sleeps all the same: a copier that has begun doesn't sleep. Nor does the
 // copier's leave wake anybody, since nobody waits for it: it isn't counted in.
 ghost use Rattle.std.specs.Prelude.{◌≡◌, Some};
@@ -20,6 +26,7 @@ ghost use Rattle.mss_run.specs.Answers.{Stepped};
 ghost use Rattle.mss_run.specs.declared.held.CopyTurn.TheVariants.{Waits};
 
 use crate::held::{CopyTurn, Held};
+use crate::hold::Hold;
 use crate::setup::Setup;
 use crate::shared::Shared;
 use channel_commands::Call;
@@ -41,7 +48,7 @@ impl<N: Setup, S: Site, C: Choose> Shared<N, S, C> {
         drop(held);
     }
 
-    /// The same of a host, which is counted while it sleeps.
+    /// The same of a host, which is noted.
     fn sleep_host<R: Wait>(
         &self,
         rt: &R,
@@ -53,8 +60,7 @@ impl<N: Setup, S: Site, C: Choose> Shared<N, S, C> {
         // The clause speaks of it; no code does.
         let _ = found;
         held.lie_down();
-        let mut held = self.changed.wait(rt, held);
-        held.get_up();
+        let held = self.changed.wait(rt, held);
         drop(held);
     }
 
@@ -69,45 +75,59 @@ impl<N: Setup, S: Site, C: Choose> Shared<N, S, C> {
     }
 
     /// Lets go of the lock and wakes all that sleep.
-    fn wake(&self, held: MutexGuard<'_, Held<N, S, C>>) {
+    fn wake(&self, mut held: MutexGuard<'_, Held<N, S, C>>) {
+        held.get_up();
         drop(held);
         self.changed.notify_all();
     }
 
-    /// Lets go of the lock, and wakes all that sleep where it may give them something to do, or a copy is asked for.
-    fn wake_where(&self, may_stir: bool, held: MutexGuard<'_, Held<N, S, C>>) {
-        if may_stir || self.copies() {
-            self.wake(held);
-        } else {
-            drop(held);
+    /// Ends an event: wakes all that sleep, where it may give them something to do. The lock may be kept.
+    fn pause<'a>(
+        &'a self,
+        may_stir: bool,
+        hold: &mut Hold<'a, N, S, C>,
+        mut held: MutexGuard<'a, Held<N, S, C>>,
+    ) {
+        if may_stir {
+            held.get_up();
+            self.changed.notify_all();
         }
+        hold.keep(held);
     }
 
-    /// A host that found nothing to do, for itself or for a recorder, has slept.
-    pub(crate) fn step<R: Wait>(
-        &self,
+    /// One event of the pass's host in its hold. A host that found nothing to do, for itself or for a recorder, has
+    /// slept.
+    pub(crate) fn step<'a, R: Wait>(
+        &'a self,
         rt: &R,
+        hold: &mut Hold<'a, N, S, C>,
         pass: HostPass<N>,
         call: &Call,
     ) -> (HostPass<N>, Option<HostAnswer>, Option<WorkAnswer>)
         ensures { Stepped (call_of call.now) pass result.1 result.0 }
     {
-        let mut held = self.held.lock(rt);
+        let mut held = hold.begin(rt, &self.held);
         let (pass, answer, helped) = held.step(&self.word, pass, call);
         match helped {
             Some(WorkAnswer::Idle) => self.sleep_host(rt, held, helped),
-            _ => self.wake_where(held.may_stir(&answer), held),
+            _ => self.pause(self.copies() || held.may_stir(&answer), hold, held),
         }
         (pass, answer, helped)
     }
 
-    /// A worker that found nothing to do has slept.
-    pub(crate) fn turn<R: Wait>(&self, rt: &R, recorder: RecorderNo) -> Option<WorkAnswer> {
-        let mut held = self.held.lock(rt);
+    /// One event of a recorder in its worker's hold. A worker that found nothing to do has slept.
+    pub(crate) fn turn<'a, R: Wait>(
+        &'a self,
+        rt: &R,
+        hold: &mut Hold<'a, N, S, C>,
+        recorder: RecorderNo,
+    ) -> Option<WorkAnswer> {
+        let mut held = hold.begin(rt, &self.held);
         let answer = held.turn(recorder);
         match answer {
             Some(WorkAnswer::Idle) => self.sleep(rt, held, answer),
-            _ => self.wake(held),
+            Some(_) => self.pause(held.turn_may_stir(recorder, &answer), hold, held),
+            None => self.wake(held),
         }
         answer
     }
@@ -123,22 +143,41 @@ impl<N: Setup, S: Site, C: Choose> Shared<N, S, C> {
         turn
     }
 
-    pub(crate) fn enter_host<R: Wait>(&self, rt: &R, host: HostNo) {
-        self.held.lock(rt).enter_host(host);
+    pub(crate) fn enter_host<'a, R: Wait>(
+        &'a self,
+        rt: &R,
+        hold: &mut Hold<'a, N, S, C>,
+        host: HostNo,
+    ) {
+        let mut held = hold.begin(rt, &self.held);
+        held.enter_host(host);
+        hold.keep(held);
     }
 
-    pub(crate) fn leave_host<R: Wait>(&self, rt: &R, host: HostNo) {
-        let mut held = self.held.lock(rt);
+    pub(crate) fn leave_host<'a, R: Wait>(
+        &'a self,
+        rt: &R,
+        hold: &mut Hold<'a, N, S, C>,
+        host: HostNo,
+    ) {
+        let mut held = hold.begin(rt, &self.held);
         held.leave_host(host);
         self.wake(held);
     }
 
-    pub(crate) fn enter_worker<R: Wait>(&self, rt: &R, recorder: RecorderNo) {
-        self.held.lock(rt).enter_worker(recorder);
+    pub(crate) fn enter_worker<'a, R: Wait>(
+        &'a self,
+        rt: &R,
+        hold: &mut Hold<'a, N, S, C>,
+        recorder: RecorderNo,
+    ) {
+        let mut held = hold.begin(rt, &self.held);
+        held.enter_worker(recorder);
+        hold.keep(held);
     }
 
-    pub(crate) fn end<R: Wait>(&self, rt: &R) {
-        let mut held = self.held.lock(rt);
+    pub(crate) fn end<'a, R: Wait>(&'a self, rt: &R, hold: &mut Hold<'a, N, S, C>) {
+        let mut held = hold.begin(rt, &self.held);
         held.end();
         self.wake(held);
     }

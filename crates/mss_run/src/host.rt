@@ -5,6 +5,7 @@ ghost use Rattle.mss_run.specs.Owns.{Attempted, Called, Makes, attempt_of, place
 
 use crate::actor::{Actor, Gate, Point, Run};
 use crate::ends::Places;
+use crate::hold::Hold;
 use crate::setup::Setup;
 use channel_commands::{Call, Reply};
 use core_state::WorkAnswer;
@@ -106,12 +107,19 @@ impl<N: Name> Running<N> {
     }
 }
 
-impl<N: Setup, S: Site, C: Choose, G: Gate, R: Wait> Run<'_, N, S, C, G, R> {
+impl<'a, N: Setup, S: Site, C: Choose, G: Gate, R: Wait> Run<'a, N, S, C, G, R> {
     /// Passes the gate after what a host did for a recorder, if it did anything. False where the run has to end.
-    fn pass_helped(&self, host: HostNo, helped: Option<WorkAnswer>) -> bool {
+    fn pass_helped(
+        &self,
+        hold: &Hold<'a, N, S, C>,
+        host: HostNo,
+        helped: Option<WorkAnswer>,
+    ) -> bool {
         match helped {
             Some(WorkAnswer::Did(kind)) => {
-                self.gate.pass(Actor::Host(host), Point::Work(kind));
+                if hold.is_free() {
+                    self.gate.pass(Actor::Host(host), Point::Work(kind));
+                }
                 true
             }
             Some(WorkAnswer::Stopped { .. } | WorkAnswer::Memory) => false,
@@ -120,28 +128,38 @@ impl<N: Setup, S: Site, C: Choose, G: Gate, R: Wait> Run<'_, N, S, C, G, R> {
     }
 
     /// Tries a call once. A host that is told to wait works for a recorder that nobody works for, or sleeps.
-    fn try_call(&self, pass: HostPass<N>, call: &Call) -> (HostPass<N>, Attempt)
+    fn try_call(
+        &self,
+        hold: &mut Hold<'a, N, S, C>,
+        pass: HostPass<N>,
+        call: &Call,
+    ) -> (HostPass<N>, Attempt)
         ensures { Attempted (call_of call.now) pass result.1 result.0 }
     {
         let host = pass.host();
-        let (pass, answer, helped) = self.shared.step(self.rt, pass, call);
-        if is_point(&answer) {
+        let (pass, answer, helped) = self.shared.step(self.rt, hold, pass, call);
+        if hold.is_free() && is_point(&answer) {
             self.gate.pass(Actor::Host(host), Point::Host(host));
         }
-        let goes_on = self.pass_helped(host, helped);
+        let goes_on = self.pass_helped(hold, host, helped);
         let attempt = attempt_of(answer, goes_on);
         if matches!(attempt, Attempt::Halted) {
-            self.shared.end(self.rt);
+            self.shared.end(self.rt, hold);
         }
         (pass, attempt)
     }
 
     /// Makes a call until it is replied. None where the run has ended.
-    fn call_until_replied(&self, mut pass: HostPass<N>, call: &Call) -> (HostPass<N>, Option<Told>)
+    fn call_until_replied(
+        &self,
+        hold: &mut Hold<'a, N, S, C>,
+        mut pass: HostPass<N>,
+        call: &Call,
+    ) -> (HostPass<N>, Option<Told>)
         ensures { Called (call_of call.now) pass result.1 result.0 }
     {
         for _ in self.rt.forever() {
-            let (next, attempt) = self.try_call(pass, call);
+            let (next, attempt) = self.try_call(hold, pass, call);
             match attempt {
                 Attempt::Again => pass = next,
                 Attempt::Replied(told) => return (next, Some(told)),
@@ -152,16 +170,21 @@ impl<N: Setup, S: Site, C: Choose, G: Gate, R: Wait> Run<'_, N, S, C, G, R> {
     }
 
     /// Makes a host's call, for whose place it takes room first. None where the run has ended.
-    pub fn make_call(&self, running: Running<N>, call: &Call) -> (Running<N>, Option<Reply>)
+    pub fn make_call(
+        &self,
+        hold: &mut Hold<'a, N, S, C>,
+        running: Running<N>,
+        call: &Call,
+    ) -> (Running<N>, Option<Reply>)
         ensures { Makes (call_of call.now) running result.1 result.0 }
     {
         let Running { pass, mut own } = running;
         if own.reserve(1).is_err() {
-            self.shared.end(self.rt);
+            self.shared.end(self.rt, hold);
             return (Running::over(pass, own), None);
         }
         let _before = pass.host();
-        let (pass, told) = self.call_until_replied(pass, call);
+        let (pass, told) = self.call_until_replied(hold, pass, call);
         let _after = pass.host();
         match told {
             Some(told) => {

@@ -7,9 +7,10 @@
 //!
 //! `run_actors` runs each host and each recorder of a job as an actor of its own. It tells of each host which places of
 //! the history are its own, and whether what it was told there follows its script to the end, and what ended the run
-//! (`specs/Owns.antt`, `specs/Runs.antt`). The loops call a `Gate` between events, with the lock free. An actor's hold of
-//! the lock is one event, or a host's wait that changed nothing and one event of a recorder behind it; who is in stands
-//! in the lock beside the core (`specs/Presence.antt`).
+//! (`specs/Owns.antt`, `specs/Runs.antt`). An actor's step is one event, or a host's wait that changed nothing and one
+//! event of a recorder behind it. Steps of one actor may share a hold of the lock. The loops call a `Gate` between holds,
+//! with the lock free. Who is in stands in the lock beside the core
+//! (`specs/Presence.antt`).
 //!
 //! Where a copy of a volume is asked for, a copier stands beside the core under the lock, and is an actor more. It
 //! comes back for the copy that was asked for, and stands for the session.
@@ -26,6 +27,7 @@ mod copying;
 mod ends;
 mod event;
 mod held;
+mod hold;
 mod holds;
 mod host;
 pub mod law;

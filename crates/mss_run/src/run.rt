@@ -26,6 +26,7 @@ ghost use Rattle.mss_run.specs.Runs.{
 
 use crate::actor::{Actor, Gate, Point, Run};
 use crate::ends::{HostEnd, HostEnds, RunAnswer, RunEnd};
+use crate::hold::Hold;
 use crate::host::Running;
 use crate::setup::Setup;
 use crate::shared::Shared;
@@ -48,12 +49,13 @@ impl<N: Setup, S: Site, C: Choose, G: Gate, R: Wait> Run<'_, N, S, C, G, R> {
     {
         let host = pass.host();
         self.gate.pass(Actor::Host(host), Point::Enter);
-        self.shared.enter_host(self.rt, host);
+        let mut hold = Hold::new(self.gate.events_in_a_hold());
+        self.shared.enter_host(self.rt, &mut hold, host);
         let running = Running::start(self.alloc, pass);
-        let (running, finished) = self.run_script(running, script.items.as_slice());
+        let (running, finished) = self.run_script(&mut hold, running, script.items.as_slice());
         let (pass, own) = running.into_parts();
         let _after = pass.host();
-        self.shared.leave_host(self.rt, host);
+        self.shared.leave_host(self.rt, &mut hold, host);
         self.gate.pass(Actor::Host(host), Point::Leave);
         let end = HostEnd {
             host,
@@ -117,7 +119,8 @@ impl<
     G: Gate + Sync,
     R: Threads + Wait + Sync,
 > Run<'_, N, S, C, G, R> {
-    /// Each host of these scripts in a thread of its own. The list of ends has room for all of them.
+    /// Each host of these scripts in a thread of its own, the first one in the caller's. The list of ends has room for all
+    /// of them.
     fn run_hosts(
         &self,
         scripts: &[HostScript],
@@ -135,6 +138,10 @@ impl<
             return (passes, ends);
         };
         let pass = take_pass(script, rest, &mut passes);
+        if rest.is_empty() {
+            let (pass, end) = self.run_host(script, pass);
+            return with_run(script, rest, passes, ends, pass, end);
+        }
         let (first, others) = join(
             self.rt,
             || -> (HostPass<N>, HostEnd)
@@ -155,7 +162,7 @@ impl<
         with_run(script, rest, passes, ends, pass, end)
     }
 
-    /// Each of the first so many recorders in a thread of its own.
+    /// Each of the first so many recorders in a thread of its own, recorder 0 in the caller's.
     fn run_workers(&self, count: u8) {
         if count == 0 {
             return;
@@ -164,6 +171,9 @@ impl<
         let Some(recorder) = RecorderNo::of(below) else {
             return;
         };
+        if below == 0 {
+            return self.work_for(recorder);
+        }
         join(
             self.rt,
             || self.work_for(recorder),
@@ -189,7 +199,8 @@ impl<
         );
     }
 
-    /// Hosts and recorders side by side, and the copier, where a copy is asked for.
+    /// Hosts and recorders side by side, and the copier, where a copy is asked for. The recorders begin a thread later: one
+    /// that comes while no host is in leaves, and then hosts do its work.
     fn run_all(
         &self,
         scripts: &[HostScript],
@@ -202,18 +213,18 @@ impl<
         ensures { AreRuns scripts.now result.0.items result.1.items }
     {
         let recorders = self.shared.recorders();
-        let (ended, _) = join(
+        let (_, ended) = join(
             self.rt,
+            ||
+                requires { IsSync R.row × IsSend N.row × IsSync N.row × IsSend S.row × IsSend C.row
+                    × IsSync G.row }
+            { self.run_others(recorders) },
             || -> (PassList<N>, HostEnds)
                 requires { IsSync R.row × IsSend N.row × IsSync N.row × IsSend S.row × IsSend C.row
                     × IsSync G.row × AreStarts scripts.now passes.items
                     × (length passes.items ≤ ends.spare) × (ends.items ≡ []) }
                 ensures { AreRuns scripts.entry.now result.0.items result.1.items }
             { self.run_hosts(scripts, passes, ends) },
-            ||
-                requires { IsSync R.row × IsSend N.row × IsSync N.row × IsSend S.row × IsSend C.row
-                    × IsSync G.row }
-            { self.run_others(recorders) },
         );
         ended
     }

@@ -7,6 +7,7 @@ ghost use Rattle.mss_run.specs.Owns.{asked_by, exchanges_by};
 ghost use Rattle.mss_run.specs.Walks.{HasWalked, WalksOn};
 
 use crate::actor::{Gate, Run};
+use crate::hold::Hold;
 use crate::host::Running;
 use crate::setup::Setup;
 use job_text::Item;
@@ -15,11 +16,12 @@ use script_places::{Place, due_call, entered, pass};
 use std::sync::Wait;
 use victim_choice::Choose;
 
-impl<N: Setup, S: Site, C: Choose, G: Gate, R: Wait> Run<'_, N, S, C, G, R> {
+impl<'a, N: Setup, S: Site, C: Choose, G: Gate, R: Wait> Run<'a, N, S, C, G, R> {
     /// Makes the next call of a script. None where the script goes on behind its reply; else whether the script is
     /// finished: it isn't where the run has ended.
     fn step_script(
         &self,
+        hold: &mut Hold<'a, N, S, C>,
         running: Running<N>,
         items: &[Item],
         place: &mut Place,
@@ -29,13 +31,13 @@ impl<N: Setup, S: Site, C: Choose, G: Gate, R: Wait> Run<'_, N, S, C, G, R> {
         ensures host { result.0.host ≡ running.host }
     {
         let Ok(due) = due_call(items, place) else {
-            self.shared.end(self.rt);
+            self.shared.end(self.rt, hold);
             return (running, Some(false));
         };
         let Some(call) = due else {
             return (running, Some(true));
         };
-        let (now, reply) = self.make_call(running, &call);
+        let (now, reply) = self.make_call(hold, running, &call);
         let Some(reply) = reply else {
             return (now, Some(false));
         };
@@ -44,7 +46,12 @@ impl<N: Setup, S: Site, C: Choose, G: Gate, R: Wait> Run<'_, N, S, C, G, R> {
     }
 
     /// Runs a host's script from its first item. False where the run ended before the script.
-    pub fn run_script(&self, mut running: Running<N>, items: &[Item]) -> (Running<N>, bool)
+    pub fn run_script(
+        &self,
+        hold: &mut Hold<'a, N, S, C>,
+        mut running: Running<N>,
+        items: &[Item],
+    ) -> (Running<N>, bool)
         requires begins { exchanges_by running ≡ [] }
         requires unasked { asked_by running ≡ [] }
         ensures ends { EndsScript (map item_of items.now) (exchanges_by result.0) result.1 }
@@ -53,7 +60,7 @@ impl<N: Setup, S: Site, C: Choose, G: Gate, R: Wait> Run<'_, N, S, C, G, R> {
     {
         let mut place = entered(items, 0);
         for _ in self.rt.forever() {
-            let (now, end) = self.step_script(running, items, &mut place);
+            let (now, end) = self.step_script(hold, running, items, &mut place);
             match end {
                 None => running = now,
                 Some(finished) => return (now, finished),

@@ -22,7 +22,8 @@ use std::sync::{Condvar, Mutex, Wait};
 use victim_choice::Choose;
 use volume_copy::Copier;
 
-/// A core that hosts and recorders share. Each call does what it does in one hold of the one lock.
+/// A core that hosts and recorders share. Each call does what it does in one hold of the one lock, which actors may keep
+/// for their next.
 #[derive(Drop)]
 pub struct Shared<N: Setup, S: Site, C: Choose> {
     pub(crate) word: Word<N>,

@@ -166,4 +166,8 @@ impl Gate for RuleGate {
             }
         }
     }
+
+    fn events_in_a_hold(&self) -> u8 {
+        1
+    }
 }

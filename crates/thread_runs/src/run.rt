@@ -135,7 +135,7 @@ fn play_on<S: Site + Send, C: Choose + Drop + Send, G: Gate + Sync, R: Threads +
 ///
 /// A site that a session left, stopped at whatever moment, is taken up; one with another fault is refused by the
 /// first, untouched, and handed back. The session's history is that of plain volumes, whatever the order in which the
-/// threads came; in it each host's entries are those that it was told of. All actors pass the gate between events. Where
+/// threads came; in it each host's entries are those that it was told of. All actors pass the gate between holds. Where
 /// nothing but reads can fail, the session isn't stopped.
 pub fn run_at_once<
     S: Site + Send,

@@ -7,4 +7,4 @@ pub take_pass-pass-requires : goal.take_pass-pass-requires
 take_pass-pass-requires g n c = subst (λ (l : List ScriptData). AreStarts l c.args.passes.items) c.in-Some.ensures.cases.0 c.requires.starts
 
 pub returns-clause-runs : goal.returns-clause-runs
-returns-clause-runs g n c = subst (λ (l : List ScriptData). AreRuns l c.with_run.result.0.items c.with_run.result.1.items) (sym c.in-Some.ensures.cases.0) c.with_run.ensures.runs
+returns-clause-runs g n c = subst (λ (l : List ScriptData). AreRuns l c.with_run-2.result.0.items c.with_run-2.result.1.items) (sym c.in-Some.ensures.cases.0) c.with_run-2.ensures.runs
