@@ -17,6 +17,7 @@ use Rattle.core_state.specs.StopRule.{opening}
 use Rattle.core_state.proofs.EntryLemmas.{opening_same}
 use Rattle.host_events.specs.Leaves.{ChangesRequestAtMost, KeepsHistory, AddsEntry, EntersAsTold}
 use Rattle.host_events.specs.Causes.{CauseOf, CauseOfReply}
+use Rattle.quiet_events.specs.Quiet.{WaitsInVain}
 use Rattle.mss_run.specs.Happens.{Enters, EntersStop, Happens, IsSameButRead, is_in_vain}
 
 -- ---- the history
@@ -60,6 +61,16 @@ module _ (tells : Type 0) (core : CoreData) (h : ℕ) (call : CallData) (core' :
   vain (halts fault) event is = absurd cc
   vain at_limit event is = absurd cc
   vain no_memory event is = absurd cc
+
+-- and was in vain
+module _ (tells : Type 0) (core : CoreData) (h : ℕ) (call : CallData) (core' : CoreData) (law : (w : Waiting) → HostEvent tells core h call (waits w) core' → length core'.events ≡ length core.events → WaitsInVain core h call) where
+  pub waits_vain : (told : HostTold) → HostEvent tells core h call told core' → is_in_vain told (length core.events) (length core'.events) ≡ true → WaitsInVain core h call
+  waits_vain (waits w) event is = law w event (eqb-true (length core'.events) (length core.events) is)
+  waits_vain (replied index reply) event is = absurd cc
+  waits_vain marked event is = absurd cc
+  waits_vain (halts fault) event is = absurd cc
+  waits_vain at_limit event is = absurd cc
+  waits_vain no_memory event is = absurd cc
 
 pub same_none : (tells : Type 0) (core : CoreData) → IsSame tells core core
 same_none tells core = (record { told = λ t. refl; unwritten = refl; sound = refl }, refl)

@@ -4,3 +4,4 @@ pub mod OwnPlaces
 pub mod WalkFacts
 pub mod RunFacts
 pub mod GoingOn
+pub mod NoneLeft

@@ -6,3 +6,4 @@ pub mod Answers
 pub mod Owns
 pub mod Runs
 pub mod Walks
+pub mod Sleep

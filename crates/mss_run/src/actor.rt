@@ -34,8 +34,8 @@ pub enum Point {
 pub trait Gate {
     fn pass(&self, actor: Actor, point: Point);
 
-    /// How many events of one actor may stand in one hold of the lock. It passes behind the last. Where it is 0 or 1, it
-    /// passes behind each.
+    /// How many events of one actor may stand in one hold of the lock. It passes behind the last. Where it is 0 or 1,
+    /// it passes behind each.
     fn events_in_a_hold(&self) -> u8;
 }
 

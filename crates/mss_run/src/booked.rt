@@ -1,15 +1,26 @@
 // A core, a copier beside it, and the book of its history.
-ghost use Rattle.std.specs.Prelude.{◌≡◌, ◌≤◌, ◌<◌, IfOk, IfSome, OnErr, OnOk, is_some, length, slice_get};
-ghost use Rattle.std.specs.Prelude.{true, Some};
+ghost use Rattle.std.specs.Prelude.{◌≡◌, ◌≤◌, ◌<◌, IfOk, IfSome, OnErr, OnOk, length, slice_get};
+ghost use Rattle.std.specs.Prelude.{true, Some, is_some};
+ghost use Rattle.std.specs.List.{list_any};
 ghost use Rattle.std.specs.Option.{option_map};
 ghost use Rattle.channel_commands.specs.Views.{call_of};
 ghost use Rattle.seen_book.specs.Openings.{IsLegalFrom};
 ghost use Rattle.host_events.specs.Answers.{told_of};
 ghost use Rattle.core_state.specs.CoreValue.{seen_core};
 ghost use Rattle.core_state.specs.HostEvents.{IsSame};
+ghost use Rattle.core_state.specs.Pins.{task_at};
 ghost use Rattle.core_state.specs.declared.rule.WorkAnswer.TheVariants.{Idle};
 ghost use Rattle.core_state.specs.declared.session.TheConstants.{ENTRY_LIMIT};
 ghost use Rattle.volume_copy.specs.Beside.{IsReadyFor, ReadsBeside, StandsBeside, TakesBeside, asked_copy};
+ghost use Rattle.quiet_events.specs.Quiet.{
+  GivesNoWork,
+  GivesOthersNothing,
+  GoesOnAlone,
+  HasNoWork,
+  RestsBehind,
+  WaitsInVain,
+  is_at_rest,
+};
 ghost use Rattle.mss_run.specs.Answers.{Answered};
 ghost use Rattle.mss_run.specs.Beginning.{OpensWith};
 ghost use Rattle.mss_run.specs.Happens.{Happens, IsSameButRead};
@@ -18,7 +29,7 @@ use crate::event::{entries_beside, host_step, work_step};
 use crate::setup::Setup;
 use channel_commands::Call;
 use ckd_plain::Entry;
-use core_state::{Core, WorkAnswer};
+use core_state::{Core, Task, WorkAnswer};
 use host_events::HostAnswer;
 use mss_base::{NoMemory, RecorderNo, Site};
 use seen_book::{Book, HostPass, Name, Word, append, see};
@@ -55,21 +66,29 @@ fn entry_at(history: &[Entry], place: usize) -> &Entry
     &history[place]
 }
 
-/// Whether a recorder has a task under way.
-fn has_task<S: Site, C: Choose>(core: &Core<S, C>, recorder: RecorderNo) -> bool {
-    let task = core.tasks.as_slice().get(usize::from(recorder.get()));
-    matches!(task, Some(Some(_)))
+/// Whether a recorder has a task.
+fn has_task<S: Site, C: Choose>(core: &Core<S, C>, recorder: RecorderNo) -> bool
+    ensures { result ≡ is_some (task_at core.now.tasks recorder) }
+{
+    core.task(recorder).is_some()
 }
 
-/// Whether no request is queued and no task is under way.
-fn is_at_rest<S: Site, C: Choose>(core: &Core<S, C>) -> bool {
-    let is_asked = core.requests.nth(0).is_some();
-    let is_taken = core.tasks.as_slice().iter().any(|task| task.is_some());
-    !is_asked && !is_taken
+/// Whether any of these recorders has a task.
+fn is_any_at_work(tasks: &[Option<Task>]) -> bool
+    ensures { result ≡ list_any (λ task. is_some task) tasks.now }
+{
+    tasks.iter().any(|task| task.is_some())
 }
 
-/// Tells book and pass of an event that was answered so. The history is the one after the event, and `before` its length
-/// before.
+/// Whether no host has a request, and no recorder a task.
+fn is_at_rest<S: Site, C: Choose>(core: &Core<S, C>) -> bool
+    ensures { result ≡ is_at_rest (seen_core S.Site core.now) }
+{
+    core.requests.nth(0).is_none() && !is_any_at_work(core.tasks.as_slice())
+}
+
+/// Tells book and pass of an event that was answered so. The history is the one after the event, and `before` its
+/// length before.
 fn told<N: Name>(
     word: &Word<N>,
     book: Book<N>,
@@ -131,21 +150,25 @@ impl<N: Setup, S: Site, C: Choose> BookedCore<N, S, C> {
         (core, copier, book)
     }
 
-    /// How many recorders are configured.
+    /// How many recorders are configured, 1 to 8.
     pub fn recorders(&self) -> u8
-        ensures { result ≡ self.now.core.config.recorders }
+        ensures count { result ≡ self.now.core.config.recorders }
+        ensures few { result ≤ 8 }
     {
         self.copied.core().recorder_count()
     }
 
-    /// Whether no request is queued and no task is under way. What a recorder finds to do then is its own cartridge at
-    /// most, which no host's reply gives it.
-    pub fn is_at_rest(&self) -> bool {
+    /// Whether no host has a request, and no recorder a task.
+    pub fn is_at_rest(&self) -> bool
+        ensures { result ≡ is_at_rest (seen_core S.Site self.now.core) }
+    {
         is_at_rest(self.copied.core())
     }
 
-    /// Whether a recorder has a task under way.
-    pub fn has_task(&self, recorder: RecorderNo) -> bool {
+    /// Whether a recorder has a task.
+    pub fn has_task(&self, recorder: RecorderNo) -> bool
+        ensures { result ≡ is_some (task_at self.now.core.tasks recorder) }
+    {
         has_task(self.copied.core(), recorder)
     }
 
@@ -161,6 +184,10 @@ impl<N: Setup, S: Site, C: Choose> BookedCore<N, S, C> {
         ensures in_vain { result.2 ≡ true
             → IsSameButRead (is_some (asked_copy self.old.copier)) S.tells
             (seen_core S.Site self.old.core) (seen_core S.Site self.new.core) }
+        ensures waits { result.2 ≡ true
+            → WaitsInVain (seen_core S.Site self.new.core) pass.host (call_of call.now) }
+        ensures rests { RestsBehind (told_of result.1) (seen_core S.Site self.new.core)
+            → GivesNoWork (seen_core S.Site self.old.core) (seen_core S.Site self.new.core) }
         ensures copier { asked_copy self.new.copier ≡ asked_copy self.old.copier }
     {
         let host = pass.host();
@@ -180,6 +207,11 @@ impl<N: Setup, S: Site, C: Choose> BookedCore<N, S, C> {
     pub fn work(&mut self, recorder: RecorderNo) -> WorkAnswer
         ensures idle { result ≡ Idle → IsSame S.tells
             (seen_core S.Site self.old.core) (seen_core S.Site self.new.core) }
+        ensures rests { result ≡ Idle → recorder < self.old.core.config.recorders
+            → HasNoWork (seen_core S.Site self.new.core) recorder }
+        ensures alone { GoesOnAlone (seen_core S.Site self.new.core) recorder result
+            → GivesOthersNothing recorder (seen_core S.Site self.old.core)
+            (seen_core S.Site self.new.core) }
         ensures copier { asked_copy self.new.copier ≡ asked_copy self.old.copier }
     {
         if recorder.get() >= self.recorders() {

@@ -12,6 +12,14 @@ ghost use Rattle.core_state.specs.declared.rule.WorkAnswer.TheVariants.{Idle};
 ghost use Rattle.core_state.specs.declared.session.TheConstants.{ENTRY_LIMIT};
 ghost use Rattle.host_events.specs.Answers.{told_of};
 ghost use Rattle.volume_copy.specs.Beside.{asked_copy};
+ghost use Rattle.quiet_events.specs.Quiet.{
+  GivesNoWork,
+  GivesOthersNothing,
+  GoesOnAlone,
+  HasNoWork,
+  RestsBehind,
+  WaitsInVain,
+};
 ghost use Rattle.mss_run.specs.Happens.{Happens, IsSameButRead, is_in_vain};
 
 use channel_commands::Call;
@@ -22,6 +30,10 @@ use host_events::law::{
     waits_change_requests_alone,
 };
 use mss_base::{HostNo, RecorderNo, Site};
+use quiet_events::law::{
+    own_work_gives_others_nothing, replies_at_rest_give_no_work,
+    waits_that_put_nothing_down_are_in_vain,
+};
 use victim_choice::Choose;
 use volume_copy::CopiedCore;
 use work_events::law::{
@@ -75,8 +87,8 @@ fn is_in_vain(answer: &HostAnswer, before: usize, after: usize) -> bool
     }
 }
 
-/// One event of a host: what it adds to the history, and that it leaves a later moment of the session; and whether it is
-/// a wait that changed nothing.
+/// One event of a host: what it adds to the history, and that it leaves a later moment of the session; and whether it
+/// is a wait that changed nothing.
 pub(crate) fn host_step<S: Site, C: Choose>(
     copied: &mut CopiedCore<S, C>,
     host: HostNo,
@@ -87,6 +99,10 @@ pub(crate) fn host_step<S: Site, C: Choose>(
     ensures in_vain { result.1 ≡ true
         → IsSameButRead (is_some (asked_copy copied.old.copier)) S.tells
         (seen_core S.Site copied.old.core) (seen_core S.Site copied.new.core) }
+    ensures waits { result.1 ≡ true
+        → WaitsInVain (seen_core S.Site copied.new.core) host (call_of call.now) }
+    ensures rests { RestsBehind (told_of result.0) (seen_core S.Site copied.new.core)
+        → GivesNoWork (seen_core S.Site copied.old.core) (seen_core S.Site copied.new.core) }
     ensures later { IsLater S.tells (seen_core S.Site copied.old.core)
         (seen_core S.Site copied.new.core) }
     ensures sound { StaysSound S.never_fails_but copied.old.core.site copied.new.core.site }
@@ -98,6 +114,8 @@ pub(crate) fn host_step<S: Site, C: Choose>(
     answers_have_their_causes::<S>();
     events_are_later::<S>();
     waits_change_requests_alone::<S>();
+    waits_that_put_nothing_down_are_in_vain::<S>();
+    replies_at_rest_give_no_work::<S>();
     let _entries = entries_beside(copied);
     let before = events_of(copied);
     let answer = copied.host_event(host, call);
@@ -115,6 +133,10 @@ pub(crate) fn work_step<S: Site, C: Choose>(
     ensures history { copied.new.core.history ≡ copied.old.core.history }
     ensures idle { result ≡ Idle → IsSame S.tells (seen_core S.Site copied.old.core)
         (seen_core S.Site copied.new.core) }
+    ensures rests { result ≡ Idle → HasNoWork (seen_core S.Site copied.new.core) recorder }
+    ensures alone { GoesOnAlone (seen_core S.Site copied.new.core) recorder result
+        → GivesOthersNothing recorder (seen_core S.Site copied.old.core)
+        (seen_core S.Site copied.new.core) }
     ensures later { IsLater S.tells (seen_core S.Site copied.old.core)
         (seen_core S.Site copied.new.core) }
     ensures sound { StaysSound S.never_fails_but copied.old.core.site copied.new.core.site }
@@ -125,6 +147,7 @@ pub(crate) fn work_step<S: Site, C: Choose>(
     work_leaves_the_history::<S, C>();
     work_is_later::<S, C>();
     work_has_its_causes::<S, C>();
+    own_work_gives_others_nothing::<S, C>();
     let _before = entries_beside(copied);
     copied.work_event(recorder)
 }

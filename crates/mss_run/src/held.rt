@@ -7,6 +7,7 @@ ghost use Rattle.core_state.specs.HostEvents.{IsSame};
 ghost use Rattle.core_state.specs.declared.rule.WorkAnswer.TheVariants.{Idle};
 ghost use Rattle.host_events.specs.Answers.{told_of};
 ghost use Rattle.volume_copy.specs.Beside.{IsReadyFor, ReadsBeside, StandsBeside, asked_copy};
+ghost use Rattle.quiet_events.specs.Quiet.{GivesNoWork, GivesOthersNothing, GoesOnAlone, RestsBehind};
 ghost use Rattle.mss_run.specs.Answers.{Answered, Stepped};
 ghost use Rattle.mss_run.specs.Beginning.{OpensWith};
 ghost use Rattle.mss_run.specs.Happens.{IsSameButRead};
@@ -20,6 +21,7 @@ ghost use Rattle.mss_run.specs.Presence.{
   with_host,
   with_worker,
 };
+ghost use Rattle.mss_run.specs.Sleep.{FindsNoWork, FindsNothing, NoneIsLeft};
 
 use crate::booked::BookedCore;
 use crate::present::Presence;
@@ -108,12 +110,14 @@ impl<N: Setup, S: Site, C: Choose> Held<N, S, C> {
     /// One event of the pass's host, unless the run has ended. Where that is a wait that changed nothing, one of a
     /// recorder whose own worker isn't in follows, and is answered too: idle, where no such recorder has work. So one
     /// step does one event at most that changes anything, and where it is idle none.
+    ///
+    /// Tells last whether it may have given others something to do.
     pub fn step(
         &mut self,
         word: &Word<N>,
         pass: HostPass<N>,
         call: &Call,
-    ) -> (HostPass<N>, Option<HostAnswer>, Option<WorkAnswer>)
+    ) -> (HostPass<N>, Option<HostAnswer>, Option<WorkAnswer>, bool)
         ensures stepped { Stepped (call_of call.now) pass result.1 result.0 }
         ensures present { self.new.present ≡ self.old.present }
         ensures over { self.old.present.ended ≡ true
@@ -121,33 +125,46 @@ impl<N: Setup, S: Site, C: Choose> Held<N, S, C> {
         ensures idle { result.2 ≡ Some Idle
             → IsSameButRead (is_some (asked_copy self.old.session.copier)) S.tells
             (seen_core S.Site self.old.session.core) (seen_core S.Site self.new.session.core) }
+        ensures nothing { result.2 ≡ Some Idle
+            → FindsNothing (seen_core S.Site self.new.session.core) self.new.present pass.host
+            (call_of call.now) }
+        ensures quiet { result.3 ≡ false → (self.old.sleeps ≡ false)
+            × GivesNoWork (seen_core S.Site self.old.session.core)
+            (seen_core S.Site self.new.session.core) }
     {
         if self.present.is_over() {
-            return (pass, None, None);
+            return (pass, None, None, true);
         }
         let (pass, answer, in_vain) = self.session.command(word, pass, call);
         if in_vain {
             let helped = self.help();
-            return (pass, Some(answer), Some(helped));
+            return (pass, Some(answer), Some(helped), true);
         }
-        (pass, Some(answer), None)
+        let stirs = self.may_stir(&answer);
+        (pass, Some(answer), None, stirs)
     }
 
-    /// Whether what a host was answered may give another host or a recorder something to do. A reply gives none, where
-    /// no host sleeps, no request is queued and no task is under way.
-    pub fn may_stir(&self, answer: &Option<HostAnswer>) -> bool {
+    /// Whether what a host was answered may give others something to do. A reply behind which the core is at rest gives
+    /// no recorder anything, but a host that sleeps.
+    fn may_stir(&self, answer: &HostAnswer) -> bool
+        ensures { result ≡ false → (self.now.sleeps ≡ false)
+            × RestsBehind (told_of answer.now) (seen_core S.Site self.now.session.core) }
+    {
         match answer {
-            Some(HostAnswer::Replied { .. }) => self.sleeps || !self.session.is_at_rest(),
+            HostAnswer::Replied { .. } => self.sleeps || !self.session.is_at_rest(),
             _ => true,
         }
     }
 
-    /// Whether what a recorder's turn came to may give another actor something to do. Where its task goes on, a request
-    /// that it picked, a cartridge that it fetched and a track that it copied give none: each only takes from what others
-    /// find. A frame that it assigned may be the last that isn't bound, which refuses space to a host that waits.
-    pub fn turn_may_stir(&self, recorder: RecorderNo, answer: &Option<WorkAnswer>) -> bool {
+    /// Whether what a recorder did may give others something to do. What it did for its own task doesn't, where that
+    /// goes on. A frame that it assigned may: it may be the last that isn't bound, and then a host that waits is
+    /// refused space.
+    fn work_may_stir(&self, recorder: RecorderNo, answer: WorkAnswer) -> bool
+        ensures { result ≡ false
+            → GoesOnAlone (seen_core S.Site self.now.session.core) recorder answer }
+    {
         match answer {
-            Some(WorkAnswer::Did(WorkKind::Pick | WorkKind::Fetch | WorkKind::Copy)) => {
+            WorkAnswer::Did(WorkKind::Pick | WorkKind::Fetch | WorkKind::Copy) => {
                 !self.session.has_task(recorder)
             }
             _ => true,
@@ -173,10 +190,12 @@ impl<N: Setup, S: Site, C: Choose> Held<N, S, C> {
         ensures present { self.new.present ≡ self.old.present }
         ensures idle { result ≡ Idle → IsSame S.tells (seen_core S.Site self.old.session.core)
             (seen_core S.Site self.new.session.core) }
+        ensures nothing { result ≡ Idle
+            → NoneIsLeft (seen_core S.Site self.new.session.core) self.new.present }
     {
         for number in 0..self.session.recorders() {
             let Some(recorder) = RecorderNo::of(number) else {
-                return WorkAnswer::Idle;
+                unreachable!()
             };
             if self.present.has_worker(recorder) {
                 continue;
@@ -191,25 +210,32 @@ impl<N: Setup, S: Site, C: Choose> Held<N, S, C> {
 
     /// One event of a recorder by its own worker. None where that is counted out: the recorder is idle and no host is
     /// in, or the run has ended. It is one hold: so no host that is in loses a worker.
-    pub fn turn(&mut self, recorder: RecorderNo) -> Option<WorkAnswer>
-        ensures turns { Turns recorder self.old.present result self.new.present }
+    ///
+    /// Tells last whether it may have given others something to do.
+    pub fn turn(&mut self, recorder: RecorderNo) -> (Option<WorkAnswer>, bool)
+        ensures turns { Turns recorder self.old.present result.0 self.new.present }
         ensures over { self.old.present.ended ≡ true → self.new.session ≡ self.old.session }
-        ensures idle { IsRest result → IsSame S.tells (seen_core S.Site self.old.session.core)
+        ensures idle { IsRest result.0 → IsSame S.tells (seen_core S.Site self.old.session.core)
+            (seen_core S.Site self.new.session.core) }
+        ensures nothing { result.0 ≡ Some Idle
+            → FindsNoWork (seen_core S.Site self.new.session.core) recorder }
+        ensures quiet { result.1 ≡ false
+            → GivesOthersNothing recorder (seen_core S.Site self.old.session.core)
             (seen_core S.Site self.new.session.core) }
     {
         if self.present.is_over() {
             self.present.set_worker(recorder, false);
-            return None;
+            return (None, true);
         }
         match self.session.work(recorder) {
             WorkAnswer::Idle => {
                 if self.present.has_hosts() {
-                    return Some(WorkAnswer::Idle);
+                    return (Some(WorkAnswer::Idle), true);
                 }
                 self.present.set_worker(recorder, false);
-                None
+                (None, true)
             }
-            answer => Some(answer),
+            answer => (Some(answer), self.work_may_stir(recorder, answer)),
         }
     }
 

@@ -1,15 +1,15 @@
 // The events of actors, in their holds of the lock: `Held` says what each does.
 //
-// What an actor finds to do is a function of what the lock keeps. One that finds nothing sleeps from that very hold on,
-// and what may give another something to do wakes all: an event, the leave of a host, the end of the run. So nobody
-// sleeps who would find something. Behind an event the lock may be kept for the actor's next one, since events are
-// short, and to hand the lock to another thread takes as long as some of them: who is woken comes when it is free.
+// What an actor finds to do is a function of what the lock keeps. One that finds nothing sleeps from that very hold on:
+// each function that sleeps asks for it. What may give another something to do wakes all: an event, the leave of a
+// host, the end of the run. So nobody sleeps who would find something. Behind an event the lock may be kept for the
+// actor's next one, since events are short, and to hand the lock to another thread takes as long as some of them: who
+// is woken comes when it is free.
 //
-// Two kinds of events wake nobody, since they give nobody anything to do. One is a reply, where no host sleeps, no
-// request is queued and no task is under way: a recorder then finds nothing but to give back its own cartridge, which a
-// reply neither gives nor takes. The other is what a recorder does towards a staging that goes on: a request that it
-// picks, a cartridge that it fetches and a track that it copies are its own from then on, and no other actor's rule asks
-// for more of them.
+// Two kinds of events wake nobody. `Held::step` and `Held::turn` tell which they are, and that who finds nothing before
+// finds nothing behind them (`quiet_events`). One is a reply behind which no host has a request and no recorder a task,
+// where no host sleeps. The other is what a recorder does for its own task, while that goes on: it picks a request,
+// fetches a cartridge, or copies a track.
 //
 // Who comes in wakes nobody either, since a host that is in only keeps workers from leaving, and a worker takes over
 // what hosts that wait would do. Nor do `command` and `work`: no actor shares a core with their callers.
@@ -20,10 +20,13 @@
 // had a track taken before its call, and sleeps all the same: a copier that has begun doesn't sleep. Nor does the
 // copier's leave wake anybody, since nobody waits for it: it isn't counted in.
 ghost use Rattle.std.specs.Prelude.{◌≡◌, Some};
+ghost use Rattle.std.specs.Option.{option_map};
+ghost use Rattle.std.specs.Sync.Mutex.{mutex_guard_value};
 ghost use Rattle.channel_commands.specs.Views.{call_of};
-ghost use Rattle.core_state.specs.declared.rule.WorkAnswer.TheVariants.{Idle};
+ghost use Rattle.core_state.specs.CoreValue.{seen_core};
+ghost use Rattle.volume_copy.specs.declared.copier.CopyState.TheVariants.{Armed};
 ghost use Rattle.mss_run.specs.Answers.{Stepped};
-ghost use Rattle.mss_run.specs.declared.held.CopyTurn.TheVariants.{Waits};
+ghost use Rattle.mss_run.specs.Sleep.{FindsNoWork, FindsNothing};
 
 use crate::held::{CopyTurn, Held};
 use crate::hold::Hold;
@@ -38,38 +41,41 @@ use std::sync::{MutexGuard, Wait};
 use victim_choice::Choose;
 
 impl<N: Setup, S: Site, C: Choose> Shared<N, S, C> {
-    /// Lets go of the lock and sleeps, until another actor wakes all. Who did anything in its hold may not.
-    fn sleep<R: Wait>(&self, rt: &R, held: MutexGuard<'_, Held<N, S, C>>, found: Option<WorkAnswer>)
-        requires { found ≡ Some Idle }
+    /// Lets go of the lock and sleeps, until another actor wakes all. Only a worker may whose recorder has nothing to
+    /// do.
+    fn sleep<R: Wait>(&self, rt: &R, held: MutexGuard<'_, Held<N, S, C>>, recorder: RecorderNo)
+        requires { FindsNoWork (seen_core S.Site (mutex_guard_value held).session.core) recorder }
     {
         // The clause speaks of it; no code does.
-        let _ = found;
+        let _ = recorder;
         let held = self.changed.wait(rt, held);
         drop(held);
     }
 
-    /// The same of a host, which is noted.
+    /// Lets go of the lock and sleeps, until another actor wakes all. Only a host may that can but wait, and has no
+    /// recorder to work for. It is noted.
     fn sleep_host<R: Wait>(
         &self,
         rt: &R,
         mut held: MutexGuard<'_, Held<N, S, C>>,
-        found: Option<WorkAnswer>,
+        host: HostNo,
+        call: &Call,
     )
-        requires { found ≡ Some Idle }
+        requires { FindsNothing (seen_core S.Site (mutex_guard_value held).session.core)
+            (mutex_guard_value held).present host (call_of call.now) }
     {
-        // The clause speaks of it; no code does.
-        let _ = found;
+        // The clause speaks of them; no code does.
+        let _ = host;
+        let _ = call;
         held.lie_down();
         let held = self.changed.wait(rt, held);
         drop(held);
     }
 
     /// Lets go of the lock and sleeps, until another actor wakes all. Only a copier may whose copy hasn't begun.
-    fn sleep_copier<R: Wait>(&self, rt: &R, held: MutexGuard<'_, Held<N, S, C>>, turn: CopyTurn)
-        requires { turn ≡ Waits }
+    fn sleep_copier<R: Wait>(&self, rt: &R, held: MutexGuard<'_, Held<N, S, C>>)
+        requires { option_map (λ c. c.state) (mutex_guard_value held).session.copier ≡ Some Armed }
     {
-        // The clause speaks of it; no code does.
-        let _ = turn;
         let held = self.changed.wait(rt, held);
         drop(held);
     }
@@ -84,11 +90,11 @@ impl<N: Setup, S: Site, C: Choose> Shared<N, S, C> {
     /// Ends an event: wakes all that sleep, where it may give them something to do. The lock may be kept.
     fn pause<'a>(
         &'a self,
-        may_stir: bool,
+        stirs: bool,
         hold: &mut Hold<'a, N, S, C>,
         mut held: MutexGuard<'a, Held<N, S, C>>,
     ) {
-        if may_stir {
+        if stirs {
             held.get_up();
             self.changed.notify_all();
         }
@@ -107,10 +113,11 @@ impl<N: Setup, S: Site, C: Choose> Shared<N, S, C> {
         ensures { Stepped (call_of call.now) pass result.1 result.0 }
     {
         let mut held = hold.begin(rt, &self.held);
-        let (pass, answer, helped) = held.step(&self.word, pass, call);
+        let host = pass.host();
+        let (pass, answer, helped, stirs) = held.step(&self.word, pass, call);
         match helped {
-            Some(WorkAnswer::Idle) => self.sleep_host(rt, held, helped),
-            _ => self.pause(self.copies() || held.may_stir(&answer), hold, held),
+            Some(WorkAnswer::Idle) => self.sleep_host(rt, held, host, call),
+            _ => self.pause(self.copies() || stirs, hold, held),
         }
         (pass, answer, helped)
     }
@@ -123,10 +130,10 @@ impl<N: Setup, S: Site, C: Choose> Shared<N, S, C> {
         recorder: RecorderNo,
     ) -> Option<WorkAnswer> {
         let mut held = hold.begin(rt, &self.held);
-        let answer = held.turn(recorder);
+        let (answer, stirs) = held.turn(recorder);
         match answer {
-            Some(WorkAnswer::Idle) => self.sleep(rt, held, answer),
-            Some(_) => self.pause(held.turn_may_stir(recorder, &answer), hold, held),
+            Some(WorkAnswer::Idle) => self.sleep(rt, held, recorder),
+            Some(_) => self.pause(stirs, hold, held),
             None => self.wake(held),
         }
         answer
@@ -137,7 +144,7 @@ impl<N: Setup, S: Site, C: Choose> Shared<N, S, C> {
         let mut held = self.held.lock(rt);
         let turn = held.take();
         match turn {
-            CopyTurn::Waits => self.sleep_copier(rt, held, turn),
+            CopyTurn::Waits => self.sleep_copier(rt, held),
             CopyTurn::Took | CopyTurn::Leaves | CopyTurn::Lacks => drop(held),
         }
         turn

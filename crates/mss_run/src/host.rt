@@ -42,7 +42,8 @@ fn is_point(answer: &Option<HostAnswer>) -> bool {
     )
 }
 
-/// What an attempt comes to, by the answer of its event, and by whether what was done for a recorder lets the run go on.
+/// What an attempt comes to, by the answer of its event, and by whether what was done for a recorder lets the run go
+/// on.
 fn attempt_of(answer: Option<HostAnswer>, goes_on: bool) -> Attempt
     ensures { result ≡ attempt_of answer goes_on }
 {

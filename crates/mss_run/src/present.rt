@@ -1,7 +1,8 @@
 // Who is in a run, and whether it is over.
-ghost use Rattle.std.specs.Prelude.{◌≡◌, false, slice_index_or};
+ghost use Rattle.std.specs.Prelude.{◌≡◌};
 ghost use Rattle.std.specs.List.{list_any};
 ghost use Rattle.mss_run.specs.Presence.{ended_presence, has_hosts, nobody, with_host, with_worker};
+ghost use Rattle.mss_run.specs.Sleep.{has_worker};
 
 use mss_base::{HostNo, RecorderNo};
 
@@ -71,7 +72,7 @@ impl Presence {
 
     /// Whether a recorder's own worker is in.
     pub fn has_worker(&self, recorder: RecorderNo) -> bool
-        ensures { result ≡ slice_index_or self.now.workers recorder false }
+        ensures { result ≡ has_worker recorder self.now }
     {
         self.workers[usize::from(recorder.get())]
     }

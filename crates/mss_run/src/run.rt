@@ -119,8 +119,8 @@ impl<
     G: Gate + Sync,
     R: Threads + Wait + Sync,
 > Run<'_, N, S, C, G, R> {
-    /// Each host of these scripts in a thread of its own, the first one in the caller's. The list of ends has room for all
-    /// of them.
+    /// Each host of these scripts in a thread of its own, the first one in the caller's. The list of ends has room for
+    /// all of them.
     fn run_hosts(
         &self,
         scripts: &[HostScript],
@@ -199,8 +199,8 @@ impl<
         );
     }
 
-    /// Hosts and recorders side by side, and the copier, where a copy is asked for. The recorders begin a thread later: one
-    /// that comes while no host is in leaves, and then hosts do its work.
+    /// Hosts and recorders side by side, and the copier, where a copy is asked for. The recorders begin a thread later:
+    /// one that comes while no host is in leaves, and then hosts do its work.
     fn run_all(
         &self,
         scripts: &[HostScript],
@@ -428,12 +428,12 @@ fn run_supplied<
 /// Runs each host and each recorder of a job as an actor in a thread of its own, and gives back the core when all have
 /// left.
 ///
-/// It is a later core of the same session. Its history is legal from where that began, whatever the order in which the actors
-/// came, and each entry is of a host of the job. Of each host there is its end: the places of all entries that it was
-/// told of, in rising order, and whether what it was told follows its script to the end; for want of memory at the start
-/// there is none, and no entry. Each entry is a call of its host's script, in order, also one that stopped the core. All
-/// memory that is common to them is taken before the first actor starts. Where nothing but reads can fail, the core isn't
-/// stopped.
+/// It is a later core of the same session. Its history is legal from where that began, whatever the order in which the
+/// actors came, and each entry is of a host of the job. Of each host there is its end: the places of all entries that
+/// it was told of, in rising order, and whether what it was told follows its script to the end; for want of memory at
+/// the start there is none, and no entry. Each entry is a call of its host's script, in order, also one that stopped
+/// the core. All memory that is common to them is taken before the first actor starts. Where nothing but reads can
+/// fail, the core isn't stopped.
 ///
 /// Where a copier is handed in, it is an actor too, and comes back for the same copy, which stands for the session. Its
 /// copy isn't whole where the others left first, or where memory was wanting: `finish` takes the rest.

@@ -22,8 +22,8 @@ use std::sync::{Condvar, Mutex, Wait};
 use victim_choice::Choose;
 use volume_copy::Copier;
 
-/// A core that hosts and recorders share. Each call does what it does in one hold of the one lock, which actors may keep
-/// for their next.
+/// A core that hosts and recorders share. Each call does what it does in one hold of the one lock, which actors may
+/// keep for their next.
 #[derive(Drop)]
 pub struct Shared<N: Setup, S: Site, C: Choose> {
     pub(crate) word: Word<N>,
@@ -57,9 +57,9 @@ impl<N: Setup, S: Site, C: Choose> Shared<N, S, C> {
 
     /// One event of the pass's host.
     ///
-    /// A reply is an entry of the history. The pass has then seen all that it had seen before, and more, which ends with
-    /// this entry, and its own entries got this one. A stop may be such an entry. At the limit the pass has seen all
-    /// 4,096 entries. Else it is as it was.
+    /// A reply is an entry of the history. The pass has then seen all that it had seen before, and more, which ends
+    /// with this entry, and its own entries got this one. A stop may be such an entry. At the limit the pass has seen
+    /// all 4,096 entries. Else it is as it was.
     pub fn command<R: Wait>(
         &self,
         rt: &R,

@@ -160,8 +160,8 @@ pub fn run_threads<
 /// The words are the command `threads` with its options. The input is read to its end, or to one byte past the
 /// longest job text, before anything is looked at; a text that is no job, and a site that isn't taken up, are refused
 /// as by `serial`. The order in which the threads come is the system's: the history is that of plain volumes for each.
-/// All actors pass the gate between their holds. Where nothing but reads can fail, no session is stopped; where a read for the
-/// report fails, it ends before that track. Whether and when the threads get on no clause says.
+/// All actors pass the gate between their holds. Where nothing but reads can fail, no session is stopped; where a read
+/// for the report fails, it ends before that track. Whether and when the threads get on no clause says.
 pub fn threads<
     I: Source,
     O: Sink,

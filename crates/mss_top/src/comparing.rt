@@ -120,9 +120,10 @@ pub fn compare_beside<I: Source, O: Sink, S: Site, F: Fn(&Candidate) -> bool + D
 ///
 /// The words are the one word `compare`. The input is read to its end, or to one byte past the longest job text, before
 /// anything is looked at; a text that is no job is refused as by `serial`. Each session is that of `serial` without
-/// options, on devices of zeros of its own, in memory, of which no call fails: by no rule, by `clean`, by `quota:1`, and
-/// by the closure that is handed in. Its line counts the cylinders that were staged and destaged, and the pages that gave
-/// their frames back. A session that comes to the limit of entries is the last; one that memory ended has no line.
+/// options, on devices of zeros of its own, in memory, of which no call fails: by no rule, by `clean`, by `quota:1`,
+/// and by the closure that is handed in. Its line counts the cylinders that were staged and destaged, and the pages
+/// that gave their frames back. A session that comes to the limit of entries is the last; one that memory ended has no
+/// line.
 pub fn compare<I: Source, O: Sink, F: Fn(&Candidate) -> bool + Drop>(
     alloc: Global,
     words: &[String],

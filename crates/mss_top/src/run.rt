@@ -168,8 +168,9 @@ pub fn policy<I: Source, O: Sink, S: Site>(
 /// read; else it is, to its end or to one byte past the longest job text, before anything is looked at. A text that
 /// is no job is refused with its first bad line, and a site that isn't taken up with its first fault. Hosts and
 /// recorders first take the turns that `--order` draws, `--turns` of them, and then go on by rounds. Nothing is
-/// written to the site before the whole job was admitted. Without a session the output is one line, which says why. Where
-/// nothing but reads can fail, no session is stopped. Where a read for the report fails, it ends before that track.
+/// written to the site before the whole job was admitted. Without a session the output is one line, which says why.
+/// Where nothing but reads can fail, no session is stopped. Where a read for the report fails, it ends before that
+/// track.
 pub fn serial<I: Source, O: Sink, S: Site, C: Choose + Drop>(
     alloc: Global,
     words: &[String],

@@ -36,10 +36,6 @@ lines_stop text old now new n i xs x whole lt is part front =
 
 -- ---- lines that wait
 
--- nothing more is put
-pub waiting_left : (old now rest whole : List ℕ) → Part old now rest whole → PutsFront old now whole
-waiting_left old now rest whole part = record { front = part.done; rest = rest; split = part.split; put = part.put }
-
 -- the line of the next item waits behind the others
 pub line_waits : {A : Type 0} (text : ℕ → A → List ℕ) (old now waiting more : List ℕ) (n i : ℕ) (xs : List A) (x : A) (whole : List ℕ) → i < length xs → x ≡ get_or xs i x
     → Part old now (waiting ++ numbered_lines text n (drop i xs)) whole → more ≡ waiting ++ text n x
@@ -56,14 +52,6 @@ pub waiting_put : (old now waiting new left rest whole : List ℕ) → Part old 
 waiting_put old now waiting new left rest whole part moved =
     let same : waiting ++ rest ≡ moved.front ++ (left ++ rest) = ap (λ l. l ++ rest) moved.split ∙ append_assoc moved.front left rest in
     part_goes_on old now new moved.front (left ++ rest) whole (subst (λ r. Part old now r whole) same part) moved.put
-
--- all that waits is put, and no line is left
-pub waiting_ends : {A T E : Type 0} (text : ℕ → A → List ℕ) (r : Result T E) (old now waiting new : List ℕ) (n i : ℕ) (xs : List A) (whole : List ℕ)
-    → length xs ≤ i → Part old now (waiting ++ numbered_lines text n (drop i xs)) whole → Puts r now new waiting → Puts r old new whole
-waiting_ends text (Ok _) old now waiting new n i xs whole all part put =
-    let none : numbered_lines text n (drop i xs) ≡ [] = ap (numbered_lines text n) (drop_of_length-le xs {i = i} all) in
-    part_ends old new whole (part_goes_on old now new waiting [] whole (subst (λ l. Part old now (waiting ++ l) whole) none part) put)
-waiting_ends text (Err _) old now waiting new n i xs whole all part put = part_stops old now new waiting (numbered_lines text n (drop i xs)) whole part put
 
 -- of pieces put one behind the other a front of this one was put
 pub pieces_stop : {X : Type 0} (text : X → List ℕ) (old now new : List ℕ) (i : ℕ) (pieces : List X) (other : X)
