@@ -145,7 +145,7 @@ impl<N: Setup, S: Site, C: Choose> Held<N, S, C> {
     }
 
     /// Whether what a host was answered may give others something to do. A reply behind which the core is at rest gives
-    /// no recorder anything, but a host that sleeps.
+    /// no recorder anything; to a host that sleeps it may.
     fn may_stir(&self, answer: &HostAnswer) -> bool
         ensures { result ≡ false → (self.now.sleeps ≡ false)
             × RestsBehind (told_of answer.now) (seen_core S.Site self.now.session.core) }
