@@ -95,6 +95,7 @@ impl<N: Setup, S: Site, C: Choose> Held<N, S, C> {
     ) -> (HostPass<N>, HostAnswer)
         ensures answered { Answered (call_of call.now) pass (told_of result.1) result.0 }
         ensures present { self.new.present ≡ self.old.present }
+        ensures sleeps { self.new.sleeps ≡ self.old.sleeps }
     {
         let (pass, answer, _) = self.session.command(word, pass, call);
         (pass, answer)
@@ -120,6 +121,7 @@ impl<N: Setup, S: Site, C: Choose> Held<N, S, C> {
     ) -> (HostPass<N>, Option<HostAnswer>, Option<WorkAnswer>, bool)
         ensures stepped { Stepped (call_of call.now) pass result.1 result.0 }
         ensures present { self.new.present ≡ self.old.present }
+        ensures sleeps { self.new.sleeps ≡ self.old.sleeps }
         ensures over { self.old.present.ended ≡ true
             → (result.1 ≡ None) × (self.new.session ≡ self.old.session) }
         ensures idle { result.2 ≡ Some Idle
@@ -192,6 +194,7 @@ impl<N: Setup, S: Site, C: Choose> Held<N, S, C> {
             (seen_core S.Site self.new.session.core) }
         ensures nothing { result ≡ Idle
             → NoneIsLeft (seen_core S.Site self.new.session.core) self.new.present }
+        ensures sleeps { self.new.sleeps ≡ self.old.sleeps }
     {
         for number in 0..self.session.recorders() {
             let Some(recorder) = RecorderNo::of(number) else {
@@ -214,6 +217,7 @@ impl<N: Setup, S: Site, C: Choose> Held<N, S, C> {
     /// Tells last whether it may have given others something to do.
     pub fn turn(&mut self, recorder: RecorderNo) -> (Option<WorkAnswer>, bool)
         ensures turns { Turns recorder self.old.present result.0 self.new.present }
+        ensures sleeps { self.new.sleeps ≡ self.old.sleeps }
         ensures over { self.old.present.ended ≡ true → self.new.session ≡ self.old.session }
         ensures idle { IsRest result.0 → IsSame S.tells (seen_core S.Site self.old.session.core)
             (seen_core S.Site self.new.session.core) }
@@ -247,6 +251,7 @@ impl<N: Setup, S: Site, C: Choose> Held<N, S, C> {
         ensures turns { CopyTurns self.old.present result
             (option_map (λ c. c.state) self.new.session.copier) }
         ensures present { self.new.present ≡ self.old.present }
+        ensures sleeps { self.new.sleeps ≡ self.old.sleeps }
         ensures core { ReadsBeside S.Site (is_some (asked_copy self.old.session.copier))
             self.old.session.core self.new.session.core }
         ensures over { self.old.present.ended ≡ true → self.new.session ≡ self.old.session }

@@ -10,8 +10,8 @@
 //! the history are its own, and whether what it was told there follows its script to the end, and what ended the run
 //! (`specs/Owns.antt`, `specs/Runs.antt`). An actor's step is one event, or a host's wait that changed nothing and one
 //! event of a recorder behind it. Steps of one actor may share a hold of the lock. The loops call a `Gate` between
-//! holds, with the lock free. Who is in stands in the lock beside the core (`specs/Presence.antt`). An actor sleeps only
-//! where it finds nothing to do (`specs/Sleep.antt`), and only an event that gives the others nothing wakes nobody.
+//! holds, with the lock free. Who is in stands in the lock beside the core (`specs/Presence.antt`). An actor sleeps
+//! only where it finds nothing to do (`specs/Sleep.antt`), and only an event that gives the others nothing wakes nobody.
 //!
 //! Where a copy of a volume is asked for, a copier stands beside the core under the lock, and is an actor more. It
 //! comes back for the copy that was asked for, and stands for the session.

@@ -9,7 +9,7 @@ use Rattle.mss_run.proofs.held.Held.help.Goals as goal
 pub loop-number-init : goal.loop-number-init
 loop-number-init g c =
     let core : CoreData = seen_core g.S.Site c.args.self.now.session.core in
-    record { present = refl; same = same_none g.S.Site.tells core; nothing = none_yet core c.args.self.now.present }
+    record { present = refl; sleeps = refl; same = same_none g.S.Site.tells core; nothing = none_yet core c.args.self.now.present }
 
 pub loop-number-preserved-then-has_worker : goal.loop-number-preserved-then-has_worker
 loop-number-preserved-then-has_worker g c =
@@ -18,6 +18,7 @@ loop-number-preserved-then-has_worker g c =
     ap (λ n. has_worker n c.loop-number.self.present) (sym c.in-Some.ensures.value) ∙ sym c.has_worker.ensures ∙ c.if-has_worker.true in
     record {
       present = c.loop-number.invariant.present;
+      sleeps = c.loop-number.invariant.sleeps;
       same = c.loop-number.invariant.same;
       nothing = passed_by core c.loop-number.self.present c.loop-number.number works c.loop-number.invariant.nothing;
     }
@@ -36,6 +37,7 @@ loop-number-preserved g c =
     let idle : HasNoWork after c.loop-number.number = subst (HasNoWork after) value (c.in-Idle.ensures.rests refl (omega (arith, value, within, count, config))) in
     record {
       present = c.loop-number.invariant.present;
+      sleeps = c.loop-number.invariant.sleeps;
       same = same_then tells first before after c.loop-number.invariant.same same;
       nothing = found_idle tells before after c.loop-number.self.present c.loop-number.number same idle c.loop-number.invariant.nothing;
     }
@@ -43,6 +45,7 @@ loop-number-preserved g c =
 pub returns-in_default-work : goal.returns-in_default-work
 returns-in_default-work g c = record {
   present = c.loop-number.invariant.present;
+  sleeps = c.loop-number.invariant.sleeps;
   idle = λ is. absurd (c.in_default-work.not-Idle is);
   nothing = λ is. absurd (c.in_default-work.not-Idle is);
 }
