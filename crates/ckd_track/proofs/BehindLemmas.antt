@@ -9,11 +9,11 @@ use Rattle.mss_base.specs.Content.{Content, Item, wrote, synced, unsynced, SiteL
 use Rattle.mss_base.proofs.Moments.{content_grown, ended_with}
 use Rattle.mss_base.proofs.BlindMoments.{block_blind}
 use Rattle.mss_base.proofs.Settling.{got_then}
-use Rattle.ckd_track.specs.Track.{is_open, place_after}
-use Rattle.ckd_track.specs.Formatting.{EndsAfter, Holds, StandsShut, WritesBehind, is_behind}
+use Rattle.ckd_track.specs.Track.{place_after}
+use Rattle.ckd_track.specs.Formatting.{EndsAfter, Holds, LaterGates, StandsShut, WritesBehind, is_behind}
 use Rattle.ckd_track.proofs.FrontLemmas.{place_after-ge}
 use Rattle.ckd_track.proofs.LogLemmas.{settles_within}
-use Rattle.ckd_track.proofs.StepLemmas.{next_stays, holds_after}
+use Rattle.ckd_track.proofs.StepLemmas.{later_stays, holds_after}
 
 within-append : (at : BlockPlace) (places : ℕ → Bool) (xs ys : List Item) → AreWithin at.unit at.block places xs → AreWithin at.unit at.block places ys → AreWithin at.unit at.block places (xs ++ ys)
 within-append at places [] ys first second = second
@@ -92,13 +92,13 @@ module _ (n : ℕ) (a : List ℕ) where
 
     -- the record, written behind closed gates, stands there
     pub stands_behind : n ≤ 96 → length a ≡ 16384 → (place : ℕ) (bytes : List ℕ) → place ≡ place_after n 256 a → place + length bytes ≤ 16384 → (s t u : SiteLog) → EndsAfter n a (block_of s at)
-        → WritesBehind n a at s t → is_open (n + 2) (block_of t at) ≡ false → Got (wrote (write_at at place bytes) ∷ []) t u → StandsShut n bytes a (block_of u at)
-    stands_behind few long place bytes is inside s t u ends run next put =
+        → WritesBehind n a at s t → LaterGates (n + 1) a (block_of t at) → Got (wrote (write_at at place bytes) ∷ []) t u → StandsShut n bytes a (block_of u at)
+    stands_behind few long place bytes is inside s t u ends run later put =
         let high = place_after-ge n 256 a in
         let mid : EndsAfter n a (block_of t at) = behind_ends few s t ends run in
         record {
           ends = behind_ends few t u mid (record_written t u place bytes few is put);
-          next = next_stays at.unit at.block t u n place bytes (omega (arith, is, high)) next (inl put);
+          later = later_stays at.unit at.block t u n a place bytes (inr (omega (arith, is, high))) later (inl put);
           holds = subst (λ (p : ℕ). Holds p bytes (block_of u at)) is (holds_after at.unit at.block t u place bytes (omega (arith, inside, long, mid.front.long)) (inl put));
         }
 

@@ -54,9 +54,6 @@ front_write n at left a b beyond where_at few front =
     }
 
 -- a gate that no write touches
-pub gate_below : (number at : ℕ) (left b : List ℕ) → 128 + number < at → is_open number (splice at left b) ≡ is_open number b
-gate_below number at left b lt = ap (λ (x : ℕ). x == 193) (get_or-splice_below at left b (128 + number) lt)
-
 gate_above : (number at : ℕ) (left b : List ℕ) → at + length left ≤ 128 + number → is_open number (splice at left b) ≡ is_open number b
 gate_above number at left b le = ap (λ (x : ℕ). x == 193) (get_or-splice_above at left b (128 + number) le)
 

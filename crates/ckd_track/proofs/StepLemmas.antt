@@ -1,14 +1,29 @@
 -- The writes of formatting, on a site's log.
 use Rattle.std.proofs.Common.{◌≡◌, ◌⊎◌, inl, inr, ℕ, ◌+◌, ◌-◌, ◌≤◌, ◌<◌, true, false, ◌==◌, List, [], ◌∷◌, length, take, get_or, refl, sym, ◌∙◌, ap, subst, arith}
-use Rattle.std.proofs.lemmas.Bool.{ne_eqb, eqb-true, true≢false}
+use Rattle.std.proofs.lemmas.Bool.{cases_Bool, eqb-true, true≢false}
 use Rattle.mss_base.specs.declared.place.UnitNo.{UnitNo}
 use Rattle.mss_base.specs.Content.{SiteLog, content, splice, Adds, Settles, Writes, ChangesBlock}
-use Rattle.mss_base.proofs.ContentLemmas.{get_or-splice_above, get_or-splice_in}
+use Rattle.mss_base.proofs.ContentLemmas.{get_or-splice_below, get_or-splice_above, get_or-splice_in}
 use Rattle.mss_base.proofs.Moments.{block_write, block_written, block_then, block_weaker}
 use Rattle.ckd_track.specs.Data.{cost, cost_of}
 use Rattle.ckd_track.specs.Track.{Reading, reading, reading_of, record_at, is_open}
-use Rattle.ckd_track.specs.Formatting.{formatted_records, IsRecord, IsFormatting, as_it_was, cut_short, completed, EndsAfter, EndsBefore, StandsShut, Holds}
-use Rattle.ckd_track.proofs.FormatLemmas.{ends_after, shut_after, closing, opening, holds_written, gate_below, gate_written}
+use Rattle.ckd_track.specs.Formatting.{formatted_records, IsRecord, IsFormatting, as_it_was, cut_short, completed, HasLaterOpen, LaterGates, SameBytes, EndsAfter, EndsBefore, StandsShut, Holds}
+use Rattle.ckd_track.proofs.FormatLemmas.{ends_after, shut_after, closing, opening, holds_written, gate_written}
+
+-- blocks with the same later gates
+later_moved : (number : ℕ) (a b c : List ℕ) → LaterGates number a b → ((k : ℕ) → number < k → k ≤ 98 → get_or c (128 + k) 0 ≡ get_or b (128 + k) 0) → LaterGates number a c
+later_moved number a b c later same = record {
+  shut = λ has. later.shut (has.0, has.1, has.2, sym (ap (λ (x : ℕ). x == 193) (same has.0 has.1 has.2)) ∙ has.3);
+  closed = λ some k from to. same k from to ∙ later.closed some k from to;
+  kept = λ none k from to. same k from to ∙ later.kept none k from to;
+}
+
+-- a gate that isn't open is shut
+next_shut : (n : ℕ) (b : List ℕ) → n ≤ 96 → (HasLaterOpen (n + 1) b → ⊥) → is_open (n + 2) b ≡ false
+next_shut n b few none = elim (cases_Bool (is_open (n + 2) b)) [
+  | inl opened ↦ absurd (none (n + 2, omega arith, omega arith, opened))
+  | inr shut ↦ shut
+]
 
 module _ (unit : UnitNo) (block : ℕ) (s t : SiteLog) where
   pub close_moments : (n : ℕ) (a bytes : List ℕ) → n ≤ 96 → length a ≡ 16384 → content s unit block ≡ a → get_or a (129 + n) 0 ≡ 193 → length bytes ≡ 1
@@ -27,23 +42,33 @@ module _ (unit : UnitNo) (block : ℕ) (s t : SiteLog) where
         later = λ i from to. ap (λ (d : List ℕ). get_or d i 0) now ∙ get_or-splice_above (129 + n) (0 ∷ []) a i (omega arith);
       }
 
-  -- what a write behind leaves of the next gate
-  pub next_stays : (n at : ℕ) (bytes : List ℕ) → 130 + n < at → is_open (n + 2) (content s unit block) ≡ false
-      → Adds (record { unit = unit; block = block; offset = at; bytes = bytes }) s t → is_open (n + 2) (content t unit block) ≡ false
-  next_stays n at bytes beyond next adds =
-      ap (λ (d : List ℕ). is_open (n + 2) d) (block_written unit block at bytes s t adds) ∙ gate_below (n + 2) at bytes (content s unit block) (omega arith) ∙ next
+  -- a write at the gate before them or among the records leaves the later gates as they are
+  pub later_stays : (n : ℕ) (a : List ℕ) (at : ℕ) (bytes : List ℕ) → (at + length bytes ≤ 130 + n) ⊎ (256 ≤ at) → LaterGates (n + 1) a (content s unit block)
+      → Adds (record { unit = unit; block = block; offset = at; bytes = bytes }) s t → LaterGates (n + 1) a (content t unit block)
+  later_stays n a at bytes beside later adds =
+      later_moved (n + 1) a (content s unit block) (content t unit block) later
+      (λ k from to. ap (λ (d : List ℕ). get_or d (128 + k) 0) (block_written unit block at bytes s t adds) ∙ elim beside [
+        | inl before ↦ get_or-splice_above at bytes (content s unit block) (128 + k) (omega arith)
+        | inr behind ↦ get_or-splice_below at bytes (content s unit block) (128 + k) (omega arith)
+      ])
 
   pub holds_after : (place : ℕ) (bytes : List ℕ) → place + length bytes ≤ length (content s unit block)
       → Adds (record { unit = unit; block = block; offset = place; bytes = bytes }) s t → Holds place bytes (content t unit block)
   holds_after place bytes inside adds =
       subst (Holds place bytes) (sym (block_written unit block place bytes s t adds)) (holds_written place bytes (content s unit block) inside)
 
-  -- the next gate is written
-  pub next_closed : (n : ℕ) (bytes : List ℕ) → 1 ≤ length bytes → get_or bytes 0 0 ≡ 0 → 130 + n < length (content s unit block)
-      → Adds (record { unit = unit; block = block; offset = 130 + n; bytes = bytes }) s t → is_open (n + 2) (content t unit block) ≡ false
-  next_closed n bytes some zero_first inside adds =
-      ap (λ (d : List ℕ). is_open (n + 2) d) (block_written unit block (130 + n) bytes s t adds)
-      ∙ ap (λ (x : ℕ). x == 193) (get_or-splice_in (130 + n) bytes (content s unit block) (128 + (n + 2)) 0 (omega arith) (omega arith) (omega arith) ∙ zero_first)
+  -- the later gates are written
+  pub later_closed : (n : ℕ) (a bytes : List ℕ) → HasLaterOpen (n + 1) a → length bytes ≡ 97 - n → ((i : ℕ) → i < 97 - n → get_or bytes i 0 ≡ 0) → 227 ≤ length (content s unit block)
+      → Adds (record { unit = unit; block = block; offset = 130 + n; bytes = bytes }) s t → LaterGates (n + 1) a (content t unit block)
+  later_closed n a bytes some long zeros inside adds =
+      let all : (k : ℕ) → n + 1 < k → k ≤ 98 → get_or (content t unit block) (128 + k) 0 ≡ 0 = λ k from to.
+      ap (λ (d : List ℕ). get_or d (128 + k) 0) (block_written unit block (130 + n) bytes s t adds)
+      ∙ get_or-splice_in (130 + n) bytes (content s unit block) (128 + k) (k - (n + 2)) (omega arith) (omega arith) (omega arith) ∙ zeros (k - (n + 2)) (omega arith) in
+      record {
+        shut = λ has. absurd (true≢false (sym has.3 ∙ ap (λ (x : ℕ). x == 193) (all has.0 has.1 has.2)));
+        closed = λ _ k from to. all k from to;
+        kept = λ none. absurd (none some);
+      }
 
   module _ (n : ℕ) (a bytes : List ℕ) (few : n ≤ 96) (long : length a ≡ 16384) (there : n ≤ length (reading a).records)
       (stands : StandsShut n bytes a (content s unit block)) (is : IsRecord bytes) (cheap : cost (take n (reading a).records) + cost_of (record_at 0 bytes) ≤ 13165) where
@@ -51,7 +76,7 @@ module _ (unit : UnitNo) (block : ℕ) (s t : SiteLog) where
     Opened b = EndsAfter n a b ⊎ (reading b ≡ reading_of (formatted_records n (record_at 0 bytes) (reading a).records))
 
     open_any : (left : List ℕ) → length left ≡ 1 → Opened (splice (129 + n) left (content s unit block))
-    open_any left one = opening n (97 - n) bytes a (content s unit block) left (omega arith) there long stands.ends stands.next is stands.holds cheap one
+    open_any left one = opening n (97 - n) bytes a (content s unit block) left (omega arith) there long stands.ends (next_shut n (content s unit block) few stands.later.shut) is stands.holds cheap one
 
     pub open_moments : (left : List ℕ) → length left ≡ 1 → Adds (record { unit = unit; block = block; offset = 129 + n; bytes = left }) s t → Writes (ChangesBlock unit block Opened (content s)) s t
     open_moments left one adds = block_write unit block (129 + n) left Opened s t adds (inl stands.ends) (λ other long_other. open_any other (long_other ∙ one))
@@ -68,17 +93,13 @@ gate_byte n a opened =
     let there : 129 + n ≡ 128 + (n + 1) = omega arith in
     ap (λ (k : ℕ). get_or a k 0) there ∙ eqb-true (get_or a (128 + (n + 1)) 0) 193 opened
 
--- the next gate is as it was
-pub next_shut : (n : ℕ) (a b : List ℕ) → get_or b (130 + n) 0 ≡ get_or a (130 + n) 0 → is_open (n + 2) a ≡ false → is_open (n + 2) b ≡ false
-next_shut n a b same shut =
-    let there : 128 + (n + 2) ≡ 130 + n = omega arith in
-    ap (λ (k : ℕ). get_or b k 0 == 193) there ∙ ap (λ (x : ℕ). x == 193) same ∙ ap (λ (k : ℕ). get_or a k 0 == 193) (sym there) ∙ shut
-
--- no later gate is open
-pub none_next : (n : ℕ) (a : List ℕ) → ((i : ℕ) → 130 + n ≤ i → i < 227 → get_or a i 0 ≡ 193 → ⊥) → n ≤ 96 → is_open (n + 2) a ≡ false
-none_next n a none few =
-    let there : 128 + (n + 2) ≡ 130 + n = omega arith in
-    ne_eqb (get_or a (128 + (n + 2)) 0) 193 (none (128 + (n + 2)) (omega arith) (omega arith))
+-- the later gates are as they were, and none was open
+pub later_kept : (n : ℕ) (a b : List ℕ) → SameBytes (130 + n) 227 a b → (HasLaterOpen (n + 1) a → ⊥) → LaterGates (n + 1) a b
+later_kept n a b same none = record {
+  shut = λ has. none (has.0, has.1, has.2, sym (ap (λ (x : ℕ). x == 193) (same (128 + has.0) (omega (arith, has.1)) (omega (arith, has.2)))) ∙ has.3);
+  closed = λ some. absurd (none some);
+  kept = λ _ k from to. same (128 + k) (omega arith) (omega arith);
+}
 
 -- the three steps, one after another
 module _ (unit : UnitNo) (block n : ℕ) (a bytes : List ℕ) (few : n ≤ 96) (there : n ≤ length (reading a).records) where

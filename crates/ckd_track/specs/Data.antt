@@ -1,7 +1,7 @@
 -- Records and tracks as plain data, and volumes of them.
 use Rattle.std.specs.Prelude.{◌≡◌, ℕ, Bool, ◌+◌, ◌<◌, ◌≤◌, ◌==◌, List, [], length, Option, sum_by, if◌then◌else◌}
 use Rattle.std.specs.List.{AllByRecursion}
-use Rattle.ckd_track.specs.declared.layout.TheConstants.{TRACK_COST}
+use Rattle.mss_base.specs.Geometry.{track_cost}
 
 -- a record: its ID of five bytes, its key and its data
 pub record RecordData : Type 0 where
@@ -33,7 +33,7 @@ pub record HasCount (r : RecordData) : Type 0 where
 
 -- records that may stand on a track together
 pub record IsTrack (rs : List RecordData) : Type 0 where
-  pub cost_ : cost rs ≤ TRACK_COST
+  pub cost_ : cost rs ≤ track_cost
   pub each : AllByRecursion HasCount rs
 
 -- volumes: by number a serial where there is one, and whether no host may write there; and the records of each track by

@@ -1,13 +1,12 @@
 -- What formatting a record makes of a track.
-use Rattle.std.specs.Prelude.{◌≡◌, ◌≤◌, ◌<◌, nat_lt, ℕ, ◌+◌, ◌-◌, Bool, false, not, ◌&&◌, ◌||◌}
+use Rattle.std.specs.Prelude.{◌≡◌, ◌≤◌, ◌<◌, ◌↔◌, nat_lt, ℕ, ◌+◌, ◌-◌, Bool, true, false, IsTrue, not, ◌&&◌, ◌||◌}
 use Rattle.std.specs.Prelude.{List, [], ◌∷◌, ◌++◌, length, take, slice_index, None}
-use Rattle.mss_base.specs.declared.block.TheConstants.{BLOCK_BYTES}
+use Rattle.mss_base.specs.Geometry.{block_bytes, track_gates, track_records_at, track_cost}
 use Rattle.mss_base.specs.declared.place.BlockPlace.{BlockPlace}
 use Rattle.mss_base.specs.Content.{SiteLog, Item, Got, AreWithin}
 use Rattle.ckd_track.specs.Data.{RecordData, cost, cost_of}
-use Rattle.ckd_track.specs.Track.{Reading, reading, reading_of, record_length, record_at, is_open, place_after}
+use Rattle.ckd_track.specs.Track.{Reading, reading, reading_of, record_length, record_at, gate_at, is_open, place_after}
 use Rattle.ckd_track.specs.declared.format.FormatPlace.{FormatPlace}
-use Rattle.ckd_track.specs.declared.layout.TheConstants.{TRACK_COST}
 
 -- a count of eight bytes, and then as many bytes as its lengths say
 pub record IsRecord (bytes : List ℕ) : Type 0 where
@@ -19,21 +18,31 @@ pub record MayFormat (number : ℕ) (bytes block : List ℕ) : Type 0 where
   pub first : 1 ≤ number
   pub there : number ≤ length (reading block).records + 1
   pub whole : IsRecord bytes
-  pub fits : cost (take (number - 1) (reading block).records) + cost_of (record_at 0 bytes) ≤ TRACK_COST
+  pub fits : cost (take (number - 1) (reading block).records) + cost_of (record_at 0 bytes) ≤ track_cost
+
+-- the gate of a record behind this one is open
+abbrev pub HasLaterOpen : ℕ → List ℕ → Type 0
+HasLaterOpen number block = (k : ℕ) × (number < k) × (k ≤ track_gates) × (is_open k block ≡ true)
+
+-- the gates behind this record's: none is open, all are 0 where one of them was open, and else they are as they were
+pub record LaterGates (number : ℕ) (old new : List ℕ) : Type 0 where
+  pub shut : HasLaterOpen number new → ⊥
+  pub closed : HasLaterOpen number old → (k : ℕ) → number < k → k ≤ track_gates → gate_at k new ≡ 0
+  pub kept : (HasLaterOpen number old → ⊥) → (k : ℕ) → number < k → k ≤ track_gates → gate_at k new ≡ gate_at k old
 
 -- a look at a block gave this place: it is the one behind so many of its records, and its gates are as they are there
 pub record IsPlaceIn (block : List ℕ) (place : FormatPlace) : Type 0 where
-  pub whole : length block ≡ BLOCK_BYTES
+  pub whole : length block ≡ block_bytes
   pub few : place.before ≤ 96
-  pub begins : place.begins_at ≡ place_after place.before 256 block
+  pub begins : place.begins_at ≡ place_after place.before track_records_at block
   pub gate : is_open (place.before + 1) block ≡ place.gate_open
-  pub later : place.later_open ≡ false → is_open (place.before + 2) block ≡ false
+  pub later : IsTrue place.later_open ↔ HasLaterOpen (place.before + 1) block
 
 -- a record of these bytes has room behind the first n, which are there
 pub record FitsBehind (n : ℕ) (bytes block : List ℕ) : Type 0 where
   pub there : n ≤ length (reading block).records
   pub whole : IsRecord bytes
-  pub fits : cost (take n (reading block).records) + cost_of (record_at 0 bytes) ≤ TRACK_COST
+  pub fits : cost (take n (reading block).records) + cost_of (record_at 0 bytes) ≤ track_cost
 
 -- the first n records, and this one as the last
 abbrev pub formatted_records : ℕ → RecordData → List RecordData → List RecordData
@@ -76,10 +85,10 @@ pub record EndsBefore (n : ℕ) (a b : List ℕ) : Type 0 where
   pub ends : EndsAfter n a b
   pub later : SameBytes (130 + n) 227 a b
 
--- the record of these bytes stands in its place behind the closed gate, and the gate behind its own is closed too
+-- the record of these bytes stands in its place behind the closed gate, and no later gate is open
 pub record StandsShut (n : ℕ) (bytes a b : List ℕ) : Type 0 where
   pub ends : EndsAfter n a b
-  pub next : is_open (n + 2) b ≡ false
+  pub later : LaterGates (n + 1) a b
   pub holds : Holds (place_after n 256 a) bytes b
 
 -- the places behind the gate after n records: the later gates, and all from the next record's place on

@@ -1,9 +1,8 @@
 -- The track of a block: the records from byte 256 on, record k while the gate at byte 128 + k is open.
 use Rattle.std.specs.Prelude.{◌≡◌, ℕ, zero, suc, ◌+◌, ◌-◌, ◌*◌, ◌≤◌, ◌<◌, ◌==◌, nat_lt, Bool, true, false}
 use Rattle.std.specs.Prelude.{List, [], ◌∷◌, length, take, drop, slice_index, slice_get, Option, Some, None}
-use Rattle.mss_base.specs.declared.block.TheConstants.{OPEN}
+use Rattle.mss_base.specs.Geometry.{open_gate, track_gates_at, track_gates, track_records_at, track_cost}
 use Rattle.ckd_track.specs.Data.{RecordData, cost_of_lengths}
-use Rattle.ckd_track.specs.declared.layout.TheConstants.{TRACK_COST}
 use Rattle.ckd_track.specs.declared.track.BadRecord.{BadRecord}
 use Rattle.ckd_track.specs.declared.track.TrackCause.TheVariants.{RunsPast, Overfull}
 
@@ -40,9 +39,13 @@ record_at place block = record {
 abbrev pub cost_at : ℕ → List ℕ → ℕ
 cost_at place block = cost_of_lengths (key_length place block) (data_length place block)
 
--- whether the gate of a record is open
+-- the gate of a record
+abbrev pub gate_at : ℕ → List ℕ → ℕ
+gate_at number block = slice_index block (track_gates_at + number)
+
+-- whether it is open
 abbrev pub is_open : ℕ → List ℕ → Bool
-is_open number block = slice_index block (128 + number) == OPEN
+is_open number block = gate_at number block == open_gate
 
 -- a record before others
 abbrev pub before : RecordData → Reading → Reading
@@ -64,12 +67,12 @@ unfoldable pub reading_from : ℕ → ℕ → ℕ → ℕ → List ℕ → Readi
 reading_from zero number place spent block = reading_of []
 reading_from (suc most) number place spent block =
     reading_by_gate (is_open number block) (nat_lt (length block) (place + record_length place block))
-    (nat_lt TRACK_COST (spent + cost_at place block)) number (record_at place block)
+    (nat_lt track_cost (spent + cost_at place block)) number (record_at place block)
     (reading_from most (number + 1) (place + record_length place block) (spent + cost_at place block) block)
 
 -- the reading of a block
 unfoldable pub reading : List ℕ → Reading
-reading block = reading_from 98 1 256 0 block
+reading block = reading_from track_gates 1 track_records_at 0 block
 
 -- the place of the record after n records, the first of which has this place
 unfoldable pub place_after : ℕ → ℕ → List ℕ → ℕ
@@ -80,7 +83,7 @@ place_after (suc n) place block = place_after n (place + record_length place blo
 pub record BeginsAt (k place : ℕ) (block : List ℕ) : Type 0 where
   pub item : slice_get (reading block).records (k - 1) ≡ Some (record_at place block)
   pub inside : place + record_length place block ≤ length block
-  pub behind : place ≡ place_after (k - 1) 256 block
+  pub behind : place ≡ place_after (k - 1) track_records_at block
 
 -- each number is a byte
 abbrev pub AreBytes : List ℕ → Type 0

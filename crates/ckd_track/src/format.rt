@@ -1,15 +1,17 @@
 // Formatting a record: at most four writes and three syncs, such that a stop at any moment leaves a track.
-ghost use Rattle.std.specs.Prelude.{◌≡◌, ◌⊎◌, ◌≤◌, ◌<◌, ℕ, ◌+◌, ◌-◌, true, false};
-ghost use Rattle.std.specs.Prelude.{List, length, slice_index, OnOk};
+ghost use Rattle.std.specs.Prelude.{◌≡◌, ◌⊎◌, ◌↔◌, ◌≤◌, ◌<◌, ℕ, ◌+◌, ◌-◌};
+ghost use Rattle.std.specs.Prelude.{List, length, slice_index, IsTrue, OnOk};
 ghost use Rattle.mss_base.specs.Blocks.{WritesBlock, block_of};
 ghost use Rattle.mss_base.specs.Content.{Settles};
 ghost use Rattle.mss_base.specs.Sites.{WritesAtMost};
+ghost use Rattle.mss_base.specs.Geometry.{block_bytes, track_records_at, format_items};
 ghost use Rattle.ckd_track.specs.Data.{IsTrack};
-ghost use Rattle.ckd_track.specs.Track.{reading, reading_of, record_at, is_open, place_after, AreBytes};
+ghost use Rattle.ckd_track.specs.Track.{reading, reading_of, record_at, place_after, AreBytes};
 ghost use Rattle.ckd_track.specs.Formatting.{formatted_records, FitsBehind, IsFormatting, IsPlaceIn, MayFormat};
 ghost use Rattle.ckd_track.specs.Formatting.{EndsAfter, EndsBefore, StandsShut, WritesBehind};
+ghost use Rattle.ckd_track.specs.Formatting.{HasLaterOpen, LaterGates};
 
-use crate::layout::{FIRST_PLACE, GATES, GATES_END, TRACK_COST, record_length};
+use crate::layout::{FIRST_PLACE, GATES, GATES_END, record_length};
 use mss_base::{BLOCK_BYTES, BlockPlace, FIRM_ITEMS, Failed, OPEN, Site, write_firm};
 
 /// How many items of the log the closing of the later gates and the writing of a record make at most: two writes, and
@@ -52,23 +54,20 @@ fn close_gate<S: Site>(site: &mut S, at: &BlockPlace, place: &FormatPlace) -> Re
 static CLOSED: [u8; 97] = [0; 97];
 
 fn closed_gates(count: usize) -> &'static [u8]
-    requires some { 1 ≤ count }
     requires few { count ≤ 97 }
     ensures count { length result.now ≡ count }
-    ensures closed { slice_index result.now 0 ≡ 0 }
+    ensures closed { (i : ℕ) → i < count → slice_index result.now i ≡ 0 }
 {
     &CLOSED[..count]
 }
 
-fn any_open(block: &[u8], from: usize, to: usize) -> bool
-    requires { to ≤ length block.now }
-    ensures some { result ≡ true →
-        (i : ℕ) × (from ≤ i) × (i < to) × (slice_index block.now i ≡ 193) }
-    ensures none { result ≡ false →
-        (i : ℕ) → from ≤ i → i < to → slice_index block.now i ≡ 193 → ⊥ }
+/// Whether a gate behind the one of record `number` is open.
+fn any_later_open(block: &[u8], number: u8) -> bool
+    requires { length block.now ≡ block_bytes }
+    ensures { IsTrue result ↔ HasLaterOpen number block.now }
 {
-    for i in from..to {
-        if block[i] == OPEN {
+    for place in GATES + 1 + number as u16..GATES_END {
+        if block[place as usize] == OPEN {
             return true;
         }
     }
@@ -84,8 +83,8 @@ fn close_later<S: Site>(site: &mut S, at: &BlockPlace, place: &FormatPlace) -> R
     requires room { 1 ≤ S.spare site.old }
     ensures behind { S.tells → WritesBehind place.now.before block at.now
         (S.told site.old) (S.told site.new) }
-    ensures next { S.tells →
-        OnOk result (is_open (place.now.before + 2) (block_of (S.told site.new) at.now) ≡ false) }
+    ensures later { S.tells → OnOk result
+        (LaterGates (place.now.before + 1) block (block_of (S.told site.new) at.now)) }
     ensures site_ { WritesAtMost S.Site 1 site.old site.new result }
 {
     if place.later_open {
@@ -112,7 +111,7 @@ fn write_behind<S: Site>(
     requires closed { S.tells →
         EndsBefore place.now.before block (block_of (S.told site.old) at.now) }
     requires some { 1 ≤ length bytes.now }
-    requires inside { place.now.begins_at + length bytes.now ≤ BLOCK_BYTES }
+    requires inside { place.now.begins_at + length bytes.now ≤ block_bytes }
     requires room { 2 ≤ S.spare site.old }
     ensures behind { S.tells → WritesBehind place.now.before block at.now
         (S.told site.old) (S.told site.new) }
@@ -137,7 +136,7 @@ fn put_behind<S: Site>(
     requires closed { S.tells →
         EndsBefore place.now.before block (block_of (S.told site.old) at.now) }
     requires some { 1 ≤ length bytes.now }
-    requires inside { place.now.begins_at + length bytes.now ≤ BLOCK_BYTES }
+    requires inside { place.now.begins_at + length bytes.now ≤ block_bytes }
     requires room { BEHIND_ITEMS ≤ S.spare site.old }
     ensures moments { S.tells → WritesBlock at.now (EndsAfter place.now.before block)
         (S.told site.old) (S.told site.new) }
@@ -170,6 +169,8 @@ fn open_gate<S: Site>(
     ensures done { S.tells → OnOk result (reading (block_of (S.told site.new) at.now)
         ≡ reading_of (formatted_records place.now.before (record_at 0 bytes.now)
         (reading block).records)) }
+    ensures later { S.tells → OnOk result
+        (LaterGates (place.now.before + 1) block (block_of (S.told site.new) at.now)) }
     ensures firm { S.tells → OnOk result (Settles (S.told site.old) (S.told site.new)) }
     ensures site_ { WritesAtMost S.Site FIRM_ITEMS site.old site.new result }
 {
@@ -187,15 +188,17 @@ fn format_at<S: Site>(
     requires looked { IsPlaceIn block place.now }
     requires told { S.tells → block_of (S.told site.old) at.now ≡ block }
     requires fits { FitsBehind place.now.before bytes.now block }
-    requires room { FORMAT_ITEMS ≤ S.spare site.old }
+    requires room { format_items ≤ S.spare site.old }
     ensures moments { S.tells → WritesBlock at.now
         (λ b. IsFormatting place.now.before (record_at 0 bytes.now) (reading block) (reading b))
         (S.told site.old) (S.told site.new) }
     ensures done { S.tells → OnOk result (reading (block_of (S.told site.new) at.now)
         ≡ reading_of (formatted_records place.now.before (record_at 0 bytes.now)
         (reading block).records)) }
+    ensures later { S.tells → OnOk result
+        (LaterGates (place.now.before + 1) block (block_of (S.told site.new) at.now)) }
     ensures firm { S.tells → OnOk result (Settles (S.told site.old) (S.told site.new)) }
-    ensures site_ { WritesAtMost S.Site FORMAT_ITEMS site.old site.new result }
+    ensures site_ { WritesAtMost S.Site format_items site.old site.new result }
 {
     prove!(place.begins_at as usize + bytes.len() <= BLOCK_BYTES);
     close_gate(site, at, place)?;
@@ -205,9 +208,9 @@ fn format_at<S: Site>(
 
 /// The place of the record behind `before` others.
 fn record_place(block: &[u8], before: u8) -> u16
-    requires whole { length block.now ≡ BLOCK_BYTES }
+    requires whole { length block.now ≡ block_bytes }
     requires there { before ≤ length (reading block.now).records }
-    ensures { result ≡ place_after before 256 block.now }
+    ensures { result ≡ place_after before track_records_at block.now }
 {
     let mut place = FIRST_PLACE;
     for i in 0..before {
@@ -218,16 +221,15 @@ fn record_place(block: &[u8], before: u8) -> u16
 
 /// Looks where a record behind `before` others goes.
 fn format_place(block: &[u8], before: u8) -> FormatPlace
-    requires whole { length block.now ≡ BLOCK_BYTES }
+    requires whole { length block.now ≡ block_bytes }
     requires few { before ≤ 96 }
     requires there { before ≤ length (reading block.now).records }
     ensures place { IsPlaceIn block.now result }
     ensures before { result.before ≡ before }
     ensures bytes { AreBytes block.now }
 {
-    let gate = GATES as usize + 1 + before as usize;
-    let gate_open = block[gate] == OPEN;
-    let later_open = any_open(block, gate + 1, GATES_END as usize);
+    let gate_open = block[GATES as usize + 1 + before as usize] == OPEN;
+    let later_open = any_later_open(block, before + 1);
     let begins_at = record_place(block, before);
     FormatPlace {
         before,
@@ -241,8 +243,9 @@ fn format_place(block: &[u8], before: u8) -> FormatPlace
 ///
 /// The block at the place is the one that was brought last, and `count_key_data` a count of eight bytes
 /// (CC HH R KL DL DL), KL bytes of key and DL bytes of data. It makes at most four writes and three syncs, and at Ok
-/// what it wrote is firm. A stop at any moment leaves the old track, the track ended before the record, or the new
-/// track. Where it fails, the site's count of faults has risen.
+/// what it wrote is firm, and no later gate is open: all are closed where one of them was. A stop at any moment leaves
+/// the old track, the track ended before the record, or the new track. Where it fails, the site's count of faults has
+/// risen.
 pub fn format_record<S: Site>(
     site: &mut S,
     at: &BlockPlace,
@@ -251,7 +254,7 @@ pub fn format_record<S: Site>(
 ) -> Result<(), Failed>
     requires brought { S.tells → block_of (S.told site.old) at.now ≡ S.brought site.old }
     requires fits { MayFormat number count_key_data.now (S.brought site.old) }
-    requires room { FORMAT_ITEMS ≤ S.spare site.old }
+    requires room { format_items ≤ S.spare site.old }
 
     ensures moments { S.tells → WritesBlock at.now
         (λ b. IsFormatting (number - 1) (record_at 0 count_key_data.now)
@@ -259,10 +262,12 @@ pub fn format_record<S: Site>(
     ensures done { S.tells → OnOk result (reading (block_of (S.told site.new) at.now)
         ≡ reading_of (formatted_records (number - 1) (record_at 0 count_key_data.now)
         (reading (S.brought site.old)).records)) }
+    ensures later { S.tells → OnOk result (LaterGates number (S.brought site.old)
+        (block_of (S.told site.new) at.now)) }
     ensures track { OnOk result (IsTrack (formatted_records (number - 1)
         (record_at 0 count_key_data.now) (reading (S.brought site.old)).records)) }
     ensures firm { S.tells → OnOk result (Settles (S.told site.old) (S.told site.new)) }
-    ensures site_ { WritesAtMost S.Site FORMAT_ITEMS site.old site.new result }
+    ensures site_ { WritesAtMost S.Site format_items site.old site.new result }
 {
     let before = number - 1;
     prove!(before <= 96);

@@ -1,13 +1,14 @@
 // What a block's track is, found by walking over its counts: nothing is copied, and no memory is taken.
 ghost use Rattle.std.specs.Prelude.{◌≡◌, ◌≤◌, ◌<◌, ◌+◌, ◌-◌, ◌↔◌, [], None, Some, length, take};
 ghost use Rattle.std.specs.Prelude.{IsTrue, IsOk, IfErr, MatchOption};
+ghost use Rattle.mss_base.specs.Geometry.{block_bytes, track_gates, track_cost, track_records_at};
 ghost use Rattle.ckd_track.specs.Data.{IsTrack, cost};
 ghost use Rattle.ckd_track.specs.Track.{reading, reading_of, reading_from, BeginsAt};
 ghost use Rattle.ckd_track.specs.Stored.{GoesOn};
 
 use crate::layout::{FIRST_PLACE, GATES, TRACK_COST, cost_at, record_length};
 use crate::{BadRecord, stored_records};
-use mss_base::{BLOCK_BYTES, Block, OPEN};
+use mss_base::{Block, OPEN};
 
 /// Whether a block is a track, or its first record that is no part of one.
 ///
@@ -33,10 +34,10 @@ pub fn is_blank(block: &Block) -> bool
 ///
 /// One that the track has room for ends inside the block, so its cost is all that is looked at behind its gate.
 fn cost_up_to(block: &[u8], number: u8, place: usize, cost_before: u32) -> Option<u32>
-    requires whole { length block.now ≡ BLOCK_BYTES }
-    requires few { number ≤ 98 }
-    requires cheap { cost_before ≤ TRACK_COST }
-    requires near { place ≤ FIRST_PLACE + cost_before }
+    requires whole { length block.now ≡ block_bytes }
+    requires few { number ≤ track_gates }
+    requires cheap { cost_before ≤ track_cost }
+    requires near { place ≤ track_records_at + cost_before }
     ensures { MatchOption result
         (length (reading_from (99 - number) number place cost_before block.now).records ≡ 0)
         (GoesOn number place cost_before block.now) }
@@ -53,7 +54,7 @@ fn cost_up_to(block: &[u8], number: u8, place: usize, cost_before: u32) -> Optio
 
 /// Where record `number` of a block's track begins: the place of its count. R0 stands in no block.
 pub fn find_place(block: &[u8], number: u8) -> Option<u16>
-    requires whole { length block.now ≡ BLOCK_BYTES }
+    requires whole { length block.now ≡ block_bytes }
     requires first { 1 ≤ number }
     ensures { MatchOption result (length (reading block.now).records < number)
         (λ place. BeginsAt number place block.now) }
@@ -79,9 +80,9 @@ pub fn record_count(block: &Block) -> u8
 
 /// What the first `count` records of a block's track take of it together.
 pub fn cost_of_front(block: &[u8], count: u8) -> u32
-    requires { length block.now ≡ BLOCK_BYTES }
+    requires { length block.now ≡ block_bytes }
     ensures cost { result ≡ cost (take count (reading block.now).records) }
-    ensures within { result ≤ TRACK_COST }
+    ensures within { result ≤ track_cost }
 {
     let mut stored = stored_records(block);
     let mut cost = 0;

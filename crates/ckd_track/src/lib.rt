@@ -25,4 +25,4 @@ pub use read::{ReadTrackFault, read_front, read_track};
 pub use record::{Record, Records, Track};
 pub use stored::{StoredRecord, StoredRecords, record_at, stored_records};
 pub use track::{BadRecord, TrackCause};
-pub use update::{UPDATE_ITEMS, update_record};
+pub use update::update_record;

@@ -1,11 +1,12 @@
 // Reading the track of a block into memory of its own.
 ghost use Rattle.std.specs.Prelude.{◌≡◌, IfOk, IfErr, length};
+ghost use Rattle.mss_base.specs.Geometry.{block_bytes};
 ghost use Rattle.ckd_track.specs.Track.{reading, reading_of};
 ghost use Rattle.ckd_track.specs.ReadTrackFault.{IsFault};
 ghost use Rattle.ckd_track.specs.declared.read.ReadTrackFault.TheVariants.{Bad, Memory};
 
 use crate::{BadRecord, Records, Track, TrackCause, stored_records};
-use mss_base::{BLOCK_BYTES, NoMemory};
+use mss_base::NoMemory;
 use std::alloc::Global;
 
 /// Why no track could be read.
@@ -38,7 +39,7 @@ impl From<BadRecord> for ReadTrackFault {
 
 /// The track of a block of 16,384 bytes, or the first record that is no part of one.
 pub fn read_track(alloc: Global, block: &[u8]) -> Result<Track, ReadTrackFault>
-    requires { length block.now ≡ BLOCK_BYTES }
+    requires { length block.now ≡ block_bytes }
     ensures track { IfOk result (λ t. reading block.now ≡ reading_of t) }
     ensures bad { IfErr result (λ e. IsFault e (reading block.now)) }
 {
@@ -53,7 +54,7 @@ pub fn read_track(alloc: Global, block: &[u8]) -> Result<Track, ReadTrackFault>
 
 /// The records of a block of 16,384 bytes before the first that is no part of a track.
 pub fn read_front(alloc: Global, block: &[u8]) -> Result<Track, NoMemory>
-    requires { length block.now ≡ BLOCK_BYTES }
+    requires { length block.now ≡ block_bytes }
     ensures { IfOk result (λ t. t ≡ (reading block.now).records) }
 {
     let mut records = Records::new(alloc);

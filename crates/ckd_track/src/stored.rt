@@ -1,6 +1,7 @@
 // Records where they stand in a block: nothing is copied, and no memory is taken.
 ghost use Rattle.std.specs.Prelude.{◌≡◌, ◌≤◌, ◌+◌, ℕ, [], Some, IfOk, IfErr, MatchOption, length};
 ghost use Rattle.std.specs.Iterator.{YieldsFirstBy, item_count};
+ghost use Rattle.mss_base.specs.Geometry.{block_bytes};
 ghost use Rattle.ckd_track.specs.Data.{IsTrack, cost_of};
 ghost use Rattle.ckd_track.specs.Track.{reading, reading_of, before, stopped_at, record_length, record_at};
 
@@ -9,7 +10,7 @@ use crate::layout::{
     record_length,
 };
 use crate::{BadRecord, Record, TrackCause};
-use mss_base::{BLOCK_BYTES, Bytes, NoMemory, OPEN};
+use mss_base::{Bytes, NoMemory, OPEN};
 use std::alloc::Global;
 use std::marker::Model;
 
@@ -80,7 +81,7 @@ impl<'a> Model for StoredRecords<'a> {
 /// The records of the track of a block of 16,384 bytes, from R1 on.
 #[tactic(auto, unfolding(crate::specs::Track::reading))]
 pub fn stored_records(block: &[u8]) -> StoredRecords<'_>
-    requires { length block.now ≡ BLOCK_BYTES }
+    requires { length block.now ≡ block_bytes }
     ensures all { result ≡ reading block.now }
     ensures track { IsTrack (reading block.now).records }
 {

@@ -3,18 +3,16 @@ ghost use Rattle.std.specs.Prelude.{◌≡◌, ◌≤◌, ◌<◌, ◌+◌, ◌-
 ghost use Rattle.mss_base.specs.Blocks.{WritesBlock, block_of};
 ghost use Rattle.mss_base.specs.Content.{Settles};
 ghost use Rattle.mss_base.specs.Sites.{WritesAtMost};
+ghost use Rattle.mss_base.specs.Geometry.{block_bytes, update_items};
 ghost use Rattle.ckd_track.specs.Track.{reading, record_length};
 ghost use Rattle.ckd_track.specs.Updating.{IsUpdating, MayUpdate, updated_records, bytes_place};
 
 use crate::layout::key_length;
-use mss_base::{BLOCK_BYTES, BlockPlace, FIRM_ITEMS, Failed, Site, write_firm};
-
-/// How many items of the log an update makes at most: one write, and a sync.
-pub const UPDATE_ITEMS: u32 = FIRM_ITEMS;
+use mss_base::{BlockPlace, Failed, Site, write_firm};
 
 /// The place of the data, or of the key and data, of the record at a place.
 fn bytes_place(block: &[u8], place: u16, key_too: bool) -> u16
-    requires whole { length block.now ≡ BLOCK_BYTES }
+    requires whole { length block.now ≡ block_bytes }
     requires inside { place + record_length place block.now ≤ length block.now }
     ensures { result ≡ bytes_place key_too place block.now }
 {
@@ -41,7 +39,7 @@ pub fn update_record<S: Site>(
 ) -> Result<(), Failed>
     requires brought { S.tells → block_of (S.told site.old) at.now ≡ S.brought site.old }
     requires found { MayUpdate number place key_too bytes.now (S.brought site.old) }
-    requires room { UPDATE_ITEMS ≤ S.spare site.old }
+    requires room { update_items ≤ S.spare site.old }
 
     ensures moments { S.tells → WritesBlock at.now
         (λ b. IsUpdating key_too (number - 1) (reading (S.brought site.old)) (reading b))
@@ -53,7 +51,7 @@ pub fn update_record<S: Site>(
         }) }
     ensures untouched { bytes.now ≡ [] → site.new ≡ site.old }
     ensures firm { S.tells → OnOk result (Settles (S.told site.old) (S.told site.new)) }
-    ensures site_ { WritesAtMost S.Site UPDATE_ITEMS site.old site.new result }
+    ensures site_ { WritesAtMost S.Site update_items site.old site.new result }
 {
     let offset = bytes_place(site.brought(), place, key_too);
     if bytes.is_empty() {

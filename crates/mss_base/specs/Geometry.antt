@@ -9,17 +9,20 @@ volume_cylinders = 404
 abbrev pub cylinder_heads : ℕ
 cylinder_heads = 19
 
--- ---- a block: what an open gate holds, of a record, of a row and of a slot
+-- ---- a block: so many bytes, and what an open gate holds, of a record, of a row and of a slot
+abbrev pub block_bytes : ℕ
+block_bytes = 16384
+
 abbrev pub open_gate : ℕ
 open_gate = 193
 
--- ---- a track in its block: the gate of record k stands k behind the first place, from 1 to 98; the records begin at the
--- second one; they cost so much together at most
+-- ---- a track in its block: the gate of record k stands k behind the first place, and there are so many; the records
+-- begin at the second one; they cost so much together at most
 abbrev pub track_gates_at : ℕ
 track_gates_at = 128
 
-abbrev pub track_gates_end : ℕ
-track_gates_end = 227
+abbrev pub track_gates : ℕ
+track_gates = 98
 
 abbrev pub track_records_at : ℕ
 track_records_at = 256

@@ -1,11 +1,11 @@
 // A write that is firm once it is done.
 ghost use Rattle.std.specs.Prelude.{◌≡◌, ◌≤◌, ℕ, ◌+◌, Bool, List, length, IsOk, OnOk};
 ghost use Rattle.mss_base.specs.Content.{Adds, Settles, write_at};
+ghost use Rattle.mss_base.specs.Geometry.{block_bytes};
 ghost use Rattle.mss_base.specs.Counts.{HasCause, Rises};
 ghost use Rattle.mss_base.specs.Sites.{MayWrite};
 ghost use Rattle.mss_base.specs.declared.place.UnitNo.{UnitNo};
 
-use crate::block::BLOCK_BYTES;
 use crate::{BlockPlace, Failed, Site};
 
 /// How many items a firm write makes: the write, and a sync of its unit.
@@ -22,7 +22,7 @@ pub fn write_firm<S: Site>(
 ) -> Result<(), Failed>
     requires room { FIRM_ITEMS ≤ S.spare site.old }
     requires some { 1 ≤ length bytes.now }
-    requires inside { offset + length bytes.now ≤ BLOCK_BYTES }
+    requires inside { offset + length bytes.now ≤ block_bytes }
     ensures ok { S.tells → OnOk result
         (Adds (write_at at.now offset bytes.now) (S.told site.old) (S.told site.new)) }
     ensures firm { S.tells → OnOk result (Settles (S.told site.old) (S.told site.new)) }

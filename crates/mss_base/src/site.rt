@@ -1,11 +1,11 @@
 // The devices: blocks of 16,384 bytes.
 ghost use Rattle.std.specs.Prelude.{◌≡◌, ℕ, ◌+◌, ◌≤◌, ◌++◌, [], ◌∷◌, List, length, take, Bool, false, IsOk, OnOk, OnErr};
 ghost use Rattle.mss_base.specs.Sound.{StaysSound};
+ghost use Rattle.mss_base.specs.Geometry.{block_bytes};
 ghost use Rattle.mss_base.specs.Content.{SiteLog, content, AddsBytes, Got, synced, synced_all, unsynced};
 ghost use Rattle.mss_base.specs.Counts.{HasCause, HasCounted};
 ghost use Rattle.mss_base.specs.declared.place.UnitNo.{UnitNo};
 
-use crate::block::BLOCK_BYTES;
 use crate::{NoMemory, UnitNo};
 
 /// A call of a device failed, and its count of faults rose.
@@ -48,7 +48,7 @@ pub trait Site {
     /// Reads the front of a block: as many bytes as the buffer has, 16,384 at most. After a failure the buffer may hold
     /// anything.
     fn read(&mut self, unit: UnitNo, block: u32, into: &mut [u8]) -> Result<(), Failed>
-        requires { length into.old ≤ BLOCK_BYTES }
+        requires { length into.old ≤ block_bytes }
         ensures block { tells → OnOk result
             (into.new ≡ take (length into.old) (content (told self.old) unit block)) }
         ensures told { tells → told self.new ≡ told self.old }
@@ -81,7 +81,7 @@ pub trait Site {
     fn write(&mut self, unit: UnitNo, block: u32, offset: u16, bytes: &[u8]) -> Result<(), Failed>
         requires room { 1 ≤ spare self.old }
         requires some { 1 ≤ length bytes.now }
-        requires inside { offset + length bytes.now ≤ BLOCK_BYTES }
+        requires inside { offset + length bytes.now ≤ block_bytes }
         ensures ok { tells → OnOk result
             (AddsBytes unit block offset bytes.now (told self.old) (told self.new)) }
         // Whatever the outcome, the log got one write: of these bytes, or of others in their range. No sync came of it.

@@ -13,7 +13,7 @@ use Rattle.channel_commands.specs.Codes.{is_write}
 use Rattle.channel_commands.specs.Views.{reply_of}
 use Rattle.ckd_track.specs.Data.{RecordData}
 use Rattle.ckd_track.specs.Track.{reading}
-use Rattle.ckd_track.specs.declared.format.TheConstants.{FORMAT_ITEMS}
+use Rattle.mss_base.specs.Geometry.{format_items}
 use Rattle.ckd_plain.specs.declared.done.DoneCommand.{DoneCommand}
 use Rattle.ckd_plain.specs.declared.host.HostState.{HostState}
 use Rattle.ckd_plain.specs.declared.unit_check.Refusal.{Refusal}
@@ -30,7 +30,7 @@ use Rattle.track_engine.specs.Faults.{HasUnitCheck, UsesDevices}
 use Rattle.track_engine.specs.Answers.{Asked, AsksNothing, ran_for, RunsCommand, LeavesDevices}
 use Rattle.track_engine.specs.Tracks.{tracks_on, AreTracksOn}
 use Rattle.track_engine.proofs.Steps.{nothing_loose, tracks_stay}
-use Rattle.track_engine.specs.Writing.{HoldsWritten, IsOfNothing, WritesTrack, CarriesOut, target_of, most_writes, written_of}
+use Rattle.track_engine.specs.Writing.{HoldsWritten, LeavesGates, IsOfNothing, WritesTrack, CarriesOut, target_of, most_writes, written_of}
 use Rattle.track_engine.proofs.Unwritten.{performed_written}
 
 head-opened : (host : HostState) → (with_open_chain host).head ≡ host.head
@@ -101,6 +101,9 @@ module _ (a : Asked) (old new : SiteLog) (from ready : HostState) (from_is : fro
     exact = λ track is.
         ap (λ (head : ℕ). reading (block head)) (sym (head-opened a.host))
         ∙ subst (λ (w : Option (List RecordData)). HoldsWritten w (reading (block (with_open_chain a.host).head))) (sym written_is ∙ is) (carried_for (Ok d) carried).exact;
+    gates = λ track is.
+        subst (λ (head : ℕ). LeavesGates a.command (prior_number (with_open_chain a.host).prior + 1) (content old a.place.unit (a.place.first_block + head)) (block head)) (head-opened a.host)
+        ((carried_for (Ok d) carried).gates track (sym written_is ∙ is));
     firm = (carried_for (Ok d) carried).firm;
     still_tracks = still_tracks (Ok d) carried are;
   }
@@ -113,12 +116,15 @@ module _ (a : Asked) (old new : SiteLog) (from ready : HostState) (from_is : fro
     exact = λ track is.
         let none : None ≡ Some track = sym (ap written_of (refuses e refusal ends carried)) ∙ sym written_is ∙ is in
         absurd cc;
+    gates = λ track is.
+        let none : None ≡ Some track = sym (ap written_of (refuses e refusal ends carried)) ∙ sym written_is ∙ is in
+        absurd cc;
     firm = nothing_loose old new (unwritten_by e refusal ends carried);
     still_tracks = still_tracks (Err e) carried are;
   }
 
   pub runs_failed : (e : NotDone) (fault : EngineFault) (left : HostState) → Carried (Err e) → AreTracksOn old a.place → RunsCommand a old new (Err fault) left
-  runs_failed e fault left carried are = record { answer = tt; writes = writes (Err e) carried; exact = tt; firm = tt; still_tracks = still_tracks (Err e) carried are }
+  runs_failed e fault left carried are = record { answer = tt; writes = writes (Err e) carried; exact = tt; gates = tt; firm = tt; still_tracks = still_tracks (Err e) carried are }
 
 -- a command that ended otherwise is not told a unit check
 pub has_no_unit_check : (status : ℕ) (bytes : List ℕ) (reply : ReplyData) → is_ending status ≡ true → reply ≡ done status bytes → HasUnitCheck reply → ⊥
@@ -130,14 +136,14 @@ has_no_unit_check status bytes reply ends is checked =
 
 -- ---- what is left of the devices
 
-most_fits : (c : Command) → most_writes c ≤ FORMAT_ITEMS
+most_fits : (c : Command) → most_writes c ≤ format_items
 most_fits (command.Write write.Data) = omega arith
 most_fits (command.Write write.KeyData) = omega arith
 most_fits (command.Write write.CountKeyData) = omega arith
 most_fits _ = omega arith
 
 module _ {S : Type 0} (g : Ghosts S) (c : Command) (unit : UnitNo) (old new : S) where
-  may_write : MayWrite g (most_writes c) old new → MayWrite g FORMAT_ITEMS old new
+  may_write : MayWrite g (most_writes c) old new → MayWrite g format_items old new
   may_write w = record { room = let few = most_fits c in omega (arith, w.room, few); written = w.written; later = w.later; sound = w.sound }
 
   abbrev Uses : Result DoneCommand NotDone → Type 0

@@ -12,7 +12,7 @@ use Rattle.channel_commands.specs.declared.command.Command.TheVariants as comman
 use Rattle.channel_commands.specs.declared.command.WriteKind.TheVariants as write
 use Rattle.ckd_track.specs.Data.{RecordData}
 use Rattle.ckd_track.specs.Track.{reading, reading_of}
-use Rattle.ckd_track.specs.Formatting.{IsFormatting, as_it_was, cut_short, completed}
+use Rattle.ckd_track.specs.Formatting.{IsFormatting, LaterGates, as_it_was, cut_short, completed}
 use Rattle.ckd_plain.specs.declared.done.DoneCommand.{DoneCommand}
 use Rattle.ckd_plain.specs.declared.host.Position.TheVariants as position
 use Rattle.ckd_plain.specs.declared.host.Prior.TheVariants as prior
@@ -64,18 +64,19 @@ module _ (to : BlockPlace) (s t : SiteLog) (at : RecordPlace) (r : RecordData) (
         (subst (λ (n : ℕ). Writes (ChangesBlock to.unit to.block (λ b. IsFormatting n r (reading a) (reading b)) (content s)) s t) before_is moments)
 
     pub format_carried_out : (d : DoneCommand) → effect_of d ≡ effect_with DONE [] (record at.host { position = position.Done number; prior = prior.Wrote number })
-        → reading (content t to.unit to.block) ≡ reading_of (take (number - 1) (reading a).records ++ r ∷ []) → Settles s t
+        → reading (content t to.unit to.block) ≡ reading_of (take (number - 1) (reading a).records ++ r ∷ []) → content s to.unit to.block ≡ a → LaterGates number a (content t to.unit to.block) → Settles s t
         → CarriesOut (Ok (formatted_behind (reading a).records r at)) format_command (target_in to a at) s t (Ok d)
-    format_carried_out d does holds firm = record {
+    format_carried_out d does holds there later firm = record {
       outcome = ap (λ (n : ℕ). writes_too new_track (effect_with DONE [] (record at.host { position = position.Done n; prior = prior.Wrote n }))) (sym behind) ∙ ap (writes_too new_track) (sym does);
       moments = steps;
       exact = holds ∙ ap (λ (n : ℕ). reading_of (take n (reading a).records ++ r ∷ [])) before_is;
+      gates = λ track is. subst (λ (p : ℕ × List ℕ). LaterGates p.0 p.1 (content t to.unit to.block)) (λ i. (behind i, sym there i)) later;
       firm = firm;
       log = tt;
     }
 
     pub format_failed : (fault : ℕ) → CarriesOut (Ok (formatted_behind (reading a).records r at)) format_command (target_in to a at) s t (Err (Fault (WriteFailed fault)))
-    format_failed fault = record { outcome = tt; moments = steps; exact = tt; firm = tt; log = tt }
+    format_failed fault = record { outcome = tt; moments = steps; exact = tt; gates = λ track is. tt; firm = tt; log = tt }
 
 -- ---- a command that wrote nothing
 
@@ -100,11 +101,12 @@ module _ (given : Outcome) (c : Command) (to : Target) (old new : SiteLog) (unwr
     outcome = gives ∙ ap (λ (written : Option (List RecordData)). done_with written d) (sym unwritten);
     moments = moments_of;
     exact = subst (λ (written : Option (List RecordData)). HoldsWritten written (reading (content new to.block.unit to.block.block))) (sym unwritten) tt;
+    gates = λ track is. let none : None ≡ Some track = sym unwritten ∙ is in absurd cc;
     firm = settled;
     log = tt;
   }
-  read_carried_out (Err (Refused refusal)) gives = record { outcome = gives; moments = moments_of; exact = tt; firm = tt; log = same }
-  read_carried_out (Err (Fault fault)) gives = record { outcome = tt; moments = moments_of; exact = tt; firm = tt; log = leaves old new same fault }
+  read_carried_out (Err (Refused refusal)) gives = record { outcome = gives; moments = moments_of; exact = tt; gates = λ track is. tt; firm = tt; log = same }
+  read_carried_out (Err (Fault fault)) gives = record { outcome = tt; moments = moments_of; exact = tt; gates = λ track is. tt; firm = tt; log = leaves old new same fault }
 
 -- ---- the tracks of a cylinder
 
@@ -136,7 +138,7 @@ pub unbegun : (given : Outcome) (c : Command) (to : Target) (old new : SiteLog) 
     → (reading (content old to.block.unit to.block.block)).bad ≡ None → (reading (content old to.block.unit to.block.block)).records ≡ to.track → new ≡ old
     → CarriesOut given c to old new (Err (Fault fault))
 unbegun given c to old new fault good track same =
-    record { outcome = tt; moments = begun (written_of given); exact = tt; firm = tt; log = leaves old new same fault }
+    record { outcome = tt; moments = begun (written_of given); exact = tt; gates = λ track is. tt; firm = tt; log = leaves old new same fault }
   where
     begun : (written : Option (List RecordData)) → WritesBlock c to old new written
     begun None = same

@@ -29,7 +29,7 @@ use Rattle.track_engine.specs.declared.place.NotDone.TheVariants.{Refused, Fault
 use Rattle.track_engine.specs.declared.place.EngineFault.TheVariants.{WriteFailed}
 use Rattle.track_engine.specs.Found.{found_at, StandsIn, GivesBut}
 use Rattle.track_engine.specs.Tracks.{tracks_on, IsBlockOn}
-use Rattle.track_engine.specs.Writing.{IsBetween, IsStep, CarriesOut, Target, target_in, target_of, update_kind, updated_at, updated_with}
+use Rattle.track_engine.specs.Writing.{IsBetween, IsStep, LeavesGates, CarriesOut, Target, target_in, target_of, update_kind, updated_at, updated_with}
 use Rattle.track_engine.proofs.Steps.{carried_over}
 
 -- ---- what the plain machine gives
@@ -126,6 +126,11 @@ update_there place host left key_too argument block to at s mid t result first i
 
 -- ---- what the write leaves
 
+-- an update is no format
+no_gates : (key_too : Bool) (number : ℕ) (old new : List ℕ) → LeavesGates (command.Write (update_kind key_too)) number old new
+no_gates false number old new = tt
+no_gates true number old new = tt
+
 module _ (to : BlockPlace) (s t : SiteLog) (at : RecordPlace) (key_too : Bool) (bytes a : List ℕ) (good : (reading a).bad ≡ None)
     (first : 1 ≤ at.number) (there : at.number ≤ length (reading a).records) where
   abbrev records : List RecordData
@@ -173,9 +178,10 @@ module _ (to : BlockPlace) (s t : SiteLog) (at : RecordPlace) (key_too : Bool) (
       outcome = ap (λ (n : ℕ). writes_too (effect_with n [] (record at.host { position = position.Done at.number }))) (sym status_is) ∙ ap writes_too (sym does);
       moments = steps;
       exact = holds ∙ (λ i. record { records = new_track; bad = good i });
+      gates = λ track is. no_gates key_too (at.number + 1) (content s to.unit to.block) (content t to.unit to.block);
       firm = firm;
       log = tt;
     }
 
     pub update_failed : (fault : ℕ) → CarriesOut (Ok (updated_at key_too records bytes at)) (command.Write (update_kind key_too)) (target_in to a at) s t (Err (Fault (WriteFailed fault)))
-    update_failed fault = record { outcome = tt; moments = steps; exact = tt; firm = tt; log = tt }
+    update_failed fault = record { outcome = tt; moments = steps; exact = tt; gates = λ track is. tt; firm = tt; log = tt }

@@ -10,7 +10,7 @@ use Rattle.channel_commands.specs.declared.call.Reply.{Reply}
 use Rattle.channel_commands.specs.declared.command.Command.{Command}
 use Rattle.ckd_track.specs.Data.{RecordData}
 use Rattle.ckd_track.specs.Track.{reading, reading_of}
-use Rattle.ckd_track.specs.declared.format.TheConstants.{FORMAT_ITEMS}
+use Rattle.mss_base.specs.Geometry.{format_items}
 use Rattle.ckd_plain.specs.declared.host.HostState.{HostState}
 use Rattle.ckd_plain.specs.Effects.{prior_number}
 use Rattle.ckd_plain.specs.Plain.{Answer, with_open_chain, command_answer, IsDone, KeepsChain}
@@ -19,7 +19,7 @@ use Rattle.track_engine.specs.declared.place.CylinderPlace.{CylinderPlace}
 use Rattle.track_engine.specs.declared.place.EngineFault.{EngineFault}
 use Rattle.track_engine.specs.Faults.{FailsBy, HasUnitCheck, IsNoFailure, IsNoFailedWrite}
 use Rattle.track_engine.specs.Tracks.{tracks_at, tracks_on, AreTracksOn}
-use Rattle.track_engine.specs.Writing.{WritesTrack, IsOfNothing, most_writes}
+use Rattle.track_engine.specs.Writing.{WritesTrack, LeavesGatesIn, IsOfNothing, most_writes}
 
 -- the plain machine's answer to a command that passed its checks, on the tracks of a cylinder's blocks
 abbrev pub ran : Content → UnitNo → ℕ → HostState → Command → List ℕ → Bool → Answer
@@ -48,7 +48,8 @@ AsksNothing a s = IsOfNothing a.command (prior_number (with_open_chain a.host).p
 
 -- What a command on a cylinder's blocks does, by the log of its site: the reply and the host that is left are the
 -- plain machine's; whatever the outcome, only the block of the host's head was written, in steps that a stop may
--- leave, and in the end it is the new track. When the reply comes, all that was written is firm.
+-- leave, and in the end it is the new track, and behind a record that was formatted no gate is open. When the reply
+-- comes, all that was written is firm.
 pub record RunsCommand (a : Asked) (old new : SiteLog) (result : Result Reply EngineFault)
     (left : HostState) : Type 0 where
   pub answer : IfOk result (Responds (ran_for a old) left)
@@ -56,6 +57,9 @@ pub record RunsCommand (a : Asked) (old new : SiteLog) (result : Result Reply En
       (ran_for a old).written
   pub exact : OnOk result ((track : List RecordData) → (ran_for a old).written ≡ Some track
       → reading (content new a.place.unit (a.place.first_block + a.host.head)) ≡ reading_of track)
+  pub gates : OnOk result ((track : List RecordData) → (ran_for a old).written ≡ Some track
+      → LeavesGatesIn a.command (record { unit = a.place.unit; block = a.place.first_block + a.host.head })
+      (prior_number (with_open_chain a.host).prior + 1) old new)
   pub firm : OnOk result (Settles old new)
   pub still_tracks : AreTracksOn new a.place
 
@@ -66,12 +70,12 @@ pub record LeavesHost (chained : Bool) (old new : HostState) (result : Result Re
   pub mounted_ : new.mounted ≡ old.mounted
   pub stays : OnErr result (new ≡ old)
 
--- What a command leaves of its devices, whatever the site tells. An update makes `UPDATE_ITEMS` items of the log at
--- most, a write of count, key and data `FORMAT_ITEMS`; a command that is no write, or ends with unit check, reads at
+-- What a command leaves of its devices, whatever the site tells. An update makes `update_items` items of the log at
+-- most, a write of count, key and data `format_items`; a command that is no write, or ends with unit check, reads at
 -- most. The count of faults rises where a call failed, and the fault says which; where no call may fail, none did.
 pub record LeavesDevices {S : Type 0} (g : Ghosts S) (c : Command) (unit : UnitNo) (old new : S)
     (result : Result Reply EngineFault) : Type 0 where
-  pub devices : MayWrite g FORMAT_ITEMS old new
+  pub devices : MayWrite g format_items old new
   pub few : g.tells → length (g.told new).log ≤ length (g.told old).log + most_writes c
   pub looks : is_write c ≡ false → OnlyReads g old new
   pub unwritten : IfOk result (λ reply. HasUnitCheck (reply_of reply) → OnlyReads g old new)

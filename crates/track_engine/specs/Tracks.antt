@@ -1,7 +1,7 @@
 -- The tracks of a cylinder, whose blocks stand one behind the other.
 use Rattle.std.specs.Prelude.{◌≡◌, ◌<◌, ℕ, ◌+◌, nat_lt, List, [], None, if◌then◌else◌}
 use Rattle.mss_base.specs.Content.{Content, SiteLog, content}
-use Rattle.mss_base.specs.declared.numbers.TheConstants.{HEADS}
+use Rattle.mss_base.specs.Geometry.{cylinder_heads}
 use Rattle.mss_base.specs.declared.place.BlockPlace.{BlockPlace}
 use Rattle.mss_base.specs.declared.place.UnitNo.{UnitNo}
 use Rattle.ckd_track.specs.Track.{reading}
@@ -10,11 +10,11 @@ use Rattle.track_engine.specs.declared.place.CylinderPlace.{CylinderPlace}
 
 -- the records of a cylinder's blocks by head, where this is the block of head 0; no records beyond the last head
 abbrev pub tracks_at : Content → UnitNo → ℕ → Tracks
-tracks_at c unit first head = if nat_lt head HEADS then (reading (c unit (first + head))).records else []
+tracks_at c unit first head = if nat_lt head cylinder_heads then (reading (c unit (first + head))).records else []
 
 -- each of the blocks is a track
 abbrev pub AreTracks : Content → UnitNo → ℕ → Type 0
-AreTracks c unit first = (head : ℕ) → head < HEADS → (reading (c unit (first + head))).bad ≡ None
+AreTracks c unit first = (head : ℕ) → head < cylinder_heads → (reading (c unit (first + head))).bad ≡ None
 
 -- the bytes are the block of this head
 pub record IsBlockOf (c : Content) (unit : UnitNo) (first head : ℕ) (bytes : List ℕ) : Type 0 where

@@ -1,6 +1,7 @@
 -- What a command does on the blocks of a cylinder, and what a stop within it may leave.
 use Rattle.std.specs.Prelude.{◌≡◌, ◌⊎◌, ℕ, ◌+◌, ◌-◌, Bool, true, false, List, [], ◌∷◌, ◌++◌, take}
 use Rattle.std.specs.Prelude.{Option, Some, None, Result, Ok, Err, OnOk, IfErr}
+use Rattle.mss_base.specs.Blocks.{block_of}
 use Rattle.mss_base.specs.Content.{SiteLog, content, Settles, Writes, ChangesBlock}
 use Rattle.mss_base.specs.declared.place.BlockPlace.{BlockPlace}
 use Rattle.mss_base.specs.declared.place.UnitNo.{UnitNo}
@@ -10,9 +11,8 @@ use Rattle.channel_commands.specs.declared.command.WriteKind.{WriteKind}
 use Rattle.channel_commands.specs.declared.command.WriteKind.TheVariants as write
 use Rattle.ckd_track.specs.Data.{RecordData}
 use Rattle.ckd_track.specs.Track.{Reading, reading, reading_of, record_at}
-use Rattle.ckd_track.specs.Formatting.{IsRecord}
-use Rattle.ckd_track.specs.declared.format.TheConstants.{FORMAT_ITEMS}
-use Rattle.ckd_track.specs.declared.update.TheConstants.{UPDATE_ITEMS}
+use Rattle.ckd_track.specs.Formatting.{IsRecord, LaterGates}
+use Rattle.mss_base.specs.Geometry.{update_items, format_items}
 use Rattle.ckd_track.specs.Updating.{record_behind, updated_records, updated_length}
 use Rattle.ckd_plain.specs.declared.done.DoneCommand.{DoneCommand}
 use Rattle.ckd_plain.specs.declared.host.HostState.{HostState}
@@ -91,6 +91,15 @@ abbrev pub HoldsWritten : Option (List RecordData) → Reading → Type 0
 HoldsWritten None block = Unit {0}
 HoldsWritten (Some track) block = block ≡ reading_of track
 
+-- what a write of this record leaves of the gates behind it, in its block before and now: a format closes them
+abbrev pub LeavesGates : Command → ℕ → List ℕ → List ℕ → Type 0
+LeavesGates (command.Write write.CountKeyData) number old new = LaterGates number old new
+LeavesGates _ number old new = Unit {0}
+
+-- the same of a block
+abbrev pub LeavesGatesIn : Command → BlockPlace → ℕ → SiteLog → SiteLog → Type 0
+LeavesGatesIn c to number old new = LeavesGates c number (block_of old to) (block_of new to)
+
 -- What a function did on a site that tells is what the definition gives: its outcome, and its writes, whatever kept
 -- it from the others. Once it is done, all that it wrote is firm.
 pub record CarriesOut (given : Outcome) (c : Command) (to : Target) (old new : SiteLog)
@@ -98,6 +107,8 @@ pub record CarriesOut (given : Outcome) (c : Command) (to : Target) (old new : S
   pub outcome : GivesBut (effect_as (written_of given)) result given
   pub moments : WritesBlock c to old new (written_of given)
   pub exact : OnOk result (HoldsWritten (written_of given) (reading (content new to.block.unit to.block.block)))
+  pub gates : (track : List RecordData) → written_of given ≡ Some track
+      → OnOk result (LeavesGatesIn c to.block (to.number + 1) old new)
   pub firm : OnOk result (Settles old new)
   pub log : IfErr result (LeavesLog old new)
 
@@ -122,9 +133,9 @@ update_kind true = write.KeyData
 
 -- how many items of the log a command makes at most, writes and syncs
 abbrev pub most_writes : Command → ℕ
-most_writes (command.Write write.Data) = UPDATE_ITEMS
-most_writes (command.Write write.KeyData) = UPDATE_ITEMS
-most_writes (command.Write write.CountKeyData) = FORMAT_ITEMS
+most_writes (command.Write write.Data) = update_items
+most_writes (command.Write write.KeyData) = update_items
+most_writes (command.Write write.CountKeyData) = format_items
 most_writes _ = 0
 
 -- an update of a record k without bytes to update

@@ -12,12 +12,13 @@ ghost use Rattle.ckd_plain.specs.Effects.{this_or_next};
 ghost use Rattle.track_engine.specs.Tracks.{tracks_on, IsBlockOn};
 ghost use Rattle.track_engine.specs.Faults.{IsFailedRead, ReadsDevices};
 ghost use Rattle.track_engine.specs.Found.{found_at, StandsIn, IsPlaceOf, GivesBut, KeepsVolume};
+ghost use Rattle.mss_base.specs.Geometry.{block_bytes};
 
 use crate::place::{CylinderPlace, EngineFault, NotDone};
 use ckd_plain::steps::{FoundRecord, candidate, pass_index, to_home};
 use ckd_plain::{HostState, Refusal, UnitCheck};
 use ckd_track::{find_place, record_at};
-use mss_base::{BLOCK_BYTES, Failed, Head, Site};
+use mss_base::{Failed, Head, Site};
 
 /// How many tracks a command may look at.
 const LOOKS: u8 = 20;
@@ -57,7 +58,7 @@ pub fn bring_block<S: Site>(
 
 /// The place of record `number` of the host's track, which is that of the block, where it is there.
 fn place_in(block: &[u8], host: &HostState, number: usize) -> Option<RecordPlace>
-    requires { length block.now ≡ BLOCK_BYTES }
+    requires { length block.now ≡ block_bytes }
     ensures { MatchOption result
         (record_at (reading block.now).records host.now number ≡ None)
         (IsPlaceOf number host.now block.now) }
@@ -83,7 +84,7 @@ fn place_in(block: &[u8], host: &HostState, number: usize) -> Option<RecordPlace
 
 /// The record at a place in its block.
 pub fn found_in<'a>(block: &'a [u8], at: &RecordPlace) -> FoundRecord<'a>
-    requires whole { length block.now ≡ BLOCK_BYTES }
+    requires whole { length block.now ≡ block_bytes }
     requires there { StandsIn block.now at.now }
     ensures found { found_of result ≡ found_at block.now at.now }
     ensures counted { HasCount (item_of result) }
@@ -156,7 +157,7 @@ pub fn next_record<S: Site>(
 /// Record `number` itself, on the host's track, which is that of the block.
 #[tactic(auto, unfolding(ckd_plain::specs::Index::same_record))]
 fn same_record(block: &[u8], host: &HostState, number: u8) -> Result<RecordPlace, Refusal>
-    requires { length block.now ≡ BLOCK_BYTES }
+    requires { length block.now ≡ block_bytes }
     ensures found { MatchResult result
         (λ at. same_record (reading block.now).records host.now number ≡ Ok (found_at block.now at))
         (λ refusal. same_record (reading block.now).records host.now number ≡ Err refusal) }

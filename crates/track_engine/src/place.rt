@@ -1,8 +1,8 @@
 // The blocks of a cylinder, and why a command on them isn't done.
 ghost use Rattle.std.specs.Prelude.{◌≡◌, ◌≤◌, ◌<◌, ◌+◌, ◌^◌};
-ghost use Rattle.mss_base.specs.declared.numbers.TheConstants.{HEADS};
 ghost use Rattle.track_engine.specs.declared.place.NotDone.TheVariants.{Refused, Fault};
 ghost use Rattle.track_engine.specs.declared.place.EngineFault.TheVariants.{Memory};
+ghost use Rattle.mss_base.specs.Geometry.{cylinder_heads};
 
 use ckd_plain::Refusal;
 use mss_base::{BlockPlace, Head, NoMemory, UnitNo};
@@ -12,7 +12,7 @@ use mss_base::{BlockPlace, Head, NoMemory, UnitNo};
 pub struct CylinderPlace {
     pub unit: UnitNo,
     pub first_block: u32,
-    pub ghost numbered: { first_block + HEADS ≤ 2 ^ 32 },
+    pub ghost numbered: { first_block + cylinder_heads ≤ 2 ^ 32 },
 }
 
 /// Why a command gave no reply: a device failed, and how many faults there were then, or memory was refused.
@@ -62,7 +62,7 @@ impl CylinderPlace {
           block = self.now.first_block +
               head;
         } }
-        ensures in_range { head < HEADS }
+        ensures in_range { head < cylinder_heads }
     {
         BlockPlace {
             unit: self.unit,

@@ -12,6 +12,7 @@ ghost use Rattle.track_engine.specs.Faults.{ReadsDevices, UsesDevices};
 ghost use Rattle.track_engine.specs.Found.{GivesBut, KeepsVolume};
 ghost use Rattle.track_engine.specs.Tracks.{tracks_on, AreTracksOn};
 ghost use Rattle.track_engine.specs.Writing.{CarriesOut, IsOfNothing, most_writes, target_of};
+ghost use Rattle.mss_base.specs.Geometry.{format_items};
 
 use crate::place::{CylinderPlace, EngineFault, NotDone};
 use crate::read::read;
@@ -20,7 +21,6 @@ use crate::write::{write_count_key_data, write_data};
 use channel_commands::{Command, Reply, SearchField, WriteKind};
 use ckd_plain::steps::{DoneCommand, cleared, finished, opened, refused};
 use ckd_plain::{HostState, Prior};
-use ckd_track::FORMAT_ITEMS;
 use mss_base::Site;
 use std::alloc::Global;
 
@@ -69,7 +69,7 @@ fn carry_out<S: Site>(
     requires permitted { IsTrue (is_prior_permitted left command) }
     requires data { is_data command ≡ true }
     requires tracks { S.tells → AreTracksOn (S.told site.old) place.now }
-    requires room { FORMAT_ITEMS ≤ S.spare site.old }
+    requires room { format_items ≤ S.spare site.old }
     ensures done { S.tells → CarriesOut
         (effect (tracks_on (S.told site.old) place.now) host.now left command argument.now)
         command (target_of (S.told site.old) place.now host.now left)
@@ -111,7 +111,7 @@ pub fn run_command<S: Site>(
     requires passes { Passes (with_open_chain host.old) command.now argument.now }
     requires data { is_data command.now ≡ true }
     requires tracks { S.tells → AreTracksOn (S.told site.old) place.now }
-    requires room { FORMAT_ITEMS ≤ S.spare site.old }
+    requires room { format_items ≤ S.spare site.old }
     ensures runs { S.tells → RunsCommand
         (asked_command command.now argument.now chained host.old place.now)
         (S.told site.old) (S.told site.new) result host.new }

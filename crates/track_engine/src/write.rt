@@ -16,16 +16,14 @@ ghost use Rattle.track_engine.specs.Faults.{HasNotFailed, ReadsDevices, UsesDevi
 ghost use Rattle.track_engine.specs.Found.{IsPlaceOf, GivesBut, KeepsVolume, StandsIn};
 ghost use Rattle.track_engine.specs.Writing.{CarriesOut, Spells, formatted_behind, target_in};
 ghost use Rattle.track_engine.specs.Writing.{target_of, update_kind, updated_at, updated_with};
+ghost use Rattle.mss_base.specs.Geometry.{track_cost, update_items, format_items};
 
 use crate::find::{RecordPlace, bring_record, found_in};
 use crate::place::{CylinderPlace, EngineFault, NotDone};
 use channel_commands::{Command, WriteKind};
 use ckd_plain::steps::{DONE, DoneCommand, FoundRecord, written};
 use ckd_plain::{HostState, Prior, Refusal, UnitCheck};
-use ckd_track::{
-    FORMAT_ITEMS, TRACK_COST, UPDATE_ITEMS, cost_at, cost_of_front, format_record, record_length,
-    update_record,
-};
+use ckd_track::{TRACK_COST, cost_at, cost_of_front, format_record, record_length, update_record};
 use mss_base::{BlockPlace, Bytes, Failed, NoMemory, Site};
 use std::alloc::Global;
 
@@ -69,7 +67,7 @@ fn kept_record<S: Site>(
         (write_ (tracks_on (S.told site.old) place.now host.now.head)
         host.now left WriteKind.CountKeyData argument.now) }
     ensures fits { IfOk result (λ at. cost (take at.number (reading (S.brought site.new)).records)
-        + cost_of (new_record argument.now) ≤ TRACK_COST) }
+        + cost_of (new_record argument.now) ≤ track_cost) }
     ensures itself { IfOk result (IsPlaceOf (prior_number left) host.now (S.brought site.new)) }
     ensures block { S.tells → OnOk result
         (IsBlockOn (S.told site.old) place.now host.now.head (S.brought site.new)) }
@@ -100,14 +98,14 @@ fn format_behind<S: Site>(
     requires there { at.now.number ≤ length (reading (S.brought site.old)).records }
     requires record { IsRecord bytes.now }
     requires fits { cost (take at.now.number (reading (S.brought site.old)).records)
-        + cost_of (record_at 0 bytes.now) ≤ TRACK_COST }
-    requires room { FORMAT_ITEMS ≤ S.spare site.old }
+        + cost_of (record_at 0 bytes.now) ≤ track_cost }
+    requires room { format_items ≤ S.spare site.old }
     ensures done { S.tells → CarriesOut (Ok
         (formatted_behind (reading (S.brought site.old)).records (record_at 0 bytes.now) at.now))
         (Command.Write WriteKind.CountKeyData) (target_in to.now (S.brought site.old) at.now)
         (S.told site.old) (S.told site.new) result }
     ensures volume { KeepsVolume (λ done. done.host) at.now.host.mounted result }
-    ensures site_ { UsesDevices S.Site FORMAT_ITEMS true to.now.unit site.old site.new result }
+    ensures site_ { UsesDevices S.Site format_items true to.now.unit site.old site.new result }
     ensures works { (but : UnitNo → Bool) → S.never_fails_but site.old but
         → IfErr result HasNotFailed }
 {
@@ -133,14 +131,14 @@ fn format_argument<S: Site>(
     requires track { S.tells → IsTrackAt (content (S.told site.old)) to.now (S.brought site.old) }
     requires there { at.now.number ≤ length (reading (S.brought site.old)).records }
     requires fits { cost (take at.now.number (reading (S.brought site.old)).records)
-        + cost_of (new_record argument.now) ≤ TRACK_COST }
-    requires room { FORMAT_ITEMS ≤ S.spare site.old }
+        + cost_of (new_record argument.now) ≤ track_cost }
+    requires room { format_items ≤ S.spare site.old }
     ensures done { S.tells → CarriesOut (Ok
         (formatted_behind (reading (S.brought site.old)).records (new_record argument.now) at.now))
         (Command.Write WriteKind.CountKeyData) (target_in to.now (S.brought site.old) at.now)
         (S.told site.old) (S.told site.new) result }
     ensures volume { KeepsVolume (λ done. done.host) at.now.host.mounted result }
-    ensures site_ { UsesDevices S.Site FORMAT_ITEMS true to.now.unit site.old site.new result }
+    ensures site_ { UsesDevices S.Site format_items true to.now.unit site.old site.new result }
 {
     match whole_record(argument) {
         Some(bytes) => format_behind(alloc, site, to, at, bytes),
@@ -162,7 +160,7 @@ pub fn write_count_key_data<S: Site>(
 ) -> Result<DoneCommand, NotDone>
     requires long { 8 ≤ length argument.now }
     requires tracks { S.tells → AreTracksOn (S.told site.old) place.now }
-    requires room { FORMAT_ITEMS ≤ S.spare site.old }
+    requires room { format_items ≤ S.spare site.old }
     ensures done { S.tells → CarriesOut
         (write_ (tracks_on (S.told site.old) place.now host.now.head)
         host.now left WriteKind.CountKeyData argument.now)
@@ -170,7 +168,7 @@ pub fn write_count_key_data<S: Site>(
         (target_of (S.told site.old) place.now host.now left)
         (S.told site.old) (S.told site.new) result }
     ensures volume { KeepsVolume (λ done. done.host) host.now.mounted result }
-    ensures site_ { UsesDevices S.Site FORMAT_ITEMS true place.now.unit site.old site.new result }
+    ensures site_ { UsesDevices S.Site format_items true place.now.unit site.old site.new result }
 {
     let to = place.block_of(host.head);
     let at = kept_record(site, place, host, left, argument)?;
@@ -200,14 +198,14 @@ fn update_at<S: Site>(
 ) -> Result<DoneCommand, NotDone>
     requires track { S.tells → IsTrackAt (content (S.told site.old)) to.now (S.brought site.old) }
     requires may { MayUpdate at.now.number at.now.begins_at key_too bytes.now (S.brought site.old) }
-    requires room { UPDATE_ITEMS ≤ S.spare site.old }
+    requires room { update_items ≤ S.spare site.old }
     ensures done { S.tells → CarriesOut (Ok
         (updated_at key_too (reading (S.brought site.old)).records bytes.now at.now))
         (Command.Write (update_kind key_too)) (target_in to.now (S.brought site.old) at.now)
         (S.told site.old) (S.told site.new) result }
     ensures volume { KeepsVolume (λ done. done.host) at.now.host.mounted result }
     ensures untouched { bytes.now ≡ [] → site.new ≡ site.old }
-    ensures site_ { UsesDevices S.Site UPDATE_ITEMS true to.now.unit site.old site.new result }
+    ensures site_ { UsesDevices S.Site update_items true to.now.unit site.old site.new result }
     ensures works { (but : UnitNo → Bool) → S.never_fails_but site.old but
         → IfErr result HasNotFailed }
 {
@@ -233,7 +231,7 @@ fn update_argument<S: Site>(
     requires track { S.tells → IsTrackAt (content (S.told site.old)) to.now (S.brought site.old) }
     requires first { 1 ≤ at.now.number }
     requires stands { StandsIn (S.brought site.old) at.now }
-    requires room { UPDATE_ITEMS ≤ S.spare site.old }
+    requires room { update_items ≤ S.spare site.old }
     ensures done { S.tells → CarriesOut (Ok
         (updated_with key_too (reading (S.brought site.old)).records argument.now at.now))
         (Command.Write (update_kind key_too)) (target_in to.now (S.brought site.old) at.now)
@@ -241,7 +239,7 @@ fn update_argument<S: Site>(
     ensures volume { KeepsVolume (λ done. done.host) at.now.host.mounted result }
     ensures untouched { updated_length key_too (record_behind (at.now.number - 1)
         (reading (S.brought site.old)).records) ≡ 0 → site.new ≡ site.old }
-    ensures site_ { UsesDevices S.Site UPDATE_ITEMS true to.now.unit site.old site.new result }
+    ensures site_ { UsesDevices S.Site update_items true to.now.unit site.old site.new result }
 {
     let length = updated_length(&found_in(site.brought(), at), key_too);
     match first_bytes(argument, length) {
@@ -265,7 +263,7 @@ pub fn write_data<S: Site>(
 ) -> Result<DoneCommand, NotDone>
     requires first { 0 < prior_number left }
     requires tracks { S.tells → AreTracksOn (S.told site.old) place.now }
-    requires room { UPDATE_ITEMS ≤ S.spare site.old }
+    requires room { update_items ≤ S.spare site.old }
     ensures done { S.tells → CarriesOut
         (write_ (tracks_on (S.told site.old) place.now host.now.head)
         host.now left (update_kind key_too) argument.now)
@@ -276,7 +274,7 @@ pub fn write_data<S: Site>(
     ensures untouched { S.tells → updated_length key_too (record_behind (prior_number left - 1)
         (tracks_on (S.told site.old) place.now host.now.head)) ≡ 0
         → OnlyReads S.Site site.old site.new }
-    ensures site_ { UsesDevices S.Site UPDATE_ITEMS true place.now.unit site.old site.new result }
+    ensures site_ { UsesDevices S.Site update_items true place.now.unit site.old site.new result }
 {
     let to = place.block_of(host.head);
     let at = bring_record(site, place, host, left.number())?;

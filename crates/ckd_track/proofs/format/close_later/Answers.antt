@@ -1,7 +1,8 @@
 -- Beside a ghost value what is required has no names: `.1.0` is `looked`, and `.1.1.0` is `closed`.
-use Rattle.std.proofs.Common.{◌+◌, inl, arith}
+use Rattle.std.proofs.Common.{◌+◌, inl, sym, ◌∙◌, arith}
+use Rattle.std.proofs.lemmas.Bool.{true≢false}
 use Rattle.std.proofs.lemmas.Result.{on_ok_weaker}
-use Rattle.ckd_track.proofs.StepLemmas.{next_closed, next_shut}
+use Rattle.ckd_track.proofs.StepLemmas.{later_closed, later_kept}
 use Rattle.ckd_track.proofs.BehindLemmas.{behind_none, gates_written}
 use Rattle.ckd_track.proofs.LogLemmas.{one_item}
 use Rattle.ckd_track.proofs.format.close_later.Goals as goal
@@ -11,11 +12,11 @@ returns-then-place-clause-behind g c = λ tells.
     let logged = c.write.ensures.logged tells in
     gates_written c.args.place.now.before g.block c.args.at.now _ _ (130 + c.args.place.now.before) logged.0 (omega arith) (omega (arith, logged.1, c.closed_gates.ensures.count, c.requires.1.0.few)) logged.2
 
-pub returns-then-place-clause-next : goal.returns-then-place-clause-next
-returns-then-place-clause-next g c = λ tells.
-    let closed = c.requires.1.1.0 tells in
+pub returns-then-place-clause-later : goal.returns-then-place-clause-later
+returns-then-place-clause-later g c = λ tells.
+    let ends = (c.requires.1.1.0 tells).ends in
     on_ok_weaker c.write.result
-    (λ got. next_closed _ _ _ _ c.args.place.now.before _ (omega (arith, c.closed_gates.ensures.count, c.requires.1.0.few)) c.closed_gates.ensures.closed (omega (arith, closed.ends.front.long, c.requires.1.0.whole, c.requires.1.0.few)) (inl got))
+    (λ got. later_closed _ _ _ _ c.args.place.now.before g.block _ (c.requires.1.0.later.0 c.if-place.true) c.closed_gates.ensures.count c.closed_gates.ensures.closed (omega (arith, ends.front.long, c.requires.1.0.whole)) (inl got))
     (c.write.ensures.ok tells)
 
 pub returns-then-place-clause-site_ : goal.returns-then-place-clause-site_
@@ -25,7 +26,6 @@ returns-then-place-clause-site_ g c =
 pub returns-clause-behind : goal.returns-clause-behind
 returns-clause-behind g c = λ tells. behind_none c.args.place.now.before g.block c.args.at.now _
 
-pub returns-clause-next : goal.returns-clause-next
-returns-clause-next g c = λ tells.
-    let n = c.args.place.now.before in
-    next_shut n g.block _ ((c.requires.1.1.0 tells).later (130 + n) (omega arith) (omega (arith, c.requires.1.0.few))) (c.requires.1.0.later c.if-place.false)
+pub returns-clause-later : goal.returns-clause-later
+returns-clause-later g c = λ tells.
+    later_kept c.args.place.now.before g.block _ (c.requires.1.1.0 tells).later (λ some. true≢false (sym (c.requires.1.0.later.1 some) ∙ c.if-place.false))

@@ -14,7 +14,7 @@ pub returns-clause-stands : goal.returns-clause-stands
 returns-clause-stands g c = λ tells.
     on_ok_weaker c.write.result
     (λ put. stands_behind c.args.place.now.before g.block c.args.at.now c.requires.1.0.few c.requires.1.0.whole c.args.place.now.begins_at c.args.bytes.now c.requires.1.0.begins c.requires.1.1.1.1.0 _ _ _ (c.requires.1.1.0 tells).ends
-    (c.close_later.ensures.behind tells) (c.in_ok-close_later.ensures.next tells) put)
+    (c.close_later.ensures.behind tells) (c.in_ok-close_later.ensures.later tells) put)
     (c.write.ensures.ok tells)
 
 pub returns-in_err-close_later-clause-site_ : goal.returns-in_err-close_later-clause-site_
