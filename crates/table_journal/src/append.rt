@@ -1,5 +1,6 @@
 // Appending a slot: two firm writes, such that a stop at any moment leaves the slots as they were, or with one more.
 ghost use Rattle.std.specs.Prelude.{◌≡◌, ◌≤◌, ◌<◌, ℕ, ◌+◌, ◌++◌, [], ◌∷◌, List, false, length, OnOk};
+ghost use Rattle.mss_base.specs.Geometry.{slot_count, slot_body_bytes};
 ghost use Rattle.mss_base.specs.Blocks.{WritesBlock, block_of};
 ghost use Rattle.mss_base.specs.Content.{Adds, Settles, write_at};
 ghost use Rattle.mss_base.specs.Sites.{WritesAtMost};
@@ -32,8 +33,8 @@ fn put<S: Site>(site: &mut S, at: &BlockPlace, offset: usize, bytes: &[u8]) -> R
 
 /// A slot's body, and the next gate, closed.
 fn with_next_gate(body: &[u8]) -> [u8; SLOT_BYTES]
-    requires { length body.now ≡ SLOT_BODY_BYTES }
-    ensures { result ≡ body.now ++ CLOSED ∷ [] }
+    requires { length body.now ≡ slot_body_bytes }
+    ensures { result ≡ body.now ++ 0 ∷ [] }
 {
     let mut bytes = [CLOSED; SLOT_BYTES];
     bytes[..SLOT_BODY_BYTES].copy_from_slice(body);
@@ -42,9 +43,9 @@ fn with_next_gate(body: &[u8]) -> [u8; SLOT_BYTES]
 
 /// Writes a body into the first slot that isn't in use, behind its closed gate, and closes the next gate.
 fn put_body<S: Site>(site: &mut S, at: &BlockPlace, used: u16, body: &[u8]) -> Result<(), Failed>
-    requires few { used < SLOTS }
+    requires few { used < slot_count }
     requires there { S.tells → length (slots_on (S.told site.old) at.now) ≡ used }
-    requires long { length body.now ≡ SLOT_BODY_BYTES }
+    requires long { length body.now ≡ slot_body_bytes }
     requires room { FIRM_ITEMS ≤ S.spare site.old }
     ensures moments { S.tells → WritesBlock at.now (KeepsSlots (block_of (S.told site.old) at.now))
         (S.told site.old) (S.told site.new) }
@@ -64,7 +65,7 @@ fn put_body<S: Site>(site: &mut S, at: &BlockPlace, used: u16, body: &[u8]) -> R
 
 /// Opens the gate of the first slot that isn't in use.
 fn open_slot<S: Site>(site: &mut S, at: &BlockPlace, used: u16) -> Result<(), Failed>
-    requires few { used < SLOTS }
+    requires few { used < slot_count }
     requires there { S.tells → length (slots_on (S.told site.old) at.now) ≡ used }
     requires next { S.tells → IsNextClosed used (block_of (S.told site.old) at.now) }
     requires room { FIRM_ITEMS ≤ S.spare site.old }
@@ -94,9 +95,9 @@ pub fn append_slot<S: Site>(
     used: u16,
     body: &[u8],
 ) -> Result<(), Failed>
-    requires few { used < SLOTS }
+    requires few { used < slot_count }
     requires there { S.tells → length (slots_on (S.told site.old) at.now) ≡ used }
-    requires long { length body.now ≡ SLOT_BODY_BYTES }
+    requires long { length body.now ≡ slot_body_bytes }
     requires room { SLOT_ITEMS ≤ S.spare site.old }
 
     ensures moments { S.tells → AppendsSlot body.now at.now (S.told site.old) (S.told site.new) }

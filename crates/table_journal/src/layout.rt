@@ -1,5 +1,6 @@
 // Where the slots of a block stand.
 ghost use Rattle.std.specs.Prelude.{◌≡◌, ◌<◌};
+ghost use Rattle.mss_base.specs.Geometry.{slot_count};
 ghost use Rattle.table_journal.specs.Slots.{slot_place};
 
 /// How many slots a block has.
@@ -16,7 +17,7 @@ pub const SLOT_BODY_BYTES: usize = 7;
 
 /// The place of a slot's gate.
 pub fn slot_place(number: u16) -> usize
-    requires { number < SLOTS }
+    requires { number < slot_count }
     ensures { result ≡ slot_place number }
 {
     SLOTS_AT + SLOT_BYTES * number as usize

@@ -1,5 +1,6 @@
 // Reading the slots of a block.
 ghost use Rattle.std.specs.Prelude.{◌≡◌, ◌≤◌, ◌<◌, Some, length, slice_get};
+ghost use Rattle.mss_base.specs.Geometry.{slot_count};
 ghost use Rattle.table_journal.specs.Slots.{is_slot_open, slots};
 
 use crate::layout::{SLOT_BODY_BYTES, SLOTS, slot_place};
@@ -7,7 +8,7 @@ use mss_base::{BLOCK_BYTES, OPEN};
 
 fn is_slot_open(block: &[u8], number: u16) -> bool
     requires whole { length block.now ≡ BLOCK_BYTES }
-    requires there { number < SLOTS }
+    requires there { number < slot_count }
     ensures { result ≡ is_slot_open number block.now }
 {
     block[slot_place(number)] == OPEN
@@ -17,7 +18,7 @@ fn is_slot_open(block: &[u8], number: u16) -> bool
 pub fn read_slots(block: &[u8]) -> u16
     requires { length block.now ≡ BLOCK_BYTES }
     ensures count { result ≡ length (slots block.now) }
-    ensures few { result ≤ SLOTS }
+    ensures few { result ≤ slot_count }
 {
     for number in 0..SLOTS {
         if !is_slot_open(block, number) {

@@ -11,12 +11,14 @@ use Rattle.table_pair.specs.declared.copy.TableCopy.TheVariants as copy
 use Rattle.table_pair.specs.Places.{place_of}
 use Rattle.table_pair.specs.Copies.{CopyView, copy_at, WritesCopy}
 use Rattle.table_pair.specs.Pair.{known, row_of_copies, ChangesRow, OldOrNew}
+use Rattle.table_pair.specs.Order.{WritesAFirst}
 use Rattle.table_pair.specs.Slots.{IsDue, IsChanged, slots_after, used_after}
 use Rattle.table_pair.specs.Changing.{IsCopyDue, IsChanging, ChangesCopy}
 use Rattle.table_pair.specs.Repairs.{KeepsMarks, NeedsNoRepair}
 use Rattle.table_pair.proofs.PairFacts.{row_by_a, row_by_b}
 use Rattle.table_pair.proofs.PairLemmas.{copy_a, copy_b, ChangesPair, InPair, kept_a, kept_b, from_a, from_b, pair_then, pair_row, held_settled}
 use Rattle.table_pair.proofs.StayLemmas.{stays, stays_changing}
+use Rattle.table_pair.proofs.OrderLemmas.{order_a, order_b}
 use Rattle.table_pair.proofs.ChangingLemmas.{open_as}
 
 -- two copies that tell the row of two others or this one, and have the marks of those
@@ -65,6 +67,9 @@ module _ {volume : ℕ} {change : Change} {row : RowValue} {used : SlotsUsed} (s
   pub marks_a : {T E : Type 0} {n : ℕ} {t : SiteLog} {r : Result T E} → ChangesCopy row n (place_of copy.A volume) s t r → Writes (KeepsMarks volume (content s)) s t
   marks_a {t = t} first = as_marks t (pair_a t first.moments)
 
+  pub change_order_a : {T E : Type 0} {n : ℕ} {t : SiteLog} {r : Result T E} → ChangesCopy row n (place_of copy.A volume) s t r → WritesAFirst row volume s t
+  change_order_a {t = t} first = order_a row volume (IsChanging row a) s t first.moments
+
   -- copy A is changed
   module _ {T E : Type 0} {t : SiteLog} {value : T} (first : ChangesCopy {T = T} {E = E} row (slots_after used.a) (place_of copy.A volume) s t (Ok value)) where
     b_kept : copy_b volume t ≡ b
@@ -94,12 +99,16 @@ module _ {volume : ℕ} {change : Change} {row : RowValue} {used : SlotsUsed} (s
     pub marks_b : {n : ℕ} {u : SiteLog} {r : Result T E} → ChangesCopy row n (place_of copy.B volume) t u r → Writes (KeepsMarks volume (content s)) s u
     marks_b {u = u} second = as_marks u (pair_b second)
 
+    pub change_order_b : {n : ℕ} {u : SiteLog} {r : Result T E} → ChangesCopy row n (place_of copy.B volume) t u r → WritesAFirst row volume s u
+    change_order_b {u = u} second = order_b row volume (IsChanging row a) s t first.moments (IsChanging row (copy_b volume t)) u first.firm first.done.holds second.moments
+
     pub is_changed : {u : SiteLog} {other : T} → ChangesCopy {T = T} {E = E} row (slots_after used.b) (place_of copy.B volume) t u (Ok other) → IsChanged row (used_after used) volume s u
     is_changed {u} second =
         let a_kept : copy_a volume u ≡ copy_a volume t = kept_a volume (IsChanging row (copy_b volume t)) t u second.moments in
         record {
           holds = record { a = open_as row (copy_a volume u) (copy_a volume t) a_kept first.done.holds; b = second.done.holds };
           slots_ = record { a = ap (λ (c : CopyView). length c.slots) a_kept ∙ first.done.slots_; b = second.done.slots_ };
+          clear = record { a = λ none. inr (ap (λ (c : CopyView). c.is_clear) a_kept ∙ first.clear none); b = λ none. inr (second.clear none) };
           firm = settles_then s t u first.firm second.firm;
         }
 

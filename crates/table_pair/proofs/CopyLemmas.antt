@@ -1,13 +1,13 @@
 -- What a write into a block does to the copy in it.
-use Rattle.std.proofs.Common.{◌≡◌, ℕ, zero, suc, ◌+◌, ◌≤◌, nat_lt, Bool, false, not, ◌==◌, List, [], ◌∷◌, length, get_or, take, drop, refl, sym, ◌∙◌, ap, arith}
+use Rattle.std.proofs.Common.{◌≡◌, ℕ, zero, suc, ◌+◌, ◌≤◌, Bool, true, not, ◌==◌, List, [], ◌∷◌, length, get_or, take, drop, refl, sym, ◌∙◌, ap, arith}
+use Rattle.std.proofs.lemmas.Bool.{eqb-true}
 use Rattle.std.proofs.lemmas.List.{take-take}
 use Rattle.mss_base.specs.Content.{splice}
 use Rattle.mss_base.proofs.ContentLemmas.{get_or-splice_below, get_or-splice_above, get_or-splice_in}
 use Rattle.volume_table.specs.Grammar.{body}
 use Rattle.volume_table.proofs.SpellingLemmas.{body_splice}
 use Rattle.table_journal.specs.Slots.{slots}
-use Rattle.table_journal.proofs.SlotFacts.{slots_behind, slots_cleared}
-use Rattle.table_pair.proofs.SlotLemmas.{none_counted}
+use Rattle.table_journal.proofs.SlotFacts.{slots_behind, slots_cleared, zero_opens_none}
 use Rattle.table_pair.specs.Copies.{CopyView, copy_at, HasGates}
 
 drop-splice : (at n : ℕ) (bytes block : List ℕ) → at + length bytes ≤ n → drop n (splice at bytes block) ≡ drop n block
@@ -43,6 +43,7 @@ module _ (left block : List ℕ) (whole : length block ≡ 16384) where
     spelled = take 510 (drop-splice 0 1 left block (omega arith) i);
     slots = slots_behind 0 left block (omega arith) i;
     is_made = not (get_or-splice_above 0 left block 511 (omega arith) i == 0);
+    is_clear = get_or-splice_above 0 left block 512 (omega arith) i == 0;
   }
 
   -- the body is written
@@ -53,6 +54,7 @@ module _ (left block : List ℕ) (whole : length block ≡ 16384) where
     spelled = body_splice left block full (omega arith) i;
     slots = slots_behind 1 left block (omega arith) i;
     is_made = not (get_or-splice_above 1 left block 511 (omega arith) i == 0);
+    is_clear = get_or-splice_above 1 left block 512 (omega arith) i == 0;
   }
 
   -- the made mark is written
@@ -63,16 +65,18 @@ module _ (left block : List ℕ) (whole : length block ≡ 16384) where
     spelled = (ap (take 510) (drop_one-splice 510 left block) ∙ take-splice 510 510 left (drop 1 block) (omega arith)) i;
     slots = slots_behind 511 left block (omega arith) i;
     is_made = not (get_or-splice_in 511 left block 511 0 refl (omega arith) (omega arith) i == 0);
+    is_clear = get_or-splice_above 511 left block 512 (omega arith) i == 0;
   }
 
-  -- the gate of slot 0 is closed
-  pub slot_shut : (byte : ℕ) → (byte == 193) ≡ false → copy_at (splice 512 (byte ∷ []) block) ≡ record (copy_at block) { slots = [] }
+  -- the gate of slot 0 becomes 00
+  pub slot_shut : copy_at (splice 512 (0 ∷ []) block) ≡ record (copy_at block) { slots = []; is_clear = true }
   unfolding copy_at
-  slot_shut byte other = λ i. record {
-    is_open = get_or-splice_below 512 (byte ∷ []) block 0 (omega arith) i == 193;
-    spelled = (ap (take 510) (drop_one-splice 511 (byte ∷ []) block) ∙ take-splice 511 510 (byte ∷ []) (drop 1 block) (omega arith)) i;
-    slots = slots_cleared (byte ∷ []) block (omega arith) (omega arith) other i;
-    is_made = not (get_or-splice_below 512 (byte ∷ []) block 511 (omega arith) i == 0);
+  slot_shut = λ i. record {
+    is_open = get_or-splice_below 512 (0 ∷ []) block 0 (omega arith) i == 193;
+    spelled = (ap (take 510) (drop_one-splice 511 (0 ∷ []) block) ∙ take-splice 511 510 (0 ∷ []) (drop 1 block) (omega arith)) i;
+    slots = slots_cleared (0 ∷ []) block (omega arith) (omega arith) refl i;
+    is_made = not (get_or-splice_below 512 (0 ∷ []) block 511 (omega arith) i == 0);
+    is_clear = get_or-splice_in 512 (0 ∷ []) block 512 0 refl (omega arith) (omega arith) i == 0;
   }
 
 -- a copy with the gate that it has
@@ -103,9 +107,17 @@ slots_of block = refl
 pub counted : (block : List ℕ) (n : ℕ) → n ≡ length (slots block) → length (copy_at block).slots ≡ n
 counted block n is = ap (λ (xs : List (List ℕ)). length xs) (slots_of block) ∙ sym is
 
+pub clear_of : (block : List ℕ) → (copy_at block).is_clear ≡ (get_or block 512 0 == 0)
+unfolding copy_at
+clear_of block = refl
+
+-- where the gate of slot 0 is 00 there are no slots
+pub clear_slots : (block : List ℕ) → (copy_at block).is_clear ≡ true → (copy_at block).slots ≡ []
+clear_slots block is = slots_of block ∙ zero_opens_none block (eqb-true (get_or block 512 0) 0 (sym (clear_of block) ∙ is))
+
 -- the gates of a copy whose block was read
-pub gates_read : (block : List ℕ) (count : ℕ) → count ≡ length (slots block) → HasGates (record { is_open = get_or block 0 0 == 193; has_slots = nat_lt 0 count }) (copy_at block)
-gates_read block count is = record { own = gate_of block; slots_ = λ none. slots_of block ∙ none_counted (slots block) (ap (λ (n : ℕ). nat_lt 0 n) (sym is) ∙ none) }
+pub gates_read : (block : List ℕ) → HasGates (record { is_open = get_or block 0 0 == 193; is_clear = get_or block 512 0 == 0 }) (copy_at block)
+gates_read block = record { own = gate_of block; clear = λ is. clear_of block ∙ is }
 
 -- a copy without slots
 pub no_slot : (c : CopyView) → c.slots ≡ [] → record c { slots = [] } ≡ c

@@ -1,28 +1,29 @@
 -- The moments of a creation.
-use Rattle.std.proofs.Common.{◌≡◌, ◌⊎◌, inl, inr, true, false, Bool, List, [], get_or, length, ℕ, Some, None, Result, Ok, sym, ◌∙◌, ap, subst}
+use Rattle.std.proofs.Common.{◌≡◌, ◌⊎◌, inl, inr, true, false, Bool, List, get_or, length, ℕ, Some, None, Result, Ok, sym, ◌∙◌, ap, subst}
 use Rattle.mss_base.specs.declared.place.BlockPlace.{BlockPlace}
-use Rattle.mss_base.specs.Content.{SiteLog, content, Settles, Writes}
+use Rattle.mss_base.specs.Content.{Content, SiteLog, content, Settles, Writes}
+use Rattle.mss_base.specs.declared.place.UnitNo.TheVariants.{TableA, TableB}
+use Rattle.mss_base.proofs.Moments.{then_firm}
 use Rattle.mss_base.proofs.Settling.{settles_then}
 use Rattle.volume_table.specs.Row.{RowValue}
 use Rattle.volume_table.specs.Grammar.{decode}
 use Rattle.table_pair.specs.declared.copy.TableCopy.TheVariants as copy
 use Rattle.table_pair.specs.Places.{place_of}
-use Rattle.table_pair.specs.Copies.{CopyView, byte_on, copy_on, marked_copy, filled_copy, IsFilling, IsRewriting, WritesCopy}
-use Rattle.table_pair.specs.Pair.{known, row_of_copies, HoldsRow, AreClosed, AreMade, AreMarked, StaysCopy, ChangesRow, NoneOrNew}
+use Rattle.table_pair.specs.Copies.{CopyView, byte_on, copy_on, marked_copy, filled_copy, IsFilling, IsMarking, IsRewriting, copy_at, WritesCopy}
+use Rattle.table_pair.specs.Pair.{known, row_of_copies, IsOpenWith, HoldsRow, AreClosed, AreMade, AreMarked, StaysCopy, ChangesRow, NoneOrNew}
 use Rattle.table_pair.specs.Creating.{MarksCopy, FillsCopy}
+use Rattle.table_pair.specs.Order.{IsCreatedInOrder, CreatesInOrder}
 use Rattle.table_pair.specs.Slots.{HasSlots, IsChanged, no_slots}
 use Rattle.table_pair.proofs.PairFacts.{row_by_a, row_by_none}
 use Rattle.table_pair.proofs.PairLemmas.{copy_a, copy_b, ChangesPair, InPair, kept_a, kept_b, from_a, from_b, pair_then, pair_row, block_a_kept, block_b_kept}
 use Rattle.table_pair.proofs.StayLemmas.{stays, stays_as, stays_marked, stays_filled, stays_rewriting, stays_since, rewriting_made}
+use Rattle.table_pair.proofs.OrderLemmas.{while_a, while_b, done_by}
 use Rattle.table_pair.proofs.WriteLemmas.{copy_weaker}
 use Rattle.table_pair.proofs.ChangingLemmas.{open_filled, open_as}
 
-abbrev pub Marking : CopyView → CopyView → Type 0
-Marking old now = (now ≡ old) ⊎ (now ≡ marked_copy old)
-
 -- a copy was marked to its end
 pub record Marked (at : BlockPlace) (s t : SiteLog) : Type 0 where
-  pub moments : WritesCopy at (Marking (copy_on s at)) s t
+  pub moments : WritesCopy at (IsMarking (copy_on s at)) s t
   pub done : copy_on t at ≡ marked_copy (copy_on s at)
   pub firm : Settles s t
 
@@ -32,10 +33,10 @@ pub record Rewritten (at : BlockPlace) (bytes : List ℕ) (s t : SiteLog) : Type
   pub done : copy_on t at ≡ filled_copy bytes (copy_on s at)
   pub firm : Settles s t
 
-stays_marking : (old now : CopyView) → Marking old now → StaysCopy old now
+stays_marking : (old now : CopyView) → IsMarking old now → StaysCopy old now
 stays_marking old now is = elim is [ inl same ↦ stays_as old now same | inr made ↦ stays_marked old now made ]
 
-gate_marking : (old now : CopyView) → Marking old now → now.is_open ≡ old.is_open
+gate_marking : (old now : CopyView) → IsMarking old now → now.is_open ≡ old.is_open
 gate_marking old now is = elim is [ inl same ↦ ap (λ (c : CopyView). c.is_open) same | inr made ↦ ap (λ (c : CopyView). c.is_open) made ]
 
 -- a filling is a rewriting
@@ -62,38 +63,38 @@ module _ (volume : ℕ) (row : RowValue) (bytes : List ℕ) (spelled : decode by
   to_row u w = pair_row volume Row (NoneOrNew volume row) s u (λ c is. elim is [ inl gone ↦ inl gone | inr new ↦ inr (new.0, record { a = new.1; b = new.2 }) ]) w
 
   -- the mark of copy A
-  pub first_pair : (s1 : SiteLog) → WritesCopy (place_of copy.A volume) (Marking a) s s1 → Pair s s s1
-  first_pair s1 w = from_a volume (Marking a) (InPair a b Row) s s1 (λ x is. record { stays_a = stays_marking a x is; stays_b = stays b; here = no_row x b (gate_marking a x is ∙ none.a) none.b }) w
+  pub first_pair : (s1 : SiteLog) → WritesCopy (place_of copy.A volume) (IsMarking a) s s1 → Pair s s s1
+  first_pair s1 w = from_a volume (IsMarking a) (InPair a b Row) s s1 (λ x is. record { stays_a = stays_marking a x is; stays_b = stays b; here = no_row x b (gate_marking a x is ∙ none.a) none.b }) w
 
   module _ (s1 : SiteLog) (first : Marked (place_of copy.A volume) s s1) where
     b1 : copy_b volume s1 ≡ b
-    b1 = kept_b volume (Marking a) s s1 first.moments
+    b1 = kept_b volume (IsMarking a) s s1 first.moments
 
     -- the mark of copy B
-    within_two : (y : CopyView) → Marking (copy_b volume s1) y → InPair a b Row (copy_a volume s1) y
+    within_two : (y : CopyView) → IsMarking (copy_b volume s1) y → InPair a b Row (copy_a volume s1) y
     within_two y was =
-        let is : Marking b y = subst (λ (c : CopyView). Marking c y) b1 was in
+        let is : IsMarking b y = subst (λ (c : CopyView). IsMarking c y) b1 was in
         record {
           stays_a = stays_marked a (copy_a volume s1) first.done;
           stays_b = stays_marking b y is;
           here = no_row (copy_a volume s1) y (ap (λ (c : CopyView). c.is_open) first.done ∙ none.a) (gate_marking b y is ∙ none.b);
         }
 
-    pub second_pair : (s2 : SiteLog) → WritesCopy (place_of copy.B volume) (Marking (copy_b volume s1)) s1 s2 → Pair s s s2
-    second_pair s2 w = pair_then volume (InPair a b Row) s s1 s2 first.firm (first_pair s1 first.moments) (from_b volume (Marking (copy_b volume s1)) (InPair a b Row) s1 s2 within_two w)
+    pub second_pair : (s2 : SiteLog) → WritesCopy (place_of copy.B volume) (IsMarking (copy_b volume s1)) s1 s2 → Pair s s s2
+    second_pair s2 w = pair_then volume (InPair a b Row) s s1 s2 first.firm (first_pair s1 first.moments) (from_b volume (IsMarking (copy_b volume s1)) (InPair a b Row) s1 s2 within_two w)
 
     module _ (s2 : SiteLog) (second : Marked (place_of copy.B volume) s1 s2) where
       b2 : copy_b volume s2 ≡ marked_copy b
       b2 = second.done ∙ ap marked_copy b1
 
       a2 : copy_a volume s2 ≡ marked_copy a
-      a2 = kept_a volume (Marking (copy_b volume s1)) s1 s2 second.moments ∙ first.done
+      a2 = kept_a volume (IsMarking (copy_b volume s1)) s1 s2 second.moments ∙ first.done
 
       pub a_closed : (copy_a volume s2).is_open ≡ false
       a_closed = ap (λ (c : CopyView). c.is_open) a2 ∙ none.a
 
-      pub a_slots : (copy_a volume s2).slots ≡ a.slots
-      a_slots = ap (λ (c : CopyView). c.slots) a2
+      pub a_clear : (copy_a volume s2).is_clear ≡ a.is_clear
+      a_clear = ap (λ (c : CopyView). c.is_clear) a2
 
       b_shut : (copy_b volume s2).is_open ≡ false
       b_shut = ap (λ (c : CopyView). c.is_open) b2 ∙ none.b
@@ -132,8 +133,8 @@ module _ (volume : ℕ) (row : RowValue) (bytes : List ℕ) (spelled : decode by
         pub b_closed : (copy_b volume s3).is_open ≡ false
         b_closed = ap (λ (c : CopyView). c.is_open) b3 ∙ none.b
 
-        pub b_slots : (copy_b volume s3).slots ≡ (copy_b volume s1).slots
-        b_slots = ap (λ (c : CopyView). c.slots) (b3 ∙ ap marked_copy (sym b1))
+        pub b_clear : (copy_b volume s3).is_clear ≡ (copy_b volume s1).is_clear
+        b_clear = ap (λ (c : CopyView). c.is_clear) (b3 ∙ ap marked_copy (sym b1))
 
         firm_three : Settles s s3
         firm_three = settles_then s s2 s3 firm_two third.firm
@@ -178,7 +179,12 @@ module _ (volume : ℕ) (row : RowValue) (bytes : List ℕ) (spelled : decode by
           all_firm = settles_then s s3 s4 firm_three fourth.firm
 
           pub is_created : IsChanged row no_slots volume s s4
-          is_created = record { holds = both_hold; slots_ = none_used; firm = all_firm }
+          is_created = record {
+            holds = both_hold;
+            slots_ = none_used;
+            clear = record { a = λ _. inr (ap (λ (c : CopyView). c.is_clear) a4); b = λ _. inr (ap (λ (c : CopyView). c.is_clear) b4) };
+            firm = all_firm;
+          }
 
 -- what becomes of the two marks, from one write to the next
 module _ (volume : ℕ) (P1 P2 P3 P4 : CopyView → Type 0) (s s1 s2 s3 s4 : SiteLog)
@@ -199,6 +205,47 @@ module _ (volume : ℕ) (P1 P2 P3 P4 : CopyView → Type 0) (s s1 s2 s3 s4 : Sit
     a = λ none. ap mark_in (block_a_kept volume P4 s3 s4 w4) ∙ third ∙ ap mark_in (block_a_kept volume P2 s1 s2 w2) ∙ first none;
     b = λ none. fourth ∙ ap mark_in (block_b_kept volume P3 s2 s3 w3) ∙ second (ap mark_in (block_b_kept volume P1 s s1 w1) ∙ none);
   }
+
+-- ---- the order of a creation: the two marks, then copy A, then copy B
+module _ (row : RowValue) (volume : ℕ) (bytes : List ℕ) (spelled : decode bytes ≡ Ok row) (s s1 : SiteLog) (first : WritesCopy (place_of copy.A volume) (IsMarking (copy_a volume s)) s s1) where
+  abbrev InOrder : SiteLog → Content → Type 0
+  InOrder u = IsCreatedInOrder row volume (content s) (content u)
+
+  -- the mark of copy A
+  pub ordered_one : (u : SiteLog) → Writes (InOrder u) s s1
+  ordered_one u = while_a volume (IsMarking (copy_a volume s)) (InOrder u) s s1 (λ c is same. record { mark_a = inl same; mark_b = inl is; row_a = inl (inl (ap copy_at same)) }) first
+
+  module _ (firm_one : Settles s s1) (a1 : copy_a volume s1 ≡ marked_copy (copy_a volume s)) (s2 : SiteLog) (second : WritesCopy (place_of copy.B volume) (IsMarking (copy_b volume s1)) s1 s2) where
+    b1_kept : copy_b volume s1 ≡ copy_b volume s
+    b1_kept = kept_b volume (IsMarking (copy_a volume s)) s s1 first
+
+    -- that of copy B
+    pub ordered_two : (u : SiteLog) → Writes (InOrder u) s s2
+    ordered_two u = then_firm (InOrder u) s s1 s2 firm_one (ordered_one u) (while_b volume (IsMarking (copy_b volume s1)) (InOrder u) s1 s2 (λ c is same.
+        let a_is : copy_at (c TableA volume) ≡ marked_copy (copy_a volume s) = ap copy_at same ∙ a1 in
+        record { mark_a = inr (ap (λ (x : CopyView). x.is_made) a_is); mark_b = inl (inr a_is); row_a = inl (subst (λ (x : CopyView). IsMarking x (copy_at (c TableB volume))) b1_kept is) }) second)
+
+    module _ (firm_two : Settles s1 s2) (b2 : copy_b volume s2 ≡ marked_copy (copy_b volume s1)) (s3 : SiteLog) (third : WritesCopy (place_of copy.A volume) (IsFilling bytes (copy_a volume s2)) s2 s3) where
+      a2_made : (copy_a volume s2).is_made ≡ true
+      a2_made = ap (λ (x : CopyView). x.is_made) (kept_a volume (IsMarking (copy_b volume s1)) s1 s2 second ∙ a1)
+
+      b2_is : copy_b volume s2 ≡ marked_copy (copy_b volume s)
+      b2_is = b2 ∙ ap marked_copy b1_kept
+
+      -- copy A
+      pub ordered_three : (u : SiteLog) → Writes (InOrder u) s s3
+      ordered_three u = then_firm (InOrder u) s s2 s3 (settles_then s s1 s2 firm_one firm_two) (ordered_two u) (while_a volume (IsFilling bytes (copy_a volume s2)) (InOrder u) s2 s3 (λ c is same.
+          let b_is : copy_at (c TableB volume) ≡ marked_copy (copy_b volume s) = ap copy_at same ∙ b2_is in
+          record { mark_a = inr (is.made ∙ a2_made); mark_b = inr (ap (λ (x : CopyView). x.is_made) b_is); row_a = inl (inr b_is) }) third)
+
+      -- copy B
+      pub ordered_four : Settles s2 s3 → copy_a volume s3 ≡ filled_copy bytes (copy_a volume s2) → (u : SiteLog) → WritesCopy (place_of copy.B volume) (IsFilling bytes (copy_b volume s3)) s3 u → Writes (InOrder u) s u
+      ordered_four firm_three a3 u fourth =
+          let b3_made : (copy_b volume s3).is_made ≡ true = ap (λ (x : CopyView). x.is_made) (kept_b volume (IsFilling bytes (copy_a volume s2)) s2 s3 third ∙ b2_is) in
+          let a3_made : (copy_a volume s3).is_made ≡ true = ap (λ (x : CopyView). x.is_made) a3 ∙ a2_made in
+          let holds : IsOpenWith row (copy_a volume s3) = open_as row (copy_a volume s3) (filled_copy bytes (copy_a volume s2)) a3 (open_filled row bytes (copy_a volume s2) spelled) in
+          then_firm (InOrder u) s s3 u (settles_then s s2 s3 (settles_then s s1 s2 firm_one firm_two) firm_three) (ordered_three u) (while_b volume (IsFilling bytes (copy_b volume s3)) (InOrder u) s3 u (λ c is same.
+          record { mark_a = inr (ap (λ (b : List ℕ). (copy_at b).is_made) same ∙ a3_made); mark_b = inr (is.made ∙ b3_made); row_a = inr (done_by row volume (IsFilling bytes (copy_b volume s3)) s3 u holds fourth c same) }) fourth)
 
 -- ---- so where a row is created, call by call
 
@@ -222,31 +269,44 @@ module _ {volume : ℕ} {row : RowValue} (bytes : List ℕ) (spelled : decode by
   pub marking_a : {s1 : SiteLog} {r : Result Bool E} → MarksCopy (place_of copy.A volume) s s1 r → Creates volume row s s1
   marking_a {s1} is = to_row volume row bytes spelled s none s1 (first_pair volume row bytes spelled s none s1 is.moments)
 
+  pub in_order_a : {s1 : SiteLog} {r : Result Bool E} → MarksCopy (place_of copy.A volume) s s1 r → CreatesInOrder row volume s s1
+  in_order_a {s1} is = ordered_one row volume bytes spelled s s1 is.moments s1
+
   module _ {s1 : SiteLog} {has_a : Bool} (first : MarksCopy {E = E} (place_of copy.A volume) s s1 (Ok has_a)) where
     pub marking_b : {s2 : SiteLog} {r : Result Bool E} → MarksCopy (place_of copy.B volume) s1 s2 r → Creates volume row s s2
     marking_b {s2} is = to_row volume row bytes spelled s none s2 (second_pair volume row bytes spelled s none s1 (marked_by first) s2 is.moments)
+
+    pub in_order_b : {s2 : SiteLog} {r : Result Bool E} → MarksCopy (place_of copy.B volume) s1 s2 r → CreatesInOrder row volume s s2
+    in_order_b {s2} is = ordered_two row volume bytes spelled s s1 first.moments first.firm first.done s2 is.moments s2
 
     module _ {s2 : SiteLog} {has_b : Bool} (second : MarksCopy {E = E} (place_of copy.B volume) s1 s2 (Ok has_b)) where
       pub closed_a : (copy_a volume s2).is_open ≡ false
       closed_a = a_closed volume row bytes spelled s none s1 (marked_by first) s2 (marked_by second)
 
-      pub none_a : has_a ≡ false → (copy_a volume s2).slots ≡ []
-      none_a is = a_slots volume row bytes spelled s none s1 (marked_by first) s2 (marked_by second) ∙ first.none is
+      pub clear_a : has_a ≡ true → (copy_a volume s2).is_clear ≡ true
+      clear_a is = a_clear volume row bytes spelled s none s1 (marked_by first) s2 (marked_by second) ∙ first.clear is
 
       pub filling_a : {T : Type 0} {s3 : SiteLog} {r : Result T E} → FillsCopy bytes (place_of copy.A volume) s2 s3 r → Creates volume row s s3
       filling_a {s3 = s3} is = to_row volume row bytes spelled s none s3
           (third_pair volume row bytes spelled s none s1 (marked_by first) s2 (marked_by second) s3 (as_rewriting (place_of copy.A volume) bytes s2 s3 is.moments))
 
+      pub in_order_filling : {T : Type 0} {s3 : SiteLog} {r : Result T E} → FillsCopy bytes (place_of copy.A volume) s2 s3 r → CreatesInOrder row volume s s3
+      in_order_filling {s3 = s3} is = ordered_three row volume bytes spelled s s1 first.moments first.firm first.done s2 second.moments second.firm second.done s3 is.moments s3
+
       module _ {T : Type 0} {s3 : SiteLog} {value : T} (third : FillsCopy {T = T} {E = E} bytes (place_of copy.A volume) s2 s3 (Ok value)) where
         pub closed_b : (copy_b volume s3).is_open ≡ false
         closed_b = b_closed volume row bytes spelled s none s1 (marked_by first) s2 (marked_by second) s3 (filled_by third)
 
-        pub none_b : has_b ≡ false → (copy_b volume s3).slots ≡ []
-        none_b is = b_slots volume row bytes spelled s none s1 (marked_by first) s2 (marked_by second) s3 (filled_by third) ∙ second.none is
+        pub clear_b : has_b ≡ true → (copy_b volume s3).is_clear ≡ true
+        clear_b is = b_clear volume row bytes spelled s none s1 (marked_by first) s2 (marked_by second) s3 (filled_by third) ∙ second.clear is
 
         pub filling_b : {s4 : SiteLog} {r : Result T E} → FillsCopy bytes (place_of copy.B volume) s3 s4 r → Creates volume row s s4
         filling_b {s4} is = to_row volume row bytes spelled s none s4
             (fourth_pair volume row bytes spelled s none s1 (marked_by first) s2 (marked_by second) s3 (filled_by third) s4 (as_rewriting (place_of copy.B volume) bytes s3 s4 is.moments))
+
+        pub in_order_filled : {s4 : SiteLog} {r : Result T E} → FillsCopy bytes (place_of copy.B volume) s3 s4 r → CreatesInOrder row volume s s4
+        in_order_filled {s4} is =
+            ordered_four row volume bytes spelled s s1 first.moments first.firm first.done s2 second.moments second.firm second.done s3 third.moments third.firm third.done s4 is.moments
 
         module _ {s4 : SiteLog} {other : T} (fourth : FillsCopy {T = T} {E = E} bytes (place_of copy.B volume) s3 s4 (Ok other)) where
           pub created : IsChanged row no_slots volume s s4
@@ -254,5 +314,5 @@ module _ {volume : ℕ} {row : RowValue} (bytes : List ℕ) (spelled : decode by
 
           pub created_marks : AreMarked volume (content s) (content s4)
           created_marks =
-              both_marked volume (Marking (copy_a volume s)) (Marking (copy_b volume s1)) (IsFilling bytes (copy_a volume s2)) (IsFilling bytes (copy_b volume s3)) s s1 s2 s3 s4 first.moments second.moments third.moments fourth.moments first.mark second.mark third.mark fourth.mark
+              both_marked volume (IsMarking (copy_a volume s)) (IsMarking (copy_b volume s1)) (IsFilling bytes (copy_a volume s2)) (IsFilling bytes (copy_b volume s3)) s s1 s2 s3 s4 first.moments second.moments third.moments fourth.moments first.mark second.mark third.mark fourth.mark
               (both_made volume row bytes spelled s none s1 (marked_by first) s2 (marked_by second) s3 (filled_by third) s4 (filled_by fourth))

@@ -25,6 +25,7 @@ module _ (a b : List ℕ) (long : length b ≡ length a) (same : take 1024 b ≡
     spelled = front_body i;
     slots = same_front_slots 1024 a b long same (omega arith) (omega arith) i;
     is_made = not (front_byte 511 (omega arith) i == 0);
+    is_clear = front_byte 512 (omega arith) i == 0;
   }
 
 -- a block whose front was read over that of another one

@@ -6,10 +6,12 @@ pub mod WriteLemmas
 pub mod PairFacts
 pub mod PairLemmas
 pub mod StayLemmas
+pub mod OrderLemmas
 pub mod ChangingLemmas
 pub mod AlikeLemmas
 pub mod ChangeLemmas
 pub mod CreateLemmas
+pub mod VersionLemmas
 pub mod MigrateLemmas
 pub mod FollowLemmas
 pub mod RepairLemmas

@@ -16,11 +16,13 @@ use Rattle.table_pair.specs.Changing.{IsChanging, IsCopyWith}
 use Rattle.table_pair.specs.Migrating.{AreNew, IsCopyNew, MigratesCopy, IsMigrated}
 use Rattle.table_pair.specs.Pair.{row_of_copies, HoldsRow, ChangesRow}
 use Rattle.table_pair.specs.Repairs.{KeepsRow, KeepsMarks}
+use Rattle.table_pair.specs.Order.{WritesAFirst}
 use Rattle.table_pair.specs.Slots.{HasSlots}
 use Rattle.table_pair.proofs.CopyLemmas.{spelled_of}
 use Rattle.table_pair.proofs.PairFacts.{row_by_a, row_by_b}
-use Rattle.table_pair.proofs.PairLemmas.{copy_a, copy_b, ChangesPair, InPair, kept_a, kept_b, from_a, from_b, pair_then, pair_row}
+use Rattle.table_pair.proofs.PairLemmas.{copy_a, copy_b, ChangesPair, InPair, kept_a, kept_b, block_a_kept, block_b_kept, from_a, from_b, pair_then, pair_row}
 use Rattle.table_pair.proofs.StayLemmas.{stays, stays_changing}
+use Rattle.table_pair.proofs.OrderLemmas.{order_a, order_b}
 use Rattle.table_pair.proofs.WriteLemmas.{nothing_written}
 use Rattle.table_pair.proofs.ChangingLemmas.{open_as, open_filled, rewrite_moments}
 
@@ -112,6 +114,9 @@ module _ {volume : ℕ} {row : RowValue} (s : SiteLog) (held : HoldsRow row volu
   pub marks_a : {E : Type 0} {t : SiteLog} {r : Result ℕ E} → MigratesCopy row (place_of copy.A volume) s t r → Writes (KeepsMarks volume (content s)) s t
   marks_a {t = t} first = as_marks t (pair_a t first.moments)
 
+  pub migrate_order_a : {E : Type 0} {t : SiteLog} {r : Result ℕ E} → MigratesCopy row (place_of copy.A volume) s t r → WritesAFirst row volume s t
+  migrate_order_a {t = t} first = order_a row volume (IsChanging row a) s t first.moments
+
   -- copy A is migrated
   module _ {E : Type 0} {t : SiteLog} {used_a : ℕ} (first : MigratesCopy {E = E} row (place_of copy.A volume) s t (Ok used_a)) where
     b_kept : copy_b volume t ≡ b
@@ -144,6 +149,9 @@ module _ {volume : ℕ} {row : RowValue} (s : SiteLog) (held : HoldsRow row volu
     pub marks_b : {u : SiteLog} {r : Result ℕ E} → MigratesCopy row (place_of copy.B volume) t u r → Writes (KeepsMarks volume (content s)) s u
     marks_b {u} second = as_marks u (pair_b second)
 
+    pub migrate_order_b : {u : SiteLog} {r : Result ℕ E} → MigratesCopy row (place_of copy.B volume) t u r → WritesAFirst row volume s u
+    migrate_order_b {u} second = order_b row volume (IsChanging row a) s t first.moments (IsChanging row (copy_b volume t)) u first.firm first.done.holds.holds second.moments
+
     pub both_new : {u : SiteLog} {r : Result ℕ E} → MigratesCopy row (place_of copy.B volume) t u r → AreNew volume (content s) → u ≡ s
     both_new second new = second.untouched (ap (λ (c : CopyView). is_old c.spelled) b_kept ∙ new.b) ∙ first.untouched new.a
 
@@ -154,6 +162,16 @@ module _ {volume : ℕ} {row : RowValue} (s : SiteLog) (held : HoldsRow row volu
           holds = record {
             holds = record { a = open_as row (copy_a volume u) (copy_a volume t) a_kept first.done.holds.holds; b = second.done.holds.holds };
             slots_ = record { a = ap (λ (c : CopyView). length c.slots) a_kept ∙ first.done.holds.slots_; b = second.done.holds.slots_ };
+            clear = record {
+              a = λ _. elim first.clear [
+                | inl kept ↦ inl (block_a_kept volume (IsChanging row (copy_b volume t)) t u second.moments ∙ kept)
+                | inr clear ↦ inr (ap (λ (c : CopyView). c.is_clear) a_kept ∙ clear)
+              ];
+              b = λ _. elim second.clear [
+                | inl kept ↦ inl (kept ∙ block_b_kept volume (IsChanging row a) s t first.moments)
+                | inr clear ↦ inr clear
+              ];
+            };
             firm = settles_then s t u first.firm second.firm;
           };
           are_new = record { a = ap (λ (c : CopyView). is_old c.spelled) a_kept ∙ first.done.is_new; b = second.done.is_new };

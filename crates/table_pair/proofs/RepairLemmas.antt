@@ -14,14 +14,15 @@ use Rattle.table_pair.specs.declared.repairs.Found.{Found}
 use Rattle.table_pair.specs.declared.write.Gates.{Gates}
 use Rattle.table_pair.specs.Places.{place_of}
 use Rattle.table_pair.specs.Migrating.{AreNew}
-use Rattle.table_pair.specs.Slots.{HasSlots}
+use Rattle.table_pair.specs.declared.copy.SlotsUsed.{SlotsUsed}
+use Rattle.table_pair.specs.Slots.{HasSlots, ClearsWritten}
 use Rattle.table_pair.specs.Copies.{CopyView, copy_at, copy_on, filled_copy, HasGates, IsRewriting, WritesCopy}
 use Rattle.table_pair.specs.Pair.{known, row_of_copies, HoldsRow, ChangesRow}
 use Rattle.table_pair.specs.Repairs.{NeedNoRepair, NeedsNoRepair, IsBehind, one_of, IsFound, IsFoundOn, KeepsRow, KeepsMarks, HoldsToldRow, LosesSlots, KeepsRepairFault}
 use Rattle.table_pair.specs.declared.copy.RepairFault.{RepairFault}
 use Rattle.table_pair.specs.declared.copy.RepairFault.TheVariants.{Memory}
 use Rattle.table_pair.proofs.PairFacts.{row_by_a, row_by_b, one_row}
-use Rattle.table_pair.proofs.PairLemmas.{copy_a, copy_b, InPair, kept_a, kept_b, from_a, from_b, pair_row, row_unwritten}
+use Rattle.table_pair.proofs.PairLemmas.{copy_a, copy_b, InPair, kept_a, kept_b, from_a, from_b, pair_row, block_a_kept, block_b_kept, row_unwritten}
 use Rattle.table_pair.proofs.StayLemmas.{stays, stays_rewriting, rewriting_keeps_mark}
 use Rattle.table_pair.proofs.ChangingLemmas.{open_filled, open_as}
 
@@ -41,6 +42,9 @@ module _ (volume : ℕ) (s t : SiteLog) where
 
   pub no_marks : t ≡ s → Writes (KeepsMarks volume (content s)) s t
   no_marks same = subst (λ (u : SiteLog). Writes (KeepsMarks volume (content s)) s u) (sym same) (started (KeepsMarks volume (content s)) s (record { a = refl; b = refl }))
+
+  pub none_cleared : (used : SlotsUsed) → t ≡ s → ClearsWritten used volume (content s) (content t)
+  none_cleared used same = subst (λ (u : SiteLog). ClearsWritten used volume (content s) (content u)) (sym same) (record { a = λ _. inl refl; b = λ _. inl refl })
 
   pub none_firm : t ≡ s → Settles s t
   none_firm same = subst (λ (u : SiteLog). Settles s u) (sym same) (settles_none s)
@@ -114,6 +118,12 @@ module _ (volume : ℕ) (s t : SiteLog) where
       b = ap (λ (c : CopyView). length c.slots) done;
     }
 
+    -- with the gate of slot 0 at 00, and the other one isn't written
+    pub follow_clear : (which : TableCopy) → WritesCopy (place_of which volume) (IsRewriting bytes (copy_on s (place_of which volume))) s t
+        → copy_on t (place_of which volume) ≡ filled_copy bytes (copy_on s (place_of which volume)) → (used : SlotsUsed) → ClearsWritten used volume (content s) (content t)
+    follow_clear copy.A w done used = record { a = λ _. inr (ap (λ (c : CopyView). c.is_clear) done); b = λ _. inl (block_b_kept volume (IsRewriting bytes a) s t w) }
+    follow_clear copy.B w done used = record { a = λ _. inl (block_a_kept volume (IsRewriting bytes b) s t w); b = λ _. inr (ap (λ (c : CopyView). c.is_clear) done) }
+
     pub follow_told : (which : TableCopy) → IsBehind which row a b → HoldsRow row volume (content t) → HoldsToldRow volume (content s) (content t)
     follow_told which behind holds other told =
         subst (λ (r : RowValue). HoldsRow r volume (content t)) (one_row row other false false (sym (told_row which behind) ∙ told)) holds
@@ -143,6 +153,9 @@ found_slots found volume s r same is = subst (λ (q : SiteLog). HasSlots found.u
 -- what a call that wrote nothing before keeps
 pub firm_since : (s r t : SiteLog) → r ≡ s → Settles r t → Settles s t
 firm_since s r t same firm = subst (λ (q : SiteLog). Settles q t) same firm
+
+pub clear_since : (used : SlotsUsed) (volume : ℕ) (s r t : SiteLog) → r ≡ s → ClearsWritten used volume (content r) (content t) → ClearsWritten used volume (content s) (content t)
+clear_since used volume s r t same clears = subst (λ (q : SiteLog). ClearsWritten used volume (content q) (content t)) same clears
 
 pub marks_since : (volume : ℕ) (s r t : SiteLog) → r ≡ s → Writes (KeepsMarks volume (content r)) r t → Writes (KeepsMarks volume (content s)) s t
 marks_since volume s r t same w = subst (λ (q : SiteLog). Writes (KeepsMarks volume (content q)) q t) same w

@@ -1,15 +1,9 @@
 -- The slots of a copy's block, as they are read.
-use Rattle.std.proofs.Common.{◌≡◌, ℕ, zero, suc, ◌+◌, ◌*◌, nat_lt, false, List, [], ◌∷◌, length, take, drop, refl, sym, ◌∙◌, ap, arith}
-use Rattle.std.proofs.lemmas.Bool.{false≢true, lt-ltb}
+use Rattle.std.proofs.Common.{◌≡◌, ℕ, zero, suc, ◌+◌, ◌*◌, List, ◌∷◌, length, take, drop, refl, sym, ◌∙◌, ap, arith}
 use Rattle.std.proofs.lemmas.List.{drop-drop}
 use Rattle.volume_table.specs.Slots.{slots_from as read_from}
 use Rattle.table_journal.specs.Slots.{slot_body, slots}
 use Rattle.table_journal.proofs.SlotFacts.{bodies, slots_are_bodies}
-
--- where none is counted there is none
-pub none_counted : (xs : List (List ℕ)) → nat_lt 0 (length xs) ≡ false → xs ≡ []
-none_counted [] is = refl
-none_counted (x ∷ xs) is = absurd (false≢true (sym is ∙ lt-ltb 0 (length (x ∷ xs)) (omega arith)))
 
 -- slots that are read behind the row are those of the block
 read_body : (n : ℕ) (block : List ℕ) → take 7 (drop (suc (8 * n)) (drop 512 block)) ≡ slot_body n block

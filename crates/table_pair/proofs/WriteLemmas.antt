@@ -10,7 +10,7 @@ use Rattle.mss_base.proofs.Moments.{block_write, block_written, block_weaker, bl
 use Rattle.mss_base.proofs.Settling.{got_then, adds_firm}
 use Rattle.mss_base.proofs.BlindMoments.{block_blind}
 use Rattle.table_pair.specs.Copies.{CopyView, copy_at, byte_on, copy_on, shut_copy, marked_copy, emptied_copy, filled_copy, IsFilling, IsRewriting, WritesCopy}
-use Rattle.table_pair.proofs.CopyLemmas.{gate_written, body_written, mark_written, slot_shut, same_gate, same_mark, gate_of, mark_of}
+use Rattle.table_pair.proofs.CopyLemmas.{gate_written, body_written, mark_written, slot_shut, clear_slots, same_gate, same_mark, gate_of, mark_of}
 
 -- the block of a copy is whole
 abbrev pub IsWhole : SiteLog → BlockPlace → Type 0
@@ -143,30 +143,32 @@ module _ (at : BlockPlace) (bytes : List ℕ) (long : length bytes ≡ 510) (s t
   body_mark =
       ap (λ (b : List ℕ). get_or b 511 0) (block_written at.unit at.block 1 bytes s t (inl first)) ∙ get_or-splice_above 1 bytes (content s at.unit at.block) 511 (omega arith)
 
-  -- where it had no slots
-  pub put_alone : (u : SiteLog) → (copy_on s at).slots ≡ [] → Got (synced at.unit ∷ []) t u → copy_on u at ≡ emptied_copy bytes (copy_on s at)
-  put_alone u none sync = ap (λ (c : Content). copy_at (c at.unit at.block)) (on_synced at t u sync) ∙ body_is ∙ (λ i. record (copy_on s at) { spelled = bytes; slots = none i })
+  -- where the gate of slot 0 was 00
+  pub put_alone : (u : SiteLog) → (copy_on s at).is_clear ≡ true → Got (synced at.unit ∷ []) t u → copy_on u at ≡ emptied_copy bytes (copy_on s at)
+  put_alone u clear sync =
+      let none : (copy_on s at).slots ≡ [] = clear_slots (content s at.unit at.block) clear in
+      ap (λ (c : Content). copy_at (c at.unit at.block)) (on_synced at t u sync) ∙ body_is ∙ (λ i. record (copy_on s at) { spelled = bytes; slots = none i; is_clear = clear i })
 
   pub mark_alone : (u : SiteLog) → Got (synced at.unit ∷ []) t u → byte_on u at 511 ≡ byte_on s at 511
   mark_alone u sync = ap (λ (c : Content). get_or (c at.unit at.block) 511 0) (on_synced at t u sync) ∙ body_mark
 
-  -- where the gate of slot 0 was closed behind it
-  module _ (r u : SiteLog) (whole_t : IsWhole t at) (byte : ℕ) (other : (byte == 193) ≡ false) (second : Got (wrote (write_at at 512 (byte ∷ [])) ∷ []) t r) (sync : Got (synced at.unit ∷ []) r u) where
+  -- where the gate of slot 0 was put to 00 behind it
+  module _ (r u : SiteLog) (whole_t : IsWhole t at) (second : Got (wrote (write_at at 512 (0 ∷ [])) ∷ []) t r) (sync : Got (synced at.unit ∷ []) r u) where
     pub put_both : copy_on u at ≡ emptied_copy bytes (copy_on s at)
     put_both =
-        ap (λ (c : Content). copy_at (c at.unit at.block)) (on_synced at r u sync) ∙ ap copy_at (block_written at.unit at.block 512 (byte ∷ []) t r (inl second))
-        ∙ slot_shut (byte ∷ []) (content t at.unit at.block) whole_t byte other ∙ ap (λ (c : CopyView). record c { slots = [] }) body_is
+        ap (λ (c : Content). copy_at (c at.unit at.block)) (on_synced at r u sync) ∙ ap copy_at (block_written at.unit at.block 512 (0 ∷ []) t r (inl second))
+        ∙ slot_shut (0 ∷ []) (content t at.unit at.block) whole_t ∙ ap (λ (c : CopyView). record c { slots = []; is_clear = true }) body_is
 
     pub mark_both : byte_on u at 511 ≡ byte_on s at 511
     mark_both =
-        ap (λ (c : Content). get_or (c at.unit at.block) 511 0) (on_synced at r u sync) ∙ ap (λ (b : List ℕ). get_or b 511 0) (block_written at.unit at.block 512 (byte ∷ []) t r (inl second))
-        ∙ get_or-splice_below 512 (byte ∷ []) (content t at.unit at.block) 511 (omega arith) ∙ body_mark
+        ap (λ (c : Content). get_or (c at.unit at.block) 511 0) (on_synced at r u sync) ∙ ap (λ (b : List ℕ). get_or b 511 0) (block_written at.unit at.block 512 (0 ∷ []) t r (inl second))
+        ∙ get_or-splice_below 512 (0 ∷ []) (content t at.unit at.block) 511 (omega arith) ∙ body_mark
 
 -- ---- the gate is opened behind a firm body
 module _ (at : BlockPlace) (bytes : List ℕ) (s t : SiteLog) (shut_gate : (copy_on s at).is_open ≡ false)
     (body_put : WritesCopy at (IsFilling bytes (copy_on s at)) s t) (there : copy_on t at ≡ emptied_copy bytes (copy_on s at)) where
   -- with a gate
-  with_gate : (flag : Bool) → IsFilling bytes (copy_on s at) (record (copy_on s at) { is_open = flag; spelled = bytes; slots = [] })
+  with_gate : (flag : Bool) → IsFilling bytes (copy_on s at) (record (copy_on s at) { is_open = flag; spelled = bytes; slots = []; is_clear = true })
   with_gate true = record { made = refl; gate = inr refl }
   with_gate false = record { made = refl; gate = inl refl }
 
@@ -176,7 +178,7 @@ module _ (at : BlockPlace) (bytes : List ℕ) (s t : SiteLog) (shut_gate : (copy
         let here : IsFilling bytes (copy_on s at) (copy_on t at) = subst (IsFilling bytes (copy_on s at)) (sym there) (record { made = refl; gate = inl shut_gate }) in
         copy_then at (IsFilling bytes (copy_on s at)) (IsFilling bytes (copy_on s at)) (IsFilling bytes (copy_on s at)) (λ c is. is) (λ c is. is) s t u settled body_put
         (block_write at.unit at.block 0 left _ t u adds here (λ other long_other.
-        let is : copy_at (splice 0 other (content t at.unit at.block)) ≡ record (copy_on s at) { is_open = get_or other 0 0 == 193; spelled = bytes; slots = [] } =
+        let is : copy_at (splice 0 other (content t at.unit at.block)) ≡ record (copy_on s at) { is_open = get_or other 0 0 == 193; spelled = bytes; slots = []; is_clear = true } =
         gate_written other (content t at.unit at.block) whole_t (long_other ∙ one) ∙ ap (λ (c : CopyView). record c { is_open = get_or other 0 0 == 193 }) there in
         subst (IsFilling bytes (copy_on s at)) (sym is) (with_gate (get_or other 0 0 == 193))))
 
@@ -207,9 +209,9 @@ module _ (at : BlockPlace) (bytes : List ℕ) (s t : SiteLog) (old : WritesCopy 
     pub rewriting_filled : Settles s t → WritesCopy at (IsFilling bytes (copy_on t at)) t u → WritesCopy at (IsRewriting bytes (copy_on s at)) s u
     rewriting_filled settled second = copy_then at _ _ _ from_closing from_filling s t u settled old second
 
--- a copy that was shut has the slots that it had
-pub shut_slots : (old new : CopyView) → new ≡ shut_copy old → old.slots ≡ [] → new.slots ≡ []
-shut_slots old new is none = ap (λ (c : CopyView). c.slots) is ∙ none
+-- a copy that was shut has the gate of slot 0 that it had
+pub shut_clear : (old new : CopyView) → new ≡ shut_copy old → old.is_clear ≡ true → new.is_clear ≡ true
+shut_clear old new is clear = ap (λ (c : CopyView). c.is_clear) is ∙ clear
 
 -- a log with one more write, and with some
 pub adds_grow : (w : Write) (s t : SiteLog) → Adds w s t → length s.log < length t.log

@@ -1,6 +1,7 @@
 pub mod Places
 pub mod Copies
 pub mod Pair
+pub mod Order
 pub mod Reads
 pub mod Repairs
 pub mod Slots

@@ -8,7 +8,7 @@ use Rattle.volume_table.specs.Slots.{told_by}
 use Rattle.volume_table.specs.declared.fault.RowFault.{RowFault}
 use Rattle.table_pair.specs.declared.copy.TableCopy.{TableCopy}
 use Rattle.table_pair.specs.declared.copy.TableCopy.TheVariants as copy
-use Rattle.table_pair.specs.declared.write.TheConstants.{MADE, MADE_MARK}
+use Rattle.mss_base.specs.Geometry.{made_mark_at, made_mark}
 use Rattle.table_pair.specs.Copies.{CopyView, copy_at}
 
 -- what a read of a copy tells: nothing; that it is closed, and whether its volume was ever created; its row, or no row
@@ -77,8 +77,8 @@ pub record AreMade (volume : ℕ) (c : Content) : Type 0 where
 -- both copies have their made mark, and where one had none, it has the byte that stands for one
 pub record AreMarked (volume : ℕ) (old new : Content) : Type 0 where
   pub made : AreMade volume new
-  pub a : slice_index (old TableA volume) MADE ≡ 0 → slice_index (new TableA volume) MADE ≡ MADE_MARK
-  pub b : slice_index (old TableB volume) MADE ≡ 0 → slice_index (new TableB volume) MADE ≡ MADE_MARK
+  pub a : slice_index (old TableA volume) made_mark_at ≡ 0 → slice_index (new TableA volume) made_mark_at ≡ made_mark
+  pub b : slice_index (old TableB volume) made_mark_at ≡ 0 → slice_index (new TableB volume) made_mark_at ≡ made_mark
 
 abbrev pub is_table : UnitNo → Bool
 is_table TableA = true

@@ -13,7 +13,7 @@ use Rattle.table_pair.specs.Pair.{row_of, row_of_copies, known, IsOpenWith, Hold
 use Rattle.table_pair.specs.declared.copy.SlotsUsed.{SlotsUsed}
 use Rattle.table_pair.specs.declared.copy.Repaired.{Repaired}
 use Rattle.table_pair.specs.Migrating.{AreNew}
-use Rattle.table_pair.specs.Slots.{HasSlots, without_slots}
+use Rattle.table_pair.specs.Slots.{HasSlots, ClearsWritten, without_slots}
 use Rattle.mss_base.specs.Counts.{IsFaultSince}
 use Rattle.mss_base.specs.Sound.{StaysSound}
 use Rattle.mss_base.specs.declared.site.Site.{Ghosts}
@@ -92,12 +92,14 @@ abbrev pub HoldsToldRow : ℕ → Content → Content → Type 0
 HoldsToldRow volume old new = (row : RowValue) → row_of old volume ≡ known (Some row) false → HoldsRow row volume new
 
 -- what a repair leaves that was done: the row that was told, if any, stands in both copies, firm; so many of their slots
--- are in use, they need no repair, and both are of version 2, unless one may not be
+-- are in use, they need no repair, and both are of version 2, unless one may not be. The gate of slot 0 of a copy that
+-- was written is 00
 pub record RepairsCopies (repaired : Repaired) (volume : ℕ) (old new : SiteLog) : Type 0 where
   pub held : HoldsToldRow volume (content old) (content new)
   pub slots_ : HasSlots repaired.used volume (content new)
   pub are_new : repaired.is_old ≡ false → AreNew volume (content new)
   pub settled : NeedsNoRepair volume (content new)
+  pub clear : ClearsWritten repaired.used volume (content old) (content new)
   pub firm : Settles old new
 
 -- a failed call is told with the count of faults behind it, which rose in the call. Elsewhere no call failed

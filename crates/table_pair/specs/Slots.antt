@@ -1,11 +1,11 @@
 -- The slots in use of both copies of a row, and what a change of the row leaves of them.
-use Rattle.std.specs.Prelude.{◌≡◌, ◌<◌, ℕ, ◌+◌, nat_lt, if◌then◌else◌, List, length, slice_index_or, slice_set}
+use Rattle.std.specs.Prelude.{◌≡◌, ◌⊎◌, ◌<◌, ℕ, ◌+◌, true, nat_lt, if◌then◌else◌, List, length, slice_index_or, slice_set}
 use Rattle.mss_base.specs.Content.{Content, SiteLog, Settles, content}
 use Rattle.mss_base.specs.declared.place.UnitNo.TheVariants.{TableA, TableB}
 use Rattle.volume_table.specs.Row.{RowValue}
 use Rattle.volume_table.specs.Changes.{IsAllowed, effect}
 use Rattle.volume_table.specs.declared.changes.Change.{Change}
-use Rattle.table_journal.specs.declared.layout.TheConstants.{SLOTS}
+use Rattle.mss_base.specs.Geometry.{slot_count, slot_items}
 use Rattle.table_pair.specs.declared.copy.SlotsUsed.{SlotsUsed}
 use Rattle.table_pair.specs.declared.copy.TableCopy.{TableCopy}
 use Rattle.table_pair.specs.declared.copy.TableCopy.TheVariants as copy
@@ -27,7 +27,19 @@ without_slots copy.B used = record used { b = 0 }
 
 -- after a change a copy has one slot more, or none where all were in use
 abbrev pub slots_after : ℕ → ℕ
-slots_after used = if nat_lt used SLOTS then used + 1 else 0
+slots_after used = if nat_lt used slot_count then used + 1 else 0
+
+-- how many items of the log a rewriting makes at most: four writes and three syncs
+abbrev pub rewriting_items : ℕ
+rewriting_items = 7
+
+-- how many a change of a copy makes at most: those of a slot, or of a rewriting where all slots are in use
+abbrev pub copy_items : ℕ → ℕ
+copy_items used = if nat_lt used slot_count then slot_items else rewriting_items
+
+-- and of both copies
+abbrev pub change_items : SlotsUsed → ℕ
+change_items used = copy_items used.a + copy_items used.b
 
 abbrev pub used_after : SlotsUsed → SlotsUsed
 used_after used = record { a = slots_after used.a; b = slots_after used.b }
@@ -40,10 +52,17 @@ pub record IsDue (volume : ℕ) (change : Change) (row : RowValue) (used : Slots
   pub becomes : row ≡ effect change old
   pub slots_ : HasSlots used volume c
 
--- what a change of a row leaves: both copies hold it, so many of their slots are in use, and no write of it is loose
+-- the gate of slot 0 is 00 of a copy that has no slots, where so many are in use, unless its block wasn't written
+pub record ClearsWritten (used : SlotsUsed) (volume : ℕ) (old new : Content) : Type 0 where
+  pub a : used.a ≡ 0 → (new TableA volume ≡ old TableA volume) ⊎ ((copy_at (new TableA volume)).is_clear ≡ true)
+  pub b : used.b ≡ 0 → (new TableB volume ≡ old TableB volume) ⊎ ((copy_at (new TableB volume)).is_clear ≡ true)
+
+-- what a change of a row leaves: both copies hold it, so many of their slots are in use, those that were written without
+-- slots are clear of them, and no write of it is loose
 pub record IsChanged (row : RowValue) (used : SlotsUsed) (volume : ℕ) (old new : SiteLog) : Type 0 where
   pub holds : HoldsRow row volume (content new)
   pub slots_ : HasSlots used volume (content new)
+  pub clear : ClearsWritten used volume (content old) (content new)
   pub firm : Settles old new
 
 -- ---- of all volumes, by number

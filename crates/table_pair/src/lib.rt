@@ -4,10 +4,10 @@
 //! which change the row of the body. A change appends a slot to each copy; where a copy has none free, it is
 //! rewritten with the new row and without slots. Bodies of version 1 are written anew by `migrate`. How many are in
 //! use is told to each call, and told by it (`SlotsUsed`). `specs/Pair.antt` says which row two copies tell, also
-//! where one of them can't be read, and what holds at each moment of a change; `specs/Slots.antt` says what a change
-//! leaves, and how many slots are in use then. The layers above rely on `read_row`, `change_row`, `create_row`,
-//! `repair` and `migrate`, over every site, on `law`, and on the lemmas of `proofs/PairFacts.antt` and
-//! `proofs/SiteLemmas.antt`.
+//! where one of them can't be read, and what holds at each moment of a change; `specs/Order.antt` says that copy A is
+//! done before copy B is touched, and `specs/Slots.antt` what a change leaves, how many slots are in use then, and how
+//! few items of the log it makes. The layers above rely on `read_row`, `change_row`, `create_row`, `repair` and
+//! `migrate`, over every site, on `law`, and on the lemmas of `proofs/PairFacts.antt` and `proofs/SiteLemmas.antt`.
 //!
 //! A copy's block is read by its front, and whole only where more slots may follow (`read_copy_block`), so what was
 //! read is known by the copy in it (`copy_at` of `specs/Copies.antt`).

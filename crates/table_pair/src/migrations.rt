@@ -8,6 +8,7 @@ ghost use Rattle.mss_base.specs.declared.place.UnitNo.TheVariants.{TableA, Table
 ghost use Rattle.table_pair.specs.Changing.{IsCopyWith};
 ghost use Rattle.table_pair.specs.Copies.{copy_on};
 ghost use Rattle.table_pair.specs.Migrating.{AreNew, IsMigrated, MigratesCopy};
+ghost use Rattle.table_pair.specs.Order.{WritesAFirst};
 ghost use Rattle.table_pair.specs.Pair.{ChangesRow, HoldsRow};
 ghost use Rattle.table_pair.specs.Places.{place_of, unit_of};
 ghost use Rattle.table_pair.specs.Repairs.{KeepsMarks, KeepsRow};
@@ -89,6 +90,7 @@ pub fn migrate<S: Site>(
         (S.told site.old) (S.told site.new) }
     ensures marks { S.tells → Writes (KeepsMarks volume (content (S.told site.old)))
         (S.told site.old) (S.told site.new) }
+    ensures order { S.tells → WritesAFirst row.now volume (S.told site.old) (S.told site.new) }
     ensures done { S.tells → IfOk result (λ now.
         IsMigrated row.now now volume (S.told site.old) (S.told site.new)) }
     ensures untouched { S.tells → AreNew volume (content (S.told site.old))

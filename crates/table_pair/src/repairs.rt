@@ -10,6 +10,7 @@ ghost use Rattle.volume_table.specs.Grammar.{body, is_old};
 ghost use Rattle.table_journal.specs.Slots.{slots};
 ghost use Rattle.table_pair.specs.Reads.{IsReadable};
 ghost use Rattle.table_pair.specs.Repairs.{AreAlike, NeedNoRepair, NeedsNoRepair, TellsRow, MayBeStale, IsStaleOn, IsFound, IsFoundOn, KeepsRow, KeepsMarks, HoldsToldRow, LosesSlots, KeepsRepairFault, RepairsCopies, GotRoom, LeavesSite, FailsNever};
+ghost use Rattle.table_pair.specs.Slots.{ClearsWritten};
 ghost use Rattle.table_pair.specs.declared.copy.RepairFault.TheVariants.{Memory};
 
 use crate::copy::{CopyState, RepairFault, Repaired, SlotsUsed, TableCopy, place_of};
@@ -200,6 +201,8 @@ fn follow<S: Site>(site: &mut S, volume: VolumeNo, stale: &Stale) -> Result<(), 
     ensures settled { S.tells → OnOk result (NeedsNoRepair volume (content (S.told site.new))) }
     ensures emptied { S.tells → OnOk result
         (LosesSlots stale.now.copy volume (content (S.told site.old)) (content (S.told site.new))) }
+    ensures clear { S.tells → OnOk result ((used : SlotsUsed) →
+        ClearsWritten used volume (content (S.told site.old)) (content (S.told site.new))) }
     ensures needed { S.tells → NeedsNoRepair volume (content (S.told site.old)) → ⊥ }
     ensures firm { S.tells → OnOk result (Settles (S.told site.old) (S.told site.new)) }
     ensures site_ { WritesAtMost S.Site COPY_ITEMS site.old site.new result }

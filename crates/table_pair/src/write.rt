@@ -1,13 +1,13 @@
 // The writes of one copy.
-ghost use Rattle.std.specs.Prelude.{◌≡◌, ◌⊎◌, ◌≤◌, ◌<◌, ◌+◌, ℕ, Bool, true, false, [], length, IsOk, IsTrue, IfOk, OnOk};
+ghost use Rattle.std.specs.Prelude.{◌≡◌, ◌⊎◌, ◌≤◌, ◌<◌, ◌+◌, ℕ, Bool, true, false, length, IsOk, IsTrue, IfOk, OnOk};
+ghost use Rattle.mss_base.specs.Geometry.{row_gate_at, row_body_bytes, made_mark_at, made_mark};
 ghost use Rattle.mss_base.specs.Content.{Settles};
 ghost use Rattle.mss_base.specs.Counts.{HasCause};
 ghost use Rattle.mss_base.specs.Sites.{MayWrite, WritesAtMost};
 ghost use Rattle.mss_base.specs.declared.place.UnitNo.{UnitNo};
-ghost use Rattle.table_pair.specs.Copies.{byte_on, copy_at, copy_on, shut_copy, marked_copy, emptied_copy, filled_copy, HasGates, IsFilling, IsRewriting, WritesCopy};
+ghost use Rattle.table_pair.specs.Copies.{byte_on, copy_at, copy_on, shut_copy, marked_copy, emptied_copy, filled_copy, HasGates, IsFilling, IsMarking, IsRewriting, WritesCopy};
 
 use mss_base::{BLOCK_BYTES, BlockPlace, FIRM_ITEMS, Failed, OPEN, Site, read_whole, write_firm};
-use table_journal::read_slots;
 use volume_table::{BODY, BODY_BYTES, BODY_END, ROW_BYTES};
 
 /// How many items of the log a body makes at most, with the gate of slot 0: two writes, and a sync.
@@ -39,8 +39,8 @@ pub const MADE_MARK: u8 = 0x4D;
 pub struct Gates {
     /// Whether the copy is open.
     pub is_open: bool,
-    /// Whether it may have slots.
-    pub has_slots: bool,
+    /// Whether the gate of slot 0 is known to be 00, so that it has no slots.
+    pub is_clear: bool,
 }
 
 /// The gates of a copy whose block was read.
@@ -51,7 +51,7 @@ pub fn gates_of(block: &[u8]) -> Gates
 {
     Gates {
         is_open: block[GATE as usize] == OPEN,
-        has_slots: read_slots(block) > 0,
+        is_clear: block[SLOT_GATE as usize] == CLOSED,
     }
 }
 
@@ -67,7 +67,7 @@ fn close_copy<S: Site>(site: &mut S, at: &BlockPlace, is_open: bool) -> Result<(
         OnOk result (copy_on (S.told site.new) at.now
         ≡ shut_copy (copy_on (S.told site.old) at.now)) }
     ensures gate { S.tells → IsTrue is_open
-        → OnOk result (byte_on (S.told site.new) at.now GATE ≡ CLOSED) }
+        → OnOk result (byte_on (S.told site.new) at.now row_gate_at ≡ 0) }
     ensures firm { S.tells → OnOk result (Settles (S.told site.old) (S.told site.new)) }
     ensures site_ { WritesAtMost S.Site FIRM_ITEMS site.old site.new result }
 {
@@ -77,16 +77,17 @@ fn close_copy<S: Site>(site: &mut S, at: &BlockPlace, is_open: bool) -> Result<(
     Ok(())
 }
 
-/// Writes a body behind a closed gate, and closes the gate of slot 0 where it may be open. At Ok both are firm.
+/// Writes a body behind a closed gate, and 00 to the gate of slot 0 where it may be another byte. At Ok both are firm.
 fn put_body<S: Site>(
     site: &mut S,
     at: &BlockPlace,
-    has_slots: bool,
+    is_clear: bool,
     body: &[u8],
 ) -> Result<(), Failed>
-    requires long { length body.now ≡ BODY_BYTES }
+    requires long { length body.now ≡ row_body_bytes }
     requires closed { S.tells → (copy_on (S.told site.old) at.now).is_open ≡ false }
-    requires none { S.tells → has_slots ≡ false → (copy_on (S.told site.old) at.now).slots ≡ [] }
+    requires clear { S.tells → is_clear ≡ true
+        → (copy_on (S.told site.old) at.now).is_clear ≡ true }
     requires room { BODY_ITEMS ≤ S.spare site.old }
     ensures moments { S.tells → WritesCopy at.now
         (IsFilling body.now (copy_on (S.told site.old) at.now)) (S.told site.old)
@@ -95,12 +96,13 @@ fn put_body<S: Site>(
         (copy_on (S.told site.new) at.now
         ≡ emptied_copy body.now (copy_on (S.told site.old) at.now)) }
     ensures mark { S.tells → OnOk result
-        (byte_on (S.told site.new) at.now MADE ≡ byte_on (S.told site.old) at.now MADE) }
+        (byte_on (S.told site.new) at.now made_mark_at
+        ≡ byte_on (S.told site.old) at.now made_mark_at) }
     ensures firm { S.tells → OnOk result (Settles (S.told site.old) (S.told site.new)) }
     ensures site_ { WritesAtMost S.Site BODY_ITEMS site.old site.new result }
 {
     site.write(at.unit, at.block, BODY as u16, body)?;
-    if !has_slots {
+    if is_clear {
         return site.sync(at.unit);
     }
     site.write(at.unit, at.block, SLOT_GATE, &[CLOSED])?;
@@ -111,12 +113,13 @@ fn put_body<S: Site>(
 pub fn fill_copy<S: Site>(
     site: &mut S,
     at: &BlockPlace,
-    has_slots: bool,
+    is_clear: bool,
     body: &[u8],
 ) -> Result<(), Failed>
-    requires long { length body.now ≡ BODY_BYTES }
+    requires long { length body.now ≡ row_body_bytes }
     requires closed { S.tells → (copy_on (S.told site.old) at.now).is_open ≡ false }
-    requires none { S.tells → has_slots ≡ false → (copy_on (S.told site.old) at.now).slots ≡ [] }
+    requires clear { S.tells → is_clear ≡ true
+        → (copy_on (S.told site.old) at.now).is_clear ≡ true }
     requires room { FILL_ITEMS ≤ S.spare site.old }
     ensures moments { S.tells → WritesCopy at.now
         (IsFilling body.now (copy_on (S.told site.old) at.now)) (S.told site.old)
@@ -125,13 +128,14 @@ pub fn fill_copy<S: Site>(
         (copy_on (S.told site.new) at.now
         ≡ filled_copy body.now (copy_on (S.told site.old) at.now)) }
     ensures mark { S.tells → OnOk result
-        (byte_on (S.told site.new) at.now MADE ≡ byte_on (S.told site.old) at.now MADE) }
+        (byte_on (S.told site.new) at.now made_mark_at
+        ≡ byte_on (S.told site.old) at.now made_mark_at) }
     ensures grown { S.tells →
         OnOk result (length (S.told site.old).log < length (S.told site.new).log) }
     ensures firm { S.tells → OnOk result (Settles (S.told site.old) (S.told site.new)) }
     ensures site_ { WritesAtMost S.Site FILL_ITEMS site.old site.new result }
 {
-    put_body(site, at, has_slots, body)?;
+    put_body(site, at, is_clear, body)?;
     write_firm(site, at, GATE, &[OPEN])?;
     Ok(())
 }
@@ -144,7 +148,7 @@ pub fn rewrite_copy<S: Site>(
     gates: Gates,
     body: &[u8],
 ) -> Result<(), Failed>
-    requires long { length body.now ≡ BODY_BYTES }
+    requires long { length body.now ≡ row_body_bytes }
     requires told { S.tells → HasGates gates (copy_on (S.told site.old) at.now) }
     requires room { COPY_ITEMS ≤ S.spare site.old }
     ensures moments { S.tells → WritesCopy at.now
@@ -159,24 +163,22 @@ pub fn rewrite_copy<S: Site>(
     ensures site_ { WritesAtMost S.Site COPY_ITEMS site.old site.new result }
 {
     close_copy(site, at, gates.is_open)?;
-    fill_copy(site, at, gates.has_slots, body)?;
+    fill_copy(site, at, gates.is_clear, body)?;
     Ok(())
 }
 
-/// Sets a copy's made mark, where it isn't set, and tells whether the copy has slots.
+/// Sets a copy's made mark, where it isn't set, and tells whether the gate of slot 0 is 00.
 pub fn mark_copy<S: Site>(site: &mut S, at: &BlockPlace) -> Result<bool, Failed>
     requires room { FIRM_ITEMS ≤ S.spare site.old }
-    ensures moments { S.tells → WritesCopy at.now
-        (λ c. (c ≡ copy_on (S.told site.old) at.now)
-        ⊎ (c ≡ marked_copy (copy_on (S.told site.old) at.now)))
+    ensures moments { S.tells → WritesCopy at.now (IsMarking (copy_on (S.told site.old) at.now))
         (S.told site.old) (S.told site.new) }
     ensures done { S.tells →
         OnOk result (copy_on (S.told site.new) at.now
         ≡ marked_copy (copy_on (S.told site.old) at.now)) }
-    ensures none { S.tells → IfOk result (λ has_slots. has_slots ≡ false
-        → (copy_on (S.told site.old) at.now).slots ≡ []) }
-    ensures mark { S.tells → byte_on (S.told site.old) at.now MADE ≡ 0
-        → OnOk result (byte_on (S.told site.new) at.now MADE ≡ MADE_MARK) }
+    ensures clear { S.tells → IfOk result (λ is_clear. is_clear ≡ true
+        → (copy_on (S.told site.old) at.now).is_clear ≡ true) }
+    ensures mark { S.tells → byte_on (S.told site.old) at.now made_mark_at ≡ 0
+        → OnOk result (byte_on (S.told site.new) at.now made_mark_at ≡ made_mark) }
     ensures firm { S.tells → OnOk result (Settles (S.told site.old) (S.told site.new)) }
     ensures devices { MayWrite S.Site FIRM_ITEMS site.old site.new }
     ensures cause { HasCause (S.faults site.old) (S.faults site.new) result }
@@ -185,10 +187,10 @@ pub fn mark_copy<S: Site>(site: &mut S, at: &BlockPlace) -> Result<bool, Failed>
 {
     let mut block = [0; BLOCK_BYTES];
     read_whole(site, at, &mut block)?;
-    let has_slots = read_slots(&block) > 0;
+    let is_clear = block[SLOT_GATE as usize] == CLOSED;
     if block[MADE as usize] != 0 {
-        return Ok(has_slots);
+        return Ok(is_clear);
     }
     write_firm(site, at, MADE, &[MADE_MARK])?;
-    Ok(has_slots)
+    Ok(is_clear)
 }

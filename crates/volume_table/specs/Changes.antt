@@ -1,8 +1,7 @@
 -- When a row may change, and what it is then.
 use Rattle.std.specs.Prelude.{◌≡◌, ◌≢◌, ◌⊎◌, ℕ, Bool, suc, ◌+◌, ◌<◌, ◌/◌, ◌==◌, if◌then◌else◌, List, [], ◌∷◌, slice_set, Some, None, IsSome}
 use Rattle.volume_table.specs.Row.{RowValue, frame_of, state_of, blank_row}
-use Rattle.mss_base.specs.declared.numbers.TheConstants.{CYLINDERS}
-use Rattle.volume_table.specs.declared.layout.TheConstants.{PAGES}
+use Rattle.mss_base.specs.Geometry.{volume_cylinders, volume_pages}
 use Rattle.volume_table.specs.declared.changes.Change.{Change}
 use Rattle.volume_table.specs.declared.changes.Change.TheVariants.{Create, Assign, Free, Staged, Changed, Destaged, Protect}
 
@@ -19,11 +18,11 @@ IsAllowed (Protect on) r = r.read_only ≢ on
 -- a page is one of the 51, a frame one of the 200, a cylinder one of the 404
 abbrev pub IsInRange : Change → Type 0
 IsInRange (Create serial first second) = Unit {0}
-IsInRange (Assign page frame) = (page < PAGES) × (frame < 200)
-IsInRange (Free page) = page < PAGES
-IsInRange (Staged cylinder) = cylinder < CYLINDERS
-IsInRange (Changed cylinder) = cylinder < CYLINDERS
-IsInRange (Destaged cylinder) = cylinder < CYLINDERS
+IsInRange (Assign page frame) = (page < volume_pages) × (frame < 200)
+IsInRange (Free page) = page < volume_pages
+IsInRange (Staged cylinder) = cylinder < volume_cylinders
+IsInRange (Changed cylinder) = cylinder < volume_cylinders
+IsInRange (Destaged cylinder) = cylinder < volume_cylinders
 IsInRange (Protect on) = Unit {0}
 
 abbrev pub with_mark : Bool → RowValue → RowValue

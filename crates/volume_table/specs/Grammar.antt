@@ -7,7 +7,7 @@
 use Rattle.std.specs.Prelude.{◌≡◌, ℕ, suc, ◌+◌, ◌*◌, ◌/◌, ◌%◌, ◌==◌, nat_lt, Bool, true, false, ◌&&◌, ◌||◌, if◌then◌else◌, List, [], ◌∷◌, ◌++◌, take, drop, map, replicate, slice_index, Option, Some, None, Result, Ok, Err}
 use Rattle.mss_base.specs.Serial.{is_serial_byte}
 use Rattle.volume_table.specs.Row.{RowValue}
-use Rattle.volume_table.specs.declared.layout.TheConstants.{BODY, BODY_BYTES, VERSION_AT, SERIAL_AT, FIRST_AT, SECOND_AT, PAGES_AT, MARK_AT, STATES_AT, SPARES_AT, VERSION, OLD_VERSION, PAGES, STATES, SPARES}
+use Rattle.mss_base.specs.Geometry.{volume_cylinders, row_body_at, row_body_bytes, row_version, old_row_version, row_version_at, row_serial_at, row_first_at, row_second_at, row_pages_at, row_mark_at, row_states_at, row_spares_at, volume_pages, row_spares}
 use Rattle.volume_table.specs.declared.fault.RowField.{RowField}
 use Rattle.volume_table.specs.declared.fault.RowField.TheVariants as field
 use Rattle.volume_table.specs.declared.fault.RowFault.{RowFault}
@@ -16,7 +16,7 @@ use Rattle.volume_table.specs.declared.fault.DecodeFault.TheVariants.{Bad, Memor
 
 -- the part of a block that spells the row
 abbrev pub body : List ℕ → List ℕ
-body block = take BODY_BYTES (drop BODY block)
+body block = take row_body_bytes (drop row_body_at block)
 
 -- a number of two bytes, the higher one first
 abbrev pub two : ℕ → List ℕ
@@ -38,36 +38,36 @@ mark_byte false = 0
 -- how a row is spelled
 unfoldable pub spelling : RowValue → List ℕ
 spelling r =
-    VERSION ∷ r.serial ++ (two r.first ++ (two r.second ++ (map page_byte r.pages
-    ++ (mark_byte r.read_only ∷ r.states ++ replicate SPARES 0))))
+    row_version ∷ r.serial ++ (two r.first ++ (two r.second ++ (map page_byte r.pages
+    ++ (mark_byte r.read_only ∷ r.states ++ replicate row_spares 0))))
 
 -- the parts of a body
 abbrev pub serial_part : List ℕ → List ℕ
-serial_part body = take 6 (drop SERIAL_AT body)
+serial_part body = take 6 (drop row_serial_at body)
 
 abbrev pub two_at : ℕ → List ℕ → ℕ
 two_at place body = 256 * slice_index body place + slice_index body (suc place)
 
 abbrev pub pages_part : List ℕ → List ℕ
-pages_part body = take PAGES (drop PAGES_AT body)
+pages_part body = take volume_pages (drop row_pages_at body)
 
 abbrev pub states_part : List ℕ → List ℕ
-states_part body = take STATES (drop STATES_AT body)
+states_part body = take volume_cylinders (drop row_states_at body)
 
 abbrev pub spares_part : List ℕ → List ℕ
-spares_part body = take SPARES (drop SPARES_AT body)
+spares_part body = take row_spares (drop row_spares_at body)
 
 -- whether a body is of version 1
 abbrev pub is_old : List ℕ → Bool
-is_old body = slice_index body VERSION_AT == OLD_VERSION
+is_old body = slice_index body row_version_at == old_row_version
 
 -- the row of a body, if it spells one
 abbrev pub row_at : List ℕ → RowValue
 row_at body = record {
   serial = serial_part body;
-  read_only = slice_index body MARK_AT == 1;
-  first = two_at FIRST_AT body;
-  second = two_at SECOND_AT body;
+  read_only = slice_index body row_mark_at == 1;
+  first = two_at row_first_at body;
+  second = two_at row_second_at body;
   pages = map page_of (pages_part body);
   states = states_part body;
 }
@@ -104,7 +104,7 @@ abbrev pub spare_fault : ℕ → ℕ → Option RowFault
 spare_fault number b = unless (b == 0) (field.Spare number) b
 
 abbrev pub version_fault : ℕ → Option RowFault
-version_fault b = unless (b == OLD_VERSION || (b == VERSION)) field.Version b
+version_fault b = unless (b == old_row_version || (b == row_version)) field.Version b
 
 -- the byte in front of the states, which is the mark from version 2 on
 abbrev pub mark_fault : Bool → ℕ → Option RowFault
@@ -122,12 +122,12 @@ state_fault pages cylinder b = unless (is_state (nat_lt (slice_index pages (cyli
 -- the first field of a body that no row has so, in order of places
 unfoldable pub first_fault : List ℕ → Option RowFault
 first_fault body =
-    version_fault (slice_index body VERSION_AT)
+    version_fault (slice_index body row_version_at)
     then first_in serial_fault 0 (serial_part body)
-    then cartridge_fault field.First (two_at FIRST_AT body)
-    then cartridge_fault field.Second (two_at SECOND_AT body)
+    then cartridge_fault field.First (two_at row_first_at body)
+    then cartridge_fault field.Second (two_at row_second_at body)
     then first_in page_fault 0 (pages_part body)
-    then mark_fault (is_old body) (slice_index body MARK_AT)
+    then mark_fault (is_old body) (slice_index body row_mark_at)
     then first_in (state_fault (pages_part body)) 0 (states_part body)
     then first_in spare_fault 1 (spares_part body)
 

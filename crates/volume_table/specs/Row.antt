@@ -1,8 +1,7 @@
 -- What a row says of a volume.
 use Rattle.std.specs.Prelude.{◌≡◌, ℕ, Bool, false, ◌<◌, ◌≤◌, ◌/◌, List, length, replicate, slice_index, slice_index_or, Option, None, IfSome, IsSome, nat_lt, if◌then◌else◌}
 use Rattle.mss_base.specs.Serial.{IsSerial}
-use Rattle.mss_base.specs.declared.numbers.TheConstants.{CYLINDERS}
-use Rattle.volume_table.specs.declared.layout.TheConstants.{PAGES}
+use Rattle.mss_base.specs.Geometry.{volume_cylinders, volume_pages}
 
 -- the serial, whether it is read-only, the two cartridges, the frame of each page, the state of each cylinder
 pub record RowValue : Type 0 where
@@ -29,9 +28,9 @@ pub record IsRow (r : RowValue) : Type 0 where
   pub serial : IsSerial r.serial
   pub first : r.first < 2048
   pub second : r.second < 2048
-  pub pages : length r.pages ≡ PAGES
+  pub pages : length r.pages ≡ volume_pages
   pub frames : (page : ℕ) → IfSome (frame_of r page) (λ f. f < 200)
-  pub states : length r.states ≡ CYLINDERS
+  pub states : length r.states ≡ volume_cylinders
   pub numbers : (cylinder : ℕ) → state_of r cylinder ≤ 4
   pub staged : (cylinder : ℕ) → 2 ≤ state_of r cylinder → IsSome (frame_of r (cylinder / 8))
 
@@ -42,6 +41,6 @@ blank_row serial first second = record {
   read_only = false;
   first = first;
   second = second;
-  pages = replicate PAGES None;
-  states = replicate CYLINDERS 0;
+  pages = replicate volume_pages None;
+  states = replicate volume_cylinders 0;
 }

@@ -5,11 +5,11 @@
 -- mark, one for the frame, and three zeros. A new volume's row is a body without slots, so that no slot creates one.
 use Rattle.std.specs.Prelude.{ℕ, zero, suc, ◌*◌, ◌/◌, ◌==◌, nat_lt, Bool, true, false, not, ◌&&◌, ◌||◌, if◌then◌else◌, List, [], ◌∷◌, ◌++◌, take, drop, slice_index, Option, Some, None, is_some, is_none, Result, Ok, Err}
 use Rattle.std.specs.Option.{option_and_then}
-use Rattle.mss_base.specs.declared.numbers.TheConstants.{CYLINDERS}
+use Rattle.mss_base.specs.Geometry.{volume_cylinders}
 use Rattle.volume_table.specs.Row.{RowValue, frame_of, state_of}
 use Rattle.volume_table.specs.Changes.{effect}
 use Rattle.volume_table.specs.Grammar.{two, two_at, mark_byte, decode}
-use Rattle.volume_table.specs.declared.layout.TheConstants.{PAGES, SLOT_BYTES, CHANGE_BYTES}
+use Rattle.mss_base.specs.Geometry.{volume_pages, slot_bytes, slot_body_bytes}
 use Rattle.volume_table.specs.declared.fault.RowField.TheVariants as field
 use Rattle.volume_table.specs.declared.fault.RowFault.{RowFault}
 use Rattle.volume_table.specs.declared.changes.Change.{Change}
@@ -35,7 +35,7 @@ number_below bound number = if nat_lt number bound then Some number else None
 
 -- a page that gets a frame
 abbrev pub assignment : ℕ → ℕ → Option Change
-assignment page frame = if nat_lt page PAGES && nat_lt frame 200 then Some (Assign page frame) else None
+assignment page frame = if nat_lt page volume_pages && nat_lt frame 200 then Some (Assign page frame) else None
 
 -- what befalls a cylinder
 abbrev pub cylinder_change : ℕ → ℕ → Option Change
@@ -50,9 +50,9 @@ mark_change number = if nat_lt number 2 then Some (Protect (number == 1)) else N
 -- the change of a kind without a frame
 abbrev pub frameless_change : ℕ → ℕ → Option Change
 frameless_change kind number =
-    if kind == 2 then (if nat_lt number PAGES then Some (Free number) else None)
+    if kind == 2 then (if nat_lt number volume_pages then Some (Free number) else None)
     else (if kind == 6 then mark_change number
-    else (if nat_lt number CYLINDERS then cylinder_change kind number else None))
+    else (if nat_lt number volume_cylinders then cylinder_change kind number else None))
 
 -- the change of a kind, a number and a frame, if there is one
 abbrev pub change_by : ℕ → ℕ → ℕ → Option Change
@@ -122,7 +122,7 @@ told_by body slots = with_slots slots (decode body)
 
 -- what spells the change of a slot, among the bytes of slots
 abbrev pub slot_at : ℕ → List ℕ → List ℕ
-slot_at number bytes = take CHANGE_BYTES (drop (suc (SLOT_BYTES * number)) bytes)
+slot_at number bytes = take slot_body_bytes (drop (suc (slot_bytes * number)) bytes)
 
 -- so many slots from one on
 abbrev pub slots_from : ℕ → ℕ → List ℕ → List (List ℕ)

@@ -1,5 +1,6 @@
 // Changes of a row.
 ghost use Rattle.std.specs.Prelude.{◌≡◌, ◌≢◌, ◌↔◌, ◌≤◌, ℕ, ◌+◌, ◌*◌, ◌/◌, ◌<◌, length, map, slice_set, Some, IsSome, IsTrue};
+ghost use Rattle.mss_base.specs.Geometry.{volume_cylinders};
 ghost use Rattle.volume_table.specs.States.{state_number};
 ghost use Rattle.volume_table.specs.Row.{frame_of, state_of};
 ghost use Rattle.volume_table.specs.Changes.{IsAllowed, effect, unstaged_state, unstaged_page, with_frame, with_state, without_frame};
@@ -140,7 +141,7 @@ fn unstaged(state: CylinderState) -> CylinderState
 }
 
 fn unstage(states: &mut StateList, page: Page)
-    requires { length states.old.items ≡ STATES }
+    requires { length states.old.items ≡ volume_cylinders }
     ensures { map state_number states.new.items
         ≡ unstaged_page page (map state_number states.old.items) }
 {

@@ -1,5 +1,6 @@
 // Reading a row.
 ghost use Rattle.std.specs.Prelude.{◌≡◌, ◌≤◌, ◌<◌, ℕ, ◌*◌, ◌+◌, ◌||◌, ◌==◌, nat_lt, None, length, map, IfOk, slice_index};
+ghost use Rattle.mss_base.specs.Geometry.{volume_cylinders, row_body_bytes, row_mark_at, volume_pages, row_spares};
 ghost use Rattle.volume_table.specs.Grammar.{◌then◌, pages_part, states_part, spares_part};
 ghost use Rattle.volume_table.specs.Grammar.{body, decode, row_at, first_fault, first_in, unless, two_at, cartridge_fault, serial_fault, is_page_byte, page_fault, is_state, state_fault, spare_fault, mark_fault, is_old, Finds, Gives};
 
@@ -44,7 +45,7 @@ fn is_page_byte(byte: u8) -> bool
 }
 
 fn check_pages(bytes: &[u8]) -> Result<(), RowFault>
-    requires { length bytes.now ≡ PAGES }
+    requires { length bytes.now ≡ volume_pages }
     ensures { Finds result (first_in page_fault 0 bytes.now) }
 {
     // Of many volumes no page has a frame. One comparison tells it.
@@ -68,8 +69,8 @@ fn is_state(has_frame: bool, state: u8) -> bool
 }
 
 fn check_states(pages: &[u8], bytes: &[u8]) -> Result<(), RowFault>
-    requires pages { length pages.now ≡ PAGES }
-    requires states { length bytes.now ≡ STATES }
+    requires pages { length pages.now ≡ volume_pages }
+    requires states { length bytes.now ≡ volume_cylinders }
     ensures { Finds result (first_in (state_fault pages.now) 0 bytes.now) }
 {
     // Many volumes are blank throughout, and a blank cylinder needs no frame.
@@ -84,7 +85,7 @@ fn check_states(pages: &[u8], bytes: &[u8]) -> Result<(), RowFault>
 }
 
 fn check_spares(bytes: &[u8]) -> Result<(), RowFault>
-    requires { length bytes.now ≡ SPARES }
+    requires { length bytes.now ≡ row_spares }
     ensures { Finds result (first_in spare_fault 1 bytes.now) }
 {
     // One comparison tells that all are 0. The loop finds the first that isn't.
@@ -117,9 +118,9 @@ fn check_mark(is_old: bool, mark: u8) -> Result<(), RowFault>
 
 /// Looks for the first field from the pages on that no row has so.
 fn check_places(body: &[u8]) -> Result<(), RowFault>
-    requires { length body.now ≡ BODY_BYTES }
+    requires { length body.now ≡ row_body_bytes }
     ensures { Finds result (first_in page_fault 0 (pages_part body.now)
-        then mark_fault (is_old body.now) (slice_index body.now MARK_AT)
+        then mark_fault (is_old body.now) (slice_index body.now row_mark_at)
         then first_in (state_fault (pages_part body.now)) 0 (states_part body.now)
         then first_in spare_fault 1 (spares_part body.now)) }
 {
@@ -132,7 +133,7 @@ fn check_places(body: &[u8]) -> Result<(), RowFault>
 /// Looks for the first field of a body that no row has so.
 #[tactic(auto, unfolding(crate::specs::Grammar::first_fault))]
 fn check_body(body: &[u8]) -> Result<(), RowFault>
-    requires { length body.now ≡ BODY_BYTES }
+    requires { length body.now ≡ row_body_bytes }
     ensures { Finds result (first_fault body.now) }
 {
     let version = body[VERSION_AT];
@@ -148,7 +149,7 @@ fn check_body(body: &[u8]) -> Result<(), RowFault>
 
 /// The row of a body that is in the grammar.
 fn row_of(alloc: Global, body: &[u8]) -> Result<VolumeRow, NoMemory>
-    requires long { length body.now ≡ BODY_BYTES }
+    requires long { length body.now ≡ row_body_bytes }
     requires good { first_fault body.now ≡ None }
     ensures { IfOk result (λ row. row ≡ row_at body.now) }
 {

@@ -1,5 +1,6 @@
 // The lists of a row.
 ghost use Rattle.std.specs.Prelude.{◌≡◌, ◌≤◌, ◌+◌, ◌<◌, ℕ, None, IfOk, length, map, replicate, slice_index};
+ghost use Rattle.mss_base.specs.Geometry.{volume_cylinders, volume_pages};
 ghost use Rattle.volume_table.specs.Grammar.{page_of};
 ghost use Rattle.volume_table.specs.States.{state_number};
 
@@ -16,14 +17,14 @@ pub type StateList = Listed<CylinderState>;
 
 /// No frame for any of the 51 pages.
 pub fn blank_pages(alloc: Global) -> Result<PageList, NoMemory>
-    ensures { IfOk result (λ pages. pages.items ≡ replicate PAGES None) }
+    ensures { IfOk result (λ pages. pages.items ≡ replicate volume_pages None) }
 {
     PageList::of(alloc, &[None; PAGES])
 }
 
 /// All 404 cylinders blank.
 pub fn blank_states(alloc: Global) -> Result<StateList, NoMemory>
-    ensures { IfOk result (λ states. map state_number states.items ≡ replicate STATES 0) }
+    ensures { IfOk result (λ states. map state_number states.items ≡ replicate volume_cylinders 0) }
 {
     StateList::of(alloc, &[CylinderState::Blank; STATES])
 }

@@ -1,5 +1,6 @@
 // Changes of a row as slots, which stand behind its body.
 ghost use Rattle.std.specs.Prelude.{◌≡◌, ◌≤◌, ◌<◌, ◌*◌, ◌==◌, ◌&&◌, None, Some, Ok, Err, length, IfErr, OnOk, OnErr, slice_index};
+ghost use Rattle.mss_base.specs.Geometry.{volume_pages, slot_bytes, slot_body_bytes};
 ghost use Rattle.volume_table.specs.Changes.{IsInRange};
 ghost use Rattle.volume_table.specs.Grammar.{body, Gives};
 ghost use Rattle.volume_table.specs.Slots.{after_slot, assignment, change_by, change_of, changed_by, cylinder_change, frameless_change, mark_change, number_below, slot_fault, slot_of, slots_from, spelled_slot, told_by};
@@ -38,7 +39,7 @@ pub fn encode_slot(change: &Change) -> [u8; 7]
 }
 
 fn page_at(number: u16) -> Option<Page>
-    ensures { result ≡ number_below PAGES number }
+    ensures { result ≡ number_below volume_pages number }
 {
     if number < PAGES as u16 {
         Page::of(number as u8)
@@ -117,7 +118,7 @@ fn change_by(kind: u8, number: u16, frame: u8) -> Option<Change>
 
 /// Whether the last three bytes of a slot are zeros.
 fn ends_in_zeros(bytes: &[u8]) -> bool
-    requires { length bytes.now ≡ CHANGE_BYTES }
+    requires { length bytes.now ≡ slot_body_bytes }
     ensures { result ≡ (slice_index bytes.now 4 == 0 && slice_index bytes.now 5 == 0
         && slice_index bytes.now 6 == 0) }
 {
@@ -126,7 +127,7 @@ fn ends_in_zeros(bytes: &[u8]) -> bool
 
 /// The change that the seven bytes of a slot spell. None where they spell none.
 pub fn decode_slot(bytes: &[u8]) -> Option<Change>
-    requires { length bytes.now ≡ CHANGE_BYTES }
+    requires { length bytes.now ≡ slot_body_bytes }
     ensures { result ≡ change_of bytes.now }
 {
     if !ends_in_zeros(bytes) {
@@ -139,7 +140,7 @@ pub fn decode_slot(bytes: &[u8]) -> Option<Change>
 /// Changes a row as the slot with this number says. Where it spells no change, or one that isn't allowed, the slot is at
 /// fault, and the row stays. It takes no memory.
 pub fn apply_slot(row: &mut VolumeRow, number: u16, bytes: &[u8]) -> Result<(), RowFault>
-    requires { length bytes.now ≡ CHANGE_BYTES }
+    requires { length bytes.now ≡ slot_body_bytes }
     ensures ok { OnOk result (after_slot bytes.now row.old ≡ Some row.new) }
     ensures err { OnErr result (after_slot bytes.now row.old ≡ None) }
     ensures fault { IfErr result (λ f. f ≡ slot_fault number bytes.now) }
@@ -163,7 +164,7 @@ pub fn apply_slot(row: &mut VolumeRow, number: u16, bytes: &[u8]) -> Result<(), 
 ///
 /// The slots stand in the bytes one behind another. Their gates aren't looked at.
 fn apply_slots(row: &mut VolumeRow, count: u16, bytes: &[u8]) -> Result<(), RowFault>
-    requires { SLOT_BYTES * count ≤ length bytes.now }
+    requires { slot_bytes * count ≤ length bytes.now }
     ensures ok { OnOk result (changed_by 0 row.old (slots_from count 0 bytes.now) ≡ Ok row.new) }
     ensures err { IfErr result (λ f. changed_by 0 row.old (slots_from count 0 bytes.now) ≡ Err f) }
 {
@@ -185,7 +186,7 @@ pub fn decode_told(
     slots: &[u8],
 ) -> Result<VolumeRow, DecodeFault>
     requires long { length bytes.now ≡ ROW_BYTES }
-    requires inside { SLOT_BYTES * count ≤ length slots.now }
+    requires inside { slot_bytes * count ≤ length slots.now }
     ensures { Gives result (told_by (body bytes.now) (slots_from count 0 slots.now)) }
 {
     let mut row = decode_row(alloc, bytes)?;

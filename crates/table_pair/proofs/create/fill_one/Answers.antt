@@ -1,4 +1,4 @@
-use Rattle.std.proofs.Common.{◌≡◌, false, [], sym, subst}
+use Rattle.std.proofs.Common.{◌≡◌, true, false, sym, subst}
 use Rattle.mss_base.specs.declared.place.BlockPlace.{BlockPlace}
 use Rattle.table_pair.specs.Copies.{copy_on}
 use Rattle.table_pair.proofs.CreateLemmas.{fills_at}
@@ -7,8 +7,8 @@ use Rattle.table_pair.proofs.create.fill_one.Goals as goal
 pub fill_copy-requires-clause-closed : goal.fill_copy-requires-clause-closed
 fill_copy-requires-clause-closed g c = λ tells. subst (λ (at : BlockPlace). (copy_on (g.S.Site.told c.args.site.now) at).is_open ≡ false) (sym c.place_of.ensures) (c.requires.closed tells)
 
-pub fill_copy-requires-clause-none : goal.fill_copy-requires-clause-none
-fill_copy-requires-clause-none g c = λ tells none. subst (λ (at : BlockPlace). (copy_on (g.S.Site.told c.args.site.now) at).slots ≡ []) (sym c.place_of.ensures) (c.requires.none tells none)
+pub fill_copy-requires-clause-clear : goal.fill_copy-requires-clause-clear
+fill_copy-requires-clause-clear g c = λ tells clear. subst (λ (at : BlockPlace). (copy_on (g.S.Site.told c.args.site.now) at).is_clear ≡ true) (sym c.place_of.ensures) (c.requires.clear tells clear)
 
 pub returns-clause-fills : goal.returns-clause-fills
 returns-clause-fills g c = λ tells.

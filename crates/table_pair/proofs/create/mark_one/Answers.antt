@@ -4,4 +4,4 @@ use Rattle.table_pair.proofs.create.mark_one.Goals as goal
 pub returns-clause-marks : goal.returns-clause-marks
 returns-clause-marks g c = λ tells.
     let is = c.mark_copy.ensures in
-    marks_at (record { moments = is.moments tells; done = is.done tells; none = is.none tells; mark = is.mark tells; firm = is.firm tells }) c.place_of.ensures
+    marks_at (record { moments = is.moments tells; done = is.done tells; clear = is.clear tells; mark = is.mark tells; firm = is.firm tells }) c.place_of.ensures

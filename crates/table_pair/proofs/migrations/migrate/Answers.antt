@@ -1,4 +1,4 @@
-use Rattle.table_pair.proofs.MigrateLemmas.{moments_a, marks_a, holds_b, moments_b, marks_b, both_new, is_migrated}
+use Rattle.table_pair.proofs.MigrateLemmas.{moments_a, marks_a, holds_b, moments_b, marks_b, both_new, is_migrated, migrate_order_a, migrate_order_b}
 use Rattle.table_pair.proofs.migrations.migrate.Goals as goal
 
 pub migrate_one-requires-clause-held : goal.migrate_one-requires-clause-held
@@ -36,3 +36,12 @@ returns-clause-untouched g c = λ tells. both_new _ (c.requires.held tells) (c.i
 
 pub returns-clause-done : goal.returns-clause-done
 returns-clause-done g c = λ tells. is_migrated _ (c.requires.held tells) (c.in_ok-a.ensures.migrates tells) (c.in_ok-b.ensures.migrates tells)
+
+pub returns-in_err-a-clause-order : goal.returns-in_err-a-clause-order
+returns-in_err-a-clause-order g c = λ tells. migrate_order_a _ (c.requires.held tells) (c.migrate_one.ensures.migrates tells)
+
+pub returns-in_err-b-clause-order : goal.returns-in_err-b-clause-order
+returns-in_err-b-clause-order g c = λ tells. migrate_order_b _ (c.requires.held tells) (c.in_ok-a.ensures.migrates tells) (c.migrate_one-2.ensures.migrates tells)
+
+pub returns-clause-order : goal.returns-clause-order
+returns-clause-order g c = λ tells. migrate_order_b _ (c.requires.held tells) (c.in_ok-a.ensures.migrates tells) (c.in_ok-b.ensures.migrates tells)

@@ -10,7 +10,7 @@ use Rattle.table_pair.specs.Slots.{HasSlots}
 use Rattle.table_pair.specs.Repairs.{NeedsNoRepair, IsStaleOn, MayBeStale}
 use Rattle.table_pair.proofs.PairLemmas.{copy_a, copy_b}
 use Rattle.table_pair.proofs.SiteLemmas.{room_may, room_leaves, room_write}
-use Rattle.table_pair.proofs.RepairLemmas.{found_new, found_slots, unwritten, no_marks, none_firm, none_settled, equal_hold, since, marks_since, firm_since, memory_count, never_err}
+use Rattle.table_pair.proofs.RepairLemmas.{found_new, found_slots, unwritten, no_marks, none_firm, none_settled, none_cleared, equal_hold, since, clear_since, marks_since, firm_since, memory_count, never_err}
 use Rattle.table_pair.proofs.repairs.repair.Goals as goal
 
 pub returns-in_err-stale-clause-moments : goal.returns-in_err-stale-clause-moments
@@ -62,6 +62,7 @@ returns-in_default-clause-done g c = λ tells.
       slots_ = found_slots _ c.args.volume _ _ log found;
       are_new = found_new _ c.args.volume _ _ log found;
       settled = none_settled c.args.volume _ _ none log;
+      clear = none_cleared c.args.volume _ (g.S.Site.told c.find_stale.new.site) _ log;
       firm = none_firm c.args.volume _ _ log;
     }
 
@@ -118,6 +119,7 @@ returns-in-Ok-clause-done g c = λ tells.
       slots_ = subst (λ (u : SlotsUsed). HasSlots u c.args.volume (content (g.S.Site.told c.follow.new.site))) (sym c.without.ensures) (c.in-Ok.ensures.emptied tells _ slots);
       are_new = λ none. let e : true ≡ false = none in cc;
       settled = c.in-Ok.ensures.settled tells;
+      clear = clear_since _ c.args.volume (g.S.Site.told c.args.site.now) _ (g.S.Site.told c.follow.new.site) r (c.in-Ok.ensures.clear tells _);
       firm = firm_since (g.S.Site.told c.args.site.now) _ _ r (c.in-Ok.ensures.firm tells);
     }
 

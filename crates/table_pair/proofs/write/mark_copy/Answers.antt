@@ -1,13 +1,10 @@
-use Rattle.std.proofs.Common.{◌≡◌, ◌⊎◌, ◌≢◌, ◌∷◌, [], ◌∙◌, ℕ, List, true, false, not, ◌==◌, get_or, nat_lt, inl, refl, sym, ap, subst, length, arith}
+use Rattle.std.proofs.Common.{◌≡◌, ◌⊎◌, ◌≢◌, ◌∷◌, [], ◌∙◌, ℕ, List, true, false, not, ◌==◌, get_or, inl, refl, sym, ap, subst, length, arith}
 use Rattle.std.proofs.lemmas.Bool.{ne_eqb}
 use Rattle.mss_base.specs.Content.{SiteLog, content, Adds}
 use Rattle.mss_base.specs.declared.place.BlockPlace.{BlockPlace}
 use Rattle.table_pair.specs.Copies.{copy_at, copy_on, marked_copy}
-use Rattle.table_pair.proofs.CopyLemmas.{mark_of, same_mark}
+use Rattle.table_pair.proofs.CopyLemmas.{mark_of, clear_of, same_mark}
 use Rattle.mss_base.specs.Content.{write_at}
-use Rattle.table_journal.specs.Slots.{slots}
-use Rattle.table_pair.proofs.SlotLemmas.{none_counted}
-use Rattle.table_pair.proofs.CopyLemmas.{slots_of}
 use Rattle.table_pair.proofs.WriteLemmas.{byte_put, nothing_written, marking, mark_set}
 use Rattle.table_pair.proofs.write.mark_copy.Goals as goal
 
@@ -19,9 +16,8 @@ made at s block read is =
     let mark : (copy_on s at).is_made ≡ true = ap (λ (b : List ℕ). (copy_at b).is_made) (sym read) ∙ mark_of block ∙ ap not (ne_eqb (get_or block 511 0) 0 is) in
     sym (same_mark (copy_on s at) true mark)
 
-uncounted : (at : BlockPlace) (s : SiteLog) (block : List ℕ) (count : ℕ) → block ≡ content s at.unit at.block → count ≡ length (slots block) → nat_lt 0 count ≡ false → (copy_on s at).slots ≡ []
-uncounted at s block count read counted none =
-    ap (λ (b : List ℕ). (copy_at b).slots) (sym read) ∙ slots_of block ∙ none_counted (slots block) (ap (λ (n : ℕ). nat_lt 0 n) (sym counted) ∙ none)
+read_clear : (at : BlockPlace) (s : SiteLog) (block : List ℕ) → block ≡ content s at.unit at.block → (get_or block 512 0 == 0) ≡ true → (copy_on s at).is_clear ≡ true
+read_clear at s block read is = ap (λ (b : List ℕ). (copy_at b).is_clear) (sym read) ∙ clear_of block ∙ is
 
 pub returns-in_err-write_firm-clause-moments : goal.returns-in_err-write_firm-clause-moments
 returns-in_err-write_firm-clause-moments g c = λ tells.
@@ -63,19 +59,19 @@ returns-clause-mark g c = λ tells _.
     let adds = subst (λ (r : SiteLog). Adds (write_at at 511 (77 ∷ [])) r (g.S.Site.told c.write_firm.new.site)) (c.read_whole.ensures.devices.log tells) (c.in_ok-write_firm.ensures.ok tells) in
     byte_put at 511 77 s _ (omega arith) adds
 
-pub returns-then-block-ne0-clause-none : goal.returns-then-block-ne0-clause-none
-returns-then-block-ne0-clause-none g c = λ tells.
+pub returns-then-block-ne0-clause-clear : goal.returns-then-block-ne0-clause-clear
+returns-then-block-ne0-clause-clear g c = λ tells.
     let at = c.args.at.now in
     let s = g.S.Site.told c.args.site.now in
     let block : c.read_whole.new.into ≡ content s at.unit at.block = c.in_ok-read_whole.ensures.block tells in
-    λ none. uncounted at s c.read_whole.new.into _ block c.read_slots-has_slots.ensures.count none
+    λ clear. read_clear at s c.read_whole.new.into block clear
 
-pub returns-clause-none : goal.returns-clause-none
-returns-clause-none g c = λ tells.
+pub returns-clause-clear : goal.returns-clause-clear
+returns-clause-clear g c = λ tells.
     let at = c.args.at.now in
     let s = g.S.Site.told c.args.site.now in
     let block : c.read_whole.new.into ≡ content s at.unit at.block = c.in_ok-read_whole.ensures.block tells in
-    λ none. uncounted at s c.read_whole.new.into _ block c.read_slots-has_slots.ensures.count none
+    λ clear. read_clear at s c.read_whole.new.into block clear
 
 pub returns-in_err-read_whole-clause-moments : goal.returns-in_err-read_whole-clause-moments
 returns-in_err-read_whole-clause-moments g c = λ tells.

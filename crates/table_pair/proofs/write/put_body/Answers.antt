@@ -13,8 +13,8 @@ returns-in_err-write-clause-moments g c = λ tells.
     let w = c.write.ensures.logged tells in
     putting at c.args.body.now s t (c.requires.closed tells) (puts_body at w.0 (w.1 ∙ c.requires.long) s t w.2)
 
-pub returns-then-not-has_slots-clause-moments : goal.returns-then-not-has_slots-clause-moments
-returns-then-not-has_slots-clause-moments g c = λ tells.
+pub returns-then-is_clear-clause-moments : goal.returns-then-is_clear-clause-moments
+returns-then-is_clear-clause-moments g c = λ tells.
     let at = c.args.at.now in
     let s = g.S.Site.told c.args.site.now in
     let t = g.S.Site.told c.write.new.self in
@@ -23,18 +23,18 @@ returns-then-not-has_slots-clause-moments g c = λ tells.
     putting at c.args.body.now s u (c.requires.closed tells)
     (puts_then at s t u (puts_body at c.args.body.now c.requires.long s t first) (puts_sync at c.sync.result t u (c.sync.ensures.ok tells) (c.sync.ensures.err tells)))
 
-pub returns-then-not-has_slots-clause-done : goal.returns-then-not-has_slots-clause-done
-returns-then-not-has_slots-clause-done g c = λ tells.
+pub returns-then-is_clear-clause-done : goal.returns-then-is_clear-clause-done
+returns-then-is_clear-clause-done g c = λ tells.
     let at = c.args.at.now in
     let s = g.S.Site.told c.args.site.now in
     let t = g.S.Site.told c.write.new.self in
     let u = g.S.Site.told c.sync.new.self in
     let first = c.in_ok-write.ensures.ok tells in
     on_ok_gives c.sync.result _ (copy_on u at ≡ emptied_copy c.args.body.now (copy_on s at))
-    (put_alone at c.args.body.now c.requires.long s t (g.met.S.Site.whole c.args.site.now at.unit at.block tells) first u (c.requires.none tells c.if-not-has_slots.true)) (c.sync.ensures.ok tells)
+    (put_alone at c.args.body.now c.requires.long s t (g.met.S.Site.whole c.args.site.now at.unit at.block tells) first u (c.requires.clear tells c.if-is_clear.true)) (c.sync.ensures.ok tells)
 
-pub returns-then-not-has_slots-clause-mark : goal.returns-then-not-has_slots-clause-mark
-returns-then-not-has_slots-clause-mark g c = λ tells.
+pub returns-then-is_clear-clause-mark : goal.returns-then-is_clear-clause-mark
+returns-then-is_clear-clause-mark g c = λ tells.
     let at = c.args.at.now in
     let s = g.S.Site.told c.args.site.now in
     let t = g.S.Site.told c.write.new.self in
@@ -43,8 +43,8 @@ returns-then-not-has_slots-clause-mark g c = λ tells.
     on_ok_gives c.sync.result _ (byte_on u at 511 ≡ byte_on s at 511)
     (mark_alone at c.args.body.now c.requires.long s t (g.met.S.Site.whole c.args.site.now at.unit at.block tells) first u) (c.sync.ensures.ok tells)
 
-pub returns-then-not-has_slots-clause-firm : goal.returns-then-not-has_slots-clause-firm
-returns-then-not-has_slots-clause-firm g c = λ tells.
+pub returns-then-is_clear-clause-firm : goal.returns-then-is_clear-clause-firm
+returns-then-is_clear-clause-firm g c = λ tells.
     let at = c.args.at.now in
     let s = g.S.Site.told c.args.site.now in
     let t = g.S.Site.told c.write.new.self in
@@ -85,7 +85,7 @@ returns-clause-done g c = λ tells.
     let u = g.S.Site.told c.sync-2.new.self in
     let second = c.in_ok-write-2.ensures.ok tells in
     on_ok_gives c.sync-2.result _ (copy_on u at ≡ emptied_copy c.args.body.now (copy_on s at))
-    (put_both at c.args.body.now c.requires.long s t (g.met.S.Site.whole c.args.site.now at.unit at.block tells) first r u (g.met.S.Site.whole c.write.new.self at.unit at.block tells) _ refl second) (c.sync-2.ensures.ok tells)
+    (put_both at c.args.body.now c.requires.long s t (g.met.S.Site.whole c.args.site.now at.unit at.block tells) first r u (g.met.S.Site.whole c.write.new.self at.unit at.block tells) second) (c.sync-2.ensures.ok tells)
 
 pub returns-clause-mark : goal.returns-clause-mark
 returns-clause-mark g c = λ tells.
@@ -97,7 +97,7 @@ returns-clause-mark g c = λ tells.
     let u = g.S.Site.told c.sync-2.new.self in
     let second = c.in_ok-write-2.ensures.ok tells in
     on_ok_gives c.sync-2.result _ (byte_on u at 511 ≡ byte_on s at 511)
-    (mark_both at c.args.body.now c.requires.long s t (g.met.S.Site.whole c.args.site.now at.unit at.block tells) first r u (g.met.S.Site.whole c.write.new.self at.unit at.block tells) _ refl second) (c.sync-2.ensures.ok tells)
+    (mark_both at c.args.body.now c.requires.long s t (g.met.S.Site.whole c.args.site.now at.unit at.block tells) first r u (g.met.S.Site.whole c.write.new.self at.unit at.block tells) second) (c.sync-2.ensures.ok tells)
 
 pub returns-clause-firm : goal.returns-clause-firm
 returns-clause-firm g c = λ tells.

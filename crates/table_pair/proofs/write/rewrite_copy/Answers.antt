@@ -1,12 +1,12 @@
 use Rattle.std.proofs.Common.{arith}
 use Rattle.mss_base.proofs.Settling.{settles_then}
 use Rattle.table_pair.specs.Copies.{copy_on}
-use Rattle.table_pair.proofs.WriteLemmas.{shut_slots, rewriting_closed, rewriting_filled, writes_grow}
+use Rattle.table_pair.proofs.WriteLemmas.{shut_clear, rewriting_closed, rewriting_filled, writes_grow}
 use Rattle.table_pair.proofs.write.rewrite_copy.Goals as goal
 
-pub fill_copy-requires-clause-none : goal.fill_copy-requires-clause-none
-fill_copy-requires-clause-none g c = λ tells none.
-    shut_slots (copy_on (g.S.Site.told c.args.site.now) c.args.at.now) (copy_on (g.S.Site.told c.close_copy.new.site) c.args.at.now) (c.in_ok-close_copy.ensures.done tells) ((c.requires.told tells).slots_ none)
+pub fill_copy-requires-clause-clear : goal.fill_copy-requires-clause-clear
+fill_copy-requires-clause-clear g c = λ tells clear.
+    shut_clear (copy_on (g.S.Site.told c.args.site.now) c.args.at.now) (copy_on (g.S.Site.told c.close_copy.new.site) c.args.at.now) (c.in_ok-close_copy.ensures.done tells) ((c.requires.told tells).clear clear)
 
 pub returns-in_err-close_copy-clause-moments : goal.returns-in_err-close_copy-clause-moments
 returns-in_err-close_copy-clause-moments g c = λ tells. rewriting_closed c.args.at.now c.args.body.now _ _ (c.close_copy.ensures.moments tells)
