@@ -5,7 +5,7 @@ use Rattle.channel_commands.specs.declared.command.Command.TheVariants as comman
 use Rattle.channel_commands.specs.declared.command.SeekKind.TheVariants as seek
 use Rattle.channel_commands.specs.declared.command.WriteKind.TheVariants as write
 use Rattle.channel_commands.specs.Codes.{command_of, is_write, least}
-use Rattle.mss_base.specs.declared.numbers.TheConstants.{CYLINDERS, HEADS}
+use Rattle.mss_base.specs.Geometry.{volume_cylinders, cylinder_heads}
 use Rattle.ckd_plain.specs.declared.host.HostState.{HostState}
 use Rattle.ckd_plain.specs.declared.host.Prior.{Prior}
 use Rattle.ckd_plain.specs.declared.host.Prior.TheVariants as prior
@@ -65,11 +65,11 @@ is_change_allowed read_only command = not (read_only && is_write command)
 
 -- a seek's address BB CC HH lies on the volume
 abbrev pub is_address : Command → List ℕ → Bool
-is_address (command.Seek seek.Head) argument = nat_lt (number_at argument 4) HEADS
+is_address (command.Seek seek.Head) argument = nat_lt (number_at argument 4) cylinder_heads
 is_address (command.Seek _) argument =
     (number_at argument 0 == 0)
-    && nat_lt (number_at argument 2) CYLINDERS
-    && nat_lt (number_at argument 4) HEADS
+    && nat_lt (number_at argument 2) volume_cylinders
+    && nat_lt (number_at argument 4) cylinder_heads
 is_address _ argument = true
 
 -- the command, where it passes the checks, and else what the first that fails gives; sense alone needs no volume

@@ -17,7 +17,7 @@ use Rattle.channel_commands.specs.declared.command.ReadWhat.TheVariants as what
 use Rattle.channel_commands.specs.declared.command.WriteKind.{WriteKind}
 use Rattle.channel_commands.specs.declared.command.WriteKind.TheVariants as write
 use Rattle.ckd_track.specs.Data.{RecordData, cost}
-use Rattle.ckd_track.specs.declared.layout.TheConstants.{TRACK_COST}
+use Rattle.mss_base.specs.Geometry.{track_cost}
 use Rattle.ckd_plain.specs.declared.host.HostState.{HostState}
 use Rattle.ckd_plain.specs.declared.host.Position.{Position}
 use Rattle.ckd_plain.specs.declared.host.Position.TheVariants as position
@@ -195,7 +195,7 @@ update_outcome track found new = Ok (record {
 })
 
 abbrev pub fits : List RecordData → Bool
-fits track = not (nat_lt TRACK_COST (cost track))
+fits track = not (nat_lt track_cost (cost track))
 
 -- the track ends with a new record behind record k
 abbrev pub format_outcome : Bool → List RecordData → Found → Outcome

@@ -1,6 +1,6 @@
 -- Where a command finds its record: the next one, past the index where need be.
 use Rattle.std.specs.Prelude.{ℕ, zero, suc, ◌+◌, ◌==◌, Bool, true, false, List, bit_and, slice_get, Option, Some, None, Result, Ok, Err, if◌then◌else◌}
-use Rattle.mss_base.specs.declared.numbers.TheConstants.{HEADS}
+use Rattle.mss_base.specs.Geometry.{cylinder_heads}
 use Rattle.ckd_track.specs.Data.{RecordData}
 use Rattle.ckd_plain.specs.declared.host.HostState.{HostState}
 use Rattle.ckd_plain.specs.declared.host.Position.{Position}
@@ -33,7 +33,7 @@ candidate (position.Done k) m = k + 1
 unfoldable pub pass_index : HostState → Bool → Result HostState Refusal
 pass_index host true =
     if bit_and host.mask 0x18 == 0x18 then Err (record { check = check.FileProtected; host = host })
-    else if host.head + 1 == HEADS then Err (record { check = check.EndOfCylinder; host = host })
+    else if host.head + 1 == cylinder_heads then Err (record { check = check.EndOfCylinder; host = host })
     else Ok (record host { head = host.head + 1; position = position.Start; passes = 0 })
 pass_index host false =
     if host.passes == 0 then Ok (record host { passes = 1; position = position.Start })
@@ -56,7 +56,7 @@ next_within (suc looks) tracks host m multi =
     let k = candidate host.position m in
     look_or_past k host multi (record_at (tracks host.head) host k) (λ passed. next_within looks tracks passed m multi)
 
--- 20 looks are as good as any number: a cylinder has HEADS tracks, and one track is looked at twice at most
+-- 20 looks are as good as any number: a cylinder has a track a head, and one track is looked at twice at most
 unfoldable pub next_record : Tracks → HostState → ℕ → Bool → Result Found Refusal
 next_record tracks host m multi = next_within 20 tracks host m multi
 

@@ -3,7 +3,7 @@ use Rattle.std.specs.Prelude.{◌≡◌, ◌≢◌, ℕ, ◌<◌, ◌≤◌, Boo
 use Rattle.channel_commands.specs.declared.command.Command.{Command}
 use Rattle.channel_commands.specs.Data.{CallData, command as ask, ReplyData, done}
 use Rattle.ckd_track.specs.Data.{RecordData, cost, IsTrack, Volumes}
-use Rattle.ckd_track.specs.declared.layout.TheConstants.{TRACK_COST}
+use Rattle.mss_base.specs.Geometry.{track_cost}
 use Rattle.ckd_plain.specs.declared.host.HostState.{HostState}
 use Rattle.ckd_plain.specs.declared.host.Position.TheVariants as position
 use Rattle.ckd_plain.specs.declared.unit_check.UnitCheck.{UnitCheck}
@@ -28,7 +28,7 @@ pub record IsUnderHead (host : HostState) (v c head : ℕ) : Type 0 where
 
 -- no track costs more than a track can
 abbrev pub IsWithinCost : Volumes → Type 0
-IsWithinCost volumes = (v c head : ℕ) → cost (volumes.track v c head) ≤ TRACK_COST
+IsWithinCost volumes = (v c head : ℕ) → cost (volumes.track v c head) ≤ track_cost
 
 -- the records of each track may stand together
 abbrev pub HasTracks : Volumes → Type 0

@@ -14,9 +14,9 @@ ghost use Rattle.ckd_plain.specs.Effects.{DONE, new_record, is_data};
 ghost use Rattle.ckd_plain.specs.Index.{Tracks, next_within, next_record};
 ghost use Rattle.ckd_plain.specs.Laws.{IsSameFor, IsUnderHead, IsWithinCost, HasTracks, HasBytes, unit_check_of, IsChecked, IsAtIndex, IsFirst, IsReadBack, HasVolume, met_by, IsPutBehind, IsNewId, HasNoBytes, KnowMarks};
 ghost use Rattle.ckd_plain.specs.Plain.{UNIT_CHECK, sense_of, no_sense, keeps_sense, with_open_chain, command_answer, answer_on_tracks, plain, NeedsNoTrack, response_to, mark_for, with_response, start_of};
+ghost use Rattle.mss_base.specs.Geometry.{cylinder_heads};
 
 use crate::unit_check::UnitCheck;
-use mss_base::HEADS;
 
 /// A legal history goes on by an entry that may come next.
 pub fn legal_goes_on()
@@ -79,7 +79,7 @@ pub fn stopped_entry_is_next()
 /// The definition looks at twenty tracks for the next record; more looks find the same.
 pub fn twenty_looks_suffice()
     ensures { (more : ℕ) (tracks : Tracks) (host : HostState) (first : ℕ) (multi : Bool)
-        → host.head < HEADS
+        → host.head < cylinder_heads
         → next_within (20 + more) tracks host first multi ≡ next_record tracks host first multi }
 {}
 

@@ -24,6 +24,7 @@ ghost use Rattle.host_events.specs.Answers.{HostStep, told_of};
 ghost use Rattle.host_events.specs.Parts.{GoesOn, IsUnfailed, IsUntold};
 ghost use Rattle.host_events.specs.Replies.{with_reply};
 ghost use Rattle.host_events.specs.Runs.{run_by, bare_write, Comes, IsStagedIn, MayRun};
+ghost use Rattle.mss_base.specs.Geometry.{volume_cylinders, cylinder_heads, format_items};
 
 use crate::answer::HostAnswer;
 use crate::copies::copy_of_reply;
@@ -37,7 +38,7 @@ use ckd_track::FORMAT_ITEMS;
 use core_state::looks::host_at;
 use core_state::{Core, HostStateList, Session, TaskList, touch_all};
 use fault_queue::Queue;
-use mss_base::{Bytes, CYLINDERS, FrameNo, HEADS, Head, HostNo, Page, Site, VolumeNo};
+use mss_base::{Bytes, FrameNo, Head, HostNo, Page, Site, VolumeNo};
 use staging_adapter::{Translated, translate};
 use std::alloc::Global;
 use track_engine::{CylinderPlace, EngineFault, run_command};
@@ -47,8 +48,8 @@ use volume_table::{Rows, VolumeRow};
 fn standing(hosts: &[HostState], host: HostNo) -> HostState
     requires { length hosts.now ≡ 8 }
     ensures state { result ≡ host_at hosts.now host }
-    ensures cylinder { result.cylinder < CYLINDERS }
-    ensures head { result.head < HEADS }
+    ensures cylinder { result.cylinder < volume_cylinders }
+    ensures head { result.head < cylinder_heads }
 {
     let state = host_at(hosts, host);
     let _cylinder = state.cylinder.get();
@@ -117,11 +118,11 @@ fn run_in<S: Site>(
     requires tracks { S.tells → AreTracks (content (S.told site.old))
         (frame_block frame host.old.cylinder 0).unit
         (frame_block frame host.old.cylinder 0).block }
-    requires room { FORMAT_ITEMS ≤ S.spare site.old }
+    requires room { format_items ≤ S.spare site.old }
     ensures comes { Comes S.tells
         (run_by host.old (frame_block frame host.old.cylinder 0) command.now (call_of call.now))
         (seen_site S.Site site.old) (seen_site S.Site site.new) host.new result }
-    ensures site_ { MayWrite S.Site FORMAT_ITEMS site.old site.new }
+    ensures site_ { MayWrite S.Site format_items site.old site.new }
     ensures room { IfErr result (λ fault. IsNoFailure fault
         → S.spare site.old ≤ S.spare site.new) }
     ensures works { (but : UnitNo → Bool) → S.never_fails_but site.old but
@@ -213,7 +214,7 @@ pub fn run_on_frame<S: Site, C: Choose>(
     ensures event { HostStep S.Site core.old host call.now
         (Runs command.now volume frame) result core.new }
     ensures chooser { core.new.chooser ≡ core.old.chooser }
-    ensures devices { MayWrite S.Site FORMAT_ITEMS core.old.site core.new.site }
+    ensures devices { MayWrite S.Site format_items core.old.site core.new.site }
     ensures room { IsUntold (told_of result) → S.spare core.old.site ≤ S.spare core.new.site }
     ensures works { (but : UnitNo → Bool) → S.never_fails_but core.old.site but
         → but (frame_block frame (host_at core.old.hosts host).cylinder 0).unit ≡ false

@@ -3,14 +3,13 @@
 -- the first, the list goes on.
 use Rattle.std.specs.Prelude.{ℕ, ◌+◌, ◌==◌, false, true, not, List, [], ◌∷◌, ◌++◌, slice_index, Option, Some, None, Ok, Err}
 use Rattle.std.specs.Option.{option_map}
-use Rattle.mss_base.specs.declared.numbers.TheConstants.{CYLINDERS, HEADS}
+use Rattle.mss_base.specs.Geometry.{volume_cylinders, cylinder_heads, row_body_at, row_body_bytes}
 use Rattle.mss_base.specs.declared.place.UnitNo.{UnitNo}
 use Rattle.mss_base.specs.declared.place.UnitNo.TheVariants.{TableA, TableB}
 use Rattle.mss_base.specs.Content.{Content}
 use Rattle.mss_base.specs.Firsts.{◌or◌, first_below, where_so}
 use Rattle.volume_table.specs.Row.{RowValue}
 use Rattle.volume_table.specs.Grammar.{spelling}
-use Rattle.volume_table.specs.declared.layout.TheConstants.{BODY, BODY_BYTES}
 use Rattle.table_pair.specs.declared.copy.TableCopy.TheVariants.{A, B}
 use Rattle.table_pair.specs.Copies.{copy_at}
 use Rattle.table_pair.specs.Pair.{CopyRead, unread, closed, opened, read_of, reading}
@@ -34,11 +33,11 @@ unequal volume place a b = where_so (not (a == b)) (CopyDiffers volume place a b
 -- that two bodies differ in the byte of this number
 abbrev pub difference : ℕ → List ℕ → List ℕ → ℕ → Option Finding
 difference volume a b number =
-    unequal volume (number + BODY) (slice_index a number) (slice_index b number)
+    unequal volume (number + row_body_at) (slice_index a number) (slice_index b number)
 
 -- the first one of two rows, whatever slots their copies have
 abbrev pub differs_at : ℕ → RowValue → RowValue → Option Finding
-differs_at volume a b = first_below BODY_BYTES (difference volume (spelling a) (spelling b))
+differs_at volume a b = first_below row_body_bytes (difference volume (spelling a) (spelling b))
 
 -- what copy B says beside the row of copy A
 abbrev pub beside_a : ℕ → RowValue → CopyRead → Option Finding
@@ -83,10 +82,10 @@ page_findings frames rows volume = all_below 51 (λ page. refusal (page_fault fr
 
 abbrev pub cylinder_findings : RowsOf → Content → ℕ → ℕ → List Finding
 cylinder_findings rows c volume cylinder =
-    all_below HEADS (λ head. refusal (track_fault rows c volume cylinder head))
+    all_below cylinder_heads (λ head. refusal (track_fault rows c volume cylinder head))
 
 abbrev pub track_findings : RowsOf → Content → ℕ → List Finding
-track_findings rows c volume = joined_below CYLINDERS (cylinder_findings rows c volume)
+track_findings rows c volume = joined_below volume_cylinders (cylinder_findings rows c volume)
 
 -- the findings behind those of the rows
 abbrev pub rest_findings : ℕ → RowsOf → Content → List Finding

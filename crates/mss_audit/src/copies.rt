@@ -1,7 +1,7 @@
 // The two copies of a row: what the one says that doesn't count.
 ghost use Rattle.std.specs.Prelude.{◌≡◌, ◌≢◌, ◌<◌, ◌+◌, ◌++◌, length, IfOk, OnOk};
 ghost use Rattle.mss_base.specs.Firsts.{first_below};
-ghost use Rattle.volume_table.specs.declared.layout.TheConstants.{BODY, BODY_BYTES};
+ghost use Rattle.mss_base.specs.Geometry.{row_body_at, row_body_bytes};
 ghost use Rattle.table_pair.specs.Pair.{reading, unread};
 ghost use Rattle.table_pair.specs.Reads.{read_of_copy};
 ghost use Rattle.shown_volumes.specs.Shown.{told_row};
@@ -25,8 +25,8 @@ use volume_table::{BODY, BODY_BYTES, BODY_END, ROW_BYTES, VolumeRow, encode_row}
 
 /// That two rows have different bytes at a place of their bodies.
 fn differs(volume: VolumeNo, number: u16, a: u8, b: u8) -> Finding
-    requires { number < BODY_BYTES }
-    ensures { result ≡ CopyDiffers volume (number + BODY) a b }
+    requires { number < row_body_bytes }
+    ensures { result ≡ CopyDiffers volume (number + row_body_at) a b }
 {
     Finding::CopyDiffers {
         volume,
@@ -38,9 +38,9 @@ fn differs(volume: VolumeNo, number: u16, a: u8, b: u8) -> Finding
 
 /// The first byte in which two bodies differ.
 fn first_difference(volume: VolumeNo, a: &[u8], b: &[u8]) -> Option<Finding>
-    requires a { length a.now ≡ BODY_BYTES }
-    requires b { length b.now ≡ BODY_BYTES }
-    ensures { result ≡ first_below BODY_BYTES (difference volume a.now b.now) }
+    requires a { length a.now ≡ row_body_bytes }
+    requires b { length b.now ≡ row_body_bytes }
+    ensures { result ≡ first_below row_body_bytes (difference volume a.now b.now) }
 {
     for number in 0..BODY_BYTES as u16 {
         let at = usize::from(number);

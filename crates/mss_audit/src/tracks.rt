@@ -1,7 +1,6 @@
 // The tracks: the shown block is a track, and the block in a frame stands for it.
 ghost use Rattle.std.specs.Prelude.{◌≡◌, ◌++◌, ℕ, Option, IfOk, OnOk};
 ghost use Rattle.mss_base.specs.Content.{content};
-ghost use Rattle.mss_base.specs.declared.numbers.TheConstants.{CYLINDERS};
 ghost use Rattle.volume_table.specs.Listed.{row_in_list};
 ghost use Rattle.shown_volumes.specs.Faults.{row_track_fault};
 ghost use Rattle.shown_volumes.specs.declared.refused.Refused.{Refused};

@@ -2,7 +2,7 @@
 use Rattle.std.specs.Prelude.{◌≡◌, ℕ, Bool, false, List, [], length, slice_index_or, Option, Some, None, option_map}
 use Rattle.channel_commands.specs.declared.call.Reply.{Reply}
 use Rattle.channel_commands.specs.Views.{reply_of}
-use Rattle.mss_base.specs.declared.numbers.TheConstants.{CYLINDERS}
+use Rattle.mss_base.specs.Geometry.{volume_cylinders}
 use Rattle.ckd_track.specs.Data.{RecordData, Volumes}
 use Rattle.ckd_plain.specs.declared.host.HostState.{HostState}
 use Rattle.ckd_plain.specs.Data.{State}
@@ -51,7 +51,7 @@ pub record IsFull (s : StateData) : Type 0 where
 
 -- there are places for the cylinders 0 to 403
 pub record HasCylinders (v : VolumeData) : Type 0 where
-  pub cylinders_ : length v.cylinders ≡ CYLINDERS
+  pub cylinders_ : length v.cylinders ≡ volume_cylinders
 
 -- the answer to a host, and the volumes as it leaves them
 pub record AnswersOn (a : Answer) (from : HostState) (old new : List (Option VolumeData)) (host : HostState) (reply : Reply) : Type 0 where

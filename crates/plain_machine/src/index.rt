@@ -5,11 +5,11 @@ ghost use Rattle.ckd_plain.specs.Index.{candidate, pass_index, record_at, next_r
 ghost use Rattle.ckd_plain.specs.Effects.{this_or_next};
 ghost use Rattle.ckd_plain.specs.Views.{item_of, found_of, Gives};
 ghost use Rattle.plain_machine.specs.Outcomes.{cylinder_of, IsRecordAt, IsStoredAt};
+ghost use Rattle.mss_base.specs.Geometry.{cylinder_heads};
 
 use ckd_plain::steps::{FoundRecord, candidate, pass_index};
 use ckd_plain::{HostState, Refusal, UnitCheck};
 use ckd_track::Track;
-use mss_base::HEADS;
 
 /// How many tracks a command may look at.
 const LOOKS: u8 = 20;
@@ -29,7 +29,7 @@ fn record_at<'a>(track: &'a Track, host: &HostState, number: usize) -> Option<Fo
 
 /// The record of this number on the track under the host's head, one of a cylinder's tracks.
 fn record_under<'a>(tracks: &'a [Track], host: &HostState, number: usize) -> Option<FoundRecord<'a>>
-    requires { length tracks.now ≡ HEADS }
+    requires { length tracks.now ≡ cylinder_heads }
     ensures item { IsRecordAt number host.now result
         (record_at (cylinder_of tracks.now host.now.head) host.now number) }
     ensures small { IfSome result (λ _. number ≤ 97) }
@@ -46,7 +46,7 @@ pub fn next_record<'a>(
     first: u8,
     multi: bool,
 ) -> Result<FoundRecord<'a>, Refusal>
-    requires cylinder { length tracks.now ≡ HEADS }
+    requires cylinder { length tracks.now ≡ cylinder_heads }
     ensures found { Gives found_of result
         (next_record (cylinder_of tracks.now) from.now first multi) }
     ensures counted { IfOk result (λ found. HasCount (item_of found)) }
@@ -95,7 +95,7 @@ pub fn this_or_next<'a>(
     at_hand: Option<u8>,
     multi: bool,
 ) -> Result<FoundRecord<'a>, Refusal>
-    requires cylinder { length tracks.now ≡ HEADS }
+    requires cylinder { length tracks.now ≡ cylinder_heads }
     ensures found { Gives found_of result
         (this_or_next at_hand (cylinder_of tracks.now) host.now multi) }
     ensures counted { IfOk result (λ found. HasCount (item_of found)) }

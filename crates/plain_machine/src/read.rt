@@ -3,6 +3,7 @@ ghost use Rattle.std.specs.Prelude.{◌≡◌, ◌≢◌, length};
 ghost use Rattle.ckd_plain.specs.Effects.{at_hand, record_zero_read, home_read, read_outcome};
 ghost use Rattle.ckd_plain.specs.Views.{effect_of};
 ghost use Rattle.plain_machine.specs.Outcomes.{cylinder_of, GivesUnless};
+ghost use Rattle.mss_base.specs.Geometry.{cylinder_heads};
 
 use crate::index::this_or_next;
 use crate::trouble::Trouble;
@@ -10,7 +11,6 @@ use channel_commands::ReadWhat;
 use ckd_plain::HostState;
 use ckd_plain::steps::{DoneCommand, at_hand, home_read, record_zero_read, to_home};
 use ckd_track::Track;
-use mss_base::HEADS;
 use std::alloc::Global;
 
 /// A read of a record.
@@ -22,7 +22,7 @@ fn read_record(
     what: ReadWhat,
     multi: bool,
 ) -> Result<DoneCommand, Trouble>
-    requires cylinder { length tracks.now ≡ HEADS }
+    requires cylinder { length tracks.now ≡ cylinder_heads }
     requires no_home { what ≢ ReadWhat.Home }
     requires no_zero { what ≢ ReadWhat.RecordZero }
     ensures { GivesUnless effect_of result
@@ -43,7 +43,7 @@ pub fn read(
     what: ReadWhat,
     multi: bool,
 ) -> Result<DoneCommand, Trouble>
-    requires cylinder { length tracks.now ≡ HEADS }
+    requires cylinder { length tracks.now ≡ cylinder_heads }
     ensures { GivesUnless effect_of result
         (read_outcome (cylinder_of tracks.now) host.now what multi) }
 {

@@ -6,6 +6,7 @@ ghost use Rattle.ckd_plain.specs.Checks.{is_address, is_prior_permitted, Passes}
 ghost use Rattle.ckd_plain.specs.Effects.{effect, write_};
 ghost use Rattle.ckd_plain.specs.Plain.{command_answer, answer_on_tracks};
 ghost use Rattle.plain_machine.specs.Outcomes.{cylinder_of, GivesEffect, Answers};
+ghost use Rattle.mss_base.specs.Geometry.{cylinder_heads};
 
 use crate::read::read;
 use crate::search::search;
@@ -15,7 +16,7 @@ use channel_commands::{Command, DeviceCommand, Reply, WriteKind};
 use ckd_plain::steps::{DoneCommand, cleared, control, finished, opened, refused, refused_by};
 use ckd_plain::{HostState, Prior, admitted};
 use ckd_track::Track;
-use mss_base::{HEADS, NoMemory};
+use mss_base::NoMemory;
 use std::alloc::Global;
 
 /// A write on the host's track among those of its cylinder.
@@ -27,7 +28,7 @@ fn write_under(
     kind: WriteKind,
     argument: &[u8],
 ) -> Result<DoneCommand, Trouble>
-    requires cylinder { length tracks.old ≡ HEADS }
+    requires cylinder { length tracks.old ≡ cylinder_heads }
     requires long { least (Command.Write kind) ≤ length argument.now }
     requires permitted { IsTrue (is_prior_permitted left (Command.Write kind)) }
     ensures { GivesEffect host.now tracks.old tracks.new result
@@ -50,7 +51,7 @@ fn outcome(
     command: Command,
     argument: &[u8],
 ) -> Result<DoneCommand, Trouble>
-    requires cylinder { length tracks.old ≡ HEADS }
+    requires cylinder { length tracks.old ≡ cylinder_heads }
     requires long { least command ≤ length argument.now }
     requires address { IsTrue (is_address command argument.now) }
     requires permitted { IsTrue (is_prior_permitted left command) }
@@ -77,7 +78,7 @@ fn performed(
     argument: &[u8],
     chained: bool,
 ) -> Result<Reply, NoMemory>
-    requires cylinder { length tracks.old ≡ HEADS }
+    requires cylinder { length tracks.old ≡ cylinder_heads }
     requires passes { Passes host.old command argument.now }
     ensures answer { IfOk result (Answers
         (command_answer (cylinder_of tracks.old) host.old command argument.now chained)
@@ -103,7 +104,7 @@ pub fn run_command(
     host: &mut HostState,
     command: &DeviceCommand,
 ) -> Result<Reply, NoMemory>
-    requires cylinder { length tracks.old ≡ HEADS }
+    requires cylinder { length tracks.old ≡ cylinder_heads }
     ensures answer { IfOk result (Answers
         (for_command (answer_on_tracks (cylinder_of tracks.old) host.old) command.now)
         host.old tracks.old tracks.new host.new) }

@@ -4,13 +4,13 @@ ghost use Rattle.ckd_plain.specs.Effects.{home_searched, id_searched, key_search
 ghost use Rattle.channel_commands.specs.Codes.{least};
 ghost use Rattle.ckd_plain.specs.Views.{Gives, effect_of};
 ghost use Rattle.plain_machine.specs.Outcomes.{cylinder_of};
+ghost use Rattle.mss_base.specs.Geometry.{cylinder_heads};
 
 use crate::index::{next_record, this_or_next};
 use channel_commands::{Command, SearchField, SearchTest};
 use ckd_plain::steps::{DoneCommand, home_searched, key_at_hand, to_home};
 use ckd_plain::{HostState, Refusal};
 use ckd_track::Track;
-use mss_base::HEADS;
 use std::alloc::Global;
 
 #[tactic(auto, unfolding(ckd_plain::specs::Effects::search))]
@@ -22,7 +22,7 @@ fn search_id(
     multi: bool,
     argument: &[u8],
 ) -> Result<DoneCommand, Refusal>
-    requires cylinder { length tracks.now ≡ HEADS }
+    requires cylinder { length tracks.now ≡ cylinder_heads }
     requires long { 5 ≤ length argument.now }
     ensures { Gives effect_of result
         (search (cylinder_of tracks.now) host.now SearchField.Id test multi argument.now) }
@@ -42,7 +42,7 @@ fn search_key(
     multi: bool,
     argument: &[u8],
 ) -> Result<DoneCommand, Refusal>
-    requires cylinder { length tracks.now ≡ HEADS }
+    requires cylinder { length tracks.now ≡ cylinder_heads }
     ensures { Gives effect_of result
         (search (cylinder_of tracks.now) host.now SearchField.Key test multi argument.now) }
 {
@@ -63,7 +63,7 @@ pub fn search(
     multi: bool,
     argument: &[u8],
 ) -> Result<DoneCommand, Refusal>
-    requires cylinder { length tracks.now ≡ HEADS }
+    requires cylinder { length tracks.now ≡ cylinder_heads }
     requires long { least (Command.Search field test multi) ≤ length argument.now }
     ensures { Gives effect_of result
         (search (cylinder_of tracks.now) host.now field test multi argument.now) }

@@ -5,6 +5,7 @@ ghost use Rattle.ckd_plain.specs.Plain.{answer_on_tracks, tracks_under};
 ghost use Rattle.ckd_plain.specs.Views.{Responds};
 ghost use Rattle.plain_machine.specs.StateData.{volumes_of, AnswersOn};
 ghost use Rattle.plain_machine.specs.Outcomes.{cylinder_of, Answers};
+ghost use Rattle.mss_base.specs.Geometry.{volume_cylinders, cylinder_heads};
 
 use crate::run::run_command;
 use channel_commands::{DeviceCommand, Reply};
@@ -22,20 +23,20 @@ pub struct CylinderTracks {
 
 impl Model for CylinderTracks {
     ghost use Rattle.std.specs.Prelude.{◌≡◌, List, length};
-    ghost use Rattle.mss_base.specs.declared.numbers.TheConstants.{HEADS};
+    ghost use Rattle.mss_base.specs.Geometry.{cylinder_heads};
     ghost use Rattle.ckd_track.specs.Data.{RecordData};
 
     ghost Value = { List (List RecordData) };
 
     ghost view = { λ c. c.tracks.items };
 
-    ghost invariant = { λ c. length c.tracks.items ≡ HEADS };
+    ghost invariant = { λ c. length c.tracks.items ≡ cylinder_heads };
 }
 
 impl CylinderTracks {
     /// Tracks without records.
     pub fn blank(alloc: Global) -> Result<CylinderTracks, NoMemory>
-        ensures { IfOk result (λ c. c ≡ replicate HEADS []) }
+        ensures { IfOk result (λ c. c ≡ replicate cylinder_heads []) }
     {
         let mut tracks = Vec::new(alloc);
         for _ in 0..HEADS {
@@ -97,7 +98,7 @@ impl PlainVolume {
         ensures serial { IfOk result (λ v. v.serial ≡ serial) }
         ensures read_only { IfOk result (λ v. v.read_only ≡ read_only) }
         ensures cylinders { IfOk result
-            (λ v. v.cylinders ≡ replicate CYLINDERS (replicate HEADS [])) }
+            (λ v. v.cylinders ≡ replicate volume_cylinders (replicate cylinder_heads [])) }
     {
         let mut cylinders = Vec::new(alloc);
         for _ in 0..CYLINDERS {

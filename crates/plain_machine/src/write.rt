@@ -6,6 +6,7 @@ ghost use Rattle.ckd_plain.specs.Checks.{is_prior_permitted};
 ghost use Rattle.ckd_plain.specs.Data.{padded_bytes};
 ghost use Rattle.ckd_plain.specs.Effects.{new_record, write_, prior_number};
 ghost use Rattle.plain_machine.specs.Outcomes.{GivesWritten};
+ghost use Rattle.mss_base.specs.Geometry.{track_cost};
 
 use crate::index::same_record;
 use crate::trouble::Trouble;
@@ -29,7 +30,7 @@ fn cost_of(stored: &Record) -> u32
 fn cost_of_first(track: &Track, count: usize) -> u32
     requires { count ≤ length track.now }
     ensures value { result ≡ cost (take count track.now) }
-    ensures within { result ≤ TRACK_COST }
+    ensures within { result ≤ track_cost }
 {
     let records = &track.records.as_slice()[..count];
     let mut cost = 0;
@@ -59,7 +60,7 @@ fn set_key_body(track: &mut Track, place: usize, key: Bytes, body: Bytes)
 fn format(track: &mut Track, count: usize, new: Record) -> Result<(), NoMemory>
     requires there { count ≤ length track.old }
     requires counted { HasCount new }
-    requires fits { cost (take count track.old ++ new ∷ []) ≤ TRACK_COST }
+    requires fits { cost (take count track.old ++ new ∷ []) ≤ track_cost }
     ensures ok { OnOk result (track.new ≡ take count track.old ++ new ∷ []) }
     ensures err { OnErr result (track.new ≡ track.old) }
 {

@@ -5,7 +5,7 @@ use Rattle.std.specs.Option.{option_and_then}
 use Rattle.mss_base.specs.Content.{Content}
 use Rattle.mss_base.specs.Counts.{Rises, IsFaultSince}
 use Rattle.mss_base.specs.Puts.{PutsFront}
-use Rattle.mss_base.specs.declared.numbers.TheConstants.{HEADS}
+use Rattle.mss_base.specs.Geometry.{cylinder_heads}
 use Rattle.mss_base.specs.declared.place.BlockPlace.{BlockPlace}
 use Rattle.mss_base.specs.declared.site.Site.{Ghosts}
 use Rattle.ckd_track.specs.Data.{RecordData, Volumes}
@@ -38,7 +38,7 @@ CanReadShown g s rows = (volume : ℕ) → CanReadRow g s (rows volume)
 
 -- the block in which a row shows the track of this number, by cylinder and head
 abbrev pub block_of : Option RowValue → ℕ → Option BlockPlace
-block_of row n = option_and_then (λ r. source r (n / HEADS) (n % HEADS)) row
+block_of row n = option_and_then (λ r. source r (n / cylinder_heads) (n % cylinder_heads)) row
 
 -- there is such a block, and a read of its unit may fail
 pub record MayFail {S : Type 0} (g : Ghosts S) (s : S) (block : Option BlockPlace) : Type 0 where

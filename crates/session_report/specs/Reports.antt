@@ -6,7 +6,7 @@ use Rattle.std.specs.List.{flat_map}
 use Rattle.mss_base.specs.Configs.{VolumeData}
 use Rattle.mss_base.specs.Counts.{IsFaultSince}
 use Rattle.mss_base.specs.Puts.{PutsFront}
-use Rattle.mss_base.specs.declared.numbers.TheConstants.{CYLINDERS, HEADS}
+use Rattle.mss_base.specs.Geometry.{volume_cylinders, cylinder_heads}
 use Rattle.ckd_track.specs.Data.{Volumes}
 use Rattle.core_state.specs.declared.session.Message.{Message}
 use Rattle.core_state.specs.SessionData.{SessionData}
@@ -27,7 +27,7 @@ Heading = VolumeData
 
 -- how many tracks a volume has
 abbrev pub TRACKS_OF_VOLUME : ℕ
-TRACKS_OF_VOLUME = CYLINDERS * HEADS
+TRACKS_OF_VOLUME = volume_cylinders * cylinder_heads
 
 -- a volume that is listed: its number and serial, and the mark and the tracks that are shown
 abbrev pub listed_text : Volumes → Heading → List ℕ

@@ -1,7 +1,7 @@
 -- Which blocks the shown volumes stand on, which of them are firm, and which changes of rows show the same.
 use Rattle.std.specs.Prelude.{◌≡◌, ◌≢◌, ◌⊎◌, ◌≤◌, ℕ, ◌+◌, ◌<◌, ◌==◌, Bool, false, List, [], Some, None, if◌then◌else◌}
 use Rattle.std.specs.Option.{ForSome}
-use Rattle.mss_base.specs.declared.numbers.TheConstants.{CYLINDERS, HEADS}
+use Rattle.mss_base.specs.Geometry.{volume_cylinders, cylinder_heads}
 use Rattle.mss_base.specs.Content.{Content, SiteLog, IsLoose, content}
 use Rattle.mss_base.specs.declared.place.BlockPlace.{BlockPlace}
 use Rattle.ckd_track.specs.Data.{Volumes}
@@ -14,8 +14,8 @@ use Rattle.shown_volumes.specs.Sound.{frame_in, IsStagedAs, IsSameAt, AreSound, 
 
 -- a block that a track of a row's volume stands on: the shown one, or the one in the frame where the cylinder is staged
 pub record StandsOn (r : RowValue) (cylinder head : ℕ) (place : BlockPlace) : Type 0 where
-  pub cylinder_in : cylinder < CYLINDERS
-  pub head_in : head < HEADS
+  pub cylinder_in : cylinder < volume_cylinders
+  pub head_in : head < cylinder_heads
   pub there : (source r cylinder head ≡ Some place) ⊎ ((2 ≤ state_of r cylinder) × (in_page r cylinder head ≡ Some place))
 
 -- a block that is no table's, and that no track of a shown volume stands on
@@ -40,9 +40,9 @@ abbrev pub IsReady : ℕ → Change → RowValue → Content → Type 0
 IsReady frames (Create serial first second) r c = Unit {0}
 IsReady frames (Assign page frame) r c = (frame < frames) × ((volume other : ℕ) → other < 51 → frame_in (rows_of c) volume other ≢ Some frame)
 IsReady frames (Free page) r c = Unit {0}
-IsReady frames (Staged cylinder) r c = (head : ℕ) → head < HEADS → IsStagedAs c (state_of r cylinder + 2) (in_page r cylinder head) (on_cartridge r cylinder head)
+IsReady frames (Staged cylinder) r c = (head : ℕ) → head < cylinder_heads → IsStagedAs c (state_of r cylinder + 2) (in_page r cylinder head) (on_cartridge r cylinder head)
 IsReady frames (Changed cylinder) r c = Unit {0}
-IsReady frames (Destaged cylinder) r c = (head : ℕ) → head < HEADS → ForSome (in_page r cylinder head) (IsSameAt c (on_cartridge r cylinder head))
+IsReady frames (Destaged cylinder) r c = (head : ℕ) → head < cylinder_heads → ForSome (in_page r cylinder head) (IsSameAt c (on_cartridge r cylinder head))
 IsReady frames (Protect on) r c = ⊥
 
 -- a volume without a row, and two cartridges that no row names
@@ -106,7 +106,7 @@ abbrev pub IsFirmFor : Change → RowValue → SiteLog → Type 0
 IsFirmFor (Create serial first second) r s = Unit {0}
 IsFirmFor (Assign page frame) r s = Unit {0}
 IsFirmFor (Free page) r s = Unit {0}
-IsFirmFor (Staged cylinder) r s = (head : ℕ) → head < HEADS → ForSome (in_page r cylinder head) (IsFirmAt s)
+IsFirmFor (Staged cylinder) r s = (head : ℕ) → head < cylinder_heads → ForSome (in_page r cylinder head) (IsFirmAt s)
 IsFirmFor (Changed cylinder) r s = Unit {0}
-IsFirmFor (Destaged cylinder) r s = (head : ℕ) → head < HEADS → IsFirmAt s (on_cartridge r cylinder head)
+IsFirmFor (Destaged cylinder) r s = (head : ℕ) → head < cylinder_heads → IsFirmAt s (on_cartridge r cylinder head)
 IsFirmFor (Protect on) r s = Unit {0}

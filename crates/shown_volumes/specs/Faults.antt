@@ -3,7 +3,7 @@
 use Rattle.std.specs.Prelude.{ℕ, ◌==◌, nat_lt, nat_eq, Bool, true, false, not, ◌&&◌, if◌then◌else◌, List, length, Option, Some, None, is_some}
 use Rattle.std.specs.Option.{option_map, option_and_then}
 use Rattle.std.specs.Cmp.Lexicographic.{pointwise}
-use Rattle.mss_base.specs.declared.numbers.TheConstants.{CYLINDERS, HEADS}
+use Rattle.mss_base.specs.Geometry.{volume_cylinders, cylinder_heads}
 use Rattle.mss_base.specs.Content.{Content}
 use Rattle.mss_base.specs.Firsts.{◌or◌, first_below, where_so}
 use Rattle.mss_base.specs.declared.place.BlockPlace.{BlockPlace}
@@ -105,10 +105,10 @@ abbrev pub track_fault : RowsOf → Content → ℕ → ℕ → ℕ → Option R
 track_fault rows c volume cylinder head = option_and_then (row_track_fault c volume cylinder head) (rows volume)
 
 abbrev pub cylinder_fault : RowsOf → Content → ℕ → ℕ → Option Refused
-cylinder_fault rows c volume cylinder = first_below HEADS (track_fault rows c volume cylinder)
+cylinder_fault rows c volume cylinder = first_below cylinder_heads (track_fault rows c volume cylinder)
 
 abbrev pub tracks_fault : RowsOf → Content → ℕ → Option Refused
-tracks_fault rows c volume = first_below CYLINDERS (cylinder_fault rows c volume)
+tracks_fault rows c volume = first_below volume_cylinders (cylinder_fault rows c volume)
 
 -- ---- the four walks, one after the other
 

@@ -1,7 +1,7 @@
 -- The volumes that a content shows.
 use Rattle.std.specs.Prelude.{◌≡◌, ℕ, ◌/◌, ◌==◌, nat_lt, Bool, true, false, ◌&&◌, ◌||◌, if◌then◌else◌, List, [], Option, Some, None}
 use Rattle.std.specs.Option.{option_map, option_and_then}
-use Rattle.mss_base.specs.declared.numbers.TheConstants.{CYLINDERS, HEADS}
+use Rattle.mss_base.specs.Geometry.{volume_cylinders, cylinder_heads}
 use Rattle.mss_base.specs.Content.{Content}
 use Rattle.mss_base.specs.Places.{cartridge_block, frame_block}
 use Rattle.mss_base.specs.declared.place.BlockPlace.{BlockPlace}
@@ -50,7 +50,7 @@ source_by state framed cartridge = if state == 4 then framed else (if (state == 
 
 -- a volume has 404 cylinders of 19 tracks
 abbrev pub is_on_volume : ℕ → ℕ → Bool
-is_on_volume cylinder head = nat_lt cylinder CYLINDERS && nat_lt head HEADS
+is_on_volume cylinder head = nat_lt cylinder volume_cylinders && nat_lt head cylinder_heads
 
 -- where the shown track of a row lies, if it isn't blank anyway
 abbrev pub source : RowValue → ℕ → ℕ → Option BlockPlace

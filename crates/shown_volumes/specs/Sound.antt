@@ -1,7 +1,7 @@
 -- Sound content: its rows are in the grammar, and agree with each other and with the blocks that they name.
 use Rattle.std.specs.Prelude.{◌≡◌, ℕ, ◌<◌, Bool, if◌then◌else◌, List, [], Option, Some, None}
 use Rattle.std.specs.Option.{option_map, option_and_then, ForSome}
-use Rattle.mss_base.specs.declared.numbers.TheConstants.{CYLINDERS, HEADS}
+use Rattle.mss_base.specs.Geometry.{volume_cylinders, cylinder_heads}
 use Rattle.mss_base.specs.Content.{Content}
 use Rattle.mss_base.specs.declared.place.BlockPlace.{BlockPlace}
 use Rattle.ckd_track.specs.Data.{Volumes}
@@ -60,7 +60,7 @@ pub record AreSound (frames : ℕ) (rows : RowsOf) (c : Content) : Type 0 where
   pub cartridges_once : HasCartridgesOnce rows
   pub frames_below : HasFramesBelow frames rows
   pub frames_once : HasFramesOnce rows
-  pub tracks : (volume cylinder head : ℕ) → cylinder < CYLINDERS → head < HEADS → ForSome (rows volume) (λ r. IsSoundTrack c r cylinder head)
+  pub tracks : (volume cylinder head : ℕ) → cylinder < volume_cylinders → head < cylinder_heads → ForSome (rows volume) (λ r. IsSoundTrack c r cylinder head)
 
 -- sound content for so many frames
 pub record IsSound (frames : ℕ) (c : Content) : Type 0 where

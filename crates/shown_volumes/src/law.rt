@@ -23,6 +23,7 @@ ghost use Rattle.table_pair.specs.Repairs.{KeepsRow};
 ghost use Rattle.shown_volumes.specs.Shown.{rows_of, SameTables, volumes_shown, block_at, on_cartridge};
 ghost use Rattle.shown_volumes.specs.Sound.{IsSound, SoundAs, HasSerialsAsked};
 ghost use Rattle.shown_volumes.specs.Faults.{first_fault};
+ghost use Rattle.mss_base.specs.Geometry.{volume_cylinders, cylinder_heads};
 ghost use Rattle.shown_volumes.specs.Changing.{
   IsOutside,
   IsReady,
@@ -37,8 +38,6 @@ ghost use Rattle.shown_volumes.specs.Changing.{
   MayWriteRow,
   IsFirmFor,
 };
-
-use mss_base::{CYLINDERS, HEADS};
 
 /// A content has a first fault exactly where it isn't sound, or a row has another serial than is asked.
 pub fn first_fault_is_of_unsound_content()
@@ -65,7 +64,7 @@ pub fn writes_outside_change_nothing()
 pub fn changed_cylinders_leave_their_cartridge()
     ensures { (frames volume cylinder head : ℕ) (r : RowValue) (c : Content) → IsSound frames c
         → rows_of c volume ≡ Some r
-        → state_of r cylinder ≡ 4 → cylinder < CYLINDERS → head < HEADS
+        → state_of r cylinder ≡ 4 → cylinder < volume_cylinders → head < cylinder_heads
         → IsOutside c (on_cartridge r cylinder head) }
 {}
 
@@ -73,8 +72,8 @@ pub fn changed_cylinders_leave_their_cartridge()
 pub fn unstaged_cylinders_leave_their_frame()
     ensures { (frames volume cylinder head frame : ℕ) (r : RowValue) (c : Content)
         → IsSound frames c → rows_of c volume ≡ Some r
-        → frame_of r (cylinder / 8) ≡ Some frame → state_of r cylinder < 2 → cylinder < CYLINDERS
-        → head < HEADS
+        → frame_of r (cylinder / 8) ≡ Some frame → state_of r cylinder < 2
+        → cylinder < volume_cylinders → head < cylinder_heads
         → IsOutside c (frame_block frame cylinder head) }
 {}
 
@@ -83,7 +82,7 @@ pub fn staged_cylinders_stand_in_their_frame()
     ensures { (frames volume cylinder head frame : ℕ) (r : RowValue) (c : Content)
         → IsSound frames c → rows_of c volume ≡ Some r
         → frame_of r (cylinder / 8) ≡ Some frame → 2 ≤ state_of r cylinder
-        → state_of r cylinder ≤ 4 → cylinder < CYLINDERS → head < HEADS
+        → state_of r cylinder ≤ 4 → cylinder < volume_cylinders → head < cylinder_heads
         → reading (block_at c (frame_block frame cylinder head))
         ≡ reading_of ((volumes_shown c).track volume cylinder head) }
 {}
@@ -92,8 +91,8 @@ pub fn staged_cylinders_stand_in_their_frame()
 pub fn tracks_written_into_a_frame_are_shown()
     ensures { (frames volume cylinder head frame : ℕ) (r : RowValue) (c d : Content)
         → IsSound frames c → rows_of c volume ≡ Some r
-        → frame_of r (cylinder / 8) ≡ Some frame → state_of r cylinder ≡ 4 → cylinder < CYLINDERS
-        → head < HEADS
+        → frame_of r (cylinder / 8) ≡ Some frame → state_of r cylinder ≡ 4
+        → cylinder < volume_cylinders → head < cylinder_heads
         → let place = frame_block frame cylinder head in
         ChangesBlock place.unit place.block (λ block. (reading block).bad ≡ None) c d
         → SoundAs frames (with_track (volumes_shown c) volume cylinder head

@@ -6,7 +6,7 @@ use Rattle.mss_base.specs.Counts.{HasCause, Rises}
 use Rattle.mss_base.specs.Places.{cartridge_block, frame_block}
 use Rattle.mss_base.specs.Sites.{OnlyReads, MayWrite}
 use Rattle.mss_base.specs.Zeros.{zeros}
-use Rattle.mss_base.specs.declared.block.TheConstants.{BLOCK_BYTES}
+use Rattle.mss_base.specs.Geometry.{block_bytes}
 use Rattle.mss_base.specs.declared.place.BlockPlace.{BlockPlace}
 use Rattle.mss_base.specs.declared.place.UnitNo.{UnitNo}
 use Rattle.mss_base.specs.declared.place.UnitNo.TheVariants.{Cartridge}
@@ -86,7 +86,7 @@ moved_on t = record t { next = t.next + 1 }
 
 -- a block has 16,384 bytes, whatever they are
 abbrev pub IsBlock : List ℕ → Type 0
-IsBlock bytes = length bytes ≡ BLOCK_BYTES
+IsBlock bytes = length bytes ≡ block_bytes
 
 -- the write of a whole block
 abbrev pub copy_of : BlockPlace → List ℕ → Write

@@ -1,6 +1,6 @@
 -- Which transfers are due by a row, and what the row becomes by them.
 use Rattle.std.specs.Prelude.{◌≡◌, ℕ, ◌<◌, ◌/◌, Some}
-use Rattle.mss_base.specs.declared.numbers.TheConstants.{CYLINDERS}
+use Rattle.mss_base.specs.Geometry.{volume_cylinders}
 use Rattle.volume_table.specs.Row.{RowValue, frame_of, state_of, cartridge_with}
 use Rattle.volume_table.specs.declared.changes.Change.{Change}
 use Rattle.volume_table.specs.declared.changes.Change.TheVariants.{Staged, Destaged}
@@ -18,7 +18,7 @@ due_state kind.Destage = 4
 -- a transfer that is due by its volume's row: with the frame of the cylinder's page, and with the
 -- cartridge that has the cylinder
 pub record IsDue (t : Transfer) (r : RowValue) : Type 0 where
-  pub cylinder_in : t.cylinder < CYLINDERS
+  pub cylinder_in : t.cylinder < volume_cylinders
   pub frame_ : frame_of r (t.cylinder / 8) ≡ Some t.frame
   pub cartridge_ : t.cartridge ≡ cartridge_with r t.cylinder
   pub state : state_of r t.cylinder ≡ due_state t.kind

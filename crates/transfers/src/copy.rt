@@ -6,9 +6,10 @@ ghost use Rattle.mss_base.specs.Counts.{HasCause, Rises};
 ghost use Rattle.mss_base.specs.Sites.{OnlyReads, MayWrite};
 ghost use Rattle.mss_base.specs.declared.place.UnitNo.{UnitNo};
 ghost use Rattle.transfers.specs.Copies.{source, source_place, copy_of, moved_on, AddsAtMost, CopiesTrack};
+ghost use Rattle.mss_base.specs.Geometry.{block_bytes, cylinder_heads};
 
 use crate::transfer::Transfer;
-use mss_base::{BLOCK_BYTES, BlockPlace, Failed, HEADS, Head, Site, clear_block, read_whole};
+use mss_base::{BlockPlace, Failed, Head, Site, clear_block, read_whole};
 
 /// Puts into the buffer what the track of a head is copied from.
 fn read_source<S: Site>(
@@ -17,7 +18,7 @@ fn read_source<S: Site>(
     head: Head,
     buffer: &mut [u8],
 ) -> Result<(), Failed>
-    requires { length buffer.old ≡ BLOCK_BYTES }
+    requires { length buffer.old ≡ block_bytes }
     ensures bytes { S.tells →
         OnOk result (buffer.new ≡ source transfer.now head (content (S.told site.old))) }
     ensures reads { OnlyReads S.Site site.old site.new }
@@ -38,7 +39,7 @@ fn read_source<S: Site>(
 
 /// Writes a whole block.
 fn write_block<S: Site>(site: &mut S, to: &BlockPlace, block: &[u8]) -> Result<(), Failed>
-    requires whole { length block.now ≡ BLOCK_BYTES }
+    requires whole { length block.now ≡ block_bytes }
     requires room { 1 ≤ S.spare site.old }
     ensures written { S.tells →
         OnOk result (Adds (copy_of to.now block.now) (S.told site.old) (S.told site.new)) }
@@ -61,8 +62,8 @@ pub fn copy_track<S: Site>(
     transfer: &mut Transfer,
     buffer: &mut [u8],
 ) -> Result<(), Failed>
-    requires more { transfer.old.next < HEADS }
-    requires buffer { length buffer.old ≡ BLOCK_BYTES }
+    requires more { transfer.old.next < cylinder_heads }
+    requires buffer { length buffer.old ≡ block_bytes }
     requires room { 1 ≤ S.spare site.old }
     ensures copies { CopiesTrack S.Site transfer.old site.old site.new result }
     ensures done { OnOk result (transfer.new ≡ moved_on transfer.old) }

@@ -9,8 +9,8 @@ ghost use Rattle.shown_volumes.specs.Changing.{IsOutside, IsReady, MayChange, Is
 ghost use Rattle.transfers.specs.declared.transfer.Transfer.{Transfer};
 ghost use Rattle.transfers.specs.Copies.{in_frame, in_cartridge, target, AddsAtMost, IsCopiedTo, AreFirm};
 ghost use Rattle.transfers.specs.Dues.{change_of, IsDue};
+ghost use Rattle.mss_base.specs.Geometry.{cylinder_heads};
 
-use mss_base::HEADS;
 use shown_volumes::law::{
     allowed_changes_show_the_same, changed_cylinders_leave_their_cartridge,
     unstaged_cylinders_leave_their_frame, writes_outside_change_nothing,
@@ -19,7 +19,7 @@ use shown_volumes::law::{
 /// The blocks that a transfer copies to, where it is due, are outside what is shown.
 pub fn copies_go_outside()
     ensures { (frames head : ℕ) (t : Transfer) (r : RowValue) (c : Content)
-        → IsSound frames c → rows_of c t.volume ≡ Some r → IsDue t r → head < HEADS
+        → IsSound frames c → rows_of c t.volume ≡ Some r → IsDue t r → head < cylinder_heads
         → IsOutside c (target t head) }
 {
     unstaged_cylinders_leave_their_frame();
@@ -36,7 +36,7 @@ pub fn copies_leave_the_table()
 pub fn copies_show_the_same()
     ensures { (frames : ℕ) (t : Transfer) (r : RowValue) (old new : SiteLog)
         → IsSound frames (content old) → rows_of (content old) t.volume ≡ Some r → IsDue t r
-        → t.next < HEADS → AddsAtMost (target t t.next) old new
+        → t.next < cylinder_heads → AddsAtMost (target t t.next) old new
         → Writes (SoundAs frames (volumes_shown (content old))) old new }
 {
     copies_go_outside();
@@ -48,11 +48,11 @@ pub fn copies_show_the_same()
 pub fn copies_leave_a_site_quiet()
     ensures moments { (frames : ℕ) (t : Transfer) (r : RowValue) (old new : SiteLog)
         → IsSound frames (content old) → IsQuiet old → rows_of (content old) t.volume ≡ Some r
-        → IsDue t r → t.next < HEADS → AddsAtMost (target t t.next) old new
+        → IsDue t r → t.next < cylinder_heads → AddsAtMost (target t t.next) old new
         → Writes (StillShows frames (volumes_shown (content old)) old) old new }
     ensures quiet { (frames : ℕ) (t : Transfer) (r : RowValue) (old new : SiteLog)
         → IsSound frames (content old) → IsQuiet old → rows_of (content old) t.volume ≡ Some r
-        → IsDue t r → t.next < HEADS → AddsAtMost (target t t.next) old new
+        → IsDue t r → t.next < cylinder_heads → AddsAtMost (target t t.next) old new
         → IsQuiet new }
 {
     copies_go_outside();
@@ -73,7 +73,7 @@ pub fn copies_stay()
 pub fn copied_cylinders_are_ready()
     ensures allowed { (t : Transfer) (r : RowValue) → IsDue t r → IsAllowed (change_of t) r }
     ensures ready { (frames : ℕ) (t : Transfer) (r : RowValue) (c : Content)
-        → IsDue t r → t.next ≡ HEADS → IsCopiedTo t c → IsReady frames (change_of t) r c }
+        → IsDue t r → t.next ≡ cylinder_heads → IsCopiedTo t c → IsReady frames (change_of t) r c }
     ensures firm { (t : Transfer) (r : RowValue) (s : SiteLog)
         → IsDue t r → AreFirm t s → IsFirmFor (change_of t) r s }
 {}
@@ -82,7 +82,7 @@ pub fn copied_cylinders_are_ready()
 pub fn copied_cylinders_show_the_same()
     ensures { (frames : ℕ) (t : Transfer) (r : RowValue) (c : Content)
         → IsSound frames c → rows_of c t.volume ≡ Some r → IsRow r
-        → IsDue t r → t.next ≡ HEADS → IsCopiedTo t c
+        → IsDue t r → t.next ≡ cylinder_heads → IsCopiedTo t c
         → MayChange frames t.volume (effect (change_of t) r) c }
 {
     copied_cylinders_are_ready();
