@@ -3,5 +3,7 @@ pub mod ConsoleFacts
 pub mod Beginning
 pub mod Syncing
 pub mod Answering
+pub mod Stopping
 pub mod TakenUp
+pub mod Started
 pub mod OneCopy

@@ -69,6 +69,10 @@ pub unsynced_taken : {S C : Type 0} (tells : Type 0) (config : ConfigData) (old 
 unsynced_taken tells config old new refused is = refusal_taken config old new refused (λ same low. unsynced_exactly tells config old new refused.1 same low is)
 
 -- of a site that tells
+unsynced_telling : (tells : Type 0) → tells → (old new : DevicesSeen) (why : Refused) → IsUnsynced tells old new why → IsUnsynced (Unit {0}) old new why
+unsynced_telling tells t old new why (inl is) = inl (record { told = λ _. is.0.told t; unwritten = is.0.unwritten; unfailed = is.0.unfailed }, is.1)
+unsynced_telling tells t old new why (inr is) = inr (record { told = λ _. is.0.told t; tried = is.0.tried; later = is.0.later; failed = is.0.failed }, is.1)
+
 pub telling : (tells : Type 0) → tells → (config : ConfigData) (old new : DevicesSeen) (answer : Result Opened Refused) → OpensSynced tells config old new answer → OpensSynced (Unit {0}) config old new answer
 telling tells t config old new answer is = record {
   synced = is.synced;
@@ -76,3 +80,7 @@ telling tells t config old new answer is = record {
   told = λ _. is.told t;
   any = is.any;
 }
+
+pub restarts_telling : (tells : Type 0) → tells → (config : ConfigData) (old new : DevicesSeen) (answer : Result Opened Refused) → Restarts tells config old new answer → Restarts (Unit {0}) config old new answer
+restarts_telling tells t config old new answer (not_opened why is stays) = not_opened why is (unsynced_telling tells t old new why stays)
+restarts_telling tells t config old new answer (opened is) = opened (telling tells t config old new answer is)

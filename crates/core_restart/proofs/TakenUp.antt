@@ -1,13 +1,12 @@
 -- What a stop leaves has no fault, and which volumes come of it.
-use Rattle.std.proofs.Common.{◌≡◌, inl, inr, ℕ, ◌+◌, ◌≤◌, ◌<◌, ◌==◌, Bool, true, false, not, cond, List, [], ◌∷◌, ◌++◌, length, length-append, take, Option, Some, None, Result, Ok, Err, refl, sym, ◌∙◌, ap, subst, arith}
+use Rattle.std.proofs.Common.{◌≡◌, inl, inr, ℕ, ◌+◌, ◌<◌, ◌==◌, Bool, true, false, not, cond, List, [], ◌∷◌, ◌++◌, length, take, Option, Some, None, Result, Ok, Err, refl, sym, ◌∙◌, ap, subst, arith}
 use Rattle.std.specs.Prelude.{◌↔◌, is_some, slice_get}
 use Rattle.std.specs.Option.{option_map}
 use Rattle.std.specs.List.{AllByRecursion}
 use Rattle.std.proofs.lemmas.Bool.{cases_Bool, cond_both, cond-true, cond-false, eq-eqb, eqb-true, ne_eqb}
 use Rattle.std.proofs.lemmas.List.{take_all}
 use Rattle.mss_base.specs.Configs.{ConfigData, VolumeData, serial_in, marked_in}
-use Rattle.mss_base.specs.Content.{Content, SiteLog, Item, Got, IsTorn, Writes, content, synced_all, after as written_after}
-use Rattle.mss_base.proofs.Moments.{moments_are_images, torn_at}
+use Rattle.mss_base.specs.Content.{Content, SiteLog, Item, Writes, content, after as written_after}
 use Rattle.mss_base.specs.declared.site.Site.{Ghosts}
 use Rattle.ckd_track.specs.Data.{Volumes}
 use Rattle.channel_commands.specs.Data.{CallData, ReplyData, mounted, equipment_check, no_space, stopped}
@@ -23,7 +22,6 @@ use Rattle.shown_volumes.specs.Sound.{IsSound, HasSerialsAsked}
 use Rattle.volume_table.specs.Changes.{with_mark}
 use Rattle.shown_volumes.specs.Changing.{with_row}
 use Rattle.shown_volumes.specs.Faults.{first_fault}
-use Rattle.shown_volumes.proofs.QuietFacts.{all_firm}
 use Rattle.mss_restart.specs.declared.opening.Opened.{Opened}
 use Rattle.mss_restart.specs.Opening.{OpeningChange, made, marked, volume_of, opened_by, opened_all, to_make, to_mark, is_marked_as, opening_changes, ShowsFront, IsOpened}
 use Rattle.mss_restart.proofs.Creating.{AreRising, rising_first, to_make_past, to_mark_past}
@@ -35,7 +33,7 @@ use Rattle.core_state.specs.IsCore.{IsTold, opening_of}
 use Rattle.core_state.proofs.EntryLemmas.{opening_same}
 use Rattle.core_restart.specs.Begins.{Begins}
 use Rattle.core_restart.specs.TakingUp.{Answer, AreThere, IsFaultless, shown_for, IsTakenUp, BeginsWith, TakesUp, RestartsOver, Stop, left_by, IsSession, IsLater, LeavesAll, OpensFaultless, LeavesFront}
-use Rattle.core_restart.proofs.Syncing.{same_content}
+use Rattle.core_restart.proofs.Stopping.{leaves, same, synced}
 
 -- ---- the serials and the marks of volumes stay
 
@@ -459,29 +457,14 @@ module _ (decides : Decides) (config : ConfigData) (old new : DevicesSeen) (answ
   abbrev Fronts : Content → Type 0
   Fronts = ShowsFront config.frames further (volumes_shown begun)
 
-  abbrev synced : SiteLog
-  synced = is.opens.synced.told
-
-  got : Got (synced_all ∷ []) old.told synced
-  got = is.opens.sync.told tt
-
-  same : content synced ≡ begun
-  same = same_content old.told synced got
-
-  -- nothing is loose behind the sync, so no stop changes what was there then
-  torn_stays : (c d : Content) → Fronts c → IsTorn synced c d → Fronts d
-  torn_stays c d shows torn = subst Fronts (λ i unit block. sym (torn_at synced c d unit block torn (all_firm old.told synced got unit block)) i) shows
-
-  moments : Writes Fronts synced new.told
+  moments : Writes Fronts (synced config old new answer is.opens) new.told
   moments =
-      subst (λ (c : Content). Writes (ShowsFront config.frames (opening_changes (rows_of c) config.volumes) (volumes_shown c)) synced new.told) same
-      ((is.opens.told tt).moments config.frames (subst (IsSound config.frames) (sym same) was.0))
-
-  since : length synced.log ≤ stop.moment
-  since = let long = ap (λ (s : SiteLog). length s.log) got ∙ length-append old.told.log (synced_all ∷ []) in omega (arith, long, stop.since)
+      let at_sync = same config old new answer is.opens in
+      subst (λ (c : Content). Writes (ShowsFront config.frames (opening_changes (rows_of c) config.volumes) (volumes_shown c)) (synced config old new answer is.opens) new.told) at_sync
+      ((is.opens.told tt).moments config.frames (subst (IsSound config.frames) (sym at_sync) was.0))
 
   front : ShowsFront config.frames further (volumes_shown begun) (left_by stop)
-  front = moments_are_images Fronts Fronts synced new.told moments torn_stays stop.moment since stop.until stop.tear
+  front = leaves config old new answer is.opens stop Fronts moments
 
   done_asked : AreAsked asked front.done_
   done_asked =

@@ -1,5 +1,5 @@
 -- What a restart takes up: content in which its configuration finds no fault, as a stop leaves it.
-use Rattle.std.specs.Prelude.{◌≡◌, ◌≤◌, ◌<◌, ℕ, Bool, List, [], length, map, Some, None, Result, Ok, Err, IfOk}
+use Rattle.std.specs.Prelude.{◌≡◌, ◌⊎◌, ◌≤◌, ◌<◌, ◌+◌, ℕ, Bool, List, [], length, map, Some, None, Result, Ok, Err, IfOk}
 use Rattle.mss_base.specs.Configs.{ConfigData, VolumeData, IsConfig, serial_in, marked_in}
 use Rattle.std.specs.List.Sorted.{IsStrictlySortedBy}
 use Rattle.std.specs.Ordering.{nat_cmp}
@@ -7,7 +7,7 @@ use Rattle.mss_base.specs.Content.{Content, SiteLog, Item, Tear, Got, content, i
 use Rattle.ckd_track.specs.Data.{Volumes}
 use Rattle.ckd_plain.specs.Plain.{start_of}
 use Rattle.shown_volumes.specs.declared.refused.Refused.{Refused}
-use Rattle.shown_volumes.specs.declared.refused.Refused.TheVariants.{Memory}
+use Rattle.shown_volumes.specs.declared.refused.Refused.TheVariants.{Stopped, Memory}
 use Rattle.shown_volumes.specs.Shown.{rows_of, volumes_shown}
 use Rattle.shown_volumes.specs.Sound.{SoundAs}
 use Rattle.shown_volumes.specs.Faults.{first_fault}
@@ -15,7 +15,7 @@ use Rattle.mss_restart.specs.declared.opening.Opened.{Opened}
 use Rattle.mss_restart.specs.Opening.{ShowsFront, opened_all, opening_changes}
 use Rattle.core_state.specs.CoreValue.{CoreValue, DevicesSeen}
 use Rattle.core_state.specs.IsCore.{IsTold, opening_of}
-use Rattle.core_restart.specs.Opening.{OpensSynced}
+use Rattle.core_restart.specs.Opening.{OpensSynced, Restarts}
 
 -- what `restart` answers
 abbrev pub Answer : Type 0 → Type 0 → Type 0
@@ -135,3 +135,33 @@ pub record LeavesFront (config : ConfigData) (old c : Content) : Type 0 where
   pub faultless : IsFaultless config c
   pub front : ShowsFront config.frames (opening_changes (rows_of old) config.volumes) (volumes_shown old) c
   pub in_the_end : shown_for config c ≡ shown_for config old
+
+-- a start over devices that tell, however it ended
+pub record StartsOver (config : ConfigData) (old new : DevicesSeen)
+    (answer : Result Opened Refused) : Type 0 where
+  pub whole : IsConfig config
+  pub restarts : Restarts (Unit {0}) config old new answer
+
+-- what a stop within an opening leaves: of content with a fault just what was there
+pub record LeavesOpening (config : ConfigData) (old c : Content) : Type 0 where
+  pub faultless : IsFaultless config old → LeavesFront config old c
+  pub faulty : (IsFaultless config old → ⊥) → c ≡ old
+
+-- where nothing was made firm, and so nothing was written, a stop within a start leaves what one
+-- before it would have left
+abbrev pub StopsUnsynced : SiteLog → SiteLog → Type 0
+StopsUnsynced old new =
+    (stop : Stop (length old.log) new) → left_by stop ≡ image old (length old.log) stop.tear
+
+-- and from the sync of all units on what one within an opening does
+abbrev pub StopsSynced : ConfigData → SiteLog → SiteLog → Type 0
+StopsSynced config old new =
+    (stop : Stop (length old.log + 1) new) → LeavesOpening config (content old) (left_by stop)
+
+-- What a stop within a start leaves, by what it answers. Where it refuses a fault, or a row that it
+-- couldn't read, that is just what was there.
+abbrev pub StopsStart : ConfigData → SiteLog → SiteLog → Result Opened Refused → Type 0
+StopsStart config old new (Ok opened) = StopsSynced config old new
+StopsStart config old new (Err (Stopped fault)) = StopsUnsynced old new ⊎ StopsSynced config old new
+StopsStart config old new (Err Memory) = StopsUnsynced old new ⊎ StopsSynced config old new
+StopsStart config old new (Err e) = (stop : Stop (length old.log + 1) new) → left_by stop ≡ content old

@@ -23,7 +23,9 @@ ghost use Rattle.core_restart.specs.TakingUp.{
   LeavesFront,
   OpensFaultless,
   RestartsOver,
+  StartsOver,
   Stop,
+  StopsStart,
   left_by,
   shown_for,
 };
@@ -57,7 +59,8 @@ pub fn restart_takes_up_every_stop<S: Site, C: Choose>()
 
 /// Whatever a stop within a restart leaves, behind its sync of all units, also within a call that fails, has no
 /// fault, where what it began from had none. Another restart, of which no call fails, begins a session with the very
-/// volumes that the first was to begin with; or memory runs out.
+/// volumes that the first was to begin with; or memory runs out. Of what had a fault it leaves just what was there, and
+/// so where a row couldn't be read; where the sync failed, what a stop before it would have left.
 pub fn restart_takes_up_its_own_stops<S: Site, C: Choose>()
     ensures leaves { (config : ConfigData) (old new : DevicesSeen) (answer : Result Opened Refused)
         → OpensFaultless config old new answer
@@ -69,6 +72,9 @@ pub fn restart_takes_up_its_own_stops<S: Site, C: Choose>()
         (again left : DevicesSeen) (then : Answer S C)
         → RestartsOver config (left_by stop) again left then
         → IsTakenUp config (shown_for config (content old.told)) left.told then }
+    ensures start { (config : ConfigData) (old new : DevicesSeen)
+        (answer : Result Opened Refused) → StartsOver config old new answer
+        → StopsStart config old.told new.told answer }
 {
     shown_volumes::law::first_fault_is_of_unsound_content();
 }

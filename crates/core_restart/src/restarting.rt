@@ -16,10 +16,11 @@ ghost use Rattle.core_restart.specs.Opening.{
 };
 ghost use Rattle.core_restart.specs.Prepared.{prepared_answer, prepared_site};
 ghost use Rattle.core_restart.specs.Parts.{AreParts, MayBegin};
-ghost use Rattle.core_restart.specs.TakingUp.{TakesUp};
+ghost use Rattle.core_restart.specs.TakingUp.{StopsStart, TakesUp};
 ghost use Rattle.core_state.specs.CoreValue.{seen_site};
 
 use crate::console::tell_steps;
+use crate::law::restart_takes_up_its_own_stops;
 use crate::owners::own_frames;
 use crate::parts::Parts;
 use accessors::Rail;
@@ -164,7 +165,7 @@ fn prepare<S: Site>(alloc: Global, site: S, config: &Config) -> Result<Prepared<
 /// where a call of the site failed, and keep its count of faults. After want of memory all that was begun was written
 /// to its end. Where it refuses, it hands the site back. A stop at any moment, also within a call that fails, leaves
 /// a sound content sound; it then shows the volumes that it showed before, after a front of the new ones and the new
-/// marks.
+/// marks. A content with a fault it leaves as it was.
 ///
 /// The memory of the core is taken before anything is written, but for that of the rows
 /// that it creates.
@@ -179,6 +180,8 @@ pub fn restart<S: Site, C: Choose + Drop>(
         (seen_site S.Site (site_left result)) (opening_answer result) }
     ensures takes_up { S.tells → TakesUp config.now (seen_site S.Site site)
         (seen_site S.Site (site_left result)) result }
+    ensures stops { S.tells → StopsStart config.now (S.told site) (S.told (site_left result))
+        (opening_answer result) }
     ensures works { NeverFails S.Site site → TellsNoFailure (opening_answer result) }
     ensures devices { WritesOn S.Site site (site_left result) }
     ensures begins { IfOk result (λ core.
@@ -186,6 +189,7 @@ pub fn restart<S: Site, C: Choose + Drop>(
 {
     // The numbers of its volumes rise.
     let _volumes = &config.volumes;
+    restart_takes_up_its_own_stops::<S, C>();
     match prepare(alloc, site, config) {
         Err(refusal) => Err(refusal),
         Ok(prepared) => {

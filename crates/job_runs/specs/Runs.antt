@@ -12,7 +12,6 @@ use Rattle.volume_table.specs.Listed.{row_in_list}
 use Rattle.volume_table.specs.Row.{RowValue}
 use Rattle.shown_volumes.specs.Shown.{rows_of}
 use Rattle.shown_volumes.specs.declared.refused.Refused.{Refused}
-use Rattle.mss_restart.specs.declared.opening.Opened.{Opened}
 use Rattle.core_state.specs.Chains.{Reading, Terms}
 use Rattle.core_state.specs.Counted.{IsCounted}
 use Rattle.core_state.specs.CoreValue.{CoreData, DevicesSeen}
@@ -20,6 +19,7 @@ use Rattle.core_state.specs.SessionData.{SessionData, data_of}
 use Rattle.core_state.specs.Sessions.{session_data}
 use Rattle.core_restart.specs.Begins.{Begins}
 use Rattle.core_restart.specs.Opening.{OpensSynced, Restarts, opened_in}
+use Rattle.core_restart.specs.TakingUp.{StopsStart}
 use Rattle.plain_sessions.specs.Sessions.{BeganOver, IsPlainSession, StopsAnywhere, plain_volumes}
 use Rattle.serial_driver.specs.Drives.{IsFull, RunsOn}
 use Rattle.script_places.specs.Scripts.{exchanges_of, script_of}
@@ -43,9 +43,10 @@ use Rattle.job_runs.specs.declared.run.Outcome.TheVariants.{Untaken, Ran}
 
 -- ---- how a session begins, and how it goes
 
--- what a restart made of the devices, and answered
-abbrev pub Opens : ConfigData → Devices → Result Opened Refused → Type 0
-Opens config site answer = Restarts site.tells config site.was site.now answer
+-- a start that isn't taken up, for this reason: what a restart made of the devices, and what a stop within it leaves
+pub record RefusesStart (config : ConfigData) (site : Devices) (why : Refused) : Type 0 where
+  pub restarts : Restarts site.tells config site.was site.now (Err why)
+  pub stops : site.tells → StopsStart config site.was.told site.now.told (Err why)
 
 -- a restart over the devices as they were made this core, of which nothing has happened
 pub record IsBegun (tells : Type 0) (config : ConfigData) (was : DevicesSeen) (core : CoreData)
@@ -218,7 +219,7 @@ pub record IsLoadOf (may : List Candidate → ℕ → Type 0) (job : JobData) (p
 
 -- the site isn't taken up, and nothing was put
 pub record IsUntaken (job : JobData) (site : Devices) (sink : Stream) (why : Refused) : Type 0 where
-  pub opens : Opens job.config site (Err why)
+  pub opens : RefusesStart job.config site why
   pub unput : IsUntouched sink
 
 -- the site isn't taken up, or a session was run, and its report was put

@@ -32,7 +32,7 @@ ghost use Rattle.job_runs.specs.Runs.{
   IsMarked,
   IsPlayed,
   OnUnread,
-  Opens,
+  RefusesStart,
   ReportBrokeOff,
   TellsSession,
   matter_of,
@@ -244,8 +244,8 @@ pub fn play<S: Site, C: Choose + Drop>(
     ensures devices { IfOk result (λ p. WritesOn S.Site site p.site) }
     ensures only_reads_fail { IfOk result (λ p. (but : UnitNo → Bool)
         → S.never_fails_but site but → p.session.stopped ≡ None) }
-    ensures untaken { IfErr result (λ back. Opens job.now.config
-        (devices S.Site site back.0) (Err back.1)) }
+    ensures untaken { IfErr result (λ back. RefusesStart job.now.config
+        (devices S.Site site back.0) back.1) }
     ensures back { IfErr result (λ back. WritesOn S.Site site back.0) }
 {
     match restart(alloc, site, &job.config, chooser) {

@@ -123,6 +123,7 @@ module _ (xs ys : List OpeningChange) (s mid t : SiteLog) (before between rows :
   opened_behind second = record {
     opens = opens_append xs ys (row_in_list before) (row_in_list between) (row_in_list rows) opened.opens second.opens;
     known = second.known;
+    renewed = second.renewed;
     shows = λ frames sound.
         let at = opened.shows frames sound in
         let then_ = second.shows frames at.sound in
@@ -171,6 +172,7 @@ module _ (s mid t : SiteLog) (changes : List OpeningChange) (firm : Settles s mi
   opened_since before rows used is = record {
     opens = is.opens;
     known = is.known;
+    renewed = is.renewed;
     shows = λ frames sound.
         let was = at_mid frames sound in
         subst (λ (x : Volumes). SoundAs frames (opened_all changes x) (content t)) was.same (is.shows frames was.sound);
@@ -190,6 +192,7 @@ opened config c d before rows used rising long are none rows_long made_ =
       shows = subst (λ (x : RowsOf). SoundAs config.frames (opened_all (opening_changes x config.volumes) (volumes_shown c)) d) was (made_.shows config.frames sound.0);
       rows_are = is;
       held = subst (λ (x : RowsOf). AreHeld x d) is made_.known.held;
+      renewed = made_.renewed;
       slots_ = made_.known.slots_;
       opens = opens;
       asked = opens_asked config.volumes (rows_of c) (rows_of d) rising opens sound.1;

@@ -9,6 +9,7 @@ use Rattle.mss_base.proofs.Moments.{ended_with}
 use Rattle.volume_table.specs.Row.{RowValue, blank_row}
 use Rattle.table_pair.specs.Copies.{copy_at}
 use Rattle.table_pair.specs.Pair.{known, IsOpenWith, HoldsRow, ChangesRow, NoneOrNew}
+use Rattle.table_pair.specs.Migrating.{AreNew}
 use Rattle.table_pair.specs.Slots.{HasSlots, no_slots}
 use Rattle.table_pair.proofs.PairFacts.{held_row}
 use Rattle.shown_volumes.specs.Shown.{RowsOf, volumes_shown}
@@ -22,6 +23,7 @@ use Rattle.volume_table.specs.declared.changes.Change.TheVariants.{Create}
 use Rattle.mss_restart.specs.Creations.{MakesRow}
 use Rattle.mss_restart.specs.declared.steps.OpeningStep.{OpeningStep}
 use Rattle.mss_restart.proofs.FreshFacts.{is_fresh, rows_with}
+use Rattle.mss_restart.proofs.Renewed.{renewed_with}
 use Rattle.mss_restart.proofs.SlotFacts.{slots_with}
 
 -- a list with another row of one volume
@@ -79,8 +81,8 @@ module _ (before : List (Option RowValue)) (s t : SiteLog) (are : RowsAre before
         second = subst (λ (n : ℕ). IsLowestFree (row_in_list before) (Some n) row.second) first_is (subst (λ (n : ℕ). IsLowestFree (row_in_list before) (Some first) n) second_is two);
       }
 
-  pub created_of : HoldsRow row volume (content t) → HasSlots no_slots volume (content t) → (rows : List (Option RowValue)) → rows ≡ set before volume (Some row) → IsOpeningDone (made volume serial) (content s) (content t) before rows
-  created_of holds unused rows set_is =
+  pub created_of : HoldsRow row volume (content t) → HasSlots no_slots volume (content t) → AreNew volume (content t) → (rows : List (Option RowValue)) → rows ≡ set before volume (Some row) → IsOpeningDone (made volume serial) (content s) (content t) before rows
+  created_of holds unused new rows set_is =
       let now : row_in_list rows ≡ with_row volume row (row_in_list before) = ap row_in_list set_is ∙ listed_set before volume row (omega (arith, long, low)) in
       record {
         row = row;
@@ -88,6 +90,7 @@ module _ (before : List (Option RowValue)) (s t : SiteLog) (are : RowsAre before
         now = now;
         are = subst (λ (x : List (Option RowValue)). RowsAre x (content t)) (sym set_is) (rows_with before (content s) (content t) volume row (NoneOrNew volume row) are long low within holds);
         held = λ held. subst (λ (x : RowsOf). AreHeld x (content t)) (sym now) (held_with (row_in_list before) (content s) (content t) volume row (NoneOrNew volume row) within holds held);
+        renewed = renewed_with volume (NoneOrNew volume row) (content s) (content t) within new;
         slots_ = λ used places are_used v v_low. slots_with volume (NoneOrNew volume row) (content s) (content t) within used no_slots (omega (arith, places, low)) unused v (λ _. are_used v v_low);
         shows = λ frames sound.
             blank_new frames volume first second serial (content s) (content t) sound fresh (NoneOrNew volume row) within (held_row row volume (content t) holds ∙ ap (λ (r : RowValue). known (Some r) false) is);

@@ -23,7 +23,7 @@ use Rattle.std.proofs.Math.Seq.{drop-cons}
 use Rattle.volume_table.specs.Listed.{row_in_list}
 use Rattle.mss_restart.specs.Creations.{RepairsOthers}
 use Rattle.mss_restart.proofs.OtherRows.{nothing_else, others_then, others_of, one_holds}
-use Rattle.mss_restart.specs.Opening.{OpeningChange, made, marked, volume_of, opened_by, opened_all, BeforeOrAfter, to_make, to_mark, is_marked_as, AreKnown, ShowsFront, IsRowAfter, OpensRows, IsOpeningDone, AreOpened, used_by}
+use Rattle.mss_restart.specs.Opening.{OpeningChange, made, marked, volume_of, opened_by, opened_all, BeforeOrAfter, to_make, to_mark, is_marked_as, AreKnown, AreRowsNew, ShowsFront, IsRowAfter, OpensRows, IsOpeningDone, AreOpened, used_by}
 
 abbrev pub AreRising : List VolumeData → Type 0
 AreRising vs = IsStrictlySortedBy nat_cmp (map (λ v. v.0) vs)
@@ -47,17 +47,19 @@ pub record IsOpening (all : List OpeningChange) (start : RowsOf) (begun now : Si
   pub moments : (frames : ℕ) → IsSound frames (content begun) → Writes (ShowsFront frames all (volumes_shown (content begun))) begun now
   pub shows : (frames : ℕ) → IsSound frames (content begun) → SoundAs frames (opened_all done_ (volumes_shown (content begun))) (content now)
   pub known : AreKnown rows used (content now)
+  pub renewed : AreRowsNew (content now)
   pub opens : OpensRows done_ start (row_in_list rows)
   pub others : RepairsOthers all begun now
   pub firm : Settles begun now
 
-pub nothing_opened : (all : List OpeningChange) (s : SiteLog) (rows : List (Option RowValue)) (used : List SlotsUsed) → AreKnown rows used (content s) → IsOpening all (row_in_list rows) s s rows used all
-nothing_opened all s rows used known = record {
+pub nothing_opened : (all : List OpeningChange) (s : SiteLog) (rows : List (Option RowValue)) (used : List SlotsUsed) → AreKnown rows used (content s) → AreRowsNew (content s) → IsOpening all (row_in_list rows) s s rows used all
+nothing_opened all s rows used known renewed = record {
   done_ = [];
   order = refl;
   moments = λ frames sound. none_shown frames all s s refl sound;
   shows = λ frames sound. record { sound = sound; same = refl };
   known = known;
+  renewed = renewed;
   opens = refl;
   others = nothing_else all s s refl;
   firm = settles_none s;
@@ -151,6 +153,7 @@ module _ (all : List OpeningChange) (start : RowsOf) (begun mid : SiteLog) (rows
         held = one.held so_far.known.held;
         slots_ = subst (λ (xs : List SlotsUsed). AreUsed xs (content now)) (sym used_is) (one.slots_ used places so_far.known.slots_);
       };
+      renewed = one.renewed so_far.renewed;
       opens = opens_last so_far.done_ change start (row_in_list rows) (row_in_list after) one.row so_far.opens one.is_row one.now;
       others = others_on now others;
       firm = settles_then begun mid now so_far.firm firm;
@@ -163,6 +166,7 @@ all_opened all s t before rows used is =
     record {
       opens = subst (λ (xs : List OpeningChange). OpensRows xs (row_in_list before) (row_in_list rows)) whole is.opens;
       known = is.known;
+      renewed = is.renewed;
       shows = λ frames sound. subst (λ (xs : List OpeningChange). SoundAs frames (opened_all xs (volumes_shown (content s))) (content t)) whole (is.shows frames sound);
     }
 

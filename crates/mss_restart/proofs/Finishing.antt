@@ -13,7 +13,7 @@ use Rattle.volume_table.specs.Listed.{row_in_list}
 use Rattle.mss_restart.specs.Walks.{rest_fault}
 use Rattle.mss_restart.specs.Survey.{AreFaultless}
 use Rattle.mss_restart.specs.Opening.{OpeningChange, opening_changes, RowsAre}
-use Rattle.mss_restart.specs.Creations.{IsStop, AreRepaired, AreMigrated, AreRewritten, IsFrontWritten, Account, AreTold, RepairsWhole, MigratesWhole, RewritesWhole, ChangesWhole, CompletesWhole}
+use Rattle.mss_restart.specs.Creations.{IsStop, AreRenewed, AreRepaired, AreMigrated, AreRewritten, IsFrontWritten, Account, AreTold, RepairsWhole, MigratesWhole, RewritesWhole, ChangesWhole, CompletesWhole}
 use Rattle.mss_restart.specs.Answers.{RefusesAs, KeepsOpening, RefusalLeaves, account_from}
 use Rattle.mss_restart.specs.declared.steps.OpeningStep.{OpeningStep}
 use Rattle.mss_restart.proofs.ReadRows.{right_readings}
@@ -36,13 +36,13 @@ migrates_whole old mid new (Err Memory) repaired is = (32, (is.0, record { mid =
 migrates_whole old mid new (Err _) repaired is = tt
 
 -- repairs behind which nothing was migrated, since all copies are of version 2
-unmigrated_all : (count : ℕ) (s : SiteLog) → AreMigrated count s s
+unmigrated_all : (count : ℕ) (s : SiteLog) → AreRenewed count (content s) → AreMigrated count s s
 unfolding AreMigrated
-unmigrated_all zero s = refl
-unmigrated_all (suc count) s = (s, unmigrated_all count s, unmigrated count s s refl)
+unmigrated_all zero s new = refl
+unmigrated_all (suc count) s new = (s, unmigrated_all count s (λ v lt. new v (omega (arith, lt))), unmigrated count s (λ row there. new count (omega arith)))
 
-pub repairs_alone : (old new : SiteLog) → AreRepaired 32 old new → AreRewritten 32 32 old new
-repairs_alone old new repaired = record { mid = new; repaired = repaired; migrated = unmigrated_all 32 new }
+pub repairs_alone : (old new : SiteLog) → AreRepaired 32 old new → AreRenewed 32 (content new) → AreRewritten 32 32 old new
+repairs_alone old new repaired renewed = record { mid = new; repaired = repaired; migrated = unmigrated_all 32 new renewed }
 
 -- want of memory within both
 pub rewrites_complete : (a : Account) (old new : SiteLog) (e : Refused) → RewritesWhole {T = Unit {0}} old new (Err e) → CompletesWhole a old new (Err e)

@@ -6,6 +6,7 @@ pub mod SurveyFacts
 pub mod Surveyed
 pub mod SlotFacts
 pub mod Settling
+pub mod Renewed
 pub mod Repaired
 pub mod OtherRows
 pub mod Pigeons

@@ -12,6 +12,7 @@ use Rattle.volume_table.specs.Listed.{row_in_list}
 use Rattle.volume_table.specs.declared.changes.Change.TheVariants.{Protect}
 use Rattle.table_pair.specs.declared.copy.SlotsUsed.{SlotsUsed}
 use Rattle.table_pair.specs.Pair.{HoldsRow, ChangesRow, OldOrNew}
+use Rattle.table_pair.specs.Migrating.{AreNew}
 use Rattle.table_pair.specs.Slots.{HasSlots, IsDue, used_after, used_at}
 use Rattle.table_pair.proofs.PairFacts.{held_row}
 use Rattle.shown_volumes.specs.Shown.{RowsOf, rows_of, volumes_shown}
@@ -22,6 +23,7 @@ use Rattle.mss_restart.specs.Opening.{AreKnown, AreHeld, RowsAre, IsOpeningDone,
 use Rattle.mss_restart.proofs.CreatedFacts.{listed_set, held_with}
 use Rattle.mss_restart.proofs.FreshFacts.{rows_with}
 use Rattle.mss_restart.proofs.KnownRows.{rows_listed}
+use Rattle.mss_restart.proofs.Renewed.{renewed_with}
 use Rattle.mss_restart.proofs.SlotFacts.{slots_with}
 
 -- so many slots are in use once
@@ -39,9 +41,9 @@ module _ (before : List (Option RowValue)) (used : List SlotsUsed) (s t : SiteLo
   within : ChangesRow volume (OldOrNew volume (with_mark on r) (content s)) (content s) (content t)
   within = ended_with (ChangesRow volume (OldOrNew volume (with_mark on r) (content s)) (content s)) s t w
 
-  pub marked_of : r.read_only ≢ on → HoldsRow (with_mark on r) volume (content t) → HasSlots (used_after (used_at used volume)) volume (content t) → (rows : List (Option RowValue)) → rows ≡ set before volume (Some (with_mark on r))
+  pub marked_of : r.read_only ≢ on → HoldsRow (with_mark on r) volume (content t) → HasSlots (used_after (used_at used volume)) volume (content t) → (AreNew volume (content s) → AreNew volume (content t)) → (rows : List (Option RowValue)) → rows ≡ set before volume (Some (with_mark on r))
       → IsOpeningDone (marked volume on) (content s) (content t) before rows
-  marked_of other holds slots rows set_is =
+  marked_of other holds slots stays_new rows set_is =
       let P : Content → Type 0 = OldOrNew volume (with_mark on r) (content s) in
       let now : row_in_list rows ≡ with_row volume (with_mark on r) (row_in_list before) = ap row_in_list set_is ∙ listed_set before volume (with_mark on r) (omega (arith, long, low)) in
       record {
@@ -50,6 +52,7 @@ module _ (before : List (Option RowValue)) (used : List SlotsUsed) (s t : SiteLo
         now = now;
         are = subst (λ (x : List (Option RowValue)). RowsAre x (content t)) (sym set_is) (rows_with before (content s) (content t) volume (with_mark on r) P known.told long low within holds);
         held = λ held. subst (λ (x : RowsOf). AreHeld x (content t)) (sym now) (held_with (row_in_list before) (content s) (content t) volume (with_mark on r) P within holds held);
+        renewed = λ new. renewed_with volume P (content s) (content t) within (stays_new (new volume r has_row)) new;
         slots_ = λ others places are_used v v_low.
             let same = same_used (used_at used volume) (used_at others volume) volume (content s) (known.slots_ volume low) (are_used volume low) in
             slots_with volume P (content s) (content t) within others (used_after (used_at others volume)) (omega (arith, places, low))

@@ -1,5 +1,5 @@
 -- Rows that were migrated are known still.
-use Rattle.std.proofs.Common.{◌≡◌, inl, inr, ℕ, ◌<◌, ◌==◌, List, length, set, Option, Some, sym, ◌∙◌, ap, subst, arith}
+use Rattle.std.proofs.Common.{◌≡◌, inl, inr, ℕ, ◌<◌, ◌==◌, List, length, set, Option, Some, refl, sym, ◌∙◌, ap, subst, arith}
 use Rattle.std.proofs.lemmas.Bool.{cases_Bool, cond-true, cond-false, eqb-true}
 use Rattle.mss_base.specs.Content.{SiteLog, content, Settles, Writes}
 use Rattle.mss_base.proofs.Moments.{ended_with, then_firm}
@@ -7,7 +7,7 @@ use Rattle.ckd_track.specs.Data.{Volumes}
 use Rattle.volume_table.specs.Row.{RowValue}
 use Rattle.volume_table.specs.Listed.{row_in_list}
 use Rattle.table_pair.specs.declared.copy.SlotsUsed.{SlotsUsed}
-use Rattle.table_pair.specs.Pair.{ChangesRow, HoldsRow}
+use Rattle.table_pair.specs.Pair.{ChangesRow}
 use Rattle.table_pair.specs.Slots.{HasSlots, used_at}
 use Rattle.table_pair.specs.Repairs.{KeepsRow}
 use Rattle.table_pair.specs.Migrating.{IsMigrated}
@@ -16,20 +16,21 @@ use Rattle.shown_volumes.specs.Shown.{RowsOf, volumes_shown}
 use Rattle.shown_volumes.specs.Sound.{IsSound, SoundAs}
 use Rattle.shown_volumes.specs.Changing.{with_row}
 use Rattle.shown_volumes.proofs.MomentFacts.{all_rows}
-use Rattle.mss_restart.specs.Opening.{AreKnown, AreHeld}
+use Rattle.mss_restart.specs.Opening.{AreKnown, AreHeld, IsRowNew}
 use Rattle.mss_restart.specs.Creations.{IsMigration}
 use Rattle.mss_restart.proofs.CreatedFacts.{held_with}
 use Rattle.mss_restart.proofs.SlotFacts.{slots_with}
 
--- nothing was written
-pub unmigrated : (volume : ℕ) (s t : SiteLog) → t ≡ s → IsMigration volume s t
-unmigrated volume s t same = record {
-  moments = unwritten volume s t same;
-  marks = no_marks volume s t same;
-  held = λ row holds. subst (λ (x : SiteLog). HoldsRow row volume (content x)) (sym same) holds;
-  alone = λ _. same;
-  without = λ _. same;
-  firm = none_firm volume s t same;
+-- nothing was written, since the row, if there is one, is of version 2
+pub unmigrated : (volume : ℕ) (s : SiteLog) → IsRowNew volume (content s) → IsMigration volume s s
+unmigrated volume s new = record {
+  moments = unwritten volume s s refl;
+  marks = no_marks volume s s refl;
+  held = λ row holds. holds;
+  alone = λ _. refl;
+  renewed = new;
+  without = λ _. refl;
+  firm = none_firm volume s s refl;
 }
 
 -- rows with the row that is there

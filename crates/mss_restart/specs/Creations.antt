@@ -21,7 +21,7 @@ use Rattle.shown_volumes.specs.declared.refused.Refused.TheVariants.{Stopped, Me
 use Rattle.shown_volumes.specs.Shown.{RowsOf, volumes_shown}
 use Rattle.shown_volumes.specs.Sound.{IsSound, SoundAs}
 use Rattle.shown_volumes.specs.Changing.{with_row}
-use Rattle.mss_restart.specs.Opening.{OpeningChange, made, marked, volume_of, AreKnown, AreOpened, BeforeOrAfter, IsOpeningDone, IsRowAfter, ShowsFront}
+use Rattle.mss_restart.specs.Opening.{OpeningChange, made, marked, volume_of, AreKnown, AreRowsNew, IsRowNew, AreOpened, BeforeOrAfter, IsOpeningDone, IsRowAfter, ShowsFront}
 use Rattle.mss_restart.specs.Survey.{NeverFails, TellsNoFailure}
 use Rattle.mss_restart.specs.declared.steps.OpeningStep.{OpeningStep}
 
@@ -72,12 +72,14 @@ pub record SameCopies (volume : ℕ) (old now : Content) : Type 0 where
   pub b : now TableB volume ≡ old TableB volume
 
 -- a volume's row was migrated: it is the same at each moment, as the made marks are, and stands in both copies, firm;
--- copies of version 2 weren't written, nor those of a volume without a row
+-- its copies, if it has a row, are of version 2 now. Those that were so weren't written, nor those of a volume without
+-- a row
 pub record IsMigration (volume : ℕ) (old new : SiteLog) : Type 0 where
   pub moments : Writes (ChangesRow volume (KeepsRow volume (content old)) (content old)) old new
   pub marks : Writes (KeepsMarks volume (content old)) old new
   pub held : (row : RowValue) → HoldsRow row volume (content old) → HoldsRow row volume (content new)
   pub alone : AreNew volume (content old) → new ≡ old
+  pub renewed : IsRowNew volume (content new)
   pub without : row_of (content old) volume ≡ known None false → new ≡ old
   pub firm : Settles old new
 
@@ -209,13 +211,14 @@ RewritesWhole old new (Err Memory) = (repairs : ℕ) × ((migrations : ℕ) × A
 RewritesWhole old new (Err e) = Unit {0}
 
 -- repairs and migrations: a sound content shows the same at each moment; no row is more than repaired and migrated, and
--- all made marks stay; the rows are known where none failed; and each was written to its end
+-- all made marks stay; the rows are known, and of version 2, where none failed; and each was written to its end
 pub record RewritesRows {T : Type 0} (rows : List (Option RowValue)) (used : List SlotsUsed) (old new : SiteLog)
     (result : Result T Refused) : Type 0 where
   pub moments : (frames : ℕ) → IsSound frames (content old)
       → Writes (SoundAs frames (volumes_shown (content old))) old new
   pub others : RepairsOthers [] old new
   pub known_ : OnOk result (AreKnown rows used (content new))
+  pub renewed : OnOk result (AreRowsNew (content new))
   pub complete : RewritesWhole old new result
 
 -- what a run leaves of a site, by its account and by how it ended

@@ -7,6 +7,7 @@ use Rattle.ckd_track.specs.Data.{Volumes}
 use Rattle.volume_table.specs.Row.{RowValue, blank_row}
 use Rattle.volume_table.specs.Changes.{with_mark}
 use Rattle.table_pair.specs.Pair.{HoldsRow, known, row_of}
+use Rattle.table_pair.specs.Migrating.{AreNew}
 use Rattle.table_pair.specs.Slots.{AreUsed, with_none_used, with_used_after}
 use Rattle.table_pair.specs.declared.copy.SlotsUsed.{SlotsUsed}
 use Rattle.shown_volumes.specs.Shown.{RowsOf, rows_of, is_marked, volumes_shown}
@@ -24,6 +25,14 @@ RowsAre rows c = (volume : ℕ) → volume < 32 → row_of c volume ≡ known (r
 -- both copies of each row are open with it
 abbrev pub AreHeld : RowsOf → Content → Type 0
 AreHeld rows c = (volume : ℕ) (row : RowValue) → rows volume ≡ Some row → HoldsRow row volume c
+
+-- a volume that has a row has it in two copies of version 2
+abbrev pub IsRowNew : ℕ → Content → Type 0
+IsRowNew volume c = (row : RowValue) → rows_of c volume ≡ Some row → AreNew volume c
+
+-- and so each
+abbrev pub AreRowsNew : Content → Type 0
+AreRowsNew c = (volume : ℕ) → IsRowNew volume c
 
 -- the rows of a content are known: both copies tell each of them, and are open with it, and so many of their slots
 -- are in use
@@ -115,7 +124,7 @@ abbrev pub used_by : OpeningChange → List SlotsUsed → List SlotsUsed
 used_by (made volume serial) used = with_none_used volume used
 used_by (marked volume on) used = with_used_after volume used
 
--- one change was made: its row stands in both copies and in the list, and is shown
+-- one change was made: its row stands in both copies and in the list, and is shown; it is of version 2 where all were
 pub record IsOpeningDone (change : OpeningChange) (c d : Content) (before rows : List (Option RowValue))
     : Type 0 where
   pub row : RowValue
@@ -123,25 +132,28 @@ pub record IsOpeningDone (change : OpeningChange) (c d : Content) (before rows :
   pub now : row_in_list rows ≡ with_row (volume_of change) row (row_in_list before)
   pub are : RowsAre rows d
   pub held : AreHeld (row_in_list before) c → AreHeld (row_in_list rows) d
+  pub renewed : AreRowsNew c → AreRowsNew d
   pub slots_ : (used : List SlotsUsed) → length used ≡ 32 → AreUsed used c → AreUsed (used_by change used) d
   pub shows : (frames : ℕ) → IsSound frames c → SoundAs frames (opened_by change (volumes_shown c)) d
 
--- these changes were made; so many slots of each volume are in use now
+-- these changes were made; so many slots of each volume are in use now, and each row is of version 2
 pub record AreOpened (changes : List OpeningChange) (c d : Content) (before rows : List (Option RowValue))
     (used : List SlotsUsed) : Type 0 where
   pub opens : OpensRows changes (row_in_list before) (row_in_list rows)
   pub known : AreKnown rows used d
+  pub renewed : AreRowsNew d
   pub shows : (frames : ℕ) → IsSound frames c → SoundAs frames (opened_all changes (volumes_shown c)) d
 
 -- an opened site: it was without a fault; it shows its volumes after the opening changes; the rows handed back are its
--- rows, in both copies, with so many slots in use; each configured volume has one, with its mark, and those from before
--- stay but for their marks
+-- rows, in both copies, of version 2, with so many slots in use; each configured volume has one, with its mark, and
+-- those from before stay but for their marks
 pub record IsOpened (config : ConfigData) (old new : Content) (rows : List (Option RowValue))
     (used : List SlotsUsed) : Type 0 where
   pub faultless : first_fault config.frames (serial_in config.volumes) old ≡ None
   pub shows : SoundAs config.frames (opened_all (opening_changes (rows_of old) config.volumes) (volumes_shown old)) new
   pub rows_are : row_in_list rows ≡ rows_of new
   pub held : AreHeld (rows_of new) new
+  pub renewed : AreRowsNew new
   pub slots_ : AreUsed used new
   pub opens : OpensRows (opening_changes (rows_of old) config.volumes) (rows_of old) (rows_of new)
   pub asked : (volume : ℕ) (serial : List ℕ)

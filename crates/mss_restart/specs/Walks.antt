@@ -5,7 +5,7 @@ use Rattle.volume_table.specs.Row.{RowValue}
 use Rattle.shown_volumes.specs.declared.refused.Refused.{Refused}
 use Rattle.shown_volumes.specs.Shown.{RowsOf}
 use Rattle.mss_base.specs.Firsts.{◌or◌, first_below}
-use Rattle.mss_base.specs.declared.numbers.TheConstants.{CYLINDERS, HEADS}
+use Rattle.mss_base.specs.Geometry.{volume_cylinders, cylinder_heads}
 use Rattle.shown_volumes.specs.Faults.{page_with, halves_fault, pages_fault, row_track_fault, tracks_fault}
 
 -- the first page of a volume that has a frame
@@ -14,10 +14,10 @@ lower_pages rows frame v = first_below 51 (page_with rows frame v)
 
 -- the faults of one row's tracks
 abbrev pub row_cylinder_fault : Content → ℕ → RowValue → ℕ → Option Refused
-row_cylinder_fault c volume r cylinder = first_below HEADS (λ head. row_track_fault c volume cylinder head r)
+row_cylinder_fault c volume r cylinder = first_below cylinder_heads (λ head. row_track_fault c volume cylinder head r)
 
 abbrev pub row_tracks_fault : Content → ℕ → RowValue → Option Refused
-row_tracks_fault c volume r = first_below CYLINDERS (row_cylinder_fault c volume r)
+row_tracks_fault c volume r = first_below volume_cylinders (row_cylinder_fault c volume r)
 
 -- the first fault of the walks behind that over the rows
 abbrev pub rest_fault : ℕ → RowsOf → Content → Option Refused

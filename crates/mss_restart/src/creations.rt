@@ -7,7 +7,7 @@ ghost use Rattle.table_pair.specs.Repairs.{LeavesSite};
 ghost use Rattle.table_pair.specs.Slots.{with_none_used};
 ghost use Rattle.shown_volumes.specs.declared.refused.Refused.TheVariants.{Memory};
 ghost use Rattle.volume_table.specs.Listed.{row_in_list};
-ghost use Rattle.mss_restart.specs.Opening.{AreKnown, RowsAre, made, to_make};
+ghost use Rattle.mss_restart.specs.Opening.{AreKnown, AreRowsNew, RowsAre, made, to_make};
 ghost use Rattle.mss_restart.specs.Creations.{
   AreTold,
   ChangesWhole,
@@ -87,6 +87,7 @@ pub fn create_volumes<S: Site>(
     requires room { length volumes.now ≤ creations.old.spare }
     requires rising { IsStrictlySortedBy nat_cmp (map (λ v. v.0) volumes.now) }
     requires known { S.tells → AreKnown rows.old used.old.items (content (S.told site.old)) }
+    requires renewed { S.tells → AreRowsNew (content (S.told site.old)) }
     requires places { length used.old.items ≡ 32 }
     ensures told { S.tells → OpensVolumes ChangesWhole
         (record {

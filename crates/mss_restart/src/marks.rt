@@ -8,7 +8,7 @@ ghost use Rattle.table_pair.specs.Repairs.{LeavesSite};
 ghost use Rattle.table_pair.specs.Slots.{with_used_after};
 ghost use Rattle.shown_volumes.specs.declared.refused.Refused.TheVariants.{Memory};
 ghost use Rattle.volume_table.specs.Listed.{HasRow, row_in_list};
-ghost use Rattle.mss_restart.specs.Opening.{AreKnown, is_marked_as, marked, to_mark};
+ghost use Rattle.mss_restart.specs.Opening.{AreKnown, AreRowsNew, is_marked_as, marked, to_mark};
 ghost use Rattle.mss_restart.specs.Creations.{
   AreTold,
   ChangesWhole,
@@ -90,6 +90,7 @@ pub fn mark_volumes<S: Site>(
     requires rising { IsStrictlySortedBy nat_cmp (map (λ v. v.0) volumes.now) }
     requires there { AllByRecursion (λ v. IsSome (row_in_list rows.old v.0)) volumes.now }
     requires known { S.tells → AreKnown rows.old used.old.items (content (S.told site.old)) }
+    requires renewed { S.tells → AreRowsNew (content (S.told site.old)) }
     requires places { length used.old.items ≡ 32 }
     ensures told { S.tells → OpensVolumes ChangesWhole
         (record {

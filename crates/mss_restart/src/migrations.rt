@@ -19,7 +19,7 @@ use shown_volumes::Refused;
 use table_pair::{CHANGE_ITEMS, SlotsUsedList, migrate};
 use volume_table::Rows;
 
-/// Writes the copies of a volume's row anew that are of version 1, if it has a row.
+/// Writes the copies of a volume's row anew that are of version 1, if it has a row, which is of version 2 then.
 fn migrate_row<S: Site>(
     site: &mut S,
     rows: &Rows,
@@ -55,8 +55,8 @@ fn migrate_row<S: Site>(
 }
 
 /// Writes the copies of each row anew that are of version 1, in order of volume, and counts their slots in use. The
-/// rows stay, and a sound content shows the same at each moment; so do the made marks, and copies of version 2. After
-/// want of memory each migration that was begun was written to its end.
+/// rows stay, and a sound content shows the same at each moment; so do the made marks, and copies of version 2. Where
+/// all went well each row is of version 2. After want of memory each migration that was begun was written to its end.
 pub fn migrate_rows<S: Site>(
     site: &mut S,
     rows: &Rows,

@@ -8,7 +8,7 @@ ghost use Rattle.mss_base.specs.Configs.{serial_in};
 ghost use Rattle.shown_volumes.specs.Faults.{first_fault};
 ghost use Rattle.volume_table.specs.Listed.{row_in_list};
 ghost use Rattle.mss_restart.specs.Usable.{AreUsable};
-ghost use Rattle.mss_restart.specs.Opening.{AreKnown, RowsAre, answer_of, opening_changes, site_of};
+ghost use Rattle.mss_restart.specs.Opening.{AreKnown, AreRowsNew, RowsAre, answer_of, opening_changes, site_of};
 ghost use Rattle.mss_restart.specs.Creations.{
   AreTold,
   ChangesWhole,
@@ -110,7 +110,7 @@ fn known_rows<S: Site>(alloc: Global, site: &mut S, config: &Config) -> Result<R
     }
 }
 
-/// Repairs and migrates the rows of a site without a fault. The rows are known then.
+/// Repairs and migrates the rows of a site without a fault. The rows are known then, and each is of version 2.
 fn rewrite_rows<S: Site>(
     alloc: Global,
     site: &mut S,
@@ -142,6 +142,7 @@ fn change_volumes<S: Site>(
     requires rising { IsStrictlySortedBy nat_cmp (map (λ v. v.0) volumes.now) }
     requires known { S.tells →
         AreKnown opened.old.rows opened.old.used.items (content (S.told site.old)) }
+    requires renewed { S.tells → AreRowsNew (content (S.told site.old)) }
     requires places { length opened.old.used.items ≡ 32 }
     ensures told { S.tells → OpensVolumes ChangesWhole
         (run_of volumes.now opened.old opened.new) (S.told site.old) (S.told site.new) result }
@@ -232,7 +233,8 @@ fn open_lent<S: Site>(alloc: Global, site: &mut S, config: &Config) -> Result<Op
 
 /// Opens the rows of a site: surveys it, makes the two copies of each row equal, writes those of version 1 anew,
 /// creates the volumes of the configuration that have no row, in order, blank, each on the two lowest cartridges that
-/// no row names, and then gives each configured volume the mark that is asked for, in order.
+/// no row names, and then gives each configured volume the mark that is asked for, in order. Where it answers rows,
+/// both copies of each are of version 2.
 ///
 /// It answers over every content and every failing device, and takes the room for its writes itself. A stop at any
 /// moment, also within a call that fails, leaves a sound content sound; it then shows the volumes that it showed

@@ -2,6 +2,7 @@ use Rattle.std.proofs.Common.{rules, [], ◌∷◌, ◌<◌, ◌∙◌, refl, sy
 use Rattle.std.proofs.lemmas.Result.{err_from_is_err_and}
 use Rattle.mss_base.specs.Content.{SiteLog, Settles, content, Writes}
 use Rattle.table_pair.specs.Pair.{ChangesRow, NoneOrNew}
+use Rattle.table_pair.specs.Migrating.{AreNew}
 use Rattle.table_pair.specs.Slots.{IsChanged, no_slots}
 use Rattle.volume_table.specs.Listed.{row_in_list}
 use Rattle.shown_volumes.specs.declared.refused.Refused.{Refused}
@@ -39,8 +40,9 @@ returns-clause-does g c = λ tells.
     let low : volume < 32 = search rules in
     let w = subst (λ (x : SiteLog). Writes (ChangesRow volume (NoneOrNew volume row) (content x)) x t) (c.reserve.ensures.told tells) (c.create_row.ensures.moments tells) in
     let changed = on_ok (IsChanged row no_slots volume (g.S.Site.told c.reserve.new.self) t) c.create_row.result (sym c.is_err.ensures.value ∙ c.if-is_err.false) (c.create_row.ensures.done tells) in
+    let new = on_ok (AreNew volume (content t)) c.create_row.result (sym c.is_err.ensures.value ∙ c.if-is_err.false) (c.create_row.ensures.new tells) in
     let done = created_of before s t (c.requires.told tells) c.look.ensures.places volume c.lowest_free-first.result c.lowest_free-second.result c.args.serial row
-    low c.requires.none c.lowest_free-first.ensures c.lowest_free-second.ensures c.in_ok-row.ensures w changed.holds changed.slots_ c.put.new.self c.put.ensures.rows in
+    low c.requires.none c.lowest_free-first.ensures c.lowest_free-second.ensures c.in_ok-row.ensures w changed.holds changed.slots_ new c.put.new.self c.put.ensures.rows in
     record {
       moments = moments_of before s t (c.requires.told tells) c.look.ensures.places volume c.lowest_free-first.result c.lowest_free-second.result c.args.serial row
           low c.requires.none c.lowest_free-first.ensures c.lowest_free-second.ensures c.in_ok-row.ensures w;

@@ -21,7 +21,7 @@ loop-entry-init g c =
     let start = row_in_list c.args.rows.now in
     let all = to_make start c.args.volumes.now in
     record {
-      opening = λ tells. nothing_opened all (g.S.Site.told c.args.site.now) c.args.rows.now c.args.used.now.items (c.requires.known tells);
+      opening = λ tells. nothing_opened all (g.S.Site.told c.args.site.now) c.args.rows.now c.args.used.now.items (c.requires.known tells) (c.requires.renewed tells);
       places = c.requires.places;
       rising = c.requires.rising;
       coming = none_coming all start (g.S.Site.writes c.args.site.now) c.args.creations.now.items c.requires.none;

@@ -5,6 +5,7 @@ use Rattle.mss_base.specs.Content.{SiteLog, content, Writes}
 use Rattle.table_pair.specs.Pair.{ChangesRow, OldOrNew}
 use Rattle.table_pair.specs.Repairs.{KeepsMarks}
 use Rattle.table_pair.specs.declared.copy.SlotsUsed.{SlotsUsed}
+use Rattle.table_pair.specs.Migrating.{AreNew}
 use Rattle.table_pair.specs.Slots.{IsChanged, no_slots, used_after, used_at}
 use Rattle.volume_table.specs.Row.{RowValue}
 use Rattle.volume_table.specs.Changes.{effect, with_mark}
@@ -68,11 +69,12 @@ returns-clause-does g c = λ tells.
     c.change.ensures.rows ∙ ap (λ (x : Option RowValue). set before volume (option_map (effect (Protect on)) x)) there.1 in
     let slots : get_or c.as_slice.result.now c.from-at.result no_slots ≡ used_at c.args.used.now.items volume = λ i. get_or (c.as_slice.ensures i) ((c.from-at.ensures ∙ c.get.ensures.value) i) no_slots in
     let changed = subst (λ (x : SiteLog × (RowValue × SlotsUsed)). IsChanged x.1.0 (used_after x.1.1) volume x.0 t) (λ i. (c.reserve.ensures.told tells i, (row i, slots i))) (c.in-Ok.ensures.done tells) in
+    let stays_new = subst (λ (x : SiteLog). AreNew volume (content x) → AreNew volume (content t)) (c.reserve.ensures.told tells) (c.in-Ok.ensures.new tells) in
     record {
       moments = moments_of before c.args.used.now.items s t (c.requires.known tells) c.look.ensures.places volume on there.0 low there.1 w;
       others = marked_others volume on (OldOrNew volume (with_mark on there.0) (content s)) s t w
           (subst (λ (x : SiteLog). Writes (KeepsMarks volume (content x)) x t) (c.reserve.ensures.told tells) (c.change_row.ensures.marks tells));
-      done_ = marked_of before c.args.used.now.items s t (c.requires.known tells) c.look.ensures.places volume on there.0 low there.1 w there.2 changed.holds changed.slots_ c.change.new.self set_is;
+      done_ = marked_of before c.args.used.now.items s t (c.requires.known tells) c.look.ensures.places volume on there.0 low there.1 w there.2 changed.holds changed.slots_ stays_new c.change.new.self set_is;
       complete = record {
         row = with_mark on there.0;
         is_row = record { old = there.0; there = there.1; other = there.2; becomes = (λ i. with_mark on there.0) };
@@ -96,3 +98,19 @@ change_row-requires-clause-due g c = λ tells.
     let row : c.in-Some.row ≡ with_mark on there.0 = cc in
     marking_due c.args.rows.now c.args.used.now.items _ _ (c.reserve.ensures.told tells) (c.requires.known tells) c.args.volume on there.0 _ _ (let low : c.args.volume < 32 = search rules in low) there.1 there.2 row
     (λ i. get_or (c.as_slice.ensures i) ((c.from-at.ensures ∙ c.get.ensures.value) i) no_slots)
+
+pub returns-clause-row : goal.returns-clause-row
+returns-clause-row g c =
+    let before = c.args.rows.now in
+    let volume = c.args.volume in
+    let on = c.args.on in
+    let there = c.requires.there in
+    let low : volume < 32 = search rules in
+    record {
+      row = with_mark on there.0;
+      is_row = record { old = there.0; there = there.1; other = there.2; becomes = refl };
+      now = now_set before c.change.new.self volume (with_mark on there.0) c.look.ensures.places low
+          (c.change.ensures.rows ∙ ap (λ (x : Option RowValue). set before volume (option_map (effect (Protect on)) x)) there.1);
+      tells = record { volume_ = refl; change_ = refl };
+      count = c.writes.ensures;
+    }

@@ -42,6 +42,9 @@ mark_volumes-requires-clause-there g c =
     creates_all volumes start last c.requires.rising
     (told_opens (to_make start volumes) c.create_volumes.new.creations.items start last (g.S.Site.writes c.args.site.now) (g.S.Site.writes c.create_volumes.new.site) c.in_ok-create_volumes.ensures.rows)
 
+pub mark_volumes-requires-clause-renewed : goal.mark_volumes-requires-clause-renewed
+mark_volumes-requires-clause-renewed g c = λ tells. (c.in_ok-create_volumes.ensures.told tells).opened.renewed
+
 pub returns-clause-told : goal.returns-clause-told
 returns-clause-told g c = λ tells.
     let volumes = c.args.volumes.now in

@@ -47,6 +47,9 @@ change_volumes-requires-clause-rising g c = subst AreRising (sym c.as_slice.ensu
 pub change_volumes-requires-clause-known : goal.change_volumes-requires-clause-known
 change_volumes-requires-clause-known g c = λ tells. (c.in_ok-rewrite_rows.ensures.rewrites tells).known_
 
+pub change_volumes-requires-clause-renewed : goal.change_volumes-requires-clause-renewed
+change_volumes-requires-clause-renewed g c = λ tells. (c.in_ok-rewrite_rows.ensures.rewrites tells).renewed
+
 pub returns-clause-told : goal.returns-clause-told
 returns-clause-told g c = λ tells.
     let volumes = c.args.config.now.volumes in
