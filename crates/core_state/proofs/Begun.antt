@@ -172,5 +172,6 @@ module _ (S C : Type 0) (tells : Type 0) (s : SiteLog) (x : S) (chooser : C) (co
       told = ap (λ (r : RowsOf). rows_after r console) (handed tl) ∙ told tl;
       served = λ n task is. absurd (no_task n task is);
       quiet = quiet tl;
+      without = λ volume none unit table. ap (λ (c : Content). c unit volume) (sym (front tl));
     };
   })

@@ -55,7 +55,7 @@ module _ {S C : Type 0} (v : CoreValue S C) (recency : List ℕ) (recorders : Li
     legal = told.legal;
     stops = told.stops;
     agrees = told.agrees;
-    going = λ none. let g = told.going none in record { no_stop = g.no_stop; hosts_ = g.hosts_; shows = g.shows; rows_ = g.rows_; copies = g.copies; slots_ = g.slots_; told = g.told; served = g.served; quiet = g.quiet };
+    going = λ none. let g = told.going none in record { no_stop = g.no_stop; hosts_ = g.hosts_; shows = g.shows; rows_ = g.rows_; copies = g.copies; slots_ = g.slots_; told = g.told; served = g.served; quiet = g.quiet; without = g.without };
   }
 
   pub whole_beside : (tells : Type 0) (s : SiteLog) → IsWhole tells s v → length recorders ≡ v.config.recorders → (v.stopped ≡ None → IsBeside v.config.frames v.config.recorders recency recorders store)

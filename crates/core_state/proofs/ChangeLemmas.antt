@@ -23,7 +23,7 @@ use Rattle.core_state.specs.declared.task.Task.{Task}
 use Rattle.volume_table.specs.Listed.{row_in_list}
 use Rattle.core_state.specs.Served.{AreServed}
 use Rattle.core_state.specs.Entered.{with_used, core_after_work}
-use Rattle.core_state.specs.IsCore.{AllUpTo, AllDone, IsGoing, IsTold, opening_of, handed_to}
+use Rattle.core_state.specs.IsCore.{AllUpTo, AllDone, IsGoing, IsTold, KeepsCopies, opening_of, handed_to}
 use Rattle.core_state.proofs.StopsLemmas.{stops_again, stops_shown}
 use Rattle.core_state.proofs.EntryLemmas.{up_to-more, done-more, start_same, opening_same, rows_same_tables, holds_same_tables, used_same_tables}
 use Rattle.fault_queue.specs.Requests.{RequestsData}
@@ -81,7 +81,8 @@ module _ (S : Type 0) {C : Type 0} (s t : SiteLog) (v : CoreValue S C) (x : S) (
     (allowed : IsAllowedIn (row_in_list v.rows) m.volume m.change (row_in_list v.rows m.volume) × (m.freed ≡ freed_by (row_in_list v.rows) m.volume m.change))
     (changes : with_change (row_in_list v.rows) m ≡ row_in_list rows) (rows_are : rows_of (content t) ≡ row_in_list rows)
     (copies : (volume : ℕ) (r : RowValue) → row_in_list rows volume ≡ Some r → HoldsRow r volume (content t)) (used : List SlotsUsed) (slots : AreUsed used (content t))
-    (owners : List (Option (ℕ × ℕ))) (moving : List Bool) (requests : RequestsData) (tasks : List (Option Task)) (served : AreServed (content t) (row_in_list rows) tasks) where
+    (owners : List (Option (ℕ × ℕ))) (moving : List Bool) (requests : RequestsData) (tasks : List (Option Task)) (served : AreServed (content t) (row_in_list rows) tasks)
+    (rest : (volume : ℕ) → row_in_list rows volume ≡ None → (row_in_list v.rows volume ≡ None) × KeepsCopies volume (content s) (content t)) where
   going : IsGoing s v
   going = told.going open_
 
@@ -130,6 +131,9 @@ module _ (S : Type 0) {C : Type 0} (s t : SiteLog) (v : CoreValue S C) (x : S) (
       told = ap (λ (q : RowsOf). rows_after q (v.console ++ m ∷ [])) handed ∙ told_rows;
       served = served;
       quiet = quiet;
+      without = λ volume none unit table.
+          (rest volume none).1 unit table ∙ going.without volume (rest volume none).0 unit table
+          ∙ ap (λ (c : Content). c unit volume) (sym (start_same v.first_write s t writes.items writes.grown told.began));
     };
   }
 
@@ -176,5 +180,8 @@ module _ (S : Type 0) {C : Type 0} (s t : SiteLog) (v : CoreValue S C) (x : S) (
       told = ap (λ (rows : RowsOf). rows_after rows v.console) handed_ ∙ going_.told;
       served = served;
       quiet = quiet;
+      without = λ volume none unit table.
+          same unit volume table ∙ going_.without volume none unit table
+          ∙ ap (λ (c : Content). c unit volume) (sym (start_same v.first_write s t writes.items writes.grown told.began));
     };
   }

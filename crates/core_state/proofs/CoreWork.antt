@@ -160,7 +160,7 @@ told_same S s v x owners moving requests tasks told served = record {
   legal = told.legal;
   stops = told.stops;
   agrees = told.agrees;
-  going = λ none. let g = told.going none in record { no_stop = g.no_stop; hosts_ = g.hosts_; shows = g.shows; rows_ = g.rows_; copies = g.copies; slots_ = g.slots_; told = g.told; served = served none; quiet = g.quiet };
+  going = λ none. let g = told.going none in record { no_stop = g.no_stop; hosts_ = g.hosts_; shows = g.shows; rows_ = g.rows_; copies = g.copies; slots_ = g.slots_; told = g.told; served = served none; quiet = g.quiet; without = g.without };
 }
 
 -- ---- a core that a failed write stops in work: the change wasn't made, and no more is said of what its devices hold

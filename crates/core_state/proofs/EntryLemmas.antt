@@ -144,5 +144,8 @@ module _ (S : Type 0) {C : Type 0} (s t : SiteLog) (v : CoreValue S C) (x : S) (
           told = ap (λ (rows : RowsOf). rows_after rows v.console) handed ∙ going.told;
           served = left.served;
           quiet = left.quiet;
+          without = λ volume none unit table.
+              left.tables unit volume table ∙ going.without volume none unit table
+              ∙ ap (λ (c : Content). c unit volume) (sym (start_same v.first_write s t enters.writes.items enters.writes.grown told.began));
         };
   }

@@ -24,7 +24,7 @@ use Rattle.core_state.specs.declared.session.Message.{Message}
 use Rattle.core_state.specs.declared.task.Task.{Task}
 use Rattle.core_state.specs.CoreValue.{CoreValue}
 use Rattle.volume_table.specs.Listed.{row_in_list}
-use Rattle.core_state.specs.IsCore.{IsCore, IsTold, IsGoing}
+use Rattle.core_state.specs.IsCore.{IsCore, IsTold, IsGoing, KeepsCopies}
 use Rattle.core_state.specs.Served.{AreServed}
 use Rattle.core_state.specs.Entered.{with_used, core_after_work}
 use Rattle.core_state.specs.Agrees.{with_change, changed_row, is_early, IsAllowedIn, message_of}
@@ -126,13 +126,23 @@ module _ (S : Type 0) {C : Type 0} (s t : SiteLog) (v : CoreValue S C) (x : S) (
     | inr e ↦ cond-false _ _ _ e.0 ∙ sym (row_set v.rows volume new fits w ∙ cond-false _ _ _ e.0)
   ]
 
+  -- a volume without a row had none, and its copies stay
+  rest_ : (w : ℕ) → row_in_list (slice_set v.rows volume (Some new)) w ≡ None → (row_in_list v.rows w ≡ None) × KeepsCopies w (content s) (content t)
+  rest_ w none = elim (eqb_tells w volume) [
+    | inl e ↦ absurd (let o : Some new ≡ None = sym (row_set v.rows volume new fits w ∙ cond-true _ _ _ e.0) ∙ none in cc)
+    | inr e ↦ (
+      sym (row_set v.rows volume new fits w ∙ cond-false _ _ _ e.0) ∙ none,
+      λ unit table. last.others unit w (ap (λ (b : Bool). b && (volume == w)) table ∙ turned volume w e.0),
+    )
+  ]
+
   pub told_by_change : IsTold t (core_after_work (with_used (with_used_after volume v.used) v) x (slice_set v.rows volume (Some (effect change r)))
       (v.console ++ (message_of mark volume change (row_in_list v.rows)) ∷ []) owners moving requests tasks)
   told_by_change =
       told_change S s t v x (slice_set v.rows volume (Some new)) m told open_ core.marked
       still (quiet_settled s t after.firm (ended_with (StillShows v.config.frames (volumes_shown (content s)) s) s t still).1) at_end grows late_change
       (subst (λ (o : Option RowValue). IsAllowedIn (row_in_list v.rows) volume change o) (sym there) allowed, refl)
-      (fun_ext changes_at) (fun_ext rows_at_) copies_ (with_used_after volume v.used) slots_at owners moving requests tasks served
+      (fun_ext changes_at) (fun_ext rows_at_) copies_ (with_used_after volume v.used) slots_at owners moving requests tasks served rest_
 
   -- blocks that are no table's stay
   pub blocks_stay : (unit : UnitNo) (block : ℕ) → is_table unit ≡ false → content t unit block ≡ content s unit block

@@ -1,10 +1,11 @@
 -- The invariant of a core.
 use Rattle.std.specs.Prelude.{◌≡◌, ◌↔◌, ◌≤◌, ◌<◌, ℕ, true, List, [], ◌∷◌, length, take, Some, None}
-use Rattle.mss_base.specs.Content.{SiteLog, content, after as written_after}
+use Rattle.mss_base.specs.Content.{Content, SiteLog, content, after as written_after}
+use Rattle.mss_base.specs.declared.place.UnitNo.{UnitNo}
 use Rattle.ckd_plain.specs.Data.{State}
 use Rattle.ckd_plain.specs.History.{after, IsLegal, HasNoStop}
 use Rattle.volume_table.specs.Row.{RowValue, IsRow}
-use Rattle.table_pair.specs.Pair.{HoldsRow}
+use Rattle.table_pair.specs.Pair.{HoldsRow, is_table}
 use Rattle.table_pair.specs.Slots.{AreUsed}
 use Rattle.shown_volumes.specs.Shown.{RowsOf, rows_of, volumes_shown}
 use Rattle.shown_volumes.specs.Sound.{frame_in}
@@ -64,13 +65,21 @@ pub record IsCore {S C : Type 0} (v : CoreValue S C) : Type 0 where
 abbrev pub opening_of : {S C : Type 0} → SiteLog → CoreValue S C → State
 opening_of site v = opening v.first_write site
 
+-- what the devices held when the session began
+abbrev pub beginning_of : {S C : Type 0} → SiteLog → CoreValue S C → Content
+beginning_of site v = written_after site.start (take v.first_write site.log)
+
 abbrev pub handed_to : {S C : Type 0} → SiteLog → CoreValue S C → RowsOf
-handed_to site v =
-    handed_rows (rows_of (written_after site.start (take v.first_write site.log))) v.console
+handed_to site v = handed_rows (rows_of (beginning_of site v)) v.console
+
+-- both copies of a volume's row are as they were
+abbrev pub KeepsCopies : ℕ → Content → Content → Type 0
+KeepsCopies volume old new = (unit : UnitNo) → is_table unit ≡ true → new unit volume ≡ old unit volume
 
 -- what a core that isn't stopped keeps of what its devices hold: its host states and the volumes
 -- that they show are those after the history, its rows are theirs, with their slots, what is half
--- copied stands there, and nothing that is shown or staged is loose
+-- copied stands there, nothing that is shown or staged is loose, and a volume without a row has both
+-- copies as they were when the session began
 pub record IsGoing {S C : Type 0} (site : SiteLog) (v : CoreValue S C) : Type 0 where
   pub no_stop : HasNoStop v.history
   pub hosts_ : (after (opening_of site v) v.history).host ≡ host_at v.hosts
@@ -82,6 +91,8 @@ pub record IsGoing {S C : Type 0} (site : SiteLog) (v : CoreValue S C) : Type 0 
   pub told : rows_after (handed_to site v) v.console ≡ row_in_list v.rows
   pub served : AreServed (content site) (row_in_list v.rows) v.tasks
   pub quiet : IsQuiet site
+  pub without : (volume : ℕ) → row_in_list v.rows volume ≡ None
+      → KeepsCopies volume (beginning_of site v) (content site)
 
 -- what a core keeps of what its devices hold
 pub record IsTold {S C : Type 0} (site : SiteLog) (v : CoreValue S C) : Type 0 where

@@ -6,6 +6,7 @@ use Rattle.volume_table.specs.Row.{RowValue}
 use Rattle.volume_table.specs.Listed.{row_in_list}
 use Rattle.table_pair.specs.declared.copy.SlotsUsed.{SlotsUsed}
 use Rattle.table_pair.specs.Pair.{ChangesRow, HoldsRow, OldOrNew}
+use Rattle.table_pair.specs.Order.{WritesAFirst}
 use Rattle.table_pair.specs.Slots.{HasSlots, IsChanged, used_at, with_used_after}
 use Rattle.core_state.specs.declared.session.Message.{Message}
 use Rattle.core_state.specs.declared.session.Session.{Session}
@@ -24,10 +25,12 @@ pub record HaveListed (rows : List (Option RowValue)) (used : List SlotsUsed) (v
   pub holds : ForSome (row_in_list rows volume) (λ r. HoldsRow r volume c)
   pub slots_ : HasSlots (used_at used volume) volume c
 
--- what the change of a volume's row to this one leaves of the devices
+-- what the change of a volume's row to this one leaves of the devices; copy A is done before copy B
+-- is touched
 pub record WritesRow {T E : Type 0} (volume : ℕ) (row : RowValue) (used : SlotsUsed)
     (old new : SiteLog) (result : Result T E) : Type 0 where
   pub moments : Rewrites volume row old new
+  pub order : WritesAFirst row volume old new
   pub changed : OnOk result (IsChanged row used volume old new)
   pub grown : OnOk result (length old.log < length new.log)
 

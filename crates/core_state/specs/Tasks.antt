@@ -6,7 +6,7 @@ use Rattle.std.specs.Option.{ForSome, option_map}
 use Rattle.channel_commands.specs.Codes.{is_write}
 use Rattle.channel_commands.specs.declared.command.Command.{Command}
 use Rattle.ckd_plain.specs.declared.host.HostState.{HostState}
-use Rattle.mss_base.specs.declared.numbers.TheConstants.{HEADS}
+use Rattle.mss_base.specs.Geometry.{cylinder_heads}
 use Rattle.volume_table.specs.Row.{RowValue, state_of}
 use Rattle.shown_volumes.specs.Shown.{RowsOf}
 use Rattle.shown_volumes.specs.Sound.{frame_in}
@@ -60,7 +60,7 @@ pub record IsTransfer (rows : RowsOf) (frame : ℕ) (victim : Option (ℕ × ℕ
   pub there : rows t.volume ≡ Some row
   pub due : IsDue t row
   pub frame_ : t.frame ≡ frame
-  pub upto : t.next ≤ HEADS
+  pub upto : t.next ≤ cylinder_heads
   pub cylinder_ : IsChosen t.kind victim q t.volume t.cylinder
 
 -- no host has a volume mounted with bind

@@ -1,11 +1,11 @@
 // A change of a row: in the list of rows, in both copies, and on the console.
-ghost use Rattle.std.specs.Prelude.{◌≡◌, ◌≤◌, length};
+ghost use Rattle.std.specs.Prelude.{◌≡◌, ◌≤◌, ◌+◌, length};
 ghost use Rattle.std.specs.Option.{ForSome};
 ghost use Rattle.mss_base.specs.Content.{content};
 ghost use Rattle.mss_base.specs.Sites.{WritesAtMost};
 ghost use Rattle.volume_table.specs.Changes.{IsAllowed, effect};
 ghost use Rattle.volume_table.specs.Listed.{HasRow, row_in_list, with_changed};
-ghost use Rattle.table_pair.specs.Slots.{used_after, used_at};
+ghost use Rattle.table_pair.specs.Slots.{change_items, used_after, used_at};
 ghost use Rattle.core_state.specs.Rows.{CountsSlots, HaveListed, TellsChange, WritesRow};
 ghost use Rattle.core_state.specs.Agrees.{freed_by, message_of};
 
@@ -54,6 +54,8 @@ pub fn write_change<S: Site>(
     ensures copies { S.tells → ForSome (row_in_list rows.old volume)
         (λ r. WritesRow volume (effect change.now r) (used_after (used_at used.old.items volume))
         (S.told site.old) (S.told site.new) result) }
+    ensures few { S.tells → length (S.told site.new).log
+        ≤ length (S.told site.old).log + change_items (used_at used.old.items volume) }
     ensures site_ { WritesAtMost S.Site CHANGE_ITEMS site.old site.new result }
 {
     let freed = freed_by(rows, volume, change);

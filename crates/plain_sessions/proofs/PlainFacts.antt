@@ -1,21 +1,26 @@
 -- A session at a later moment, in plain volumes.
-use Rattle.std.proofs.Common.{◌≡◌, ◌≤◌, ◌<◌, ℕ, suc, List, [], ◌∷◌, ◌++◌, length, take, Ok, sym, ◌∙◌, ap, subst, arith}
+use Rattle.std.proofs.Common.{◌≡◌, ◌≤◌, ◌<◌, ℕ, suc, inl, inr, List, [], ◌∷◌, ◌++◌, length, take, Option, Some, None, Ok, refl, sym, ◌∙◌, ap, subst, arith}
 use Rattle.std.proofs.lemmas.List.{append-nil, take_all, take-append-le}
 use Rattle.mss_base.specs.Configs.{ConfigData}
 use Rattle.mss_base.specs.Content.{Content, SiteLog, Item, Tear, Got, content, image, after as written_after}
 use Rattle.mss_base.proofs.ContentLemmas.{image_front}
 use Rattle.ckd_plain.specs.Data.{State}
 use Rattle.ckd_plain.specs.History.{IsLegal, after}
+use Rattle.mss_base.specs.declared.place.UnitNo.TheVariants.{TableA, TableB}
+use Rattle.volume_table.specs.Row.{RowValue}
 use Rattle.volume_table.specs.Listed.{row_in_list}
+use Rattle.table_pair.specs.Copies.{copy_at}
+use Rattle.table_pair.specs.Pair.{HoldsRow, IsOpenWith}
 use Rattle.shown_volumes.specs.Shown.{RowsOf, rows_of}
 use Rattle.shown_volumes.specs.Changing.{with_row}
 use Rattle.mss_restart.specs.Creations.{AreTold, AreWritten}
+use Rattle.mss_restart.specs.OneCopy.{ArePaired, AreUnmade, IsPaired}
 use Rattle.mss_restart.specs.Opening.{OpeningChange, opening_changes, volume_of}
 use Rattle.mss_restart.specs.declared.steps.OpeningStep.{OpeningStep}
 use Rattle.core_state.specs.Agrees.{Agrees, handed_rows, rows_after}
 use Rattle.core_state.specs.Beginning.{IsLater}
 use Rattle.core_state.specs.CoreValue.{CoreData, DevicesSeen}
-use Rattle.core_state.specs.IsCore.{IsTold, handed_to, opening_of}
+use Rattle.core_state.specs.IsCore.{IsTold, KeepsCopies, handed_to, opening_of}
 use Rattle.core_state.specs.SessionData.{data_of}
 use Rattle.core_state.specs.StopRule.{StopsWell, opening}
 use Rattle.core_state.proofs.EntryLemmas.{opening_same, start_same}
@@ -43,6 +48,35 @@ told_of [] asked (x ∷ steps) rows last before after old new from now written t
 told_of (c ∷ changes) asked [] rows last before after old new from now written told = absurd written
 told_of changes [] (x ∷ steps) rows last before after old new from now written told = absurd told
 told_of changes (d ∷ asked) [] rows last before after old new from now written told = absurd told
+
+-- copies that are as they were tell their row alone as they did
+holds_kept : (volume : ℕ) (c d : Content) → KeepsCopies volume c d → (row : RowValue) → HoldsRow row volume c → HoldsRow row volume d
+holds_kept volume c d keeps row held = record {
+  a = subst (λ (block : List ℕ). IsOpenWith row (copy_at block)) (sym (keeps TableA refl)) held.a;
+  b = subst (λ (block : List ℕ). IsOpenWith row (copy_at block)) (sym (keeps TableB refl)) held.b;
+}
+
+unmade_kept : (volume : ℕ) (c d : Content) → KeepsCopies volume c d → AreUnmade volume c → AreUnmade volume d
+unmade_kept volume c d keeps unmade = record {
+  closed = record {
+    a = ap (λ (block : List ℕ). (copy_at block).is_open) (keeps TableA refl) ∙ unmade.closed.a;
+    b = ap (λ (block : List ℕ). (copy_at block).is_open) (keeps TableB refl) ∙ unmade.closed.b;
+  };
+  a = ap (λ (block : List ℕ). (copy_at block).is_made) (keeps TableA refl) ∙ unmade.a;
+  b = ap (λ (block : List ℕ). (copy_at block).is_made) (keeps TableB refl) ∙ unmade.b;
+}
+
+paired_kept : (volume : ℕ) (c d : Content) → KeepsCopies volume c d → IsPaired volume c → IsPaired volume d
+paired_kept volume c d keeps paired = elim paired [
+  | inl held ↦ inl (held.0, holds_kept volume c d keeps held.0 held.1)
+  | inr unmade ↦ inr (unmade_kept volume c d keeps unmade)
+]
+
+-- so do those of a volume that has a row, which stands in both copies
+paired_by : (volume : ℕ) (row : Option RowValue) (c d : Content) → ((r : RowValue) → row ≡ Some r → HoldsRow r volume d)
+    → (row ≡ None → KeepsCopies volume c d) → IsPaired volume c → IsPaired volume d
+paired_by volume (Some r) c d held keeps paired = inl (r, held r refl)
+paired_by volume None c d held keeps paired = paired_kept volume c d (keeps refl) paired
 
 module _ (config : ConfigData) (was : DevicesSeen) (began : CoreData) (b : BeganOver config was began) where
   -- the devices when all that they held was firm
@@ -115,6 +149,14 @@ module _ (config : ConfigData) (was : DevicesSeen) (began : CoreData) (b : Began
         ∙ ap (λ (r : RowsOf). handed_rows r began.console) (sym rows_now)
         ∙ handed_in
 
+    -- each copy tells its row alone, where it did so
+    stays_paired : left.stopped ≡ None → ArePaired (content was.told) → ArePaired (content left.site.told)
+    stays_paired none paired volume low =
+        let going = told.going none in
+        let at_start = opened.paired (subst ArePaired (sym same) paired) in
+        paired_by volume (row_in_list left.rows volume) (content began.site.told) (content left.site.told) (λ r is. going.copies volume r is)
+        (λ bare. subst (λ (c : Content). KeepsCopies volume c (content left.site.told)) start_is (going.without volume bare)) (at_start volume low)
+
     pub plain_at : IsPlainSession config was.told left.site.told (data_of left)
     plain_at = record {
       legal = subst (λ (s : State). IsLegal s left.history) opening_is told.legal;
@@ -122,6 +164,7 @@ module _ (config : ConfigData) (was : DevicesSeen) (began : CoreData) (b : Began
       agrees = subst (λ (x : ℕ × RowsOf × State). Agrees x.0 left.first_write x.1 x.2 left.history left.marks left.console)
           (λ i. ((config_is i).frames, handed_is i, opening_is i)) told.agrees;
       rows_ = λ none. (told.going none).rows_ ∙ sym (told.going none).told ∙ ap (λ (r : RowsOf). rows_after r left.console) handed_is;
+      paired = stays_paired;
     }
 
     module _ (plain_keeps : PlainKeeps) (decides : Decides) where

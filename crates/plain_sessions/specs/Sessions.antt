@@ -7,6 +7,7 @@ use Rattle.ckd_plain.specs.Data.{State}
 use Rattle.ckd_plain.specs.Plain.{start_of}
 use Rattle.ckd_plain.specs.History.{EntryData, IsLegal, after}
 use Rattle.shown_volumes.specs.Shown.{rows_of, volumes_shown}
+use Rattle.mss_restart.specs.OneCopy.{ArePaired}
 use Rattle.core_state.specs.Agrees.{Agrees, rows_after}
 use Rattle.core_state.specs.CoreValue.{CoreData, DevicesSeen}
 use Rattle.core_state.specs.IsCore.{IsTold}
@@ -41,7 +42,8 @@ plain_volumes config c history = (after (plain_start config c) history).volumes
 
 -- What the hosts were told is what plain volumes tell, in one history; and unless the session was
 -- stopped, the devices show those volumes after it. The changes of rows that the console tells agree
--- with the history, and lead from the rows at the start to those at the end.
+-- with the history, and lead from the rows at the start to those at the end. Where each copy of a row
+-- told it alone, it does so still, unless the session was stopped.
 pub record IsPlainSession (config : ConfigData) (was now : SiteLog) (s : SessionData)
     : Type 0 where
   pub legal : IsLegal (plain_start config (content was)) s.history
@@ -50,6 +52,7 @@ pub record IsPlainSession (config : ConfigData) (was now : SiteLog) (s : Session
       (plain_start config (content was)) s.history s.marks s.console
   pub rows_ : s.stopped ≡ None
       → rows_of (content now) ≡ rows_after (rows_of (content was)) s.console
+  pub paired : s.stopped ≡ None → ArePaired (content was) → ArePaired (content now)
 
 -- ---- stops
 

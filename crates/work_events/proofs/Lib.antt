@@ -18,6 +18,7 @@ pub mod CopyWhole
 pub mod ChangedRows
 pub mod RowSteps
 pub mod RoomFacts
+pub mod StillFacts
 pub mod FailedSteps
 pub mod CopySteps
 pub mod EndSteps

@@ -1,5 +1,5 @@
 // The event that copies a track.
-ghost use Rattle.std.specs.Prelude.{◌≡◌, ◌⊎◌, ◌<◌, Bool};
+ghost use Rattle.std.specs.Prelude.{◌≡◌, ◌⊎◌, ◌≤◌, ◌<◌, Bool};
 ghost use Rattle.mss_base.specs.Sites.{MayWrite};
 ghost use Rattle.mss_base.specs.declared.place.UnitNo.{UnitNo};
 ghost use Rattle.transfers.specs.Copies.{IsReadable};
@@ -7,7 +7,7 @@ ghost use Rattle.core_state.specs.CoreValue.{seen_core};
 ghost use Rattle.core_state.specs.Devices.{FailRead};
 ghost use Rattle.core_state.specs.WorkRules.{work_rule};
 ghost use Rattle.core_state.specs.declared.rule.WorkRule.TheVariants.{Copies};
-ghost use Rattle.work_events.specs.Steps.{WorkStep};
+ghost use Rattle.work_events.specs.Steps.{IsUntold, WorkStep};
 
 use crate::parts::{Failing, end_failed, put_task, task_and_request, tell_work};
 use core_state::{Core, Task, WorkAnswer, WorkKind, make_room};
@@ -27,6 +27,7 @@ pub fn copy<S: Site, C: Choose>(
     ensures event { WorkStep S.Site C.Choose core.old recorder (Copies transfer) result core.new }
     ensures chooser { core.new.chooser ≡ core.old.chooser }
     ensures devices { MayWrite S.Site 1 core.old.site core.new.site }
+    ensures room { IsUntold result → S.spare core.old.site ≤ S.spare core.new.site }
     ensures works { (but : UnitNo → Bool) → S.never_fails_but core.old.site but
         → IsReadable but transfer → core.new.requests ≡ core.old.requests }
     ensures unread { (but : UnitNo → Bool) → S.never_fails_but core.old.site but

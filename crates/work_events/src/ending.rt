@@ -11,7 +11,7 @@ ghost use Rattle.core_state.specs.declared.rule.WorkRule.TheVariants.{Ends};
 ghost use Rattle.fault_queue.specs.Requests.{request_of};
 ghost use Rattle.staging_adapter.specs.Frames.{IsFrame};
 ghost use Rattle.work_events.specs.Leaving.{left_by};
-ghost use Rattle.work_events.specs.Steps.{FailsNone, WorkStep};
+ghost use Rattle.work_events.specs.Steps.{FailsNone, IsUntold, WorkStep};
 
 use crate::parts::{
     Failing, end_failed, end_task, put_task, task_and_request, tell_stop, tell_work,
@@ -99,6 +99,7 @@ pub fn end<S: Site, C: Choose>(
     ensures event { WorkStep S.Site C.Choose core.old recorder (Ends transfer) result core.new }
     ensures chooser { core.new.chooser ≡ core.old.chooser }
     ensures devices { MayWrite S.Site END_ITEMS core.old.site core.new.site }
+    ensures room { IsUntold result → S.spare core.old.site ≤ S.spare core.new.site }
     ensures works { (but : UnitNo → Bool) → S.never_fails_but core.old.site but
         → core.new.stopped ≡ core.old.stopped }
     ensures none_fails { (but : UnitNo → Bool) → S.never_fails_but core.old.site but

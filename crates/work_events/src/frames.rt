@@ -1,12 +1,12 @@
 // The events by which a frame goes from one page to another.
-ghost use Rattle.std.specs.Prelude.{◌≡◌, ◌<◌, Bool, length, Some};
+ghost use Rattle.std.specs.Prelude.{◌≡◌, ◌≤◌, ◌<◌, Bool, length, Some};
 ghost use Rattle.mss_base.specs.Sites.{MayWrite};
 ghost use Rattle.mss_base.specs.declared.place.UnitNo.{UnitNo};
 ghost use Rattle.staging_adapter.specs.Frames.{IsFrame, with_owner};
 ghost use Rattle.victim_choice.specs.Order.{order_after};
 ghost use Rattle.core_state.specs.WorkRules.{work_rule};
 ghost use Rattle.core_state.specs.declared.rule.WorkRule.TheVariants.{Assigns, Frees};
-ghost use Rattle.work_events.specs.Steps.{WorkStep};
+ghost use Rattle.work_events.specs.Steps.{IsUntold, WorkStep};
 
 use crate::parts::{put_task, task_and_request, tell_stop, tell_work};
 use core_state::{Core, Task, WorkAnswer, WorkKind, make_room, write_change};
@@ -46,6 +46,7 @@ pub fn free<S: Site, C: Choose>(
     ensures event { WorkStep S.Site C.Choose core.old recorder (Frees volume page) result core.new }
     ensures chooser { core.new.chooser ≡ core.old.chooser }
     ensures devices { MayWrite S.Site CHANGE_ITEMS core.old.site core.new.site }
+    ensures room { IsUntold result → S.spare core.old.site ≤ S.spare core.new.site }
     ensures works { (but : UnitNo → Bool) → S.never_fails_but core.old.site but
         → core.new.stopped ≡ core.old.stopped }
 {
@@ -90,6 +91,7 @@ pub fn assign<S: Site, C: Choose>(
         (Assigns volume page) result core.new }
     ensures chooser { core.new.chooser ≡ core.old.chooser }
     ensures devices { MayWrite S.Site CHANGE_ITEMS core.old.site core.new.site }
+    ensures room { IsUntold result → S.spare core.old.site ≤ S.spare core.new.site }
     ensures works { (but : UnitNo → Bool) → S.never_fails_but core.old.site but
         → core.new.stopped ≡ core.old.stopped }
 {

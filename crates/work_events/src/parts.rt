@@ -1,6 +1,5 @@
 // Steps on the parts of a core that several events make.
 ghost use Rattle.std.specs.Prelude.{◌≡◌, ◌≤◌, ◌<◌, IsSome, None, length, slice_set, false};
-ghost use Rattle.mss_base.specs.declared.numbers.TheConstants.{CYLINDERS};
 ghost use Rattle.core_state.specs.SessionData.{with_last_event};
 ghost use Rattle.core_state.specs.Working.{Serves};
 ghost use Rattle.core_state.specs.declared.rule.WorkAnswer.TheVariants.{Did, Stopped};
@@ -10,6 +9,7 @@ ghost use Rattle.fault_queue.specs.Requests.{request_of, with_state};
 ghost use Rattle.fault_queue.specs.declared.queue.RequestState.TheVariants as state;
 ghost use Rattle.staging_adapter.specs.Frames.{IsFrame, with_moving};
 ghost use Rattle.work_events.specs.Served.{IsServing};
+ghost use Rattle.mss_base.specs.Geometry.{volume_cylinders};
 
 use core_state::{Core, Event, Session, Task, WorkAnswer, WorkKind};
 use fault_queue::{Queue, Request, RequestState};
@@ -24,7 +24,7 @@ pub fn task_and_request<S: Site, C: Choose>(
 ) -> (Task, Request)
     requires { IsServing core.now recorder }
     ensures serves { Serves core.now recorder result.0 result.1 }
-    ensures low { result.1.cylinder < CYLINDERS }
+    ensures low { result.1.cylinder < volume_cylinders }
     ensures known { result.0.frame < 200 }
 {
     let Some(task) = core.task(recorder) else {

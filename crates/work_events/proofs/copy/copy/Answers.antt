@@ -170,3 +170,10 @@ returns-in-Ok-clause-chooser g c = ap (λ (z : CoreValue g.row.S.Denot g.row.C.D
 
 pub returns-in-Err-clause-chooser : goal.returns-in-Err-clause-chooser
 returns-in-Err-clause-chooser g c = ap (λ (z : CoreValue g.row.S.Denot g.row.C.Denot). z.chooser) c.core.view_is
+
+-- ---- where memory was wanting the room isn't less
+
+pub returns-then-is_err-clause-room : goal.returns-then-is_err-clause-room
+returns-then-is_err-clause-room g c =
+    let has = has_room g.S.Site c.args.core.now c.core.view_is c.core.invariant c.make_room.new.site _ c.make_room.ensures.session c.make_room.ensures.site in
+    λ untold. has.reserves.room
