@@ -1,6 +1,7 @@
 // Bytes as pairs of hexadecimal digits.
-ghost use Rattle.std.specs.Prelude.{◌≡◌, ◌++◌, ◌<◌, ◌≤◌, ◌*◌, true, OnOk, length, take};
+ghost use Rattle.std.specs.Prelude.{◌≡◌, ◌++◌, ◌<◌, ◌≤◌, ◌*◌, true, OnErr, OnOk, length, take};
 ghost use Rattle.std.specs.Fmt.{digit_glyph};
+ghost use Rattle.mss_base.specs.Puts.{PutsFront};
 ghost use Rattle.job_text.specs.Canonical.{hex, hex_byte};
 
 use mss_base::{Bytes, NoMemory};
@@ -35,7 +36,8 @@ fn spell(bytes: &[u8], digits: &mut [u8])
 /// Puts at most 32 bytes.
 fn push_piece(out: &mut Bytes, bytes: &[u8]) -> Result<(), NoMemory>
     requires { length bytes.now ≤ 32 }
-    ensures { OnOk result (out.new.items ≡ out.old.items ++ hex bytes.now) }
+    ensures ok { OnOk result (out.new.items ≡ out.old.items ++ hex bytes.now) }
+    ensures err { OnErr result (out.new.items ≡ out.old.items) }
 {
     let mut digits = [0; 2 * PIECE_BYTES];
     spell(bytes, &mut digits);
@@ -44,10 +46,11 @@ fn push_piece(out: &mut Bytes, bytes: &[u8]) -> Result<(), NoMemory>
 
 /// Puts bytes as hexadecimal digits in upper case, two each.
 ///
-/// Room for all digits is made once, since a track has thousands. They are spelled piece by piece in a small buffer, which
-/// costs far less than to push each.
+/// After want of memory a front of them is put. Room for all digits is made once, since a track has thousands. They are
+/// spelled piece by piece in a small buffer, which costs far less than to push each.
 pub fn push_hex(out: &mut Bytes, bytes: &[u8]) -> Result<(), NoMemory>
-    ensures { OnOk result (out.new.items ≡ out.old.items ++ hex bytes.now) }
+    ensures ok { OnOk result (out.new.items ≡ out.old.items ++ hex bytes.now) }
+    ensures memory { OnErr result (PutsFront out.old.items out.new.items (hex bytes.now)) }
 {
     out.reserve(2 * bytes.len())?;
     let mut rest = bytes;

@@ -4,7 +4,7 @@ use Rattle.std.specs.Prelude.{◌∷◌, slice_index_or, Option, Some, None, IsS
 use Rattle.std.specs.Option.{IsSomeAnd}
 use Rattle.mss_base.specs.Content.{SiteLog}
 use Rattle.mss_base.specs.Counts.{IsFaultWithin}
-use Rattle.mss_base.specs.declared.numbers.TheConstants.{CYLINDERS, HEADS}
+use Rattle.mss_base.specs.Geometry.{volume_cylinders, cylinder_heads}
 use Rattle.ckd_track.specs.Data.{RecordData, Volumes}
 use Rattle.ckd_track.specs.Track.{reading}
 use Rattle.ckd_plain.specs.Data.{State}
@@ -22,10 +22,10 @@ use Rattle.volume_copy.specs.declared.taken.TheConstants.{TRACKS}
 -- ---- tracks by number: cylinder by cylinder, and head by head
 
 abbrev pub track_number : ℕ → ℕ → ℕ
-track_number cylinder head = cylinder * HEADS + head
+track_number cylinder head = cylinder * cylinder_heads + head
 
 abbrev pub track_of : Volumes → ℕ → ℕ → List RecordData
-track_of volumes volume n = volumes.track volume (n / HEADS) (n % HEADS)
+track_of volumes volume n = volumes.track volume (n / cylinder_heads) (n % cylinder_heads)
 
 -- ---- which tracks are taken
 
@@ -139,7 +139,7 @@ FailedIn v faults _ = Unit {0}
 
 -- each track of the volume is taken, as it stands there
 abbrev pub IsVolumeIn : CopyData → Volumes → Type 0
-IsVolumeIn c volumes = (cylinder head : ℕ) → cylinder < CYLINDERS → head < HEADS
+IsVolumeIn c volumes = (cylinder head : ℕ) → cylinder < volume_cylinders → head < cylinder_heads
     → taken_at c.tracks (track_number cylinder head) ≡ Some (volumes.track c.volume cylinder head)
 
 -- each track that isn't taken is the same in both

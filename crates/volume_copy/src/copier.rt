@@ -40,6 +40,7 @@ ghost use Rattle.volume_copy.specs.Steps.{
 };
 ghost use Rattle.volume_copy.specs.declared.copier.CopyState.TheVariants.{Armed, Taking};
 ghost use Rattle.volume_copy.specs.declared.taken.TheConstants.{TRACKS};
+ghost use Rattle.mss_base.specs.Geometry.{cylinder_heads};
 
 use crate::reading::{TakeFault, has_no_record, read_shown};
 use crate::taken::{TRACKS, Taken, TakenTracks};
@@ -122,7 +123,7 @@ fn track_number(cylinder: Cylinder, head: Head) -> u16
 /// The cylinder and the head of a track.
 fn place_of(number: u16) -> (Cylinder, Head)
     requires { number < TRACKS }
-    ensures { (result.0 ≡ number / HEADS) × (result.1 ≡ number % HEADS) }
+    ensures { (result.0 ≡ number / cylinder_heads) × (result.1 ≡ number % cylinder_heads) }
 {
     let (Some(cylinder), Some(head)) = (
         Cylinder::of(number / u16::from(HEADS)),
@@ -386,7 +387,12 @@ impl Copier {
             → StandsFor (S.told core.new.site) self.new core.new) }
         ensures copied { OnOk result (StandsBeside S.Site core.old self.old
             → IsCopied S.Site core.new self.new) }
-        ensures memory { OnErr result (S.faults core.new.site ≡ S.faults core.old.site) }
+        ensures memory { let shown = shown_by (row_in_list core.old.rows)
+            (content (S.told core.old.site)) in
+            let begun = begun_if_armed (row_in_list core.old.rows self.old.volume)
+            (length core.old.history) self.old in
+            OnErr result ((self.new ≡ begun ⊎ TakesTracks S.tells shown begun self.new)
+            × (S.faults core.new.site ≡ S.faults core.old.site)) }
         ensures asked { asked_by self.new ≡ asked_by self.old }
         ensures core { ReadsCore S.Site core.old core.new }
     {
