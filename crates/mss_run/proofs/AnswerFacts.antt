@@ -1,6 +1,6 @@
 -- What an event leaves of a pass and of the lock, from what it did to the history.
 use Rattle.std.proofs.Common.{◌≡◌, ◌≤◌, ◌<◌, ℕ, ◌+◌, Bool, true, false, List, [], ◌∷◌, ◌++◌, length, length-append, Option, Some, None, inl, inr, refl, sym, ◌∙◌, ap, subst, arith}
-use Rattle.std.specs.Prelude.{slice_get}
+use Rattle.std.specs.Prelude.{is_some, slice_get}
 use mathlib.Core.List.{IsPrefix}
 use Rattle.channel_commands.specs.Data.{CallData, ReplyData, stopped}
 use Rattle.ckd_plain.specs.Data.{State}
@@ -13,14 +13,17 @@ use Rattle.mss_base.specs.declared.site.Site.{Ghosts}
 use Rattle.volume_copy.specs.Beside.{ReadsBeside}
 use Rattle.volume_copy.specs.Copies.{AskedCopy}
 use Rattle.core_state.specs.Beginning.{Continues, IsLater}
-use Rattle.core_state.specs.CoreValue.{CoreData, CoreValue, seen_core}
+use Rattle.core_state.specs.Chains.{Reading, Step}
+use Rattle.core_state.specs.CoreValue.{CoreData, CoreValue, seen_core, seen_site}
 use Rattle.core_state.specs.HostEvents.{halts}
 use Rattle.core_state.specs.IsCore.{opening_of}
-use Rattle.core_state.proofs.Later.{later_none, later_then}
+use Rattle.core_state.proofs.Later.{later_none}
 use Rattle.mss_run.specs.Answers.{Grows, IsFull, Stops}
 use Rattle.mss_run.specs.Beginning.{Failing, SetupData, OpensWith}
 use Rattle.mss_run.specs.Happens.{Enters, EntersStop, Happens}
+use Rattle.mss_run.specs.Led.{IsEventOf, LeadsTo}
 use Rattle.mss_run.proofs.EventFacts.{same_opening}
+use Rattle.mss_run.proofs.LedFacts.{leads_event, leads_none, leads_read}
 
 -- ---- passes
 
@@ -95,18 +98,26 @@ is_full p q log long pre is = record {
 -- ---- the lock
 
 module _ (opening : OpeningData) (setup : SetupData) (tells : Type 0) where
-  -- an event leaves a later core of the same session
-  pub opens_still : (never never' : Failing) (core core' : CoreData) → OpensWith opening setup tells never core → (tells → core.first_write ≤ length core.site.told.log)
-      → IsLater tells core core' → ((but : UnitNo → Bool) → never but → never' but) → ((but : UnitNo → Bool) → never but → core.stopped ≡ None → core'.stopped ≡ None)
-      → OpensWith opening setup tells never' core'
-  opens_still never never' core core' opens before later sound goes_on = record {
-    to = opens.to;
-    from = opens.from;
-    later = later_then tells setup.began core core' opens.later later;
-    state_ = λ tl. same_opening core core' later.beginning (later.grown tl) (before tl) ∙ opens.state_ tl;
-    sound = λ but none. sound but (opens.sound but none);
-    only_reads_fail = λ but none going. goes_on but (opens.sound but none) (opens.only_reads_fail but none going);
-  }
+  module _ (never never' : Failing) (core core' : CoreData) (opens : OpensWith opening setup tells never core) (before : tells → core.first_write ≤ length core.site.told.log)
+      (later : IsLater tells core core') (sound : (but : UnitNo → Bool) → never but → never' but) (goes_on : (but : UnitNo → Bool) → never but → core.stopped ≡ None → core'.stopped ≡ None) where
+    -- what leads on leaves a core of the same session
+    opens_on : LeadsTo tells (is_some setup.copy) setup.began core' → OpensWith opening setup tells never' core'
+    opens_on led = record {
+      to = opens.to;
+      from = opens.from;
+      led = led;
+      state_ = λ tl. same_opening core core' later.beginning (later.grown tl) (before tl) ∙ opens.state_ tl;
+      sound = λ but none. sound but (opens.sound but none);
+      only_reads_fail = λ but none going. goes_on but (opens.sound but none) (opens.only_reads_fail but none going);
+    }
+
+    -- an event does
+    pub opens_still : (step : Step) → Reading (is_some setup.copy) tells core (λ read. IsEventOf tells read step core') → OpensWith opening setup tells never' core'
+    opens_still step event = opens_on (leads_event tells (is_some setup.copy) setup.began core core' opens.led step event later)
+
+    -- reads for a copy do
+    pub opens_behind : Reading (is_some setup.copy) tells core (λ read. core' ≡ read) → OpensWith opening setup tells never' core'
+    opens_behind reads = opens_on (leads_read tells (is_some setup.copy) setup.began core core' opens.led reads later)
 
   pub legal_from : (never : Failing) (core : CoreData) → OpensWith opening setup tells never core → (tells → IsLegal (opening_of core.site.told core) core.history) → IsLegalFrom opening core.history
   legal_from never core opens legal = λ tl. let here = opens.to tl in subst (λ (s : State). IsLegal s core.history) (opens.state_ here) (legal here)
@@ -118,16 +129,19 @@ module _ {S C : Type 0} (g : Ghosts S) (v w : CoreValue S C) where
   history_read true reads = ap (λ (x : CoreValue S C). x.history) reads.core
 
   pub opens_read : (opening : OpeningData) (setup : SetupData) → OpensWith opening setup g.tells (g.never_fails_but v.site) (seen_core g v) → (g.tells → v.first_write ≤ length (g.told v.site).log)
-      → (copies : Bool) → ReadsBeside g copies v w → OpensWith opening setup g.tells (g.never_fails_but w.site) (seen_core g w)
-  opens_read opening setup opens before false same = subst (λ (x : CoreValue S C). OpensWith opening setup g.tells (g.never_fails_but x.site) (seen_core g x)) (sym same) opens
-  opens_read opening setup opens before true reads =
+      → (copies : Bool) → is_some setup.copy ≡ copies → ReadsBeside g copies v w → OpensWith opening setup g.tells (g.never_fails_but w.site) (seen_core g w)
+  opens_read opening setup opens before false is same = subst (λ (x : CoreValue S C). OpensWith opening setup g.tells (g.never_fails_but x.site) (seen_core g x)) (sym same) opens
+  opens_read opening setup opens before true is reads =
       let read : CoreValue S C = record v { site = w.site } in
       let later : IsLater g.tells (seen_core g v) (seen_core g read) = record {
         beginning = record { config = refl; first_write = refl; first_faults = refl; handed = λ rows. refl };
         grown = λ tl. subst (λ (s : SiteLog). Continues (g.told v.site) s) (sym (reads.site_.log tl)) ((later_none g.tells (seen_core g v)).grown tl);
       } in
+      let behind : Reading true g.tells (seen_core g v) (λ (x : CoreData). seen_core g read ≡ x) =
+      (seen_site g w.site, record { told = reads.site_.log; unwritten = reads.site_.unwritten; later = reads.site_.later }, refl) in
       subst (λ (x : CoreValue S C). OpensWith opening setup g.tells (g.never_fails_but x.site) (seen_core g x)) (sym reads.core)
-      (opens_still opening setup g.tells (g.never_fails_but v.site) (g.never_fails_but w.site) (seen_core g v) (seen_core g read) opens before later reads.site_.sound (λ but none going. going))
+      (opens_behind opening setup g.tells (g.never_fails_but v.site) (g.never_fails_but w.site) (seen_core g v) (seen_core g read) opens before later reads.site_.sound (λ but none going. going)
+      (subst (λ (b : Bool). Reading b g.tells (seen_core g v) (λ (x : CoreData). seen_core g read ≡ x)) (sym is) behind))
 
 -- the book that is there has the list that is kept
 pub list_is : (b : Option BookData) (x : BookData) (log : List EntryData) (made : List ℕ) → b ≡ Some x → b ≡ Some record { list = log; made = made } → x.list ≡ log
@@ -145,7 +159,7 @@ book_there b x none some = absurd (let e : None ≡ Some x = sym none ∙ some i
 -- the session of a core has its own opening
 pub opens_itself : (tells : Type 0) (never : Failing) (core : CoreData) (copy : Option AskedCopy)
     → OpensWith (record { tells = tells; state = opening_of core.site.told core }) (record { began = core; never_fails_but = never; copy = copy }) tells never core
-opens_itself tells never core copy = record { to = λ t. t; from = λ t. t; later = later_none tells core; state_ = λ _. refl; sound = λ but none. none; only_reads_fail = λ but none going. going }
+opens_itself tells never core copy = record { to = λ t. t; from = λ t. t; led = leads_none tells (is_some copy) core; state_ = λ _. refl; sound = λ but none. none; only_reads_fail = λ but none going. going }
 
 module _ (opening : OpeningData) (setup : SetupData) (tells : Type 0) (never : Failing) (core : CoreData) (opens : OpensWith opening setup tells never core) where
   pub legal_since : (log : List EntryData) → IsLegalFrom opening log → tells → IsLegal (opening_of core.site.told core) log

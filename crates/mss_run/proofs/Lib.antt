@@ -1,4 +1,5 @@
 pub mod EventFacts
+pub mod LedFacts
 pub mod AnswerFacts
 pub mod OwnPlaces
 pub mod WalkFacts

@@ -1,12 +1,12 @@
 -- What a session began with, and that each later moment is one of that session.
-use Rattle.std.specs.Prelude.{◌≡◌, Bool, [], Option, None}
+use Rattle.std.specs.Prelude.{◌≡◌, Bool, [], Option, None, is_some}
 use Rattle.mss_base.specs.declared.place.UnitNo.{UnitNo}
 use Rattle.accessors.specs.Rails.{rail_start}
 use Rattle.seen_book.specs.Openings.{OpeningData}
-use Rattle.core_state.specs.Beginning.{IsLater}
 use Rattle.core_state.specs.CoreValue.{CoreData}
 use Rattle.core_state.specs.IsCore.{opening_of}
 use Rattle.volume_copy.specs.Copies.{AskedCopy}
+use Rattle.mss_run.specs.Led.{LeadsTo}
 
 -- which units' reads may fail, where no other call of the devices does
 abbrev pub Failing : Type 1
@@ -49,12 +49,12 @@ no_core = record {
 abbrev pub no_setup : SetupData
 no_setup = record { began = no_core; never_fails_but = λ but. ⊥; copy = None }
 
--- the core is a later one of the session that has this opening and this setup
+-- events led from what the session with this opening and this setup began with to the core
 pub record OpensWith (opening : OpeningData) (setup : SetupData) (tells : Type 0)
     (never_fails_but : Failing) (core : CoreData) : Type 0 where
   pub to : opening.tells → tells
   pub from : tells → opening.tells
-  pub later : IsLater tells setup.began core
+  pub led : LeadsTo tells (is_some setup.copy) setup.began core
   pub state_ : tells → opening_of core.site.told core ≡ opening.state
   pub sound : (but : UnitNo → Bool) → setup.never_fails_but but → never_fails_but but
   pub only_reads_fail : (but : UnitNo → Bool) → setup.never_fails_but but

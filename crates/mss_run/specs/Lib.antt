@@ -7,3 +7,4 @@ pub mod Owns
 pub mod Runs
 pub mod Walks
 pub mod Sleep
+pub mod Led

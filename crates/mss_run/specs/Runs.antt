@@ -6,7 +6,6 @@ use Rattle.mss_base.specs.Sound.{StaysSound}
 use Rattle.mss_base.specs.declared.place.UnitNo.{UnitNo}
 use Rattle.mss_base.specs.declared.site.Site.{Ghosts}
 use Rattle.ckd_plain.specs.History.{EntryData, IsLegal}
-use Rattle.core_state.specs.Beginning.{IsLater}
 use Rattle.core_state.specs.CoreValue.{CoreValue, seen_core}
 use Rattle.core_state.specs.IsCore.{opening_of}
 use Rattle.core_state.specs.declared.session.TheConstants.{ENTRY_LIMIT}
@@ -17,6 +16,7 @@ use Rattle.seen_book.specs.Entries.{entries_of}
 use Rattle.seen_book.specs.Books.{AreOfThese, PassData}
 use Rattle.mss_run.specs.declared.ends.RunAnswer.{RunAnswer}
 use Rattle.mss_run.specs.declared.ends.RunAnswer.TheVariants as answer
+use Rattle.mss_run.specs.Led.{LeadsTo}
 use Rattle.mss_run.specs.Owns.{places_of, exchanges_of, asked_of, asked_by}
 
 -- ---- what a run takes before its first actor
@@ -99,11 +99,11 @@ run_answer None entries hosts ends =
 
 -- ---- what a run leaves
 
--- a later core of the same session, whose history is legal and of the job's hosts; how each of them
--- ended, and what ended the run
-pub record LeavesRun {S C : Type 0} (g : Ghosts S) (job : JobData) (core after : CoreValue S C)
-    (ends : List EndData) (answer : RunAnswer) : Type 0 where
-  pub later : IsLater g.tells (seen_core g core) (seen_core g after)
+-- events led to a later core of the same session, whose history is legal and of the job's hosts; how
+-- each of them ended, and what ended the run; copies: whether a copy is taken meanwhile
+pub record LeavesRun {S C : Type 0} (g : Ghosts S) (job : JobData) (copies : Bool)
+    (core after : CoreValue S C) (ends : List EndData) (answer : RunAnswer) : Type 0 where
+  pub led : LeadsTo g.tells copies (seen_core g core) (seen_core g after)
   pub sound : StaysSound g.never_fails_but core.site after.site
   pub only_reads_fail : (but : UnitNo → Bool) → g.never_fails_but core.site but
       → core.stopped ≡ None → after.stopped ≡ None

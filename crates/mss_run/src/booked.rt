@@ -11,7 +11,14 @@ ghost use Rattle.core_state.specs.HostEvents.{IsSame};
 ghost use Rattle.core_state.specs.Pins.{task_at};
 ghost use Rattle.core_state.specs.declared.rule.WorkAnswer.TheVariants.{Idle};
 ghost use Rattle.core_state.specs.declared.session.TheConstants.{ENTRY_LIMIT};
-ghost use Rattle.volume_copy.specs.Beside.{IsReadyFor, ReadsBeside, StandsBeside, TakesBeside, asked_copy};
+ghost use Rattle.volume_copy.specs.Beside.{
+  HostEventBeside,
+  IsReadyFor,
+  ReadsBeside,
+  StandsBeside,
+  TakesBeside,
+  asked_copy,
+};
 ghost use Rattle.quiet_events.specs.Quiet.{
   GivesNoWork,
   GivesOthersNothing,
@@ -24,6 +31,7 @@ ghost use Rattle.quiet_events.specs.Quiet.{
 ghost use Rattle.mss_run.specs.Answers.{Answered};
 ghost use Rattle.mss_run.specs.Beginning.{OpensWith};
 ghost use Rattle.mss_run.specs.Happens.{Happens, IsSameButRead};
+ghost use Rattle.mss_run.specs.Led.{Works};
 
 use crate::event::{entries_beside, host_step, work_step};
 use crate::setup::Setup;
@@ -180,6 +188,8 @@ impl<N: Setup, S: Site, C: Choose> BookedCore<N, S, C> {
         pass: HostPass<N>,
         call: &Call,
     ) -> (HostPass<N>, HostAnswer, bool)
+        ensures event { HostEventBeside S.Site (is_some (asked_copy self.old.copier))
+            self.old.core pass.host (call_of call.now) (told_of result.1) self.new.core }
         ensures answered { Answered (call_of call.now) pass (told_of result.1) result.0 }
         ensures in_vain { result.2 ≡ true
             → IsSameButRead (is_some (asked_copy self.old.copier)) S.tells
@@ -189,6 +199,7 @@ impl<N: Setup, S: Site, C: Choose> BookedCore<N, S, C> {
         ensures rests { RestsBehind (told_of result.1) (seen_core S.Site self.new.core)
             → GivesNoWork (seen_core S.Site self.old.core) (seen_core S.Site self.new.core) }
         ensures copier { asked_copy self.new.copier ≡ asked_copy self.old.copier }
+        ensures chooser { self.new.core.chooser ≡ self.old.core.chooser }
     {
         let host = pass.host();
         let before = entries_beside(&self.copied);
@@ -205,6 +216,8 @@ impl<N: Setup, S: Site, C: Choose> BookedCore<N, S, C> {
 
     /// One event of a recorder; none of one that isn't configured. An idle one changes nothing.
     pub fn work(&mut self, recorder: RecorderNo) -> WorkAnswer
+        ensures works { Works S.tells (C.may self.old.core.chooser)
+            (seen_core S.Site self.old.core) recorder result (seen_core S.Site self.new.core) }
         ensures idle { result ≡ Idle → IsSame S.tells
             (seen_core S.Site self.old.core) (seen_core S.Site self.new.core) }
         ensures rests { result ≡ Idle → recorder < self.old.core.config.recorders
@@ -213,6 +226,7 @@ impl<N: Setup, S: Site, C: Choose> BookedCore<N, S, C> {
             → GivesOthersNothing recorder (seen_core S.Site self.old.core)
             (seen_core S.Site self.new.core) }
         ensures copier { asked_copy self.new.copier ≡ asked_copy self.old.copier }
+        ensures chooser { self.new.core.chooser ≡ self.old.core.chooser }
     {
         if recorder.get() >= self.recorders() {
             return WorkAnswer::Idle;

@@ -11,7 +11,8 @@ ghost use Rattle.core_state.specs.IsCore.{IsCore, opening_of};
 ghost use Rattle.core_state.specs.declared.rule.WorkAnswer.TheVariants.{Idle};
 ghost use Rattle.core_state.specs.declared.session.TheConstants.{ENTRY_LIMIT};
 ghost use Rattle.host_events.specs.Answers.{told_of};
-ghost use Rattle.volume_copy.specs.Beside.{asked_copy};
+ghost use Rattle.core_state.specs.WorkEvents.{WorkEvent};
+ghost use Rattle.volume_copy.specs.Beside.{HostEventBeside, asked_copy};
 ghost use Rattle.quiet_events.specs.Quiet.{
   GivesNoWork,
   GivesOthersNothing,
@@ -94,6 +95,8 @@ pub(crate) fn host_step<S: Site, C: Choose>(
     host: HostNo,
     call: &Call,
 ) -> (HostAnswer, bool)
+    ensures event { HostEventBeside S.Site (is_some (asked_copy copied.old.copier))
+        copied.old.core host (call_of call.now) (told_of result.0) copied.new.core }
     ensures history { Happens host (call_of call.now) (told_of result.0)
         copied.old.core.history copied.new.core.history }
     ensures in_vain { result.1 ≡ true
@@ -109,6 +112,7 @@ pub(crate) fn host_step<S: Site, C: Choose>(
     ensures only_reads_fail { (but : UnitNo → Bool) → S.never_fails_but copied.old.core.site but
         → copied.old.core.stopped ≡ None → copied.new.core.stopped ≡ None }
     ensures copier { asked_copy copied.new.copier ≡ asked_copy copied.old.copier }
+    ensures chooser { copied.new.core.chooser ≡ copied.old.core.chooser }
 {
     events_add_one_entry_at_most::<S>();
     answers_have_their_causes::<S>();
@@ -130,6 +134,8 @@ pub(crate) fn work_step<S: Site, C: Choose>(
     recorder: RecorderNo,
 ) -> WorkAnswer
     requires { recorder < copied.old.core.config.recorders }
+    ensures event { WorkEvent S.tells (C.may copied.old.core.chooser)
+        (seen_core S.Site copied.old.core) recorder result (seen_core S.Site copied.new.core) }
     ensures history { copied.new.core.history ≡ copied.old.core.history }
     ensures idle { result ≡ Idle → IsSame S.tells (seen_core S.Site copied.old.core)
         (seen_core S.Site copied.new.core) }
@@ -143,6 +149,7 @@ pub(crate) fn work_step<S: Site, C: Choose>(
     ensures only_reads_fail { (but : UnitNo → Bool) → S.never_fails_but copied.old.core.site but
         → copied.old.core.stopped ≡ None → copied.new.core.stopped ≡ None }
     ensures copier { copied.new.copier ≡ copied.old.copier }
+    ensures chooser { copied.new.core.chooser ≡ copied.old.core.chooser }
 {
     work_leaves_the_history::<S, C>();
     work_is_later::<S, C>();

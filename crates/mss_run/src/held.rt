@@ -6,11 +6,12 @@ ghost use Rattle.core_state.specs.CoreValue.{seen_core};
 ghost use Rattle.core_state.specs.HostEvents.{IsSame};
 ghost use Rattle.core_state.specs.declared.rule.WorkAnswer.TheVariants.{Idle};
 ghost use Rattle.host_events.specs.Answers.{told_of};
-ghost use Rattle.volume_copy.specs.Beside.{IsReadyFor, ReadsBeside, StandsBeside, asked_copy};
+ghost use Rattle.volume_copy.specs.Beside.{HostEventBeside, IsReadyFor, ReadsBeside, StandsBeside, asked_copy};
 ghost use Rattle.quiet_events.specs.Quiet.{GivesNoWork, GivesOthersNothing, GoesOnAlone, RestsBehind};
 ghost use Rattle.mss_run.specs.Answers.{Answered, Stepped};
 ghost use Rattle.mss_run.specs.Beginning.{OpensWith};
 ghost use Rattle.mss_run.specs.Happens.{IsSameButRead};
+ghost use Rattle.mss_run.specs.Led.{Helps, HelpsBehind, Works};
 ghost use Rattle.mss_run.specs.Presence.{
   CopyTurns,
   IsRest,
@@ -93,6 +94,9 @@ impl<N: Setup, S: Site, C: Choose> Held<N, S, C> {
         pass: HostPass<N>,
         call: &Call,
     ) -> (HostPass<N>, HostAnswer)
+        ensures event { HostEventBeside S.Site (is_some (asked_copy self.old.session.copier))
+            self.old.session.core pass.host (call_of call.now) (told_of result.1)
+            self.new.session.core }
         ensures answered { Answered (call_of call.now) pass (told_of result.1) result.0 }
         ensures present { self.new.present ≡ self.old.present }
         ensures sleeps { self.new.sleeps ≡ self.old.sleeps }
@@ -103,7 +107,10 @@ impl<N: Setup, S: Site, C: Choose> Held<N, S, C> {
 
     /// One event of a recorder, whoever is in.
     pub fn work(&mut self, recorder: RecorderNo) -> WorkAnswer
-        ensures { self.new.present ≡ self.old.present }
+        ensures works { Works S.tells (C.may self.old.session.core.chooser)
+            (seen_core S.Site self.old.session.core) recorder result
+            (seen_core S.Site self.new.session.core) }
+        ensures present { self.new.present ≡ self.old.present }
     {
         self.session.work(recorder)
     }
@@ -120,6 +127,10 @@ impl<N: Setup, S: Site, C: Choose> Held<N, S, C> {
         call: &Call,
     ) -> (HostPass<N>, Option<HostAnswer>, Option<WorkAnswer>, bool)
         ensures stepped { Stepped (call_of call.now) pass result.1 result.0 }
+        ensures helps { IfSome result.1 (λ answer. HelpsBehind S.tells
+            (C.may self.old.session.core.chooser) (is_some (asked_copy self.old.session.copier))
+            self.old.present pass.host (call_of call.now) (told_of answer) result.2
+            (seen_core S.Site self.old.session.core) (seen_core S.Site self.new.session.core)) }
         ensures present { self.new.present ≡ self.old.present }
         ensures sleeps { self.new.sleeps ≡ self.old.sleeps }
         ensures over { self.old.present.ended ≡ true
@@ -189,6 +200,9 @@ impl<N: Setup, S: Site, C: Choose> Held<N, S, C> {
 
     /// One event of the first recorder that has one and whose own worker isn't in.
     fn help(&mut self) -> WorkAnswer
+        ensures helps { Helps S.tells (C.may self.old.session.core.chooser)
+            (seen_core S.Site self.old.session.core) self.old.present result
+            (seen_core S.Site self.new.session.core) }
         ensures present { self.new.present ≡ self.old.present }
         ensures idle { result ≡ Idle → IsSame S.tells (seen_core S.Site self.old.session.core)
             (seen_core S.Site self.new.session.core) }
@@ -217,6 +231,9 @@ impl<N: Setup, S: Site, C: Choose> Held<N, S, C> {
     /// Tells last whether it may have given others something to do.
     pub fn turn(&mut self, recorder: RecorderNo) -> (Option<WorkAnswer>, bool)
         ensures turns { Turns recorder self.old.present result.0 self.new.present }
+        ensures works { IfSome result.0 (λ answer. Works S.tells
+            (C.may self.old.session.core.chooser) (seen_core S.Site self.old.session.core)
+            recorder answer (seen_core S.Site self.new.session.core)) }
         ensures sleeps { self.new.sleeps ≡ self.old.sleeps }
         ensures over { self.old.present.ended ≡ true → self.new.session ≡ self.old.session }
         ensures idle { IsRest result.0 → IsSame S.tells (seen_core S.Site self.old.session.core)

@@ -1,16 +1,16 @@
 // The actors of a job, each in a thread of its own.
-ghost use Rattle.std.specs.Prelude.{◌≡◌, ◌≤◌, ◌+◌, ◌++◌, ◌∷◌, [], Bool, IfOk, IfSome, None, length, nat_eq};
+ghost use Rattle.std.specs.Prelude.{◌≡◌, ◌≤◌, ◌+◌, ◌++◌, ◌∷◌, [], Bool, IfOk, IfSome, None, is_some, length, nat_eq};
 ghost use Rattle.std.specs.List.{IsDistinct, list_all};
 ghost use Rattle.std.specs.Thread.{IsSend, IsSync};
 ghost use Rattle.mss_base.specs.Sound.{StaysSound};
 ghost use Rattle.mss_base.specs.declared.place.UnitNo.{UnitNo};
 ghost use Rattle.ckd_plain.specs.History.{IsLegal};
 ghost use Rattle.seen_book.specs.Books.{AreOfThese};
-ghost use Rattle.core_state.specs.Beginning.{IsLater};
 ghost use Rattle.core_state.specs.CoreValue.{seen_core};
 ghost use Rattle.core_state.specs.IsCore.{opening_of};
 ghost use Rattle.volume_copy.specs.Beside.{IsReadyFor, StandsBeside, asked_copy};
 ghost use Rattle.mss_run.specs.Beginning.{OpensWith};
+ghost use Rattle.mss_run.specs.Led.{LeadsTo};
 ghost use Rattle.mss_run.specs.Runs.{
   AreRuns,
   AreStarts,
@@ -313,7 +313,8 @@ fn without_ends<S: Site, C: Choose>(
 ) -> RunEnd<S, C>
     requires empty { core.history ≡ [] }
     requires ready { IfSome copier (IsReadyFor core.history) }
-    ensures leaves { LeavesRun S.Site job.now core result.core result.hosts.items result.answer }
+    ensures leaves { LeavesRun S.Site job.now (is_some (asked_copy copier)) core result.core
+        result.hosts.items result.answer }
     ensures copier { asked_copy result.copier ≡ asked_copy copier }
     ensures stands { IfSome result.copier (StandsBeside S.Site result.core) }
 {
@@ -356,7 +357,8 @@ fn run_named<
     requires empty { core.history ≡ [] }
     requires ready { IfSome copier (IsReadyFor core.history) }
     requires copy { asked_copy copier ≡ N.setup.copy }
-    ensures leaves { LeavesRun S.Site job.now core result.core result.hosts.items result.answer }
+    ensures leaves { LeavesRun S.Site job.now (is_some (asked_copy copier)) core result.core
+        result.hosts.items result.answer }
     ensures copier { asked_copy result.copier ≡ asked_copy copier }
     ensures stands { IfSome result.copier (StandsBeside S.Site result.core) }
 {
@@ -395,7 +397,8 @@ fn run_supplied<
     requires empty { core.history ≡ [] }
     requires ready { IfSome copier (IsReadyFor core.history) }
     requires copy { asked_copy copier ≡ N.setup.copy }
-    ensures leaves { LeavesRun S.Site job.now core result.core result.hosts.items result.answer }
+    ensures leaves { LeavesRun S.Site job.now (is_some (asked_copy copier)) core result.core
+        result.hosts.items result.answer }
     ensures copier { asked_copy result.copier ≡ asked_copy copier }
     ensures stands { IfSome result.copier (StandsBeside S.Site result.core) }
 {
@@ -428,7 +431,7 @@ fn run_supplied<
 /// Runs each host and each recorder of a job as an actor in a thread of its own, and gives back the core when all have
 /// left.
 ///
-/// It is a later core of the same session. Its history is legal from where that began, whatever the order in which the
+/// Events of hosts and recorders led to it, one after the other, as the rules have them. Its history is legal from where that began, whatever the order in which the
 /// actors came, and each entry is of a host of the job. Of each host there is its end: the places of all entries that
 /// it was told of, in rising order, and whether what it was told follows its script to the end; for want of memory at
 /// the start there is none, and no entry. Each entry is a call of its host's script, in order, also one that stopped
@@ -448,7 +451,8 @@ pub fn run_actors<S: Site + Send, C: Choose + Send, G: Gate + Sync, R: Threads +
     requires empty { core.history ≡ [] }
     requires ready { IfSome copier (IsReadyFor core.history) }
     requires config { core.config ≡ job.now.config }
-    ensures later { IsLater S.tells (seen_core S.Site core) (seen_core S.Site result.core) }
+    ensures led { LeadsTo S.tells (is_some (asked_copy copier)) (seen_core S.Site core)
+        (seen_core S.Site result.core) }
     ensures sound { StaysSound S.never_fails_but core.site result.core.site }
     ensures only_reads_fail { (but : UnitNo → Bool) → S.never_fails_but core.site but
         → core.stopped ≡ None → result.core.stopped ≡ None }

@@ -81,7 +81,7 @@ module _ (job : JobData) (input : Stream) (site : Devices) (sink : Stream) (fair
 
   pub untaken_complete : (said : OneLine) → IsUntaken job site said → IsComplete (line_status said)
   untaken_complete said untaken = subst (λ (l : OneLine). IsComplete (line_status l)) (sym untaken.line_)
-      (refusal_complete job.config (content site.was.told) untaken.why fair.faultless (restarts_exactly site.tells job.config site.was site.now (Err untaken.why) untaken.opens fair.can_see fair.site_none.same fair.site_none.could_rise))
+      (refusal_complete job.config (content site.was.told) untaken.why fair.faultless (restarts_exactly site.tells job.config site.was site.now (Err untaken.why) untaken.opens.restarts fair.can_see fair.site_none.same fair.site_none.could_rise))
 
   pub sink_none : Rises sink.faults_was sink.faults_now → ⊥
   sink_none rose = no_rise _ _ _ _ fair.sink_none (omega arith) (omega arith) rose

@@ -18,7 +18,7 @@ use Rattle.serial_driver.specs.declared.answer.DriveAnswer.TheVariants as ended
 use Rattle.session_report.specs.Answers.{Answer}
 use Rattle.session_report.specs.Parties.{Stream, IsUntouched}
 use Rattle.job_runs.specs.Parties.{Devices}
-use Rattle.job_runs.specs.Runs.{IsLoadOf, IsSessionOf, Opens, IsUntaken as IsNotTakenUp}
+use Rattle.job_runs.specs.Runs.{IsLoadOf, IsSessionOf, RefusesStart, IsUntaken as IsNotTakenUp}
 use Rattle.job_runs.specs.Runs.{ReportBrokeOff}
 use Rattle.job_runs.specs.declared.run.Outcome.{Outcome}
 use Rattle.job_runs.specs.declared.run.Outcome.TheVariants as outcome
@@ -46,7 +46,7 @@ pub record IsUnadmitted (asked : Option Command) (input : Stream) (site : Device
 -- the restart for a job doesn't take up the devices
 pub record IsUntaken (job : JobData) (site : Devices) (said : OneLine) : Type 0 where
   pub why : Refused
-  pub opens : Opens job.config site (Err why)
+  pub opens : RefusesStart job.config site why
   pub line_ : said ≡ line_of why
 
 pub record IsRefusedLate (asked : Option Command) (input : Stream) (site : Devices)

@@ -14,6 +14,7 @@ use Rattle.core_state.specs.Beginning.{IsLater}
 use Rattle.core_state.specs.Counted.{AreMarks, IsCounted}
 use Rattle.core_state.specs.CoreValue.{CoreValue, DevicesSeen, seen_core, seen_site}
 use Rattle.core_state.specs.SessionData.{SessionData, data_of}
+use Rattle.mss_run.specs.Led.{LeadsTo}
 use Rattle.mss_run.specs.Runs.{EndData, AskByScript, LeavesEnds, are_finished, hosts_of, run_answer}
 use Rattle.mss_run.specs.declared.ends.RunAnswer.TheVariants as answer
 use Rattle.mss_run.specs.Owns.{asked_of, exchange}
@@ -124,14 +125,14 @@ module _ {S C : Type 0} (g : Ghosts S) (core left : CoreValue S C)
 -- ---- the session
 
 module _ {S C : Type 0} (g : Ghosts S) (job : JobData) (copy : Option AskedCopy) (core left : CoreValue S C) (end : DriveAnswer) (hosts : List EndData)
-    (later : IsLater g.tells (seen_core g core) (seen_core g left))
+    (led : LeadsTo g.tells (is_some copy) (seen_core g core) (seen_core g left))
     (of_hosts : AreOfThese (hosts_of job.hosts) left.history) (ends : LeavesEnds left.history job.hosts hosts) (ask : AskByScript left.history job.hosts)
     (ended_ : EndsAs copy (ended_as (run_answer left.stopped (length left.history) (length job.hosts) hosts)) end)
     (was : DevicesSeen) (begun : IsBegun g.tells job.config was (seen_core g core))
     (promised : IsPromised job.config (record { tells = g.tells; was = was; now = seen_site g left.site }) (data_of left)) where
   pub played_at_once : IsPlayedAtOnce (record { job = job; copy = copy }) (record { tells = g.tells; was = was; now = seen_site g left.site }) end hosts (data_of left)
   played_at_once = record {
-    led = record { began = seen_core g core; begun = begun; left = seen_core g left; later = later; devices_ = refl; session = refl };
+    led = record { began = seen_core g core; begun = begun; left = seen_core g left; led = led; devices_ = refl; session = refl };
     promised = promised;
     of_hosts = of_hosts;
     follow = follow_scripts job.hosts left.history ask of_hosts;

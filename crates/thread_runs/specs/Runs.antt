@@ -1,11 +1,11 @@
 -- What running a job in threads promises.
-use Rattle.std.specs.Prelude.{◌≡◌, ◌⊎◌, List, [], length, Option, None, Some}
+use Rattle.std.specs.Prelude.{◌≡◌, ◌⊎◌, Bool, List, [], length, Option, None, Some, is_some}
 use Rattle.mss_base.specs.Configs.{ConfigData}
 use Rattle.seen_book.specs.Books.{AreOfThese}
-use Rattle.core_state.specs.Beginning.{IsLater}
 use Rattle.core_state.specs.CoreValue.{CoreData, DevicesSeen}
 use Rattle.core_state.specs.SessionData.{SessionData, data_of}
 use Rattle.core_state.specs.Sessions.{session_data}
+use Rattle.mss_run.specs.Led.{LeadsTo}
 use Rattle.mss_run.specs.Runs.{EndData, LeavesEnds, hosts_of, run_answer}
 use Rattle.mss_run.specs.declared.ends.RunAnswer.{RunAnswer}
 use Rattle.mss_run.specs.declared.ends.RunAnswer.TheVariants as answer
@@ -32,13 +32,14 @@ abbrev pub EndsAs : Option AskedCopy → DriveAnswer → DriveAnswer → Type 0
 EndsAs None run now = now ≡ run
 EndsAs (Some copy) run now = (now ≡ run) ⊎ (IsToldWhole run × (now ≡ ended.Memory))
 
--- a session from the core that a restart made of the devices to a later one
-pub record IsLedOn (tells : Type 0) (config : ConfigData) (was now : DevicesSeen)
+-- a session from the core that a restart made of the devices to a later one, by events of hosts and
+-- recorders, one after the other; copies: whether a copy is taken meanwhile
+pub record IsLedOn (tells : Type 0) (copies : Bool) (config : ConfigData) (was now : DevicesSeen)
     (s : SessionData) : Type 0 where
   pub began : CoreData
   pub begun : IsBegun tells config was began
   pub left : CoreData
-  pub later : IsLater tells began left
+  pub led : LeadsTo tells copies began left
   pub devices_ : left.site ≡ now
   pub session : data_of left ≡ s
 
@@ -46,7 +47,7 @@ pub record IsLedOn (tells : Type 0) (config : ConfigData) (was now : DevicesSeen
 -- promises, and how its hosts ended.
 pub record IsPlayedAtOnce (asked : JobAsked) (site : Devices) (end : DriveAnswer)
     (hosts : List EndData) (s : SessionData) : Type 0 where
-  pub led : IsLedOn site.tells asked.job.config site.was site.now s
+  pub led : IsLedOn site.tells (is_some asked.copy) asked.job.config site.was site.now s
   pub promised : IsPromised asked.job.config site s
   -- each entry is of a host of the job
   pub of_hosts : AreOfThese (hosts_of asked.job.hosts) s.history

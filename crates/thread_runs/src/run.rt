@@ -6,7 +6,7 @@ ghost use Rattle.core_state.specs.Sessions.{session_data};
 ghost use Rattle.mss_restart.specs.Creations.{WritesOn};
 ghost use Rattle.session_report.specs.Parties.{sink_between};
 ghost use Rattle.job_runs.specs.Parties.{devices};
-ghost use Rattle.job_runs.specs.Runs.{AreRowsOf, GoesUnstopped, IsBegun, OnUnread, Opens, ReportBrokeOff};
+ghost use Rattle.job_runs.specs.Runs.{AreRowsOf, GoesUnstopped, IsBegun, OnUnread, RefusesStart, ReportBrokeOff};
 ghost use Rattle.job_runs.specs.Copies.{HoldsCopy, job_with};
 ghost use Rattle.volume_copy.specs.Beside.{IsReadyFor, asked_copy};
 ghost use Rattle.thread_runs.specs.Runs.{EndsAtOnce, IsPlayedAtOnce, ended_as};
@@ -64,8 +64,8 @@ fn begin<S: Site, C: Choose + Drop>(
     ensures begun { IfOk result (λ core. IsBegun S.tells job.now.config
         (seen_site S.Site site) (seen_core S.Site core)) }
     ensures devices { IfOk result (λ core. WritesOn S.Site site core.site) }
-    ensures untaken { IfErr result (λ back. Opens job.now.config
-        (devices S.Site site back.0) (Err back.1)) }
+    ensures untaken { IfErr result (λ back. RefusesStart job.now.config
+        (devices S.Site site back.0) back.1) }
     ensures back { IfErr result (λ back. WritesOn S.Site site back.0) }
 {
     match restart(alloc, site, &job.config, chooser) {

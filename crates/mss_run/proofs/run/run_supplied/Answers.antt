@@ -1,9 +1,10 @@
 use Rattle.std.proofs.Common.{◌≡◌, ◌≤◌, ℕ, List, length, nat_eq, inl, sym, ◌∙◌, ap, subst, arith}
+use Rattle.std.specs.Prelude.{Bool, is_some}
 use Rattle.std.specs.List.{IsDistinct}
-use Rattle.core_state.specs.Beginning.{IsLater}
 use Rattle.core_state.specs.CoreValue.{CoreData, seen_core}
 use Rattle.job_text.specs.Jobs.{ScriptData, JobData}
 use Rattle.seen_book.specs.Books.{AreOfThese}
+use Rattle.mss_run.specs.Led.{LeadsTo}
 use Rattle.mss_run.specs.Runs.{AreEndsIn, AskByScript, hosts_of, run_answer}
 use Rattle.mss_run.proofs.AnswerFacts.{legal_since}
 use Rattle.mss_run.proofs.RunFacts.{asks_whole, ends_whole}
@@ -35,7 +36,7 @@ returns-clause-leaves g c =
     let job = c.args.job.now in
     let scripts = c.as_slice-scripts.ensures ∙ ap (λ (j : JobData). j.hosts) c.job.view_is in
     record {
-      later = subst (λ (began : CoreData). IsLater g.S.Site.tells began new) c.requires.began closed.ensures.opening.later;
+      led = subst (λ (x : CoreData × Bool). LeadsTo g.S.Site.tells x.1 x.0 new) (λ i. (c.requires.began i, is_some (sym c.requires.copy i))) closed.ensures.opening.led;
       sound = λ but none. closed.ensures.opening.sound but (c.requires.sound but none);
       only_reads_fail = λ but none going. closed.ensures.opening.only_reads_fail but (c.requires.sound but none) (ap (λ (x : CoreData). x.stopped) c.requires.began ∙ going);
       legal = legal_since g.N.Opening.opening g.N.Setup.setup g.S.Site.tells (g.S.Site.never_fails_but c.args.core.site) old c.requires.opening log closed.ensures.legal;

@@ -13,6 +13,6 @@ invariant_of-self g c =
     record {
       made = c.self.invariant.made;
       book_ = c.self.invariant.book_ ∙ ap (λ (l : List EntryData). Some record { list = l; made = c.self.invariant.made }) (sym (history_read g.S.Site before after copies c.take.ensures.core));
-      opens = opens_read g.S.Site before after g.N.Opening.opening g.N.Setup.setup c.self.invariant.opens c.entries_beside-before.ensures.began copies c.take.ensures.core;
+      opens = opens_read g.S.Site before after g.N.Opening.opening g.N.Setup.setup c.self.invariant.opens c.entries_beside-before.ensures.began copies (ap is_some (sym c.self.invariant.copy)) c.take.ensures.core;
       copy = c.take.ensures.copier ∙ c.self.invariant.copy;
     }
