@@ -120,7 +120,8 @@ fn sync_there<R: Files<File = File>>(
     unit: &UnitNo,
 ) -> io::Result<()>
     requires { length slots.now ≡ 70 }
-    ensures { StaysSpoiled spoiled.old spoiled.new }
+    ensures told { OnOk result (spoiled.new ≡ spoiled.old) }
+    ensures stays { StaysSpoiled spoiled.old spoiled.new }
 {
     if let Some(file) = file_among(slots, unit) {
         return spoiled.noted(unit, file.sync_data());
@@ -141,7 +142,8 @@ fn sync_names<R: Files<File = File>>(
     names: &[u8],
 ) -> io::Result<()>
     requires { length slots.now ≡ 70 }
-    ensures { StaysSpoiled spoiled.old spoiled.new }
+    ensures told { OnOk result (spoiled.new ≡ spoiled.old) }
+    ensures stays { StaysSpoiled spoiled.old spoiled.new }
 {
     let mut rest = names;
     while let Some((name, behind)) = first_name(rest) {
@@ -162,7 +164,8 @@ fn sync_files<R: Files<File = File>>(
     spoiled: &mut Spoiled,
 ) -> io::Result<()>
     requires { length slots.now ≡ 70 }
-    ensures { StaysSpoiled spoiled.old spoiled.new }
+    ensures told { OnOk result (spoiled.new ≡ spoiled.old) }
+    ensures stays { StaysSpoiled spoiled.old spoiled.new }
 {
     let mut list = rt.open_dir(paths.folder())?;
     let mut names = [0u8; NAMES_ROOM];
@@ -314,6 +317,7 @@ impl<R: Files<File = File> + Drop> Folder<R> {
         ensures files { OnOk result (self.new.names_synced ≡ true) }
         ensures lost { AreNamesSpoiled self.old.spoiled → OnOk result ⊥ }
         ensures access { self.new.access ≡ self.old.access }
+        ensures told { OnOk result (self.new.spoiled ≡ self.old.spoiled) }
         ensures stays { StaysSpoiled self.old.spoiled self.new.spoiled }
     {
         if self.spoiled.has_names() {
@@ -336,6 +340,7 @@ impl<R: Files<File = File> + Drop> Folder<R> {
         ensures folder { OnOk result (self.new.folder_synced ≡ true) }
         ensures files { self.new.names_synced ≡ self.old.names_synced }
         ensures access { self.new.access ≡ self.old.access }
+        ensures told { OnOk result (self.new.spoiled ≡ self.old.spoiled) }
         ensures stays { StaysSpoiled self.old.spoiled self.new.spoiled }
     {
         if self.folder_synced {
@@ -353,6 +358,7 @@ impl<R: Files<File = File> + Drop> Folder<R> {
             ((self.new.names_synced ≡ true) × (self.new.folder_synced ≡ true)) }
         ensures lost { AreNamesSpoiled self.old.spoiled → OnOk result ⊥ }
         ensures access { self.new.access ≡ self.old.access }
+        ensures told { OnOk result (self.new.spoiled ≡ self.old.spoiled) }
         ensures stays { StaysSpoiled self.old.spoiled self.new.spoiled }
     {
         self.keep_files()?;
@@ -364,6 +370,7 @@ impl<R: Files<File = File> + Drop> Folder<R> {
         ensures spoils { IfErr result (λ error. error_kind error ≢ ErrorKind.Interrupted
             → IsSpoiled self.new.spoiled unit.now) }
         ensures access { self.new.access ≡ self.old.access }
+        ensures told { OnOk result (self.new.spoiled ≡ self.old.spoiled) }
         ensures stays { StaysSpoiled self.old.spoiled self.new.spoiled }
     {
         match file_among(&self.slots, unit) {
@@ -379,6 +386,7 @@ impl<R: Files<File = File> + Drop> Folder<R> {
         ensures named { OnOk result
             ((self.new.names_synced ≡ true) × (self.new.folder_synced ≡ true)) }
         ensures access { self.new.access ≡ self.old.access }
+        ensures told { OnOk result (self.new.spoiled ≡ self.old.spoiled) }
         ensures stays { StaysSpoiled self.old.spoiled self.new.spoiled }
     {
         self.find_held()?;
@@ -422,6 +430,7 @@ impl<R: Files<File = File> + Drop> UnitFiles for Folder<R> {
         ensures looked { OnOk result (self.new.access ≢ Untouched) }
         ensures refused { self.old.access ≡ Refused → self.new.access ≡ Refused }
         ensures lost { AreNamesSpoiled self.old.spoiled → OnOk result ⊥ }
+        ensures told { OnOk result (self.new.spoiled ≡ self.old.spoiled) }
         ensures stays { StaysSpoiled self.old.spoiled self.new.spoiled }
     {
         self.open_unit(unit, true)?;
@@ -440,6 +449,7 @@ impl<R: Files<File = File> + Drop> UnitFiles for Folder<R> {
         ensures looked { OnOk result (self.new.access ≢ Untouched) }
         ensures refused { self.old.access ≡ Refused → self.new.access ≡ Refused }
         ensures spoiled { IsSpoiled self.old.spoiled unit.now → OnOk result ⊥ }
+        ensures told { OnOk result (self.new.spoiled ≡ self.old.spoiled) }
         ensures stays { StaysSpoiled self.old.spoiled self.new.spoiled }
     {
         if self.spoiled.has(unit) {
@@ -459,6 +469,7 @@ impl<R: Files<File = File> + Drop> UnitFiles for Folder<R> {
         ensures looked { OnOk result (self.new.access ≢ Untouched) }
         ensures refused { self.old.access ≡ Refused → self.new.access ≡ Refused }
         ensures spoiled { (unit : UnitNo) → IsSpoiled self.old.spoiled unit → OnOk result ⊥ }
+        ensures told { OnOk result (self.new.spoiled ≡ self.old.spoiled) }
         ensures stays { StaysSpoiled self.old.spoiled self.new.spoiled }
     {
         if self.spoiled.any() {

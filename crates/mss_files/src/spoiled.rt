@@ -1,5 +1,5 @@
 // Which files can't be known to be synced any more.
-ghost use Rattle.std.specs.Prelude.{◌≡◌, ◌≢◌, ◌<◌, ◌↔◌, true, false, IfErr};
+ghost use Rattle.std.specs.Prelude.{◌≡◌, ◌≢◌, ◌<◌, ◌↔◌, true, false, IfErr, OnOk};
 ghost use Rattle.std.specs.IoError.{error_kind};
 ghost use Rattle.mss_files.specs.Slots.{slot_number};
 
@@ -41,8 +41,9 @@ pub fn spoiled_before() -> io::Error {
 
 /// Whether a sync failed. One that was interrupted didn't: it is made again.
 fn is_failed(outcome: &io::Result<()>) -> bool
-    ensures { result ≡ false → IfErr outcome.now
+    ensures failed { result ≡ false → IfErr outcome.now
         (λ error. error_kind error ≡ ErrorKind.Interrupted) }
+    ensures worked { OnOk outcome.now (result ≡ false) }
 {
     match outcome {
         Ok(()) => false,
@@ -98,6 +99,7 @@ impl Spoiled {
         ensures outcome { result ≡ outcome }
         ensures spoils { IfErr outcome (λ error. error_kind error ≢ ErrorKind.Interrupted
             → IsSpoiled self.new unit.now) }
+        ensures kept { OnOk outcome (self.new ≡ self.old) }
         ensures stays { StaysSpoiled self.old self.new }
     {
         if is_failed(&outcome) {
@@ -111,6 +113,7 @@ impl Spoiled {
         ensures outcome { result ≡ outcome }
         ensures spoils { IfErr outcome (λ error. error_kind error ≢ ErrorKind.Interrupted
             → AreNamesSpoiled self.new) }
+        ensures kept { OnOk outcome (self.new ≡ self.old) }
         ensures stays { StaysSpoiled self.old self.new }
     {
         if is_failed(&outcome) {

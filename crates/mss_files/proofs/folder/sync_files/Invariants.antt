@@ -1,5 +1,5 @@
-use Rattle.mss_files.specs.Slots.{StaysSpoiled}
+use Rattle.std.proofs.Common.{◌≡◌}
 use Rattle.mss_files.proofs.folder.sync_files.Given as goal
 
 abbrev pub invariant-loop : goal.invariant-loop
-invariant-loop g l = StaysSpoiled l.initial.spoiled l.spoiled
+invariant-loop g l = l.spoiled ≡ l.initial.spoiled

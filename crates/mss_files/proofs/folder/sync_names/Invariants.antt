@@ -1,9 +1,8 @@
-use Rattle.std.proofs.Common.{length}
-use Rattle.mss_files.specs.Slots.{StaysSpoiled}
+use Rattle.std.proofs.Common.{◌≡◌, length}
 use Rattle.mss_files.proofs.folder.sync_names.Given as goal
 
 abbrev pub decreases-loop-name : goal.decreases-loop-name
 decreases-loop-name g l = length l.rest
 
 abbrev pub invariant-loop-name : goal.invariant-loop-name
-invariant-loop-name g l = StaysSpoiled l.initial.spoiled l.spoiled
+invariant-loop-name g l = l.spoiled ≡ l.initial.spoiled
