@@ -4,9 +4,14 @@
 
 mod arguments;
 
-ghost use Rattle.std.specs.Prelude.{◌≡◌, ◌⊎◌, [], codes, map, string_bytes};
-ghost use Rattle.std.specs.Prelude.{IfOk, OnErr};
+ghost use Rattle.std.specs.Prelude.{◌≡◌, ◌⊎◌, ℕ, Bool, None, Some, [], codes, map, string_bytes};
+ghost use Rattle.std.specs.Prelude.{IfOk, IfSome, OnErr};
+ghost use Rattle.mss_base.specs.Sites.{OnlyReads};
+ghost use Rattle.mss_base.specs.declared.place.UnitNo.{UnitNo};
 ghost use Rattle.command_words.specs.Words.{meaning};
+ghost use Rattle.command_words.specs.declared.command.Command.TheVariants.{Audit, Show};
+ghost use Rattle.core_state.specs.Sessions.{session_data};
+ghost use Rattle.mss_restart.specs.Creations.{WritesOn};
 ghost use Rattle.job_runs.specs.Parties.{devices};
 ghost use Rattle.mss_files.specs.Output.{AlwaysKnown, known_bytes};
 ghost use Rattle.mss_top.specs.Obeying.{parties};
@@ -80,7 +85,8 @@ fn begin(rt: HostRuntime) -> Result<Begun, NoMemory>
 }
 
 /// Runs the command of these words on a site: does what they ask for, and writes what that put. The whole output is
-/// written, or the status says that it isn't. A comparison chooses last by the closure that is handed in.
+/// written, or the status says that it isn't. A comparison chooses last by the closure that is handed in. A look and an
+/// audit only read the site.
 fn run<
     I: Read,
     W: Write + Drop,
@@ -101,6 +107,13 @@ fn run<
         (parties (input_of I.remaining input.old input.new) (devices S.Site site result.site)
         (output_of W.contents output.old output.new))
         output.new.waiting result.status result.session }
+    ensures looks { meaning (map string_bytes words.now) ≡ Some Show
+        → OnlyReads S.Site site result.site }
+    ensures audits { (frames : ℕ) → meaning (map string_bytes words.now) ≡ Some (Audit frames)
+        → OnlyReads S.Site site result.site }
+    ensures only_reads_fail { (but : UnitNo → Bool) → S.never_fails_but site but
+        → IfSome result.session (λ s. (session_data s).stopped ≡ None) }
+    ensures devices { WritesOn S.Site site result.site }
 {
     let ended = obey(rt, words, input, output, site, Lru, other, &OpenGate);
     let status = finish(output, ended.status);
