@@ -25,6 +25,9 @@ pub const APPEND_ITEMS: u64 = 4;
 /// A record is formatted that has others behind it: its gate is closed and synced before, and theirs are closed.
 pub const FORMAT_ITEMS: u64 = 7;
 
+/// A record is updated: its bytes are written and synced.
+pub const UPDATE_ITEMS: u64 = 2;
+
 /// How many calls there are before the session on one volume. All units are synced. For the survey both copies of
 /// 32 rows are read, and again for repairs. Then each copy of the new row is read and marked, and each is filled by
 /// two writes, with a sync behind each write.

@@ -29,6 +29,19 @@ pub const WRITE_AND_READ: &str = "mss 1 frames 1 recorders 1\n\
     end\n\
     done\n";
 
+/// The record of `WRITE_AND_READ` is found again, and its data are replaced.
+pub const UPDATE: &str = "mss 1 frames 1 recorders 1\n\
+    volume 0 VOL001\n\
+    host 1\n\
+    mount VOL001\n\
+    program\n\
+    ccw 07 000000050003\n\
+    ccw 31 0005000301\n\
+    tic 1\n\
+    ccw 05 58595A\n\
+    end\n\
+    done\n";
+
 /// One frame for two pages: a record on cylinder 0, one on cylinder 8, and the first is read back.
 pub const REPLACEMENT: &str = "mss 1 frames 1 recorders 1\n\
     volume 0 VOL001\n\

@@ -1,5 +1,6 @@
 //! Sessions of the core, worked out by hand, as tests: each answer of hosts and recorders, alone and under the
-//! lock, where devices fail, and where events are given; and how many writes stand before each entry of whole runs.
+//! lock, where devices fail, and where events are given; how many writes stand before each entry of whole runs; and
+//! which volumes a start shows of what a stop within a session leaves.
 //!
 //! Nothing stands on this crate. What the built program shows is checked by `tests/`.
 #![tactic(auto)]
@@ -26,5 +27,7 @@ mod replaced_pages;
 mod running;
 #[cfg(test)]
 mod steps;
+#[cfg(test)]
+mod stops;
 #[cfg(test)]
 mod two_hosts;

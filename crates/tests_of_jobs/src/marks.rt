@@ -20,11 +20,11 @@ const CREATED: u64 = SYNC_ITEMS + CREATE_ITEMS;
 
 const ASSIGNED: u64 = CREATED + CHANGE_ITEMS;
 
-const STAGED: u64 = CREATED + STAGE_ITEMS;
+pub const STAGED: u64 = CREATED + STAGE_ITEMS;
 
-const CHANGED: u64 = STAGED + CHANGE_ITEMS;
+pub const CHANGED: u64 = STAGED + CHANGE_ITEMS;
 
-const APPENDED: u64 = CHANGED + APPEND_ITEMS;
+pub const APPENDED: u64 = CHANGED + APPEND_ITEMS;
 
 const WRITTEN: Marks = Marks {
     job: WRITE_AND_READ,
@@ -35,7 +35,7 @@ const WRITTEN: Marks = Marks {
     changes: &[CREATED, ASSIGNED, STAGED, CHANGED],
 };
 
-const THREE_APPENDED: u64 = CHANGED + 3 * APPEND_ITEMS;
+pub const THREE_APPENDED: u64 = CHANGED + 3 * APPEND_ITEMS;
 
 /// The three records, each behind the last, and the new one.
 const FORMATTING: Marks = Marks {
@@ -57,11 +57,11 @@ const FORMATTING: Marks = Marks {
 // A cylinder is destaged, its page freed, and another one staged in the frame.
 const REPLACE_ITEMS: u64 = COPY_ITEMS + 2 * CHANGE_ITEMS + STAGE_ITEMS;
 
-const REPLACED_ONCE: u64 = APPENDED + REPLACE_ITEMS;
+pub const REPLACED_ONCE: u64 = APPENDED + REPLACE_ITEMS;
 
-const APPENDED_AGAIN: u64 = REPLACED_ONCE + CHANGE_ITEMS + APPEND_ITEMS;
+pub const APPENDED_AGAIN: u64 = REPLACED_ONCE + CHANGE_ITEMS + APPEND_ITEMS;
 
-const RETURNED: u64 = APPENDED_AGAIN + REPLACE_ITEMS;
+pub const RETURNED: u64 = APPENDED_AGAIN + REPLACE_ITEMS;
 
 const REPLACING: Marks = Marks {
     job: REPLACEMENT,
