@@ -27,6 +27,16 @@ COPIES = [
     ("that failed", "copy 0 failed fault 1", "a read for the copy of volume 0 failed, so it wasn't taken (fault 1)"),
 ]
 
+# The first job where no cylinder can be copied to its frame.
+CHECKED_TWICE = """MSS REPORT 1
+entry 1 host 1 mount 0 mounted
+entry 2 host 1 ccw 07 status 0C
+entry 3 host 1 ccw 31 equipment check fault 1
+entry 4 host 1 ccw 07 status 0C
+entry 5 host 1 ccw 31 equipment check fault 2
+END
+"""
+
 
 def explained(job, report, text=""):
     """The status, and what is told."""
@@ -95,6 +105,12 @@ class Explained(Test):
         self.assertEqual((status, count(told, "change")), (0, 7), told)
         self.assertIn(f"{marks[1]}\n    the volume is no longer read-only\n", told)
         self.assertIn("\nvolume 0 VOL001 readonly\n    as it is at the end", told)
+
+    def test_equipment_checks_are_counted(self):
+        """As where the disk is full: no cylinder can be staged, and the report ends as any other."""
+        _, told = explained(FIRST, "-", CHECKED_TWICE)
+        last = told.splitlines()[-1]
+        self.assertEqual(last, "2 equipment checks, the first in entry 3: a device failed, or its disk is full")
 
     def test_the_report_of_another_job(self):
         status, told = explained(FIRST, EXAMPLES / "keys.report")
